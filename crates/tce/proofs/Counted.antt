@@ -1,0 +1,33 @@
+-- A count that rises by one at each failure gives a failure its cause.
+use Rattle.std.proofs.Common.{◌≡◌, ◌≤◌, ℕ, refl, Result, Ok, Err, OnOk, IfOk, IsErr, IsErrOf, is_err, None, arith, rules, if◌then◌else◌}
+use Rattle.std.specs.Option.{ForSome}
+use Rattle.tce_outside.specs.Fault.{HasCause, Rose}
+use Rattle.tce_outside.specs.Schedule.{one_more}
+
+one_more_rises : (n : ℕ) → Rose n (one_more n)
+one_more_rises n = grind (arith, rules)
+
+one_more_later : (n : ℕ) → n ≤ one_more n
+one_more_later n = grind (arith, rules)
+
+-- nothing is claimed of what is not told
+pub untold : {T E X : Type 0} (result : Result T E) (P : T → X → Type 0) → IfOk result (λ x. ForSome None (P x))
+untold (Ok x) P = search rules
+untold (Err e) P = search rules
+
+pub untold_read : {T E X : Type 0} (result : Result T E) (P : X → Type 0) → OnOk result (ForSome None P)
+untold_read (Ok x) P = search rules
+untold_read (Err e) P = search rules
+
+-- and it stays untold
+pub still_untold : {T E A : Type 0} (result : Result T E) (untold : A) → OnOk result (untold ≡ untold)
+still_untold (Ok x) untold = refl
+still_untold (Err e) untold = search rules
+
+pub counted_cause : {T E : Type 0} (result : Result T E) (old new : ℕ) → new ≡ (if is_err result then one_more old else old) → HasCause old new (IsErr result)
+counted_cause (Ok x) old new counted = search rules
+counted_cause (Err e) old new counted = rw counted (record { later = one_more_later old; rose = λ _. one_more_rises old })
+
+pub counted_cause_of : {T E : Type 0} (result : Result T E) (fault : E) (old new : ℕ) → new ≡ (if is_err result then one_more old else old) → HasCause old new (IsErrOf result fault)
+counted_cause_of (Ok x) fault old new counted = search rules
+counted_cause_of (Err e) fault old new counted = rw counted (record { later = one_more_later old; rose = λ _. one_more_rises old })

@@ -1,0 +1,13 @@
+pub mod WordBytes
+pub mod Contents
+pub mod Rows
+pub mod Zeros
+pub mod MadeFiles
+pub mod Way
+pub mod FormOf
+pub mod Padding
+pub mod Writes
+pub mod Tiles
+pub mod Told
+pub mod OneAnswer
+pub mod Fitting

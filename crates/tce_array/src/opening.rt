@@ -1,0 +1,113 @@
+// Opening and creating array files.
+ghost use Rattle.std.specs.Prelude.{◌≡◌, ℕ, ◌+◌, ◌*◌, ◌≤◌, ◌<◌, List, length, take, drop, IfOk, IfErr, OnOk, IsErr, IsErrOf, Err, codes, ◌++◌};
+ghost use Rattle.std.specs.Option.{ForSome, IsSomeAnd};
+ghost use Rattle.tce_outside.specs.Files.{file, others, holding};
+ghost use Rattle.tce_outside.specs.Fault.{HasCause};
+ghost use Rattle.tce_array.specs.Forms.{form_of, form_bytes, IsArray};
+ghost use Rattle.tce_array.specs.Faults.{IsFault, IsOnlyAnswer};
+ghost use Rattle.std.specs.Str.{bytes_eq};
+ghost use Rattle.tce_base.specs.Word.{word_of_bytes};
+ghost use Rattle.tce_array.specs.Forms.{form_by};
+
+use crate::fault::ArrayFault;
+use crate::form::Form;
+use crate::head::{LARGEST_HEAD, first_difference, head, magic};
+use crate::place::form_len;
+use byteorder::{ByteOrder, LittleEndian};
+use tce_outside::{Disk, Failed, OutFault};
+use tce_space::Shape;
+
+// Whether a file begins as one of the second version.
+fn is_second_version(start: &[u8]) -> bool
+    requires { 8 ≤ length start.now }
+    ensures { result ≡ bytes_eq (take 8 start.now) (codes "TCARRAY2") }
+{
+    &start[..8] == magic(Form::Wide)
+}
+
+// The form of a file, by its first bytes.
+#[tactic(auto, unfolding(tce_base::specs::Word::word_of_bytes))]
+fn form_of_start(start: &[u8]) -> Form
+    requires { length start.now ≡ 24 }
+    ensures { result ≡ form_by (bytes_eq (take 8 start.now) (codes "TCARRAY2")) (word_of_bytes 8 (drop 16 start.now)) }
+{
+    if !is_second_version(start) {
+        Form::One
+    } else if LittleEndian::read_u64(&start[16..]) == 4 {
+        Form::Narrow
+    } else {
+        Form::Wide
+    }
+}
+
+// The form of a file of this length.
+fn find_form<D: Disk>(disk: &mut D, name: &str, len: u64) -> Result<Form, Failed>
+    requires { ForSome (D.files disk.old) (λ fs. IsSomeAnd (file fs name.now) (λ bytes. length bytes ≡ len)) }
+    ensures form { IfOk result (λ form. ForSome (D.files disk.old) (λ fs. IsSomeAnd (file fs name.now) (λ bytes. form_of bytes ≡ form))) }
+    ensures same { D.files disk.new ≡ D.files disk.old }
+    ensures cause { HasCause (D.faults disk.old) (D.faults disk.new) (IsErr result) }
+{
+    if len < 24 {
+        return Ok(Form::One);
+    }
+    let mut start = [0; 24];
+    disk.read_at(name, 0, &mut start)?;
+    Ok(form_of_start(&start))
+}
+
+/// The form of the array file of this name, if it is one of this shape.
+///
+/// `NoFile` where there is no such file. Else `BadLength` with the file's length in bytes where that is not the
+/// length of the file's form for this shape. Else `BadHeader` with the place of the first byte at which the file
+/// differs from the head of its form for this shape. `Disk` only where the disk failed.
+///
+/// No file changes. Nothing is sized by what the file says of itself: at most one head is read, and no memory taken.
+pub fn open<D: Disk>(disk: &mut D, name: &str, shape: &Shape) -> Result<Form, ArrayFault>
+    ensures form { IfOk result (λ form. ForSome (D.files disk.old) (λ fs. IsSomeAnd (file fs name.now) (λ bytes. (form_of bytes ≡ form) × IsArray shape.now bytes))) }
+    ensures fault { IfErr result (λ fault. ForSome (D.files disk.old) (λ fs. IsFault shape.now (file fs name.now) fault)) }
+    ensures exact { ForSome (D.files disk.old) (λ fs. IsOnlyAnswer shape.now (file fs name.now) result) }
+    ensures same { D.files disk.new ≡ D.files disk.old }
+    ensures cause { HasCause (D.faults disk.old) (D.faults disk.new) (result ≡ Err ArrayFault.Disk) }
+{
+    let Ok(size) = disk.size(name) else {
+        return Err(ArrayFault::Disk);
+    };
+    let Some(len) = size else {
+        return Err(ArrayFault::NoFile);
+    };
+    let Ok(form) = find_form(disk, name, len) else {
+        return Err(ArrayFault::Disk);
+    };
+    if len != form_len(form, shape) {
+        return Err(ArrayFault::BadLength(len));
+    }
+    let expected = head(form, shape);
+    let mut buffer = [0; LARGEST_HEAD];
+    let found = &mut buffer[..expected.len()];
+    let Ok(()) = disk.read_at(name, 0, found) else {
+        return Err(ArrayFault::Disk);
+    };
+    match first_difference(found, expected.as_slice()) {
+        Some(place) => Err(ArrayFault::BadHeader(place as u64)),
+        None => Ok(form),
+    }
+}
+
+/// Puts an array of this form and shape, whose elements are all 0, in the place of whatever has this name.
+///
+/// For want of memory (`Memory`) no file changes. Where the disk fails (`Failed`), the file of this name may hold
+/// anything or be absent. All other files stay in every case. The head alone is written: the zeros come from
+/// making the file.
+pub fn create<D: Disk>(disk: &mut D, name: &str, form: Form, shape: &Shape) -> Result<(), OutFault>
+    ensures zeros { OnOk result (D.files disk.new ≡ holding name.now (form_bytes form shape.now (λ _. 0)) (D.files disk.old)) }
+    ensures memory { IsErrOf result OutFault.Memory → D.files disk.new ≡ D.files disk.old }
+    ensures others { others name.now (D.files disk.new) ≡ others name.now (D.files disk.old) }
+    ensures cause { HasCause (D.faults disk.old) (D.faults disk.new) (IsErrOf result OutFault.Failed) }
+{
+    disk.make(name, form_len(form, shape))?;
+    let head = head(form, shape);
+    match disk.write_at(name, 0, head.as_slice()) {
+        Ok(()) => Ok(()),
+        Err(Failed) => Err(OutFault::Failed),
+    }
+}

@@ -1,0 +1,11 @@
+use Rattle.std.proofs.Common.{◌≡◌, ◌*◌}
+use Rattle.std.specs.Simd.Lanes.{zip2}
+use Rattle.tce_base.specs.Word.{wrapping_sub}
+use Rattle.tce_kernel.proofs.Blocks.{done_to}
+use Rattle.tce_kernel.proofs.minus_vv.Given as goal
+
+abbrev pub invariant-loop-block : goal.invariant-loop-block
+invariant-loop-block l = l.out ≡ done_to (8 * l.block) (zip2 wrapping_sub l.a l.b) l.fn.out
+
+abbrev pub invariant-loop-at : goal.invariant-loop-at
+invariant-loop-at l = l.out ≡ done_to l.at (zip2 wrapping_sub l.a l.b) l.fn.out

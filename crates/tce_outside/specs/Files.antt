@@ -1,0 +1,52 @@
+-- The files of a disk as a finite map from names to contents, both lists of bytes.
+use Rattle.std.specs.Prelude.{ℕ, ◌+◌, ◌≤◌, List, [], ◌++◌, length, take, drop, Option, unwrap_or}
+use Rattle.std.specs.Ordering.{nat_cmp}
+use Rattle.std.specs.Cmp.Lexicographic.{slice_cmp}
+use Rattle.std.specs.Option.{IsSomeAnd, option_map}
+use Rattle.std.specs.FinMap as map
+
+-- the contents of each file that is there
+abbrev pub Files : Type 0
+Files = map.FinMap (slice_cmp nat_cmp) (List ℕ)
+
+-- the bytes of a file, if it is there
+abbrev pub file : Files → List ℕ → Option (List ℕ)
+file files name = map.get files name
+
+-- the files with these bytes under this name
+abbrev pub with_file : Files → List ℕ → List ℕ → Files
+with_file files name bytes = map.insert files name bytes
+
+-- the files but the one of this name
+abbrev pub without_file : Files → List ℕ → Files
+without_file files name = map.remove files name
+
+-- bytes written over a part of a list
+abbrev pub overwritten : List ℕ → ℕ → List ℕ → List ℕ
+overwritten old at bytes = take at old ++ bytes ++ drop (at + length bytes) old
+
+-- the file with this name is there, and has this part
+abbrev pub HasPart : Files → List ℕ → ℕ → ℕ → Type 0
+HasPart files name at len = IsSomeAnd (file files name) (λ bytes. at + len ≤ length bytes)
+
+-- the part of a file
+abbrev pub part : Files → List ℕ → ℕ → ℕ → List ℕ
+part files name at len = take len (drop at (unwrap_or (file files name) []))
+
+-- the files after a write of these bytes over a part of a file
+abbrev pub with_part : Files → List ℕ → ℕ → List ℕ → Files
+with_part files name at bytes = with_file files name (overwritten (unwrap_or (file files name) []) at bytes)
+
+-- Of a disk that tells its files, or tells nothing.
+
+-- all files but the one of this name
+abbrev pub others : List ℕ → Option Files → Option Files
+others name told = option_map (λ files. without_file files name) told
+
+-- the files with these bytes under this name
+abbrev pub holding : List ℕ → List ℕ → Option Files → Option Files
+holding name bytes told = option_map (λ files. with_file files name bytes) told
+
+-- the files with these bytes written over a part of the one of this name
+abbrev pub written : List ℕ → ℕ → List ℕ → Option Files → Option Files
+written name at bytes told = option_map (λ files. with_part files name at bytes) told

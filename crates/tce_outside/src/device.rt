@@ -1,0 +1,93 @@
+// A disk and a sink, with what they mean and how often they failed.
+ghost use Rattle.std.specs.Prelude.{◌≡◌, ◌++◌, List, ℕ, length, replicate, Option, IfOk, OnOk, IsErr, IsErrOf, take};
+ghost use Rattle.std.specs.Option.{ForSome, option_map};
+ghost use Rattle.tce_outside.specs.Files.{Files, file, HasPart, part, others, holding, written};
+ghost use Rattle.tce_outside.specs.Fault.{HasCause};
+
+use thiserror::Error;
+
+/// The device failed.
+#[derive(Clone, Copy, Debug, PartialEq, Eq, Error)]
+#[error("the device failed")]
+pub struct Failed;
+
+/// The device failed, or found no memory.
+#[derive(Clone, Copy, Debug, PartialEq, Eq, Error)]
+pub enum OutFault {
+    /// The device failed: its count of faults rose in the call.
+    #[error("the device failed")]
+    Failed,
+    /// Want of memory: nothing was changed.
+    #[error("want of memory")]
+    Memory,
+}
+
+/// A disk with named files.
+///
+/// Contracts see two meanings: the files, where the disk tells them, as a finite map from names to lists of
+/// bytes; and a count of faults, which never falls and which stops at 2^64 - 1. A call answers that the disk
+/// failed only where the count rose in that call, or stands at its end.
+///
+/// No call changes whether the disk tells its files: each equation over `files` below holds of a disk that
+/// tells nothing only where it tells nothing afterwards.
+pub trait Disk {
+    /// The files, where the disk tells them.
+    ghost files: { Self → Option Files };
+
+    /// How often the disk has failed.
+    ghost faults: { Self → ℕ };
+
+    /// The length of a file in bytes, or `None` exactly where there is no file of this name. Nothing changes.
+    fn size(&mut self, name: &str) -> Result<Option<u64>, Failed>
+        ensures length { IfOk result (λ len. ForSome (files self.old) (λ fs. len ≡ option_map length (file fs name.now))) }
+        ensures same { files self.new ≡ files self.old }
+        ensures cause { HasCause (faults self.old) (faults self.new) (IsErr result) };
+
+    /// Puts a file of `len` zero bytes in the place of whatever has this name.
+    ///
+    /// For want of memory no file changes. Where the disk fails, the file of this name may hold anything or
+    /// be absent. All other files stay in every case.
+    fn make(&mut self, name: &str, len: u64) -> Result<(), OutFault>
+        ensures made { OnOk result (files self.new ≡ holding name.now (replicate len 0) (files self.old)) }
+        ensures memory { IsErrOf result OutFault.Memory → files self.new ≡ files self.old }
+        ensures others { others name.now (files self.new) ≡ others name.now (files self.old) }
+        ensures cause { HasCause (faults self.old) (faults self.new) (IsErrOf result OutFault.Failed) };
+
+    /// Reads the bytes of a file from place `at` on until `out` is full. Where the disk fails, `out` may hold
+    /// anything. Nothing changes on the disk.
+    fn read_at(&mut self, name: &str, at: u64, out: &mut [u8]) -> Result<(), Failed>
+        requires { ForSome (files self.old) (λ fs. HasPart fs name.now at (length out.old)) }
+        ensures read { OnOk result (ForSome (files self.old) (λ fs. out.new ≡ part fs name.now at (length out.old))) }
+        ensures same { files self.new ≡ files self.old }
+        ensures cause { HasCause (faults self.old) (faults self.new) (IsErr result) };
+
+    /// Writes all of `bytes` over the same number of bytes of a file from place `at` on.
+    ///
+    /// Where the disk fails, the file of this name may hold anything or be absent. All other files stay in
+    /// every case.
+    fn write_at(&mut self, name: &str, at: u64, bytes: &[u8]) -> Result<(), Failed>
+        requires { ForSome (files self.old) (λ fs. HasPart fs name.now at (length bytes.now)) }
+        ensures written { OnOk result (files self.new ≡ written name.now at bytes.now (files self.old)) }
+        ensures others { others name.now (files self.new) ≡ others name.now (files self.old) }
+        ensures cause { HasCause (faults self.old) (faults self.new) (IsErr result) };
+}
+
+/// Where text is put.
+///
+/// Contracts see all bytes put so far, where the sink tells them, and a count of faults as that of a disk. No
+/// call changes whether the sink tells its bytes.
+pub trait Sink {
+    /// All bytes put, where the sink tells them.
+    ghost bytes: { Self → Option (List ℕ) };
+
+    /// How often the sink has failed.
+    ghost faults: { Self → ℕ };
+
+    /// Puts all of a piece behind what was put before. For want of memory nothing is put; where the sink
+    /// fails, a prefix of the piece may have been put.
+    fn put(&mut self, piece: &[u8]) -> Result<(), OutFault>
+        ensures whole { OnOk result (bytes self.new ≡ option_map (λ put. put ++ piece.now) (bytes self.old)) }
+        ensures memory { IsErrOf result OutFault.Memory → bytes self.new ≡ bytes self.old }
+        ensures prefix { (k : ℕ) × (bytes self.new ≡ option_map (λ put. put ++ take k piece.now) (bytes self.old)) }
+        ensures cause { HasCause (faults self.old) (faults self.new) (IsErrOf result OutFault.Failed) };
+}

@@ -1,0 +1,10 @@
+pub mod IndexSetLaws
+pub mod Boxes
+pub mod Tilings
+pub mod Declarations
+pub mod Spaces
+pub mod VolumeLaws
+pub mod Products
+pub mod Counts
+pub mod Members
+pub mod Examples

@@ -1,0 +1,9 @@
+use Rattle.tce_space.proofs.Spaces.{index_names_short, index_number_is}
+use Rattle.tce_space.proofs.space.Space.index_named.Goals as goal
+
+pub named-requires-clause-short : goal.named-requires-clause-short
+named-requires-clause-short c = index_names_short c.self.inside.ranges.entries c.self.inside.indexes.entries c.self.invariant
+
+pub returns-clause-number : goal.returns-clause-number
+returns-clause-number c =
+    rw (← c.self.view_is, index_number_is c.self.inside.ranges.entries c.self.inside.indexes.entries c.args.name.now) c.named.ensures

@@ -1,0 +1,20 @@
+//! Index spaces: sets of indexes, loop orders, boxes of coordinates and the shapes of tiled arrays.
+#![tactic(auto)]
+
+mod index_set;
+mod loop_order;
+mod name;
+mod product;
+mod row_major;
+mod shape;
+mod space;
+
+pub use index_set::{IndexSet, sets_are_their_members};
+pub use loop_order::LoopOrder;
+pub use name::{FileName, Name, is_name};
+pub use row_major::{place, places_are_in_order};
+pub use shape::{Shape, ShapeFault, words_are_apart};
+pub use space::{Space, SpaceFault, volumes_grow};
+
+#[cfg(test)]
+mod tests;

@@ -1,0 +1,5 @@
+use arrayvec::ArrayVec;
+
+/// The loops of a node, outermost first: at most ten indexes.
+#[derive(Clone, Debug, Default, PartialEq, Eq, Drop)]
+pub struct LoopOrder(pub ArrayVec<u8, 10>);

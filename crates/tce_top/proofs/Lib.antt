@@ -1,0 +1,10 @@
+pub mod Rows
+pub mod Commands
+pub mod Arrays
+pub mod StoredWords
+pub mod Shapes
+pub mod Elements
+pub mod Files
+pub mod State
+pub mod Causes
+pub mod Outcomes

@@ -1,0 +1,13 @@
+pub mod Nodes
+pub mod Members
+pub mod Parents
+pub mod Flat
+pub mod Lists
+pub mod NamedIndexes
+pub mod FaultLaws
+pub mod Permutations
+pub mod OrderTests
+pub mod Values
+pub mod Conditions
+pub mod Operands
+pub mod Worked

@@ -1,0 +1,12 @@
+pub mod ContractionTree
+pub mod Value
+pub mod WellFormed
+pub mod TreeCode
+pub mod Expr
+pub mod Fusion
+pub mod Orders
+pub mod FlatTree
+pub mod Faults
+pub mod Measure
+pub mod Laws
+pub mod Examples

@@ -1,0 +1,8 @@
+pub mod DotSteps
+pub mod MemoryLent
+pub mod MemoryMade
+pub mod MemoryRows
+pub mod RowPlaces
+pub mod RunSteps
+pub mod TestPlaces
+pub mod WordSteps

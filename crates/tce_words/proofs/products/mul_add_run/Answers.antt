@@ -1,0 +1,36 @@
+use Rattle.std.proofs.Common.{slice_index, arith}
+use Rattle.tce_base.specs.Word.{wrapping_add, wrapping_mul}
+use Rattle.tce_words.proofs.RunSteps.{one_before_other, joined_values, mapped_values, run_added, steady_left, steady_swapped}
+use Rattle.tce_words.proofs.WordSteps.{wrapping_mul_comm}
+use Rattle.tce_words.proofs.products.mul_add_run.Goals as goal
+
+pub mul_add_contiguous-requires-clause-apart_from_a : goal.mul_add_contiguous-requires-clause-apart_from_a
+mul_add_contiguous-requires-clause-apart_from_a c = one_before_other c.args.out.first c.args.out.step c.args.a.first c.args.a.step c.args.n c.in-1-eq1-eq1.is-0 c.in-1-eq1-eq1.is-1 (omega arith) c.requires.apart_from_a
+
+pub mul_add_contiguous-requires-clause-apart_from_b : goal.mul_add_contiguous-requires-clause-apart_from_b
+mul_add_contiguous-requires-clause-apart_from_b c = one_before_other c.args.out.first c.args.out.step c.args.b.first c.args.b.step c.args.n c.in-1-eq1-eq1.is-0 c.in-1-eq1-eq1.is-2 (omega arith) c.requires.apart_from_b
+
+pub mul_add_scaled-requires-clause-apart : goal.mul_add_scaled-requires-clause-apart
+mul_add_scaled-requires-clause-apart c = one_before_other c.args.out.first c.args.out.step c.args.a.first c.args.a.step c.args.n c.in-1-eq1-eq0.is-0 c.in-1-eq1-eq0.is-1 (omega arith) c.requires.apart_from_a
+
+pub mul_add_scaled-requires-in-1-eq0-eq1-clause-apart : goal.mul_add_scaled-requires-in-1-eq0-eq1-clause-apart
+mul_add_scaled-requires-in-1-eq0-eq1-clause-apart c = one_before_other c.args.out.first c.args.out.step c.args.b.first c.args.b.step c.args.n c.in-1-eq0-eq1.is-0 c.in-1-eq0-eq1.is-2 (omega arith) c.requires.apart_from_b
+
+pub returns-in-1-eq1-eq1 : goal.returns-in-1-eq1-eq1
+returns-in-1-eq1-eq1 c =
+    run_added wrapping_add _ c.args.out.first c.args.out.step c.args.n c.args.words.now c.mul_add_contiguous.new.words _ c.mul_add_contiguous.ensures c.in-1-eq1-eq1.is-0 (omega arith) c.requires.out
+    (joined_values wrapping_mul c.args.a.first c.args.a.step c.args.b.first c.args.b.step c.args.n c.args.words.now c.in-1-eq1-eq1.is-1 c.in-1-eq1-eq1.is-2 (omega arith) c.requires.a c.requires.b)
+
+pub returns-in-1-eq1-eq0 : goal.returns-in-1-eq1-eq0
+returns-in-1-eq1-eq0 c =
+    let old = c.args.words.now in
+    run_added wrapping_add _ c.args.out.first c.args.out.step c.args.n old c.mul_add_scaled.new.words _ c.mul_add_scaled.ensures c.in-1-eq1-eq0.is-0 (omega arith) c.requires.out
+    (mapped_values (wrapping_mul (slice_index old c.args.b.first)) _ c.args.a.first c.args.a.step c.args.n old c.in-1-eq1-eq0.is-1 (omega arith) c.requires.a
+    (λ t. steady_swapped wrapping_mul (slice_index old) c.args.b.first t c.args.b.step _ c.in-1-eq1-eq0.is-2 (wrapping_mul_comm _ _)))
+
+pub returns-in-1-eq0-eq1 : goal.returns-in-1-eq0-eq1
+returns-in-1-eq0-eq1 c =
+    let old = c.args.words.now in
+    run_added wrapping_add _ c.args.out.first c.args.out.step c.args.n old c.mul_add_scaled-in-1-eq0-eq1.new.words _ c.mul_add_scaled-in-1-eq0-eq1.ensures c.in-1-eq0-eq1.is-0 (omega arith) c.requires.out
+    (mapped_values (wrapping_mul (slice_index old c.args.a.first)) _ c.args.b.first c.args.b.step c.args.n old c.in-1-eq0-eq1.is-2 (omega arith) c.requires.b
+    (λ t. steady_left wrapping_mul (slice_index old) c.args.a.first t c.args.a.step _ c.in-1-eq0-eq1.is-1))

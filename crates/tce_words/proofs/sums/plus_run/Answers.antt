@@ -1,0 +1,36 @@
+use Rattle.std.proofs.Common.{slice_index, arith}
+use Rattle.tce_base.specs.Word.{wrapping_add}
+use Rattle.tce_words.proofs.RunSteps.{one_before_other, run_joined, run_mapped, steady_left, steady_swapped}
+use Rattle.tce_words.proofs.WordSteps.{wrapping_add_comm}
+use Rattle.tce_words.proofs.sums.plus_run.Goals as goal
+
+pub plus_contiguous-requires-clause-apart_from_a : goal.plus_contiguous-requires-clause-apart_from_a
+plus_contiguous-requires-clause-apart_from_a c = one_before_other c.args.out.first c.args.out.step c.args.a.first c.args.a.step c.args.n c.in-1-eq1-eq1.is-0 c.in-1-eq1-eq1.is-1 (omega arith) c.requires.apart_from_a
+
+pub plus_contiguous-requires-clause-apart_from_b : goal.plus_contiguous-requires-clause-apart_from_b
+plus_contiguous-requires-clause-apart_from_b c = one_before_other c.args.out.first c.args.out.step c.args.b.first c.args.b.step c.args.n c.in-1-eq1-eq1.is-0 c.in-1-eq1-eq1.is-2 (omega arith) c.requires.apart_from_b
+
+pub plus_one-requires-clause-apart : goal.plus_one-requires-clause-apart
+plus_one-requires-clause-apart c = one_before_other c.args.out.first c.args.out.step c.args.a.first c.args.a.step c.args.n c.in-1-eq1-eq0.is-0 c.in-1-eq1-eq0.is-1 (omega arith) c.requires.apart_from_a
+
+pub plus_one-requires-in-1-eq0-eq1-clause-apart : goal.plus_one-requires-in-1-eq0-eq1-clause-apart
+plus_one-requires-in-1-eq0-eq1-clause-apart c = one_before_other c.args.out.first c.args.out.step c.args.b.first c.args.b.step c.args.n c.in-1-eq0-eq1.is-0 c.in-1-eq0-eq1.is-2 (omega arith) c.requires.apart_from_b
+
+pub returns-in-1-eq1-eq1 : goal.returns-in-1-eq1-eq1
+returns-in-1-eq1-eq1 c =
+    run_joined wrapping_add c.args.out.first c.args.out.step c.args.a.first c.args.a.step c.args.b.first c.args.b.step c.args.n c.args.words.now c.plus_contiguous.new.words c.plus_contiguous.ensures
+    c.in-1-eq1-eq1.is-0 c.in-1-eq1-eq1.is-1 c.in-1-eq1-eq1.is-2 (omega arith) c.requires.out c.requires.a c.requires.b
+
+pub returns-in-1-eq1-eq0 : goal.returns-in-1-eq1-eq0
+returns-in-1-eq1-eq0 c =
+    let old = c.args.words.now in
+    run_mapped (wrapping_add (slice_index old c.args.b.first)) _ c.args.out.first c.args.out.step c.args.a.first c.args.a.step c.args.n old c.plus_one.new.words c.plus_one.ensures
+    c.in-1-eq1-eq0.is-0 c.in-1-eq1-eq0.is-1 (omega arith) c.requires.out c.requires.a
+    (λ t. steady_swapped wrapping_add (slice_index old) c.args.b.first t c.args.b.step _ c.in-1-eq1-eq0.is-2 (wrapping_add_comm _ _))
+
+pub returns-in-1-eq0-eq1 : goal.returns-in-1-eq0-eq1
+returns-in-1-eq0-eq1 c =
+    let old = c.args.words.now in
+    run_mapped (wrapping_add (slice_index old c.args.a.first)) _ c.args.out.first c.args.out.step c.args.b.first c.args.b.step c.args.n old c.plus_one-in-1-eq0-eq1.new.words c.plus_one-in-1-eq0-eq1.ensures
+    c.in-1-eq0-eq1.is-0 c.in-1-eq0-eq1.is-2 (omega arith) c.requires.out c.requires.b
+    (λ t. steady_left wrapping_add (slice_index old) c.args.a.first t c.args.a.step _ c.in-1-eq0-eq1.is-1)

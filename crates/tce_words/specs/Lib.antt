@@ -1,0 +1,9 @@
+pub mod Block
+pub mod Load
+pub mod Memory
+pub mod PlacesLends
+pub mod Refusing
+pub mod Run
+pub mod RunLaws
+pub mod Whole
+pub mod WordsLends

@@ -1,0 +1,29 @@
+//! Where a run goes over a slice of words, and the parts of a slice beside the one that is written.
+ghost use Rattle.std.specs.Prelude.{ℕ, List, ◌≡◌, ◌++◌, ◌+◌, ◌≤◌, ◌⊎◌, length, slice_range};
+
+// The places from the first on, each a step after the one before.
+#[derive(Clone, Copy)]
+pub(crate) struct Run {
+    pub(crate) first: usize,
+    pub(crate) step: usize,
+}
+
+// The n words from `at` on, where the n from `out` on were split off. The clause names those by `middle`.
+pub(crate) fn part<'a>(
+    front: &'a [u64],
+    back: &'a [u64],
+    out: usize,
+    at: usize,
+    n: usize,
+) -> &'a [u64]
+    requires front { length front.now ≡ out }
+    requires back { at + n ≤ out + n + length back.now }
+    requires apart { (at + n ≤ out) ⊎ (out + n ≤ at) }
+    ensures { (middle : List ℕ) → length middle ≡ n → result.now ≡ slice_range (front.now ++ (middle ++ back.now)) at (at + n) }
+{
+    if at < out {
+        &front[at..at + n]
+    } else {
+        &back[at - out - n..at - out]
+    }
+}
