@@ -1,0 +1,12 @@
+pub mod Leads
+pub mod Walks
+pub mod ScopeLaws
+pub mod Carried
+pub mod Standard
+pub mod Illegal
+pub mod Tops
+pub mod Inserting
+pub mod Checking
+pub mod SizeLaws
+pub mod Pushed
+pub mod Worked

@@ -1,0 +1,4 @@
+pub mod Scope
+pub mod Tops
+pub mod Memory
+pub mod Examples
