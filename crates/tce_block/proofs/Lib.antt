@@ -1,0 +1,10 @@
+pub mod Cover
+pub mod Carry
+pub mod Dimensions
+pub mod Beginning
+pub mod Next
+pub mod Words
+pub mod BoxSums
+pub mod LastBlocks
+pub mod Worked
+pub mod Fitting

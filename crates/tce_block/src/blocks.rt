@@ -1,0 +1,94 @@
+// The blocks of a box, one after the other.
+ghost use Rattle.std.specs.Prelude.{◌≡◌, ℕ, ◌+◌, ◌*◌, List, length, drop, slice_get};
+ghost use Rattle.std.specs.List.{All};
+ghost use Rattle.std.specs.Option.{option_map};
+ghost use Rattle.tce_block.specs.Parts.{Part, block, blocks};
+ghost use Rattle.tce_block.specs.Numbers.{IsNumbered};
+ghost use Rattle.tce_block.specs.Cuts.{IsCut, extents_of, edges_of, part_of};
+
+use crate::cut::{Block, Cut};
+use crate::numbers::advance;
+use arrayvec::ArrayVec;
+use std::marker::Model;
+
+/// The blocks of a box that are still to come. Contracts see them as the list of these blocks; no block is kept.
+#[derive(Drop)]
+pub struct Blocks {
+    extents: ArrayVec<u64, 10>,
+    edges: ArrayVec<u64, 10>,
+    counts: ArrayVec<u64, 10>,
+    numbers: ArrayVec<u64, 10>,
+    finished: bool,
+}
+
+impl Model for Blocks {
+    ghost use Rattle.std.specs.Prelude.{List};
+    ghost use Rattle.tce_block.specs.Parts.{Part};
+
+    ghost Value = { List Part };
+
+    ghost use Rattle.tce_block.specs.Inside.{blocks_left, IsRight};
+
+    ghost view = { blocks_left };
+
+    ghost invariant = { IsRight };
+}
+
+impl Blocks {
+    /// All blocks of the box with these loops, in row-major order of their numbers: the last loop is the fastest.
+    ///
+    /// In each dimension the block with the number `b`, counted from 0, begins at `b * edge` and ends before the
+    /// lesser of `(b + 1) * edge` and the extent. Without cuts there is one block, which has no dimensions. The
+    /// indexes of the cuts do not matter here.
+    pub fn new(cuts: &ArrayVec<Cut, 10>) -> Self
+        requires { All IsCut cuts.now.items }
+        ensures { result ≡ blocks (extents_of cuts.now.items) (edges_of cuts.now.items) }
+    {
+        let mut extents = ArrayVec::new();
+        let mut edges = ArrayVec::new();
+        let mut counts = ArrayVec::new();
+        let mut numbers = ArrayVec::new();
+        for cut in cuts.as_slice() {
+            extents.push(cut.extent);
+            edges.push(cut.edge);
+            counts.push(cut.extent.div_ceil(cut.edge));
+            numbers.push(0);
+        }
+        Self {
+            extents,
+            edges,
+            counts,
+            numbers,
+            finished: false,
+        }
+    }
+
+    /// The next block, or `None` exactly after the last one, however often it is asked.
+    pub fn next(&mut self) -> Option<Block>
+        ensures block { option_map part_of result ≡ slice_get self.old 0 }
+        ensures rest { self.new ≡ drop 1 self.old }
+    {
+        if self.finished {
+            return None;
+        }
+        let block = block_at(&self.extents, &self.edges, &self.numbers);
+        self.finished = advance(&mut self.numbers, &self.counts);
+        Some(block)
+    }
+}
+
+// The block with these numbers.
+fn block_at(extents: &[u64], edges: &[u64], numbers: &[u64]) -> Block
+    requires { IsNumbered extents.now edges.now numbers.now }
+    ensures { part_of result ≡ block extents.now edges.now numbers.now }
+{
+    let mut from = ArrayVec::new();
+    let mut len = ArrayVec::new();
+    for d in 0..numbers.len() {
+        let first = numbers[d] * edges[d];
+        let end = (first + edges[d]).min(extents[d]);
+        from.push(first);
+        len.push(end - first);
+    }
+    Block { from, len }
+}
