@@ -1,0 +1,14 @@
+pub mod Formulas
+pub mod Sound
+pub mod Statements
+pub mod OneReading
+pub mod Lists
+pub mod Chains
+pub mod Pieces
+pub mod FirstLines
+pub mod Letters
+pub mod TokenTexts
+pub mod Printed
+pub mod WrittenForms
+pub mod CanonicalLines
+pub mod ExampleReadings

@@ -1,0 +1,11 @@
+pub mod Lines
+pub mod Tokens
+pub mod Formula
+pub mod Grammar
+pub mod Reading
+pub mod Printed
+pub mod Canonical
+pub mod Code
+pub mod PrinterCode
+pub mod Laws
+pub mod Examples

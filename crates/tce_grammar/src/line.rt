@@ -1,0 +1,51 @@
+ghost use Rattle.std.specs.Prelude.{◌≡◌, IfOk};
+ghost use Rattle.tce_grammar.specs.Code.{line};
+ghost use Rattle.tce_grammar.specs.Grammar.{IsLine};
+ghost use Rattle.tce_grammar.specs.Grammar as grammar;
+ghost use Rattle.tce_grammar.specs.Reading.{line_of};
+
+use crate::lines::without_comment;
+use crate::read_error::ReadError;
+use crate::statement::{Statement, read_statement};
+use crate::tokenizer::tokens;
+use std::alloc::{AllocError, Global};
+
+/// What a line is.
+#[derive(Drop)]
+pub enum Line<'a> {
+    /// It has blanks and a comment at most.
+    Skipped,
+    /// It is not skipped, and has none of the four forms.
+    Bad,
+    Says(Statement<'a>),
+}
+
+/// Reads a line, which has no line feed: its tokens up to a `#`, and then what they say.
+///
+/// `Err` exactly where memory runs out.
+pub fn read_line<'a>(alloc: Global, text: &'a [u8]) -> Result<Line<'a>, AllocError>
+    ensures is_line { IfOk result (λ read. IsLine text.now (line read)) }
+    ensures nothing_else { IfOk result (λ read. (other : grammar.Line) → IsLine text.now other → other ≡ line read) }
+{
+    read_tokens(alloc, text)
+}
+
+/// The line that is read from its tokens, from the left.
+#[tactic(auto, unfolding(crate::specs::Reading::line_of))]
+fn read_tokens<'a>(alloc: Global, text: &'a [u8]) -> Result<Line<'a>, AllocError>
+    ensures { IfOk result (λ read. line read ≡ line_of text.now) }
+{
+    let found = match tokens(alloc, without_comment(text)) {
+        Ok(found) => found,
+        Err(ReadError::Form) => return Ok(Line::Bad),
+        Err(ReadError::Memory) => return Err(AllocError),
+    };
+    if found.is_empty() {
+        return Ok(Line::Skipped);
+    }
+    match read_statement(alloc, found.as_slice()) {
+        Ok(statement) => Ok(Line::Says(statement)),
+        Err(ReadError::Form) => Ok(Line::Bad),
+        Err(ReadError::Memory) => Err(AllocError),
+    }
+}

@@ -1,0 +1,191 @@
+//! Formulas, read from the tokens of a line.
+
+ghost use Rattle.std.specs.Prelude.{◌≡◌, ◌≢◌, ◌<◌, ◌+◌, ◌*◌, ℕ, length, map, option_map, IfOk, IfSome};
+ghost use Rattle.tce_grammar.specs.Code.{Gives, token, operator, names, formula};
+ghost use Rattle.tce_grammar.specs.Reading.{ahead, behind, names_at, brackets_at, times_of, plus_of, chain_at, factor_within, formula_within, enclosed_within};
+
+use crate::formula::{Formula, Operator};
+use crate::name::SUM;
+use crate::read_error::ReadError;
+use crate::token::Token;
+use std::alloc::Global;
+use tce_space::is_name;
+
+/// The tokens behind this symbol.
+pub(crate) fn behind<'a, 'b>(symbol: u8, tokens: &'b [Token<'a>]) -> Option<&'b [Token<'a>]>
+    ensures read { option_map (λ rest. map token rest.now) result ≡ behind symbol (map token tokens.now) }
+    ensures shorter { IfSome result (λ rest. length rest.now < length tokens.now) }
+{
+    match tokens {
+        [Token::Symbol(first), rest @ ..] if *first == symbol => Some(rest),
+        _ => None,
+    }
+}
+
+/// A sign of a product at the front, and the tokens behind it.
+fn times_ahead<'a, 'b>(tokens: &'b [Token<'a>]) -> Option<(Operator, &'b [Token<'a>])>
+    ensures read { option_map (λ r. (operator r.0, map token r.1.now)) result ≡ ahead times_of (map token tokens.now) }
+    ensures shorter { IfSome result (λ r. length r.1.now < length tokens.now) }
+{
+    match tokens {
+        [Token::Symbol(b'*'), rest @ ..] => Some((Operator::Times, rest)),
+        _ => None,
+    }
+}
+
+/// A sign of a sum or difference at the front, and the tokens behind it.
+fn plus_ahead<'a, 'b>(tokens: &'b [Token<'a>]) -> Option<(Operator, &'b [Token<'a>])>
+    ensures read { option_map (λ r. (operator r.0, map token r.1.now)) result ≡ ahead plus_of (map token tokens.now) }
+    ensures shorter { IfSome result (λ r. length r.1.now < length tokens.now) }
+{
+    match tokens {
+        [Token::Symbol(b'+'), rest @ ..] => Some((Operator::Plus, rest)),
+        [Token::Symbol(b'-'), rest @ ..] => Some((Operator::Minus, rest)),
+        _ => None,
+    }
+}
+
+/// One or more names with commas between them, up to the closing symbol.
+fn names_up_to<'a, 'b>(
+    alloc: Global,
+    close: u8,
+    tokens: &'b [Token<'a>],
+) -> Result<(Vec<&'a [u8]>, &'b [Token<'a>]), ReadError>
+    ensures read { Gives (λ r. (names r.0.items, map token r.1.now)) result (names_at close (map token tokens.now)) }
+    ensures shorter { IfOk result (λ r. length r.1.now < length tokens.now) }
+{
+    let mut found = Vec::new(alloc);
+    let mut rest = tokens;
+    while let [Token::Word(name), Token::Symbol(symbol), behind @ ..] = rest {
+        if !is_name(name) {
+            return Err(ReadError::Form);
+        }
+        found.push(*name)?;
+        rest = behind;
+        if *symbol != b',' {
+            return if *symbol == close {
+                Ok((found, rest))
+            } else {
+                Err(ReadError::Form)
+            };
+        }
+    }
+    Err(ReadError::Form)
+}
+
+/// Names in brackets, or none.
+pub(crate) fn brackets<'a, 'b>(
+    alloc: Global,
+    tokens: &'b [Token<'a>],
+) -> Result<(Vec<&'a [u8]>, &'b [Token<'a>]), ReadError>
+    ensures read { Gives (λ r. (names r.0.items, map token r.1.now)) result (brackets_at (map token tokens.now)) }
+    ensures shorter { IfOk result (λ r. length r.1.now < length tokens.now) }
+{
+    let inner = behind(b'[', tokens).ok_or(ReadError::Form)?;
+    match behind(b']', inner) {
+        Some(rest) => Ok((Vec::new(alloc), rest)),
+        None => names_up_to(alloc, b']', inner),
+    }
+}
+
+/// Factors with `*` between them.
+#[cycle(parser)]
+#[tactic(auto, unfolding(crate::specs::Reading::chain_at))]
+fn product<'a, 'b>(
+    alloc: Global,
+    open_left: u8,
+    tokens: &'b [Token<'a>],
+) -> Result<(Formula<'a>, &'b [Token<'a>]), ReadError>
+    ensures read { Gives (λ r. (formula r.0, map token r.1.now)) result (chain_at times_of (factor_within open_left) (map token tokens.now)) }
+    ensures shorter { IfOk result (λ r. length r.1.now < length tokens.now) }
+{
+    let (mut left, mut rest) = factor(alloc, open_left, tokens)?;
+    while let Some((operator, behind)) = times_ahead(rest) {
+        let (right, after) = factor(alloc, open_left, behind)?;
+        left = Formula::Binary {
+            operator,
+            left: Box::new(alloc, left)?,
+            right: Box::new(alloc, right)?,
+        };
+        rest = after;
+    }
+    Ok((left, rest))
+}
+
+/// Products with `+` and `-` between them.
+#[cycle(parser)]
+#[tactic(auto, unfolding(crate::specs::Reading::chain_at))]
+pub(crate) fn expression<'a, 'b>(
+    alloc: Global,
+    open_left: u8,
+    tokens: &'b [Token<'a>],
+) -> Result<(Formula<'a>, &'b [Token<'a>]), ReadError>
+    ensures read { Gives (λ r. (formula r.0, map token r.1.now)) result (formula_within open_left (map token tokens.now)) }
+    ensures shorter { IfOk result (λ r. length r.1.now < length tokens.now) }
+{
+    let (mut left, mut rest) = product(alloc, open_left, tokens)?;
+    while let Some((operator, behind)) = plus_ahead(rest) {
+        let (right, after) = product(alloc, open_left, behind)?;
+        left = Formula::Binary {
+            operator,
+            left: Box::new(alloc, left)?,
+            right: Box::new(alloc, right)?,
+        };
+        rest = after;
+    }
+    Ok((left, rest))
+}
+
+/// What stands behind an open parenthesis, which is one of those left.
+#[cycle(parser)]
+#[tactic(auto, using(crate::proofs::Chains::enclosed_none, crate::proofs::Chains::enclosed_some))]
+fn enclosed<'a, 'b>(
+    alloc: Global,
+    open_left: u8,
+    tokens: &'b [Token<'a>],
+) -> Result<(Formula<'a>, &'b [Token<'a>]), ReadError>
+    ensures read { Gives (λ r. (formula r.0, map token r.1.now)) result (enclosed_within open_left (map token tokens.now)) }
+    ensures shorter { IfOk result (λ r. length r.1.now < length tokens.now) }
+{
+    if open_left == 0 {
+        return Err(ReadError::Form);
+    }
+    let (inner, rest) = expression(alloc, open_left - 1, tokens)?;
+    let rest = behind(b')', rest).ok_or(ReadError::Form)?;
+    Ok((inner, rest))
+}
+
+/// A tensor, a constant, a sum, or an expression in parentheses.
+#[cycle(parser)]
+fn factor<'a, 'b>(
+    alloc: Global,
+    open_left: u8,
+    tokens: &'b [Token<'a>],
+) -> Result<(Formula<'a>, &'b [Token<'a>]), ReadError>
+    ensures read { Gives (λ r. (formula r.0, map token r.1.now)) result (factor_within open_left (map token tokens.now)) }
+    ensures shorter { IfOk result (λ r. length r.1.now < length tokens.now) }
+{
+    match tokens {
+        [Token::Number(digits), rest @ ..] => Ok((Formula::Constant(*digits), rest)),
+        [Token::Symbol(b'('), rest @ ..] => enclosed(alloc, open_left, rest),
+        [Token::Word(word), rest @ ..] if *word == SUM => {
+            let rest = behind(b'{', rest).ok_or(ReadError::Form)?;
+            let (indexes, rest) = names_up_to(alloc, b'}', rest)?;
+            let rest = behind(b'(', rest).ok_or(ReadError::Form)?;
+            let (operand, rest) = enclosed(alloc, open_left, rest)?;
+            let operand = Box::new(alloc, operand)?;
+            Ok((Formula::Sum { indexes, operand }, rest))
+        }
+        [Token::Word(word), rest @ ..] if is_name(*word) => {
+            let (indexes, rest) = brackets(alloc, rest)?;
+            Ok((
+                Formula::Tensor {
+                    name: *word,
+                    indexes,
+                },
+                rest,
+            ))
+        }
+        _ => Err(ReadError::Form),
+    }
+}

@@ -1,0 +1,164 @@
+//! The four forms of a line.
+
+ghost use Rattle.std.specs.Prelude.{◌≡◌, ◌<◌, ℕ, length, map, option_map, IfOk, codes};
+ghost use Rattle.tce_grammar.specs.Code.{Gives, token, names, formula, statement};
+ghost use Rattle.tce_grammar.specs.Reading.{range_of, index_of, all_names, declaration_of, formula_of, statement_of};
+
+use crate::formula::Formula;
+use crate::name::{INDEX, RANGE, TENSOR, TILE};
+use crate::parser::{behind, brackets, expression};
+use crate::read_error::ReadError;
+use crate::token::Token;
+use std::alloc::Global;
+use tce_space::is_name;
+
+/// How many parentheses may be open at once.
+const OPEN_LIMIT: u8 = 64;
+
+/// What a line says, with the names and the digits of its text.
+#[derive(Drop)]
+pub enum Statement<'a> {
+    /// `range NAME EXTENT` or `range NAME EXTENT tile EDGE`, with the digits of both numbers.
+    Range {
+        name: &'a [u8],
+        extent: &'a [u8],
+        edge: Option<&'a [u8]>,
+    },
+    /// `index RANGE NAME NAME ..`, with one index or more.
+    Index {
+        range: &'a [u8],
+        indexes: Vec<&'a [u8]>,
+    },
+    /// `tensor NAME[RANGE,RANGE,..]`.
+    Tensor {
+        name: &'a [u8],
+        ranges: Vec<&'a [u8]>,
+    },
+    /// `RESULT[INDEX,INDEX,..] = FORMULA`.
+    Formula {
+        result: &'a [u8],
+        indexes: Vec<&'a [u8]>,
+        formula: Formula<'a>,
+    },
+}
+
+/// A range, behind its first word.
+fn read_range<'a>(tokens: &[Token<'a>]) -> Result<Statement<'a>, ReadError>
+    ensures { Gives statement result (range_of (map token tokens.now)) }
+{
+    match tokens {
+        [Token::Word(name), Token::Number(extent)] if is_name(*name) => {
+            Ok(Statement::Range {
+                name: *name,
+                extent: *extent,
+                edge: None,
+            })
+        }
+        [
+            Token::Word(name),
+            Token::Number(extent),
+            Token::Word(tile),
+            Token::Number(edge),
+        ] if is_name(*name) && *tile == TILE => {
+            Ok(Statement::Range {
+                name: *name,
+                extent: *extent,
+                edge: Some(*edge),
+            })
+        }
+        _ => Err(ReadError::Form),
+    }
+}
+
+/// Names alone.
+fn all_names<'a>(alloc: Global, tokens: &[Token<'a>]) -> Result<Vec<&'a [u8]>, ReadError>
+    ensures { Gives (λ v. names v.items) result (all_names (map token tokens.now)) }
+{
+    let mut found = Vec::new(alloc);
+    let mut rest = tokens;
+    while let [first, behind @ ..] = rest {
+        match first {
+            Token::Word(name) if is_name(*name) => found.push(*name)?,
+            _ => return Err(ReadError::Form),
+        }
+        rest = behind;
+    }
+    Ok(found)
+}
+
+/// Indexes of a range, behind their first word.
+fn read_index<'a>(alloc: Global, tokens: &[Token<'a>]) -> Result<Statement<'a>, ReadError>
+    ensures { Gives statement result (index_of (map token tokens.now)) }
+{
+    match tokens {
+        [Token::Word(range), rest @ ..] if is_name(*range) && !rest.is_empty() => {
+            Ok(Statement::Index {
+                range: *range,
+                indexes: all_names(alloc, rest)?,
+            })
+        }
+        _ => Err(ReadError::Form),
+    }
+}
+
+/// A tensor, behind its first word.
+fn read_tensor<'a>(alloc: Global, tokens: &[Token<'a>]) -> Result<Statement<'a>, ReadError>
+    ensures { Gives statement result (declaration_of (map token tokens.now)) }
+{
+    match tokens {
+        [Token::Word(name), rest @ ..] if is_name(*name) => {
+            let (ranges, rest) = brackets(alloc, rest)?;
+            if rest.is_empty() {
+                Ok(Statement::Tensor {
+                    name: *name,
+                    ranges,
+                })
+            } else {
+                Err(ReadError::Form)
+            }
+        }
+        _ => Err(ReadError::Form),
+    }
+}
+
+/// The formula, behind the name of its result.
+fn read_formula<'a>(
+    alloc: Global,
+    result_name: &'a [u8],
+    tokens: &[Token<'a>],
+) -> Result<Statement<'a>, ReadError>
+    ensures { Gives statement result (formula_of result_name.now (map token tokens.now)) }
+{
+    if !is_name(result_name) {
+        return Err(ReadError::Form);
+    }
+    let (indexes, rest) = brackets(alloc, tokens)?;
+    let rest = behind(b'=', rest).ok_or(ReadError::Form)?;
+    let (formula, rest) = expression(alloc, OPEN_LIMIT, rest)?;
+    if rest.is_empty() {
+        Ok(Statement::Formula {
+            result: result_name,
+            indexes,
+            formula,
+        })
+    } else {
+        Err(ReadError::Form)
+    }
+}
+
+/// The statement of a line.
+#[tactic(auto, unfolding(crate::specs::Reading::statement_of))]
+pub(crate) fn read_statement<'a>(
+    alloc: Global,
+    tokens: &[Token<'a>],
+) -> Result<Statement<'a>, ReadError>
+    ensures { Gives statement result (statement_of (map token tokens.now)) }
+{
+    match tokens {
+        [Token::Word(word), rest @ ..] if *word == RANGE => read_range(rest),
+        [Token::Word(word), rest @ ..] if *word == INDEX => read_index(alloc, rest),
+        [Token::Word(word), rest @ ..] if *word == TENSOR => read_tensor(alloc, rest),
+        [Token::Word(word), rest @ ..] => read_formula(alloc, *word, rest),
+        _ => Err(ReadError::Form),
+    }
+}
