@@ -1,2 +1,3 @@
-pub mod Texts
-pub mod Numbers
+pub mod Reading
+pub mod Kept
+pub mod Seen

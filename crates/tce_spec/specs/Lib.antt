@@ -1,2 +1,6 @@
-pub mod Number
-pub mod Outer
+pub mod Specification
+pub mod SpecCode
+pub mod Operands
+pub mod Outcome
+pub mod OutcomeCode
+pub mod Laws

@@ -1,10 +1,16 @@
-//! Specifications: the reader of their one form so far, the outer product of two vectors, and the reader of number words.
+//! Specifications: declared ranges, indexes and tensors, and one formula over them.
 //!
-//! The form stands in `specs/Outer.antt`.
+//! [`read_spec`] reads a text. What a text specifies, or with which fault it is refused, is `specs/Outcome.antt`: the
+//! first line with a fault decides. A [`Spec`] is seen as a `Specification` (`specs/Specification.antt`), and each keeps
+//! the rules that stand there.
 #![tactic(auto)]
 
-mod number;
+mod laws;
+mod operands;
 mod spec;
+#[cfg(test)]
+mod tests;
 
-pub use number::read_number;
-pub use spec::{Spec, SpecFault, read_spec};
+pub use laws::every_text_has_one_outcome;
+pub use spec::{Spec, read_spec};
+pub use tce_declarations::{Limit, SpecFault, Tensor};

@@ -1,70 +1,158 @@
-// The reader of specifications.
-ghost use Rattle.std.specs.Prelude.{◌≡◌, ◌≢◌, ◌≤◌, ◌++◌, ℕ, List, MatchOption, IfOk, IfErr};
-ghost use Rattle.tce_spec.specs.Outer.{IsOuter, outer_head, outer_tail};
+//! A specification, and its reader.
 
-use crate::read_number;
+ghost use Rattle.std.specs.Prelude.{◌≡◌, ◌<◌, ◌≤◌, length, Result, IfOk};
+ghost use Rattle.tce_space.specs.Space.{tiling_of};
+ghost use Rattle.tce_space.specs.Tiling.{tile_words};
+ghost use Rattle.tce_tree.specs.Expr.{tree_of};
+ghost use Rattle.tce_declarations.specs.Declarations.{HaveNames, tensor_number, tensor_at};
+ghost use Rattle.tce_declarations.specs.Faults.{Fault};
+ghost use Rattle.tce_spec.specs.Specification.{Specification as SpecificationOfText, IsSpecification};
+ghost use Rattle.tce_spec.specs.Operands.{operands, largest_tile, shape_of};
+ghost use Rattle.tce_spec.specs.Outcome.{IsOutcome};
+ghost use Rattle.tce_spec.specs.OutcomeCode.{Answers};
+
+use crate::operands::add_operands;
+use arrayvec::ArrayVec;
 use std::alloc::Global;
-use thiserror::Error;
+use std::marker::Model;
+use tce_declarations::{Declarations, SpecFault, Tensor, check_rest, read_head};
+use tce_formula::{Contraction, read_formula};
+use tce_space::Space;
+use tce_tree::{Expr, Leaf, Tree};
 
-/// A specification: the outer product `C[i,j] = A[i] * B[j]` of two vectors of one extent.
+/// Declared ranges, indexes and tensors, and a formula over them with its tree.
 #[derive(Drop)]
 pub struct Spec {
-    extent: u64,
-    ghost in_range: { (1 ≤ extent) × (extent ≤ 1000) },
+    declarations: Declarations,
+    contraction: Contraction,
 }
 
-/// Why a text is refused.
-#[derive(Clone, Copy, Debug, PartialEq, Eq, Error)]
-pub enum SpecFault {
-    /// The text, or what stands beside it, is no run that is built yet.
-    #[error("not built yet")]
-    NotBuilt,
-    /// There was no memory.
-    #[error("want of memory")]
-    Memory,
+impl Model for Spec {
+    ghost use Rattle.std.specs.Coded.{codes};
+    ghost use Rattle.tce_tree.specs.TreeCode.{tree_code};
+    ghost use Rattle.tce_spec.specs.Specification.{Specification};
+
+    ghost Value = { Specification };
+
+    ghost coded = { Prim.hlevel (codes, tree_code) };
+
+    ghost use Rattle.tce_spec.specs.SpecCode.{specification_of, IsKept};
+
+    ghost view = { λ s. specification_of s.declarations s.contraction };
+
+    ghost invariant = { λ s. IsKept s.declarations s.contraction };
 }
-
-const SMALLEST_EXTENT: u64 = 1;
-
-const LARGEST_EXTENT: u64 = 1000;
-
-const HEAD: &[u8] = b"range N ";
-
-const TAIL: &[u8] =
-    b"\nindex N i j\ntensor A[N]\ntensor B[N]\ntensor C[N,N]\nC[i,j] = A[i] * B[j]\n";
 
 impl Spec {
-    /// The extent of the one range, from 1 to 1000.
-    pub fn extent(&self) -> u64
-        ensures value { result ≡ self.now.extent }
-        ensures bounds { (1 ≤ result) × (result ≤ 1000) }
+    /// The declared ranges and indexes.
+    pub fn space(&self) -> &Space
+        ensures space { result.now ≡ self.now.declarations.space }
+        ensures rules { IsSpecification self.now }
     {
-        self.extent
+        self.declarations.space()
+    }
+
+    /// The tree of the formula.
+    pub fn tree(&self) -> &Tree
+        ensures tree { result.now ≡ self.now.tree }
+        ensures rules { IsSpecification self.now }
+    {
+        &self.contraction.tree
+    }
+
+    /// The tensor that is computed, with an index for each of its dimensions.
+    pub fn result(&self) -> &Leaf
+        ensures tensor { result.now.tensor ≡ self.now.result }
+        ensures indexes { result.now.indexes.items ≡ self.now.indexes }
+        ensures rules { IsSpecification self.now }
+    {
+        &self.contraction.result
+    }
+
+    /// The elements of the result, by those of the operands.
+    pub fn expr(&self) -> &Expr
+        ensures expr { tree_of result.now ≡ self.now.tree }
+        ensures rules { IsSpecification self.now }
+    {
+        &self.contraction.expr
+    }
+
+    /// How many tensors are declared.
+    pub fn tensor_count(&self) -> u8
+        ensures { result ≡ length self.now.declarations.tensors }
+    {
+        self.declarations.tensor_count()
+    }
+
+    /// A declared tensor by its number.
+    pub fn tensor(&self, t: u8) -> &Tensor
+        requires { t < length self.now.declarations.tensors }
+        ensures name { result.now.name.bytes ≡ (tensor_at self.now.declarations t).name }
+        ensures ranges { result.now.ranges.items ≡ (tensor_at self.now.declarations t).ranges }
+        ensures shape { result.now.shape ≡ tiling_of self.now.declarations.space (tensor_at self.now.declarations t).ranges }
+    {
+        self.declarations.tensor(t)
+    }
+
+    /// The number of the tensor with this name. `None` exactly where no tensor has it.
+    pub fn tensor_named(&self, name: &str) -> Option<u8>
+        ensures { result ≡ tensor_number self.now.declarations.tensors name.now }
+    {
+        self.declarations.tensor_named(name)
+    }
+
+    /// The numbers of the tensors of the formula, by their first place from the left, each once.
+    pub fn operands(&self) -> ArrayVec<u8, 32>
+        ensures { result.items ≡ operands self.now }
+    {
+        let mut seen = ArrayVec::new();
+        add_operands(&mut seen, &self.contraction.expr);
+        seen
+    }
+
+    /// The words of the largest tile of the operands and the result.
+    pub fn largest_tile(&self) -> u64
+        ensures { result ≡ largest_tile self.now }
+    {
+        let operands = self.operands();
+        let mut largest = self.tile_words(self.contraction.result.tensor);
+        for t in operands.as_slice() {
+            largest = largest.max(self.tile_words(*t));
+        }
+        largest
+    }
+
+    /// The words of a tile of a tensor.
+    fn tile_words(&self, t: u8) -> u64
+        requires { t < length self.now.declarations.tensors }
+        ensures { result ≡ tile_words (shape_of self.now t) }
+    {
+        self.tensor(t).shape.tile_words()
     }
 }
 
-// What stands between the two fixed parts of the text.
-fn middle(text: &[u8]) -> Option<&[u8]>
-    ensures { MatchOption result ((d : List ℕ) → text.now ≢ outer_head ++ (d ++ outer_tail)) (λ d. text.now ≡ outer_head ++ (d.now ++ outer_tail)) }
-{
-    text.strip_prefix(HEAD)?.strip_suffix(TAIL)
-}
-
-/// Reads a specification: the text of the outer product with an extent from 1 to 1000, byte for byte.
+/// Reads a specification.
 ///
-/// Any other text is `NotBuilt`. No memory is taken so far.
-pub fn read_spec(_alloc: Global, text: &[u8]) -> Result<Spec, SpecFault>
-    ensures read { IfOk result (λ spec. IsOuter text.now spec.extent) }
-    ensures refused { IfErr result (λ fault. (fault ≡ SpecFault.NotBuilt) × ((n : ℕ) → IsOuter text.now n → ⊥)) }
+/// `TooLong` where the text has more than 65,536 bytes. Else the first line with a fault decides, and on one line the
+/// first fault in the order of [`SpecFault`]. The numbers kept in faults are those of lines, from 1.
+pub fn read_spec(alloc: Global, text: &[u8]) -> Result<Spec, SpecFault>
+    ensures answers { (found : Result SpecificationOfText Fault) → IsOutcome text.now found → Answers found result }
+    ensures names { IfOk result (λ s. HaveNames s.declarations.tensors) }
 {
-    let Some(digits) = middle(text) else {
-        return Err(SpecFault::NotBuilt);
-    };
-    let Some(extent) = read_number(digits) else {
-        return Err(SpecFault::NotBuilt);
-    };
-    if extent < SMALLEST_EXTENT || extent > LARGEST_EXTENT {
-        return Err(SpecFault::NotBuilt);
-    }
-    Ok(Spec { extent })
+    let head = read_head(alloc, text)?;
+    // Declarations keep their rules.
+    let _space = head.declarations.space();
+    let contraction = read_formula(
+        alloc,
+        head.line,
+        &head.declarations,
+        head.result,
+        head.indexes.as_slice(),
+        &head.formula,
+    )?;
+    check_rest(alloc, head.line + 1, head.rest)?;
+    Ok(Spec {
+        declarations: head.declarations,
+        contraction,
+    })
 }

@@ -4,9 +4,9 @@ use Rattle.std.proofs.lemmas.Bool.{cases_lt}
 use Rattle.std.specs.Option.{IsSomeAnd}
 use Rattle.std.specs.Fmt.{decimal}
 use Rattle.tce_outside.specs.Files.{Files, file}
-use Rattle.tce_spec.specs.Outer.{IsOuter}
-use Rattle.tce_spec.specs.declared.spec.SpecFault.TheVariants as fault
-use Rattle.tce_spec.proofs.Texts.{outer_extent}
+use Rattle.tce_outer.specs.Outer.{IsOuter}
+use Rattle.tce_outer.specs.declared.spec.SpecFault.TheVariants as fault
+use Rattle.tce_outer.proofs.Texts.{outer_extent}
 use Rattle.tce_top.specs.Specification.{shape_of}
 use Rattle.tce_top.specs.ResultBytes.{operand, HasOperand}
 use Rattle.tce_top.specs.OuterProduct.{outer}

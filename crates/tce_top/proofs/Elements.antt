@@ -6,7 +6,7 @@ use Rattle.tce_base.specs.Word.{word, wrapping_mul, word_of_bytes}
 use Rattle.tce_outside.specs.Files.{Files, file, part}
 use Rattle.tce_array.specs.declared.form.Form.TheVariants.{One}
 use Rattle.tce_array.specs.Forms.{IsForm, form_of, cell, address, word_in}
-use Rattle.tce_spec.specs.Outer.{vector_shape}
+use Rattle.tce_outer.specs.Outer.{vector_shape}
 use Rattle.tce_top.specs.Specification.{file_of}
 use Rattle.tce_top.specs.ResultBytes.{HasOperands, bytes_in, result_element}
 use Rattle.tce_top.specs.OuterProduct.{outer}

@@ -3,7 +3,7 @@ use Rattle.std.proofs.Common.{◌≡◌, ap, ℕ, List, [], ◌∷◌}
 use Rattle.std.specs.Prelude.{map, slice_index_or}
 use Rattle.tce_space.specs.Space.{IndexSpace, Range, no_range, tiling_of}
 use Rattle.tce_space.specs.Tiling.{Tiling}
-use Rattle.tce_spec.specs.Outer.{matrix_shape}
+use Rattle.tce_outer.specs.Outer.{matrix_shape}
 use Rattle.tce_top.specs.OuterProduct.{HasOneRange}
 
 tiling_from : List Range → List ℕ → Tiling

@@ -15,7 +15,7 @@ use Rattle.tce_space.proofs.Tilings.{word_number-lt}
 use Rattle.tce_array.specs.declared.form.Form.TheVariants.{One}
 use Rattle.tce_array.specs.Forms.{IsForm, form_bytes, address}
 use Rattle.tce_array.proofs.MadeFiles.{file-with_file, with_part-with_file}
-use Rattle.tce_spec.specs.Outer.{vector_shape, matrix_shape}
+use Rattle.tce_outer.specs.Outer.{vector_shape, matrix_shape}
 use Rattle.tce_top.specs.Specification.{file_of}
 use Rattle.tce_top.specs.ResultBytes.{HasOperands, HasOperand, bytes_in, result_element, with_result}
 use Rattle.tce_top.specs.OuterProduct.{outer}

@@ -2,8 +2,8 @@
 use Rattle.std.specs.Prelude.{◌≡◌, ◌⊎◌, ⊤, ℕ, ◌<◌, ◌≤◌, List, Option, None, IsSome, length}
 use Rattle.std.specs.Option.{IsSomeAnd, ForSome}
 use Rattle.tce_outside.specs.Files.{Files, file}
-use Rattle.tce_spec.specs.Outer.{IsOuter}
-use Rattle.tce_spec.specs.declared.spec.SpecFault.TheVariants.{NotBuilt, Memory}
+use Rattle.tce_outer.specs.Outer.{IsOuter}
+use Rattle.tce_outer.specs.declared.spec.SpecFault.TheVariants.{NotBuilt, Memory}
 use Rattle.tce_top.specs.Specification.{file_of, operands}
 use Rattle.tce_top.specs.ResultBytes.{operand, HasOperand, HasOperands}
 use Rattle.tce_top.specs.OuterProduct.{outer}

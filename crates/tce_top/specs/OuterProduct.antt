@@ -1,7 +1,7 @@
 -- The outer product of two vectors as a specification.
 use Rattle.std.specs.Prelude.{◌≡◌, ℕ, [], ◌∷◌, codes}
 use Rattle.tce_space.specs.Space.{IndexSpace}
-use Rattle.tce_spec.specs.Outer.{outer_tree, vector_shape, matrix_shape}
+use Rattle.tce_outer.specs.Outer.{outer_tree, vector_shape, matrix_shape}
 use Rattle.tce_top.specs.Specification.{Specification}
 
 abbrev pub outer : ℕ → Specification

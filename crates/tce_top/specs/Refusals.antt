@@ -4,7 +4,7 @@ use Rattle.std.specs.Option.{IsSomeAnd}
 use Rattle.tce_space.specs.Tiling.{Tiling}
 use Rattle.tce_array.specs.declared.form.Form.TheVariants.{One}
 use Rattle.tce_array.specs.Forms.{IsForm}
-use Rattle.tce_spec.specs.declared.spec.SpecFault.TheVariants as fault
+use Rattle.tce_outer.specs.declared.spec.SpecFault.TheVariants as fault
 use Rattle.tce_top.specs.declared.refusal.Refusal.{Refusal}
 use Rattle.tce_top.specs.declared.refusal.Refusal.TheVariants.{Spec, Missing, Disk, Memory}
 

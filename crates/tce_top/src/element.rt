@@ -5,7 +5,7 @@ ghost use Rattle.tce_outside.specs.Files.{HasPart, part, with_part, written, oth
 ghost use Rattle.tce_outside.specs.Fault.{HasCause};
 ghost use Rattle.tce_array.specs.Forms.{address};
 ghost use Rattle.tce_base.specs.Word.{word_bytes, word_of_bytes};
-ghost use Rattle.tce_spec.specs.Outer.{matrix_shape};
+ghost use Rattle.tce_outer.specs.Outer.{matrix_shape};
 ghost use Rattle.tce_top.specs.ResultBytes.{HasOperands, bytes_in, result_element};
 ghost use Rattle.tce_top.specs.OuterProduct.{outer};
 

@@ -14,9 +14,9 @@ use crate::refusal::Refusal;
 use crate::source::read_file;
 use std::alloc::Global;
 use tce_array::{ArrayFault, Form, open};
+use tce_outer::{SpecFault, read_spec};
 use tce_outside::Disk;
 use tce_space::Shape;
-use tce_spec::{SpecFault, read_spec};
 
 /// The file of the left operand.
 pub const A: &str = "A.tca";

@@ -2,7 +2,7 @@
 ghost use Rattle.std.specs.Prelude.{◌≡◌, ◌<◌, ◌≤◌, ◌^◌, All, length, IfOk, IfErr};
 ghost use Rattle.tce_space.specs.Space.{tiling_of};
 ghost use Rattle.tce_space.specs.Tiling.{tile_words, padded_words};
-ghost use Rattle.tce_spec.specs.Outer.{vector_shape, matrix_shape};
+ghost use Rattle.tce_outer.specs.Outer.{vector_shape, matrix_shape};
 ghost use Rattle.tce_top.specs.OuterProduct.{HasOneRange};
 
 use crate::refusal::Refusal;

@@ -4,8 +4,8 @@ ghost use Rattle.tce_top.specs.Refusals.{Names};
 ghost use Rattle.tce_top.specs.Report.{status_of};
 
 use crate::Status;
+use tce_outer::SpecFault;
 use tce_space::FileName;
-use tce_spec::SpecFault;
 
 /// Why a run is refused.
 #[derive(Clone, Debug, Drop)]

@@ -2,8 +2,8 @@
 ghost use Rattle.std.specs.Prelude.{◌≡◌};
 ghost use Rattle.tce_top.specs.Report.{code_of};
 
+use tce_outer::SpecFault;
 use tce_space::FileName;
-use tce_spec::SpecFault;
 
 /// What a command ends with.
 #[derive(Clone, Debug, Drop)]

@@ -4,7 +4,7 @@ use Rattle.tce_base.specs.Word.{word_bytes, word_of_bytes}
 use Rattle.tce_outside.specs.Files.{Files, with_part, part}
 use Rattle.tce_array.specs.declared.form.Form.TheVariants.{One}
 use Rattle.tce_array.specs.Forms.{address}
-use Rattle.tce_spec.specs.Outer.{vector_shape, matrix_shape}
+use Rattle.tce_outer.specs.Outer.{vector_shape, matrix_shape}
 use Rattle.tce_top.specs.Specification.{file_of}
 use Rattle.tce_top.specs.ResultBytes.{bytes_in, result_element}
 use Rattle.tce_top.specs.OuterProduct.{outer}

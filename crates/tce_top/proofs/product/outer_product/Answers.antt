@@ -1,7 +1,7 @@
 use Rattle.std.proofs.Common.{◌≡◌, ◌∙◌, sym, ap, subst, ◌≤◌, ◌^◌, [], ◌∷◌, ◌++◌}
 use Rattle.tce_space.specs.Space.{tiling_of}
 use Rattle.tce_space.specs.Tiling.{Tiling, padded_words}
-use Rattle.tce_spec.specs.Outer.{matrix_shape}
+use Rattle.tce_outer.specs.Outer.{matrix_shape}
 use Rattle.tce_top.proofs.State.{matrix_room}
 use Rattle.tce_top.proofs.Shapes.{matrix_of_one}
 use Rattle.tce_top.proofs.product.outer_product.Goals as goal

@@ -1,0 +1,5 @@
+pub mod Values
+pub mod Names
+pub mod Kept
+pub mod Keeping
+pub mod Readings

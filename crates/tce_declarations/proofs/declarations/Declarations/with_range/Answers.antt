@@ -1,0 +1,9 @@
+use Rattle.std.proofs.Common.{ap}
+use Rattle.tce_space.specs.Space.{IndexSpace}
+use Rattle.tce_declarations.proofs.Keeping.{kept_in_space}
+use Rattle.tce_declarations.proofs.declarations.Declarations.with_range.Goals as goal
+
+pub invariant_of-self : goal.invariant_of-self
+invariant_of-self c =
+    kept_in_space c.self.inside.space c.declare_range.new.space _ c.self.inside.tensors.entries (ap (λ (s : IndexSpace). s.ranges) c.in_ok-declare_range.ensures.declared)
+    c.in_ok-declare_range.ensures.limits c.self.invariant

@@ -1,0 +1,10 @@
+pub mod Declarations
+pub mod Numbers
+pub mod Faults
+pub mod DeclarationLines
+pub mod Text
+pub mod FaultCode
+pub mod DeclarationsCode
+pub mod TextCode
+pub mod Laws
+pub mod Examples

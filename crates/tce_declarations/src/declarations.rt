@@ -1,0 +1,245 @@
+//! Declared ranges, indexes and tensors.
+
+ghost use Rattle.std.specs.Prelude.{◌≡◌, ◌<◌, ◌≤◌, ◌++◌, ◌∷◌, [], None, All, length, IfOk, IfErr, IfSome, OnOk, IsTrue};
+ghost use Rattle.std.specs.List.{IsDistinct};
+ghost use Rattle.std.specs.Str.{bytes_eq};
+ghost use Rattle.tce_space.specs.Name.{is_name};
+ghost use Rattle.tce_grammar.specs.Grammar.{AreNames};
+ghost use Rattle.tce_grammar.specs.Code.{names, statement, text_if_some};
+ghost use Rattle.tce_declarations.specs.DeclarationLines.{numbers_of_ranges, range_fault, with_range, index_fault, with_indexes, tensor_fault, with_tensor, statement_fault, with_statement, HasNames};
+ghost use Rattle.tce_declarations.specs.FaultCode.{Shows};
+ghost use Rattle.tce_space.specs.Space.{tiling_of};
+ghost use Rattle.tce_space.specs.SpaceEntries.{entry_number, names_of};
+ghost use Rattle.tce_declarations.specs.Declarations.{IsDeclarations, nothing_declared, tensor_number, tensor_at};
+
+use crate::fault::{Limit, SpecFault};
+use crate::indexes::declare_indexes;
+use crate::ranges::declare_range;
+use crate::tensors::{range_numbers, unknown_range};
+use arrayvec::ArrayVec;
+use indexmap::IndexMap;
+use std::alloc::{AllocError, Global};
+use std::marker::Model;
+use tce_grammar::{Statement, name_of};
+use tce_space::{Name, Shape, ShapeFault, Space};
+
+const MAX_TENSORS: usize = 32;
+
+const MAX_RANK: usize = 8;
+
+/// A declared tensor: its name, the number of the range of each dimension, and the shape that these ranges give.
+#[derive(Drop)]
+pub struct Tensor {
+    pub name: Name,
+    pub ranges: ArrayVec<u8, 8>,
+    pub shape: Shape,
+}
+
+/// The declared ranges, indexes and tensors, each with the number of its place in the order of declaration.
+///
+/// There are at most 16 ranges, 24 indexes and 32 tensors. Ranges, indexes and tensors have separate names.
+#[derive(Drop)]
+pub struct Declarations {
+    space: Space,
+    tensors: IndexMap<Name, Tensor>,
+}
+
+impl Model for Declarations {
+    ghost use Rattle.tce_declarations.specs.Declarations.{Declarations};
+    ghost use Rattle.tce_declarations.specs.DeclarationsCode.{declarations_of, AreKept};
+
+    ghost Value = { Declarations };
+
+    ghost view = { λ d. declarations_of d.space d.tensors.entries };
+
+    ghost invariant = { λ d. AreKept d.space d.tensors.entries };
+}
+
+/// Keeps a tensor under its name, behind those that are there.
+fn keep(tensors: &mut IndexMap<Name, Tensor>, tensor: Tensor) -> Result<(), AllocError>
+    requires { entry_number tensors.old.entries tensor.name.bytes ≡ None }
+    ensures kept { OnOk result (tensors.new.entries ≡ tensors.old.entries ++ (tensor.name, tensor) ∷ []) }
+    ensures apart { OnOk result (IsDistinct bytes_eq (names_of tensors.new.entries)) }
+{
+    match tensors.insert(tensor.name, tensor) {
+        Ok(_) => Ok(()),
+        Err(_) => Err(AllocError),
+    }
+}
+
+/// The number of the tensor with this name. A text that is too long for a name is none of them.
+fn named(tensors: &IndexMap<Name, Tensor>, name: &str) -> Option<u8>
+    requires small { length tensors.now.entries ≤ 32 }
+    requires short { All (λ name. length name ≤ 16) (names_of tensors.now.entries) }
+    ensures { result ≡ entry_number tensors.now.entries name.now }
+{
+    let Ok(name) = Name::from(name) else {
+        return None;
+    };
+    let number = place_of(tensors, &name)?;
+    Some(number as u8)
+}
+
+fn place_of(tensors: &IndexMap<Name, Tensor>, name: &Name) -> Option<usize>
+    ensures place { result ≡ entry_number tensors.now.entries name.now.bytes }
+    ensures within { IfSome result (λ place. place < length tensors.now.entries) }
+{
+    tensors.get_index_of(name)
+}
+
+impl Declarations {
+    /// Nothing is declared.
+    pub fn new(alloc: Global) -> Result<Declarations, AllocError>
+        ensures { IfOk result (λ d. d ≡ nothing_declared) }
+    {
+        Ok(Declarations {
+            space: Space::new(alloc)?,
+            tensors: IndexMap::with_capacity(alloc, MAX_TENSORS)?,
+        })
+    }
+
+    /// The declared ranges and indexes.
+    pub fn space(&self) -> &Space
+        ensures space { result.now ≡ self.now.space }
+        ensures limits { IsDeclarations self.now }
+    {
+        &self.space
+    }
+
+    /// How many tensors are declared.
+    pub fn tensor_count(&self) -> u8
+        ensures count { result ≡ length self.now.tensors }
+        ensures limits { IsDeclarations self.now }
+    {
+        self.tensors.len() as u8
+    }
+
+    /// A tensor by its number.
+    pub fn tensor(&self, tensor: u8) -> &Tensor
+        requires { tensor < length self.now.tensors }
+        ensures name { result.now.name.bytes ≡ (tensor_at self.now tensor).name }
+        ensures ranges { result.now.ranges.items ≡ (tensor_at self.now tensor).ranges }
+        ensures shape { result.now.shape ≡ tiling_of self.now.space (tensor_at self.now tensor).ranges }
+        ensures limits { IsDeclarations self.now }
+    {
+        &self.tensors[tensor as usize]
+    }
+
+    /// The number of the tensor with this name. `None` where no tensor has it.
+    pub fn tensor_named(&self, name: &str) -> Option<u8>
+        ensures number { result ≡ tensor_number self.now.tensors name.now }
+        ensures limits { IsDeclarations self.now }
+    {
+        named(&self.tensors, name)
+    }
+
+    /// The tensor that a line declares.
+    fn tensor_of_line(&self, line: u64, name: &[u8], ranges: &[&[u8]]) -> Result<Tensor, SpecFault>
+        requires name { IsTrue (is_name name.now) }
+        requires ranges { AreNames (names ranges.now) }
+        ensures fault { IfErr result (λ f. Shows (tensor_fault line self.now name.now (names ranges.now)) f) }
+        ensures faultless { OnOk result (tensor_fault line self.now name.now (names ranges.now) ≡ None) }
+        ensures name { IfOk result (λ tensor. tensor.name.bytes ≡ name.now) }
+        ensures ranges { IfOk result (λ tensor. tensor.ranges.items ≡ numbers_of_ranges self.now.space (names ranges.now)) }
+        ensures shape { IfOk result (λ tensor. tensor.shape ≡ tiling_of self.now.space (numbers_of_ranges self.now.space (names ranges.now))) }
+    {
+        let tensor_name = name_of(name);
+        if self.tensor_named(tensor_name.as_str()).is_some() {
+            return Err(SpecFault::NameTwice(line, tensor_name));
+        }
+        if let Some(range) = unknown_range(&self.space, ranges) {
+            return Err(SpecFault::UnknownName(line, name_of(range)));
+        }
+        if self.tensors.len() == MAX_TENSORS {
+            return Err(SpecFault::LimitPassed(line, Limit::Tensors));
+        }
+        if ranges.len() > MAX_RANK {
+            return Err(SpecFault::LimitPassed(line, Limit::Rank));
+        }
+        let numbers = range_numbers(&self.space, ranges);
+        match self.space.shape(&numbers) {
+            Ok(shape) => Ok(Tensor {
+                name: tensor_name,
+                ranges: numbers,
+                shape,
+            }),
+            Err(ShapeFault::TileWords) => Err(SpecFault::LimitPassed(line, Limit::TileWords)),
+            Err(ShapeFault::ArrayWords) => Err(SpecFault::LimitPassed(line, Limit::ArrayWords)),
+        }
+    }
+
+    /// Declares a range, by its name and the digits of its extent and its edge.
+    ///
+    /// `NameTwice`, else `BadNumber`, else `LimitPassed`.
+    pub fn with_range(
+        mut self,
+        line: u64,
+        name: &[u8],
+        extent: &[u8],
+        edge: Option<&[u8]>,
+    ) -> Result<Declarations, SpecFault>
+        requires { IsTrue (is_name name.now) }
+        ensures fault { IfErr result (λ f. Shows (range_fault line self.space name.now extent.now (text_if_some edge.entry)) f) }
+        ensures faultless { OnOk result (range_fault line self.space name.now extent.now (text_if_some edge.entry) ≡ None) }
+        ensures declared { IfOk result (λ d. d ≡ record { space = with_range self.space name.now extent.now (text_if_some edge.entry); tensors = self.tensors }) }
+    {
+        declare_range(&mut self.space, line, name, extent, edge)?;
+        Ok(self)
+    }
+
+    /// Declares indexes of a range, by their names.
+    ///
+    /// `NameTwice` also where a name stands twice on the line, else `UnknownName`, else `LimitPassed`.
+    pub fn with_indexes(
+        mut self,
+        line: u64,
+        range: &[u8],
+        indexes: &[&[u8]],
+    ) -> Result<Declarations, SpecFault>
+        requires range { IsTrue (is_name range.now) }
+        requires indexes { AreNames (names indexes.now) }
+        ensures fault { IfErr result (λ f. Shows (index_fault line self.space range.now (names indexes.now)) f) }
+        ensures faultless { OnOk result (index_fault line self.space range.now (names indexes.now) ≡ None) }
+        ensures declared { IfOk result (λ d. d ≡ record { space = with_indexes self.space range.now (names indexes.now); tensors = self.tensors }) }
+    {
+        declare_indexes(&mut self.space, line, range, indexes)?;
+        Ok(self)
+    }
+
+    /// Declares a tensor, by its name and the names of its ranges, one for each dimension.
+    ///
+    /// `NameTwice`, else `UnknownName`, else `LimitPassed` in the order of [`Limit`].
+    pub fn with_tensor(
+        mut self,
+        line: u64,
+        name: &[u8],
+        ranges: &[&[u8]],
+    ) -> Result<Declarations, SpecFault>
+        requires name { IsTrue (is_name name.now) }
+        requires ranges { AreNames (names ranges.now) }
+        ensures fault { IfErr result (λ f. Shows (tensor_fault line self name.now (names ranges.now)) f) }
+        ensures faultless { OnOk result (tensor_fault line self name.now (names ranges.now) ≡ None) }
+        ensures declared { IfOk result (λ d. d ≡ with_tensor self name.now (names ranges.now)) }
+    {
+        let tensor = self.tensor_of_line(line, name, ranges)?;
+        keep(&mut self.tensors, tensor)?;
+        Ok(self)
+    }
+
+    /// Declares what a line says. A formula declares nothing.
+    pub fn declare(self, line: u64, said: &Statement) -> Result<Declarations, SpecFault>
+        requires { HasNames (statement said.now) }
+        ensures fault { IfErr result (λ f. Shows (statement_fault line self (statement said.now)) f) }
+        ensures faultless { OnOk result (statement_fault line self (statement said.now) ≡ None) }
+        ensures declared { IfOk result (λ d. d ≡ with_statement self (statement said.now)) }
+    {
+        match said {
+            Statement::Range { name, extent, edge } => self.with_range(line, *name, *extent, *edge),
+            Statement::Index { range, indexes } => {
+                self.with_indexes(line, *range, indexes.as_slice())
+            }
+            Statement::Tensor { name, ranges } => self.with_tensor(line, *name, ranges.as_slice()),
+            Statement::Formula { .. } => Ok(self),
+        }
+    }
+}

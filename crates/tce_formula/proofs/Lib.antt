@@ -1,0 +1,11 @@
+pub mod Digits
+pub mod Joined
+pub mod KnownNames
+pub mod Nothing
+pub mod DistinctNames
+pub mod Faultless
+pub mod Twice
+pub mod Root
+pub mod FormulaParts
+pub mod LineNames
+pub mod ExampleFaults

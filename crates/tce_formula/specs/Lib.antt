@@ -1,0 +1,9 @@
+pub mod Places
+pub mod PlaceFaults
+pub mod Meaning
+pub mod FormulaFaults
+pub mod Rules
+pub mod Contraction
+pub mod Lengths
+pub mod Laws
+pub mod Examples

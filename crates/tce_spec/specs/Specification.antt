@@ -1,0 +1,24 @@
+-- Specifications: declared ranges, indexes and tensors, and what is computed over them.
+use Rattle.std.specs.Prelude.{◌≡◌, ℕ, ◌≤◌, None, IsTrue, List}
+use Rattle.tce_tree.specs.ContractionTree.{ContractionTree, operations}
+use Rattle.tce_tree.specs.WellFormed.{sums_distinct}
+use Rattle.tce_tree.specs.Faults.{fault_of}
+use Rattle.tce_tree.specs.Measure.{IsMeasured}
+use Rattle.tce_declarations.specs.Declarations.{Declarations, IsDeclarations}
+use Rattle.tce_formula.specs.Contraction.{IsContraction}
+
+-- the result is a tensor with an index for each of its dimensions; its elements are the values of the tree
+pub record Specification : Type 0 where
+  pub declarations : Declarations
+  pub result : ℕ
+  pub indexes : List ℕ
+  pub tree : ContractionTree
+
+-- what every specification keeps
+pub record IsSpecification (s : Specification) : Type 0 where
+  pub declarations : IsDeclarations s.declarations
+  pub contraction : IsContraction s.declarations s.result s.indexes s.tree
+  pub few : operations s.tree ≤ 32
+  pub distinct : IsTrue (sums_distinct s.tree)
+  pub faultless : fault_of s.declarations.space s.tree ≡ None
+  pub measured : IsMeasured s.declarations.space s.tree
