@@ -5,7 +5,7 @@ use Rattle.tce_space.specs.IndexSet.{set_of, empty}
 use Rattle.tce_space.specs.Space.{IndexSpace, Range, Index}
 use Rattle.tce_tree.specs.Examples.{two_sums, three_sums}
 use Rattle.tce_fusion.specs.Scope.{scope, scope_size}
-use Rattle.tce_fusion.specs.Memory.{memory}
+use Rattle.tce_tree.specs.Memory.{memory}
 
 abbrev pub range_of : List ℕ → ℕ → Range
 range_of name extent = record { name = name; extent = extent; edge = 1 }

@@ -1,4 +1,4 @@
 pub mod Scope
 pub mod Tops
-pub mod Memory
+pub mod Least
 pub mod Examples

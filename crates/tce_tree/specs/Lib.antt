@@ -8,5 +8,6 @@ pub mod Orders
 pub mod FlatTree
 pub mod Faults
 pub mod Measure
+pub mod Memory
 pub mod Laws
 pub mod Examples

@@ -1,6 +1,6 @@
 use Rattle.std.proofs.Common.{◌≡◌, ◌≤◌, ◌*◌, ◌^◌, sum_by}
 use Rattle.std.specs.List.{range_with_len}
-use Rattle.tce_fusion.specs.Memory.{size_at}
+use Rattle.tce_tree.specs.Memory.{size_at}
 use Rattle.tce_fusion.proofs.sizes.memory.Given as goal
 
 abbrev pub invariant-loop-v : goal.invariant-loop-v

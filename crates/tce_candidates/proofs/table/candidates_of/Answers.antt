@@ -1,0 +1,56 @@
+use Rattle.std.specs.List.{All}
+use Rattle.std.proofs.lemmas.List.Elements.{AllWithin-more, All-from_all_within, at_read, AllWithin-upto}
+use Rattle.tce_candidates.specs.declared.candidate.Candidate.{Candidate}
+use Rattle.tce_candidates.specs.Candidates.{PairCovered, IsStepOf, IsReached}
+use Rattle.tce_candidates.proofs.Covers.{pair_later, from_earlier, read_contains}
+use Rattle.tce_candidates.proofs.table.candidates_of.Goals as goal
+
+pub loop-right-preserved : goal.loop-right-preserved
+loop-right-preserved c =
+    let here = c.in_ok-add_steps.ensures in
+    let later = here.others in
+    let old = c.loop-right.table.items in
+    let new = c.add_steps.new.table.items in
+    let left = c.left-item.result in
+    let right = c.right-item.result in
+    let lefts = c.args.lefts.now in
+    let rights = c.args.rights.now in
+    let choices = c.args.choices.now in
+    let lifted = pair_later c.args.loops c.args.outer choices old new in
+    let covers = PairCovered c.args.loops c.args.outer choices new left in
+    record {
+      earlier = λ k d from low. λ m e inner. lifted _ _ later (c.loop-right.invariant.earlier k d from low m e inner);
+      here = AllWithin-more covers rights 0 c.loop-right.right-index
+          (λ m e from low. lifted _ _ later (c.loop-right.invariant.here m e from low))
+          (at_read rights covers c.loop-right.right-index right c.loop-right-test.true c.right-item.is here.covered);
+      reached = from_earlier (IsReached c.args.loops choices lefts rights) (IsStepOf c.args.loops choices left right) old new here.origin
+          (λ x s. record {
+            left = left;
+            right = right;
+            from_left = read_contains lefts c.loop-left.left-index left c.loop-left-test.true c.left-item.is;
+            from_right = read_contains rights c.loop-right.right-index right c.loop-right-test.true c.right-item.is;
+            step = s;
+          })
+          c.loop-right.invariant.reached;
+      apart = here.apart c.loop-right.invariant.apart;
+    }
+
+pub loop-left-preserved : goal.loop-left-preserved
+loop-left-preserved c =
+    let rows = c.loop-right.table.items in
+    let rights = c.args.rights.now in
+    let pairs = PairCovered c.args.loops c.args.outer c.args.choices.now rows c.left-item.result in
+    let covers = λ (left : Candidate). All (PairCovered c.args.loops c.args.outer c.args.choices.now rows left) rights in
+    record {
+      covered = AllWithin-more covers c.args.lefts.now 0 c.loop-left.left-index c.loop-right.invariant.earlier
+          (at_read c.args.lefts.now covers c.loop-left.left-index c.left-item.result c.loop-left-test.true c.left-item.is
+          (All-from_all_within pairs rights (AllWithin-upto pairs rights 0 c.loop-right.right-index _ c.loop-right-test.false c.loop-right.invariant.here)));
+      reached = c.loop-right.invariant.reached;
+      apart = c.loop-right.invariant.apart;
+    }
+
+pub returns-clause-covered : goal.returns-clause-covered
+returns-clause-covered c =
+    let covers = λ (left : Candidate). All (PairCovered c.args.loops c.args.outer c.args.choices.now c.loop-left.table.items left) c.args.rights.now in
+    All-from_all_within covers c.args.lefts.now
+    (AllWithin-upto covers c.args.lefts.now 0 c.loop-left.left-index _ c.loop-left-test.false c.loop-left.invariant.covered)

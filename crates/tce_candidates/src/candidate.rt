@@ -1,0 +1,41 @@
+// Candidates: states with the fusions that reach them.
+ghost use Rattle.std.specs.Prelude.{◌≡◌, ◌↔◌, ◌+◌, ◌<◌, [], ◌∷◌, ◌++◌, length, IsTrue, Any};
+ghost use Rattle.tce_states.specs.Relation.{above};
+ghost use Rattle.tce_candidates.specs.Candidates.{Stands};
+
+use arrayvec::ArrayVec;
+use tce_nesting::Row;
+use tce_space::IndexSet;
+use tce_steps::stands_for;
+
+/// A state of a subtree, with the sets that are fused above its nodes, in their order.
+#[derive(Debug, Default, Drop, PartialEq, Eq)]
+pub struct Candidate {
+    pub row: Row,
+    pub sets: ArrayVec<IndexSet, 32>,
+}
+
+/// The sets of the left operand's nodes, then those of the right one's, then the node's own. There are at most 32.
+pub fn joined_sets(left: &[IndexSet], right: &[IndexSet], own: IndexSet) -> ArrayVec<IndexSet, 32>
+    requires { length left.now + length right.now < 32 }
+    ensures { result.items ≡ left.now ++ (right.now ++ own ∷ []) }
+{
+    let mut sets = ArrayVec::<IndexSet, 32>::new();
+    for set in left {
+        sets.push(*set);
+    }
+    for set in right {
+        sets.push(*set);
+    }
+    sets.push(own);
+    sets
+}
+
+// Whether some candidate stands for the state.
+pub(crate) fn is_covered(candidates: &[Candidate], state: &Row, outer: IndexSet) -> bool
+    ensures { IsTrue result ↔ Any (Stands outer (above state.now.classes) state.now.cost) candidates.now }
+{
+    candidates
+        .iter()
+        .any(|candidate| stands_for(&candidate.row, state, outer))
+}

@@ -1,0 +1,13 @@
+//! Candidates of a node: the states that its subtree may have under some fusion, each with that fusion, and no more of them than the search for a least one needs (after Lam et al. 1999).
+#![tactic(auto)]
+
+mod candidate;
+mod laws;
+mod table;
+
+pub use candidate::{Candidate, joined_sets};
+pub use laws::{covered_pairs_cover_steps, leaves_have_states, steps_are_states};
+pub use table::candidates_of;
+
+#[cfg(test)]
+mod tests;

@@ -1,0 +1,5 @@
+pub mod Firsts
+pub mod Parts
+pub mod Joints
+pub mod FromTables
+pub mod Verdicts

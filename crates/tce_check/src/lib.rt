@@ -1,0 +1,16 @@
+//! The check of plans: whether a plan shows that its fusion is least, or the first rule that it breaks (after Lam et al. 1999).
+#![tactic(auto)]
+
+mod joint;
+mod operands;
+mod root;
+mod rules;
+mod steps;
+mod tables;
+mod verdict;
+
+pub use rules::check;
+pub use verdict::Verdict;
+
+#[cfg(test)]
+mod tests;

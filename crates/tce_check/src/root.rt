@@ -1,0 +1,60 @@
+// Whether no sum at the root is below the total.
+ghost use Rattle.std.specs.Prelude.{◌≡◌, ℕ, ◌+◌, ◌-◌, ◌^◌, ◌<◌, ◌≤◌, MatchOption, All, length};
+ghost use Rattle.tce_tree.specs.ContractionTree.{operations};
+ghost use Rattle.tce_states.specs.Cover.{RootBelow};
+ghost use Rattle.tce_nesting.specs.Plan.{RowsFit};
+ghost use Rattle.tce_check.specs.First.{First, FirstPair};
+ghost use Rattle.tce_check.specs.Verdict.{WhereJoined, IsBelow, FirstBelow};
+
+use crate::joint::joint;
+use crate::operands::{leaf_row, left_rows, right_rows};
+use tce_nesting::{Row, Tables};
+use tce_tree::Tree;
+
+// The first sum at the root, by the left row and then by the right one, of rows without conflict that is below the total.
+pub(crate) fn first_below(tree: &Tree, tables: &Tables, total: u128) -> Option<u128>
+    requires lists { length tables.now + 1 ≡ operations tree.now }
+    requires rows { RowsFit tree.now tables.now }
+    ensures { MatchOption result (RootBelow tree.now tables.now total) (λ sum. FirstBelow tree.now tables.now total sum) }
+{
+    let root = tree.count() - 1;
+    let leaf = [leaf_row()];
+    let rights = right_rows(tree, tables, root, &leaf);
+    let lefts = left_rows(tree, tables, root, &leaf);
+    first_below_of(tree, root, lefts, rights, total)
+}
+
+fn first_below_of(tree: &Tree, root: u8, lefts: &[Row], rights: &[Row], total: u128) -> Option<u128>
+    requires inside { root < operations tree.now }
+    requires lefts { All (λ row. row.cost < 2 ^ 96) lefts.now }
+    requires rights { All (λ row. row.cost < 2 ^ 96) rights.now }
+    ensures { MatchOption result
+        (All (λ left. All (WhereJoined tree.now root (λ l r. total ≤ l.cost + r.cost) left) rights.now) lefts.now)
+        (λ sum. FirstPair (WhereJoined tree.now root (λ l r. total ≤ l.cost + r.cost)) (IsBelow tree.now root total sum) lefts.now rights.now) }
+{
+    for left in lefts {
+        if let Some(sum) = first_below_with(tree, root, left, rights, total) {
+            return Some(sum);
+        }
+    }
+    None
+}
+
+// The first such sum with one left row, by the right row.
+fn first_below_with(tree: &Tree, root: u8, left: &Row, rights: &[Row], total: u128) -> Option<u128>
+    requires inside { root < operations tree.now }
+    requires left { left.now.cost < 2 ^ 96 }
+    requires rights { All (λ row. row.cost < 2 ^ 96) rights.now }
+    ensures { MatchOption result
+        (All (WhereJoined tree.now root (λ l r. total ≤ l.cost + r.cost) left.now) rights.now)
+        (λ sum. First (WhereJoined tree.now root (λ l r. total ≤ l.cost + r.cost) left.now) (IsBelow tree.now root total sum left.now) rights.now) }
+{
+    for right in rights {
+        if let Some(joint) = joint(left, right, tree.loops(root)) {
+            if joint.cost < total {
+                return Some(joint.cost);
+            }
+        }
+    }
+    None
+}

@@ -1,0 +1,57 @@
+// Whether the tables of a plan cover all steps.
+ghost use Rattle.std.specs.Prelude.{◌≡◌, ◌+◌, ◌-◌, ◌<◌, MatchOption, length};
+ghost use Rattle.tce_tree.specs.ContractionTree.{operations};
+ghost use Rattle.tce_tree.specs.Measure.{IsMeasured};
+ghost use Rattle.tce_states.specs.Cover.{NodesCovered};
+ghost use Rattle.tce_nesting.specs.Plan.{RowsFit};
+ghost use Rattle.tce_check.specs.First.{IsFirst};
+ghost use Rattle.tce_check.specs.Verdict.{CoversAt, FailsAt};
+
+use crate::operands::{leaf_row, left_rows, right_rows};
+use crate::steps::{Node, Step};
+use tce_nesting::Tables;
+use tce_space::Space;
+use tce_tree::Tree;
+
+// The first step at a node for which none of its rows stands; none at the root.
+fn first_uncovered_at(space: &Space, tree: &Tree, tables: &Tables, v: u8) -> Option<Step>
+    requires measured { IsMeasured space.now tree.now }
+    requires lists { length tables.now + 1 ≡ operations tree.now }
+    requires rows { RowsFit tree.now tables.now }
+    requires inside { v + 1 < operations tree.now }
+    ensures { MatchOption result (CoversAt space.now tree.now tables.now v) (λ step. FailsAt space.now tree.now tables.now step.fused step.state v) }
+{
+    let parent = tree.parent(v)?;
+    let leaf = [leaf_row()];
+    let node = Node {
+        space,
+        tree,
+        number: v,
+        outer: tree.loops(parent),
+        rows: tables.rows(v),
+    };
+    node.first_uncovered(
+        left_rows(tree, tables, v, &leaf),
+        right_rows(tree, tables, v, &leaf),
+    )
+}
+
+// The least node whose rows do not cover the steps at it, with the first of these.
+pub(crate) fn first_uncovered_node(
+    space: &Space,
+    tree: &Tree,
+    tables: &Tables,
+) -> Option<(u8, Step)>
+    requires measured { IsMeasured space.now tree.now }
+    requires lists { length tables.now + 1 ≡ operations tree.now }
+    requires rows { RowsFit tree.now tables.now }
+    ensures { MatchOption result (NodesCovered space.now tree.now tables.now)
+        (λ found. IsFirst (operations tree.now - 1) (CoversAt space.now tree.now tables.now) (FailsAt space.now tree.now tables.now found.1.fused found.1.state) found.0) }
+{
+    for v in 0..tree.count() - 1 {
+        if let Some(step) = first_uncovered_at(space, tree, tables, v) {
+            return Some((v, step));
+        }
+    }
+    None
+}

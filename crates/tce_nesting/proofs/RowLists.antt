@@ -1,0 +1,14 @@
+-- Lists of lists, as functions of the elements of another list show them.
+use Rattle.std.proofs.Common.{◌≡◌, ℕ, ◌<◌, List, [], ◌++◌, map, get_or, set, length, ◌∙◌, sym, ap}
+use Rattle.std.proofs.lemmas.List.{map-set, get_or-map}
+use Rattle.std.proofs.Math.Seq.{map-set_same}
+
+-- an element is replaced by one that shows the same
+pub unchanged_at : {X Y : Type 0} (l : List X) (f : X → Y) (i : ℕ) (old new : X) → old ≡ get_or l i old → f new ≡ f old → map f (set l i new) ≡ map f l
+unchanged_at l f i old new is same = map-set_same f l i new old (same ∙ ap f is)
+
+-- an element is replaced by one that shows more
+pub appended_at : {X Y : Type 0} (l : List X) (f : X → List Y) (i : ℕ) (old new : X) (more : List Y) → i < length l → old ≡ get_or l i old → f new ≡ f old ++ more
+    → map f (set l i new) ≡ set (map f l) i (get_or (map f l) i [] ++ more)
+appended_at l f i old new more low is grown =
+    map-set f l i new ∙ ap (set (map f l) i) (grown ∙ ap (λ xs. xs ++ more) (ap f is ∙ sym (get_or-map f l i old [] low)))

@@ -1,0 +1,3 @@
+pub mod Names
+pub mod NodeLine
+pub mod Report

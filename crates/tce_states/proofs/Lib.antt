@@ -1,0 +1,14 @@
+pub mod Worked
+pub mod Steps
+pub mod Operands
+pub mod Links
+pub mod Tells
+pub mod Legality
+pub mod Costs
+pub mod Covers
+pub mod Reached
+pub mod Unfused
+pub mod Choices
+pub mod WorkedCover
+pub mod ClassLists
+pub mod StateClasses

@@ -1,0 +1,10 @@
+pub mod Relation
+pub mod Classes
+pub mod State
+pub mod Row
+pub mod Cover
+pub mod Reached
+pub mod Choice
+pub mod FirstStep
+pub mod Laws
+pub mod Examples
