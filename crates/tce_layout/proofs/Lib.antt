@@ -1,0 +1,4 @@
+pub mod Steps
+pub mod Slots
+pub mod Filling
+pub mod Worked

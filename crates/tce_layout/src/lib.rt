@@ -1,0 +1,16 @@
+//! Where the intermediates of a contraction stand in one list of words.
+//!
+//! Each node but the root has a slot with one word for each assignment of its dims that are not fused, in row-major
+//! order of the indexes by number. The root is the result and has no slot.
+#![tactic(auto)]
+
+mod layout;
+mod slot;
+
+pub use layout::lay_out;
+pub use slot::{Layout, Slot};
+
+#[cfg(test)]
+mod checking;
+#[cfg(test)]
+mod tests;

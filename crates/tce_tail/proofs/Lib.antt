@@ -1,0 +1,4 @@
+pub mod Tails
+pub mod TailLaws
+pub mod Worked
+pub mod TouchBound

@@ -1,0 +1,4 @@
+pub mod Tails
+pub mod Touches
+pub mod Laws
+pub mod Examples
