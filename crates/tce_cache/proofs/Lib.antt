@@ -1,0 +1,4 @@
+pub mod Transfers
+pub mod Tiles
+pub mod Lists
+pub mod Steps

@@ -1,0 +1,126 @@
+use Rattle.std.proofs.Common.{◌≡◌, ◌∙◌, ◌≤◌, ◌<◌, ◌∷◌, length, ap, sym, refl, subst, arith}
+use Rattle.tce_space.specs.Tiling.{tiles}
+use Rattle.tce_frames.specs.Held.{Held, IsFree}
+use Rattle.tce_frames.proofs.Touching.{touches_change}
+use Rattle.tce_cache.specs.declared.array.ArrayRef.{ArrayRef}
+use Rattle.tce_cache.specs.Cache.{State, IsCache}
+use Rattle.tce_cache.proofs.Tiles.{array_low}
+use Rattle.tce_cache.proofs.Lists.{IsOldest, IsCleaned, IsGivenUp, oldest_there, oldest_absent}
+use Rattle.tce_cache.proofs.Steps.{up_over, cache_over, state_over, same_over}
+use Rattle.tce_cache.proofs.cache.Cache.take_frame.Goals as goal
+
+pub returns-then-len-frames-clause-placed : goal.returns-then-len-frames-clause-placed
+returns-then-len-frames-clause-placed g c =
+    let s = c.self.inside in
+    let now = c.args.self.now in
+    let x : Held = record { array = c.args.array; tile = c.args.tile; frame = c.hold.result; marked = c.args.marked } in
+    let held_is : s.table.held ≡ now.held = ap (λ (z : State). z.held) c.self.view_is in
+    let frames_is : s.table.frames ≡ now.frames = ap (λ (z : State). z.frames) c.self.view_is in
+    let room : length now.held < now.frames = subst (λ (z : State). length z.held < z.frames) c.self.view_is (omega (arith, c.len.ensures.count, c.frames.ensures, c.if-len-frames.true)) in
+    record {
+      rest = now.held;
+      state = ap (λ f. record { arrays = s.arrays.items; at = s.at; frames = f; frame_words = s.frame_words; held = c.hold.new.self.held; touches = s.touches }) c.hold.ensures.same.0
+          ∙ ap (λ l. record { arrays = s.arrays.items; at = s.at; frames = s.table.frames; frame_words = s.frame_words; held = l; touches = s.touches }) (c.hold.ensures.held ∙ ap (λ l. x ∷ l) held_is)
+          ∙ ap (λ (z : State). record z { held = x ∷ now.held }) c.self.view_is;
+      list = touches_change.room now.frames now.held x room c.requires.absent;
+      absent = c.requires.absent;
+      free = subst (IsFree c.hold.result) held_is c.hold.ensures.free;
+      low = subst (λ f. c.hold.result < f) frames_is c.hold.ensures.low;
+    }
+
+pub replace-requires-clause-frame : goal.replace-requires-clause-frame
+replace-requires-clause-frame g c =
+    let now = c.args.self.now in
+    let w = c.write_back.new.self in
+    let i = c.self-2.inside in
+    let v : State = record { arrays = i.arrays.items; at = i.at; frames = i.table.frames; frame_words = i.frame_words; held = i.table.held; touches = i.touches } in
+    let is : IsCache now = subst IsCache c.self.view_is c.self.invariant.cache in
+    let full : now.frames ≤ length now.held = subst (λ (z : State). z.frames ≤ length z.held) c.self.view_is (omega (arith, c.len.ensures.count, c.frames.ensures, c.if-len-frames.false)) in
+    let oldest : IsOldest now.held c.oldest-oldest.result = subst (λ (z : State). IsOldest z.held c.oldest-oldest.result) c.self.view_is c.oldest-oldest.ensures.last in
+    let clean : IsCleaned now.held v.held c.oldest-oldest.result = λ a t h found at. ap (λ (z : State). z.held) c.self-2.view_is ∙ c.in_ok-write_back.ensures.cleaned a t h found at in
+    let some : 0 < length now.held = omega (arith, full, is.frames) in
+    oldest_there now.frames now.held v.held c.oldest-oldest.result is.apart some oldest clean
+
+pub replace-requires-clause-absent : goal.replace-requires-clause-absent
+replace-requires-clause-absent g c =
+    let now = c.args.self.now in
+    let w = c.write_back.new.self in
+    let i = c.self-2.inside in
+    let v : State = record { arrays = i.arrays.items; at = i.at; frames = i.table.frames; frame_words = i.frame_words; held = i.table.held; touches = i.touches } in
+    let is : IsCache now = subst IsCache c.self.view_is c.self.invariant.cache in
+    let full : now.frames ≤ length now.held = subst (λ (z : State). z.frames ≤ length z.held) c.self.view_is (omega (arith, c.len.ensures.count, c.frames.ensures, c.if-len-frames.false)) in
+    let oldest : IsOldest now.held c.oldest-oldest.result = subst (λ (z : State). IsOldest z.held c.oldest-oldest.result) c.self.view_is c.oldest-oldest.ensures.last in
+    let clean : IsCleaned now.held v.held c.oldest-oldest.result = λ a t h found at. ap (λ (z : State). z.held) c.self-2.view_is ∙ c.in_ok-write_back.ensures.cleaned a t h found at in
+    let some : 0 < length now.held = omega (arith, full, is.frames) in
+    oldest_absent now.frames now.held v.held c.oldest-oldest.result c.args.array c.args.tile is.apart some oldest clean c.requires.absent
+
+pub replace-requires-clause-array : goal.replace-requires-clause-array
+replace-requires-clause-array g c =
+    let now = c.args.self.now in
+    let low : c.args.array < length now.arrays = array_low (λ (a : ArrayRef). c.args.tile < tiles a.shape) now.arrays c.args.array c.requires.exists in
+    let same : length c.self-2.inside.arrays.items ≡ length now.arrays = ap (λ (z : State). length z.arrays) (c.self-2.view_is ∙ c.in_ok-write_back.ensures.same) in
+    omega (arith, low, same, c.self-2.invariant.table_arrays)
+
+pub returns-clause-placed : goal.returns-clause-placed
+returns-clause-placed g c =
+    let now = c.args.self.now in
+    let w = c.write_back.new.self in
+    let i = c.self-2.inside in
+    let v : State = record { arrays = i.arrays.items; at = i.at; frames = i.table.frames; frame_words = i.frame_words; held = i.table.held; touches = i.touches } in
+    let is : IsCache now = subst IsCache c.self.view_is c.self.invariant.cache in
+    let full : now.frames ≤ length now.held = subst (λ (z : State). z.frames ≤ length z.held) c.self.view_is (omega (arith, c.len.ensures.count, c.frames.ensures, c.if-len-frames.false)) in
+    let oldest : IsOldest now.held c.oldest-oldest.result = subst (λ (z : State). IsOldest z.held c.oldest-oldest.result) c.self.view_is c.oldest-oldest.ensures.last in
+    let x : Held = record { array = c.args.array; tile = c.args.tile; frame = c.oldest-oldest.result; marked = c.args.marked } in
+    let up : IsGivenUp now.frames now.held v.held c.replace.new.self.held x = up_over now w v c.replace.new.self.held c.oldest-oldest.result x is full oldest c.in_ok-write_back.ensures.cleaned c.self-2.view_is c.requires.absent refl c.replace.ensures.held in
+    record {
+      rest = up.rest;
+      state = state_over now w v c.replace.new.self (x ∷ up.rest) c.self-2.view_is c.in_ok-write_back.ensures.same c.replace.ensures.same.0 up.second_is;
+      list = up.list;
+      absent = up.absent;
+      free = up.free;
+      low = up.low;
+    }
+
+pub returns-clause-cache : goal.returns-clause-cache
+returns-clause-cache g c =
+    let now = c.args.self.now in
+    let w = c.write_back.new.self in
+    let i = c.self-2.inside in
+    let v : State = record { arrays = i.arrays.items; at = i.at; frames = i.table.frames; frame_words = i.frame_words; held = i.table.held; touches = i.touches } in
+    let is : IsCache now = subst IsCache c.self.view_is c.self.invariant.cache in
+    let full : now.frames ≤ length now.held = subst (λ (z : State). z.frames ≤ length z.held) c.self.view_is (omega (arith, c.len.ensures.count, c.frames.ensures, c.if-len-frames.false)) in
+    let oldest : IsOldest now.held c.oldest-oldest.result = subst (λ (z : State). IsOldest z.held c.oldest-oldest.result) c.self.view_is c.oldest-oldest.ensures.last in
+    let x : Held = record { array = c.args.array; tile = c.args.tile; frame = c.oldest-oldest.result; marked = c.args.marked } in
+    let up : IsGivenUp now.frames now.held v.held c.replace.new.self.held x = up_over now w v c.replace.new.self.held c.oldest-oldest.result x is full oldest c.in_ok-write_back.ensures.cleaned c.self-2.view_is c.requires.absent refl c.replace.ensures.held in
+    let state = state_over now w v c.replace.new.self c.replace.new.self.held c.self-2.view_is c.in_ok-write_back.ensures.same c.replace.ensures.same.0 refl in
+    subst IsCache (sym state) (cache_over now v.held c.replace.new.self.held x is up c.requires.exists c.requires.writable)
+
+pub invariant_of-self-2 : goal.invariant_of-self-2
+invariant_of-self-2 g c =
+    let now = c.args.self.now in
+    let w = c.write_back.new.self in
+    let i = c.self-2.inside in
+    let v : State = record { arrays = i.arrays.items; at = i.at; frames = i.table.frames; frame_words = i.frame_words; held = i.table.held; touches = i.touches } in
+    let is : IsCache now = subst IsCache c.self.view_is c.self.invariant.cache in
+    let full : now.frames ≤ length now.held = subst (λ (z : State). z.frames ≤ length z.held) c.self.view_is (omega (arith, c.len.ensures.count, c.frames.ensures, c.if-len-frames.false)) in
+    let oldest : IsOldest now.held c.oldest-oldest.result = subst (λ (z : State). IsOldest z.held c.oldest-oldest.result) c.self.view_is c.oldest-oldest.ensures.last in
+    let x : Held = record { array = c.args.array; tile = c.args.tile; frame = c.oldest-oldest.result; marked = c.args.marked } in
+    let up : IsGivenUp now.frames now.held v.held c.replace.new.self.held x = up_over now w v c.replace.new.self.held c.oldest-oldest.result x is full oldest c.in_ok-write_back.ensures.cleaned c.self-2.view_is c.requires.absent refl c.replace.ensures.held in
+    let state = state_over now w v c.replace.new.self c.replace.new.self.held c.self-2.view_is c.in_ok-write_back.ensures.same c.replace.ensures.same.0 refl in
+    record {
+      table_arrays = c.replace.ensures.same.1 ∙ c.self-2.invariant.table_arrays;
+      cache = subst IsCache (sym state) (cache_over now v.held c.replace.new.self.held x is up c.requires.exists c.requires.writable);
+    }
+
+pub returns-clause-arrays : goal.returns-clause-arrays
+returns-clause-arrays g c y told z after =
+    let now = c.args.self.now in
+    let w = c.write_back.new.self in
+    let i = c.self-2.inside in
+    let v : State = record { arrays = i.arrays.items; at = i.at; frames = i.table.frames; frame_words = i.frame_words; held = i.table.held; touches = i.touches } in
+    let is : IsCache now = subst IsCache c.self.view_is c.self.invariant.cache in
+    let full : now.frames ≤ length now.held = subst (λ (z : State). z.frames ≤ length z.held) c.self.view_is (omega (arith, c.len.ensures.count, c.frames.ensures, c.if-len-frames.false)) in
+    let oldest : IsOldest now.held c.oldest-oldest.result = subst (λ (z : State). IsOldest z.held c.oldest-oldest.result) c.self.view_is c.oldest-oldest.ensures.last in
+    let x : Held = record { array = c.args.array; tile = c.args.tile; frame = c.oldest-oldest.result; marked = c.args.marked } in
+    let up : IsGivenUp now.frames now.held v.held c.replace.new.self.held x = up_over now w v c.replace.new.self.held c.oldest-oldest.result x is full oldest c.in_ok-write_back.ensures.cleaned c.self-2.view_is c.requires.absent refl c.replace.ensures.held in
+    same_over now w v c.replace.new.self.held x y z c.args.words.now is up c.self-2.view_is c.in_ok-write_back.ensures.same (c.in_ok-write_back.ensures.arrays y told z after)

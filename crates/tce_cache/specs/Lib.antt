@@ -1,0 +1,4 @@
+pub mod Transfer
+pub mod Cache
+pub mod Touch
+pub mod Parts

@@ -1,0 +1,324 @@
+// A cache of tiles.
+ghost use Rattle.std.specs.Prelude.{◌≡◌, ℕ, ◌+◌, ◌*◌, ◌^◌, ◌<◌, ◌≤◌, ◌↔◌, [], length, drop, slice_get, slice_index, map, IfOk, OnOk, IsOk, IsErr, IsSome, IsTrue, Some, None};
+ghost use Rattle.std.specs.Option.{ForSome};
+ghost use Rattle.tce_outside.specs.Fault.{HasCause};
+ghost use Rattle.tce_frames.specs.Held.{Held, look_up, cleaned};
+ghost use Rattle.tce_frames.specs.Current.{place, IsSameOutside};
+
+use crate::array::ArrayRef;
+use crate::transfer::{read_words, write_words};
+use std::alloc::{AllocError, Global};
+use std::marker::Model;
+use tce_frames::Table;
+use tce_outside::{Disk, Failed};
+use tce_words::Words;
+
+/// Holds tiles of arrays in frames, which stand among the words of a run.
+///
+/// It is seen as the list of the tiles that it holds, the one touched last first, with the arrays and frames with
+/// which it was made. Frame k stands from the word `at + k * frame_words` on. The current word of a tile is the one
+/// in its frame, and where no frame holds the tile the one in the array's file.
+///
+/// After a call that failed a cache is of no more use.
+#[derive(Drop)]
+pub struct Cache {
+    arrays: Vec<ArrayRef>,
+    at: u64,
+    frame_words: u64,
+    table: Table,
+    touches: u128,
+}
+
+// The same arrays in memory of their own.
+fn copied(alloc: Global, arrays: &[ArrayRef]) -> Result<Vec<ArrayRef>, AllocError>
+    ensures { IfOk result (λ copy. copy.items ≡ arrays.now) }
+{
+    let mut copy = Vec::with_capacity(alloc, arrays.len())?;
+    for array in arrays {
+        copy.push(array.clone()?)?;
+    }
+    Ok(copy)
+}
+
+// How many tiles each array has.
+fn tile_counts(alloc: Global, arrays: &[ArrayRef]) -> Result<Vec<u64>, AllocError>
+    ensures { IfOk result (λ counts. length counts.items ≡ length arrays.now) }
+{
+    let mut counts = Vec::with_capacity(alloc, arrays.len())?;
+    for array in arrays {
+        counts.push(array.shape.tiles())?;
+    }
+    Ok(counts)
+}
+
+impl Model for Cache {
+    ghost use Rattle.tce_cache.specs.Cache.{State, IsCache};
+
+    ghost Value = { State };
+
+    ghost view = { λ c. record { arrays = c.arrays.items; at = c.at; frames = c.table.frames; frame_words = c.frame_words; held = c.table.held; touches = c.touches } };
+
+    ghost use Rattle.tce_cache.specs.Parts.{IsWhole};
+
+    ghost invariant = { λ c. IsWhole c.arrays.items c.at c.frame_words c.table c.touches };
+}
+
+impl Cache {
+    ghost use Rattle.tce_cache.specs.Cache.{State, IsCache, AreArrays, stored, IsArrayAt, Exists, IsWritable, IsReady, HasRoom, IsSameOutsideFrames, OnlyWritableDiffers, layout, words_of_tile};
+    ghost use Rattle.tce_cache.specs.Transfer.{HasFile};
+    ghost use Rattle.tce_cache.specs.Touch.{IsTouched, IsTileWritten, IsPlaced, KeepsArrays, AreShown, with_held, unmarked, AreWritten};
+
+    /// A cache that holds no tile. It has so many frames, of `frame_words` words each, of which the first stands from the
+    /// word `at` on. No other call of a cache takes memory.
+    pub fn new(
+        alloc: Global,
+        arrays: &[ArrayRef],
+        at: u64,
+        frames: u64,
+        frame_words: u64,
+    ) -> Result<Cache, AllocError>
+        requires arrays { AreArrays arrays.now frame_words }
+        requires frames { 3 ≤ frames }
+        ensures { IfOk result (λ c. c ≡ record { arrays = arrays.now; at = at; frames = frames; frame_words = frame_words; held = []; touches = 0 }) }
+    {
+        // No memory has room for more.
+        if frames > 1 << 40 {
+            return Err(AllocError);
+        }
+        let kept = copied(alloc, arrays)?;
+        let tiles = tile_counts(alloc, arrays)?;
+        let table = Table::new(alloc, frames as usize, &tiles)?;
+        Ok(Cache {
+            arrays: kept,
+            at,
+            frame_words,
+            table,
+            touches: 0,
+        })
+    }
+
+    /// Whether a frame holds this tile.
+    pub fn holds(&self, array: u8, tile: u64) -> bool
+        requires { Exists self.now array tile }
+        ensures held { IsTrue result ↔ IsSome (look_up self.now.held array tile) }
+        ensures cache { IsCache self.now }
+    {
+        self.table.find(array, tile).is_some()
+    }
+
+    /// How often a tile was touched since the cache was made.
+    pub fn touches(&self) -> u128
+        ensures { result ≡ self.now.touches }
+    {
+        self.touches
+    }
+
+    // The place of a frame's first word.
+    fn place(&self, frame: usize) -> u64
+        requires frame { frame < self.now.frames }
+        requires bounded { self.now.at + self.now.frames * self.now.frame_words < 2 ^ 60 }
+        ensures { result ≡ place (layout self.now) frame }
+    {
+        self.at + frame as u64 * self.frame_words
+    }
+
+    // Reads a tile into a frame.
+    fn read_tile<D: Disk>(
+        &self,
+        disk: &mut D,
+        words: &mut Words,
+        array: u8,
+        tile: u64,
+        frame: usize,
+    ) -> Result<(), Failed>
+        requires exists { Exists self.now array tile }
+        requires frame { frame < self.now.frames }
+        requires room { HasRoom self.now words.old }
+        requires bounded { length words.old < 2 ^ 60 }
+        requires file { ForSome (D.files disk.old) (λ fs. IsArrayAt self.now.arrays array (λ a. HasFile a fs)) }
+        ensures read { OnOk result (ForSome (D.files disk.old) (λ fs. (k : ℕ) → k < words_of_tile (slice_get self.now.arrays array) → slice_index words.new (place (layout self.now) frame + k) ≡ stored self.now fs array tile k)) }
+        ensures len { length words.new ≡ length words.old }
+        ensures others { IsSameOutside (layout self.now) frame words.old words.new }
+        ensures same { D.files disk.new ≡ D.files disk.old }
+        ensures cause { HasCause (D.faults disk.old) (D.faults disk.new) (IsErr result) }
+    {
+        let array = &self.arrays[array as usize];
+        let n = array.shape.tile_words();
+        read_words(disk, array, n * tile, words, self.place(frame), n)?;
+        Ok(())
+    }
+
+    // Writes a tile from its frame to its file.
+    fn write_tile<D: Disk>(
+        &self,
+        disk: &mut D,
+        words: &Words,
+        array: u8,
+        tile: u64,
+        frame: usize,
+    ) -> Result<(), Failed>
+        requires exists { Exists self.now array tile }
+        requires writable { IsWritable self.now array }
+        requires frame { frame < self.now.frames }
+        requires room { HasRoom self.now words.now }
+        requires bounded { length words.now < 2 ^ 60 }
+        requires file { ForSome (D.files disk.old) (λ fs. IsArrayAt self.now.arrays array (λ a. HasFile a fs)) }
+        ensures written { OnOk result (ForSome (D.files disk.old) (λ fs. ForSome (D.files disk.new) (λ gs. IsTileWritten self.now fs gs words.now array tile frame))) }
+        ensures others { OnlyWritableDiffers self.now (D.files disk.old) (D.files disk.new) }
+        ensures cause { HasCause (D.faults disk.old) (D.faults disk.new) (IsErr result) }
+    {
+        let array = &self.arrays[array as usize];
+        let n = array.shape.tile_words();
+        write_words(disk, array, n * tile, words, self.place(frame), n)?;
+        Ok(())
+    }
+
+    // Writes the tile of a frame to its file, if it is marked, and takes its mark away.
+    fn write_back<D: Disk>(
+        &mut self,
+        disk: &mut D,
+        words: &Words,
+        frame: usize,
+    ) -> Result<(), Failed>
+        requires frame { frame < length self.old.held }
+        requires room { HasRoom self.old words.now }
+        requires bounded { length words.now < 2 ^ 60 }
+        requires ready { ForSome (D.files disk.old) (λ fs. IsReady self.old fs words.now) }
+        ensures cleaned { OnOk result ((array tile : ℕ) (h : Held) → look_up self.old.held array tile ≡ Some h → h.frame ≡ frame → self.new.held ≡ cleaned array tile self.old.held) }
+        ensures found { (h : Held) × (look_up self.old.held h.array h.tile ≡ Some h) × (h.frame ≡ frame) }
+        ensures same { self.new ≡ with_held self.old self.new.held self.old.touches }
+        ensures arrays { OnOk result (KeepsArrays self.old self.new (D.files disk.old) (D.files disk.new) words.now words.now) }
+        ensures cache { IsCache self.new }
+        ensures others { OnlyWritableDiffers self.old (D.files disk.old) (D.files disk.new) }
+        ensures cause { HasCause (D.faults disk.old) (D.faults disk.new) (IsErr result) }
+    {
+        let held = self.table.frame(frame);
+        if held.marked {
+            self.write_tile(disk, words, held.array, held.tile, frame)?;
+            self.table.clean(frame);
+        }
+        Ok(())
+    }
+
+    // Finds a frame for a tile that is not held: one that holds no tile, or that of the tile touched least recently.
+    fn take_frame<D: Disk>(
+        &mut self,
+        disk: &mut D,
+        words: &Words,
+        array: u8,
+        tile: u64,
+        marked: bool,
+    ) -> Result<usize, Failed>
+        requires exists { Exists self.old array tile }
+        requires absent { look_up self.old.held array tile ≡ None }
+        requires writable { IsTrue marked → IsWritable self.old array }
+        requires room { HasRoom self.old words.now }
+        requires bounded { length words.now < 2 ^ 60 }
+        requires ready { ForSome (D.files disk.old) (λ fs. IsReady self.old fs words.now) }
+        ensures placed { IfOk result (λ frame. IsPlaced self.old self.new (record { array = array; tile = tile; frame = frame; marked = marked })) }
+        ensures arrays { OnOk result (KeepsArrays self.old (with_held self.old (drop 1 self.new.held) self.old.touches) (D.files disk.old) (D.files disk.new) words.now words.now) }
+        ensures same { self.new ≡ with_held self.old self.new.held self.old.touches }
+        ensures cache { IsCache self.new }
+        ensures others { OnlyWritableDiffers self.old (D.files disk.old) (D.files disk.new) }
+        ensures cause { HasCause (D.faults disk.old) (D.faults disk.new) (IsErr result) }
+    {
+        if self.table.len() < self.table.frames() {
+            return Ok(self.table.hold(array, tile, marked));
+        }
+        let oldest = self.table.oldest();
+        self.write_back(disk, words, oldest)?;
+        self.table.replace(oldest, array, tile, marked);
+        Ok(oldest)
+    }
+
+    // Brings a tile that is not held into a frame.
+    fn bring<D: Disk>(
+        &mut self,
+        disk: &mut D,
+        words: &mut Words,
+        array: u8,
+        tile: u64,
+        marked: bool,
+    ) -> Result<usize, Failed>
+        requires exists { Exists self.old array tile }
+        requires absent { look_up self.old.held array tile ≡ None }
+        requires writable { IsTrue marked → IsWritable self.old array }
+        requires room { HasRoom self.old words.old }
+        requires bounded { length words.old < 2 ^ 60 }
+        requires cache { IsCache self.old }
+        requires ready { ForSome (D.files disk.old) (λ fs. IsReady self.old fs words.old × IsArrayAt self.old.arrays array (λ a. HasFile a fs)) }
+        ensures placed { IfOk result (λ frame. IsPlaced self.old self.new (record { array = array; tile = tile; frame = frame; marked = marked })) }
+        ensures arrays { OnOk result (KeepsArrays self.old self.new (D.files disk.old) (D.files disk.new) words.old words.new) }
+        ensures same { self.new ≡ with_held self.old self.new.held self.old.touches }
+        ensures cache { IsCache self.new }
+        ensures outside { IsSameOutsideFrames self.old words.old words.new }
+        ensures others { OnlyWritableDiffers self.old (D.files disk.old) (D.files disk.new) }
+        ensures cause { HasCause (D.faults disk.old) (D.faults disk.new) (IsErr result) }
+    {
+        let frame = self.take_frame(disk, words, array, tile, marked)?;
+        self.read_tile(disk, words, array, tile, frame)?;
+        Ok(frame)
+    }
+
+    /// Brings a tile into a frame, where none holds it, and answers the place of its first word. With `write` the tile
+    /// is marked: its words will be written to its file, before its frame is given to another tile or by `flush`.
+    ///
+    /// A touch of a held tile does not look at the disk.
+    pub fn touch<D: Disk>(
+        &mut self,
+        disk: &mut D,
+        words: &mut Words,
+        array: u8,
+        tile: u64,
+        write: bool,
+    ) -> Result<u64, Failed>
+        requires exists { Exists self.old array tile }
+        requires writable { IsTrue write → IsWritable self.old array }
+        requires room { HasRoom self.old words.old }
+        requires count { self.old.touches < 2 ^ 100 }
+        requires ready { ForSome (D.files disk.old) (λ fs. IsReady self.old fs words.old × IsArrayAt self.old.arrays array (λ a. HasFile a fs)) }
+        ensures touched { IfOk result (λ answer. IsTouched self.old self.new array tile write answer) }
+        ensures shown { IfOk result (λ answer. AreShown self.old (D.files disk.old) words.old words.new array tile answer) }
+        ensures arrays { OnOk result (KeepsArrays self.old self.new (D.files disk.old) (D.files disk.new) words.old words.new) }
+        ensures held { IsSome (look_up self.old.held array tile) → IsOk result × (words.new ≡ words.old) × (D.files disk.new ≡ D.files disk.old) × (D.faults disk.new ≡ D.faults disk.old) }
+        ensures same { self.new ≡ with_held self.old self.new.held (self.old.touches + 1) }
+        ensures cache { IsCache self.new }
+        ensures outside { IsSameOutsideFrames self.old words.old words.new }
+        ensures others { OnlyWritableDiffers self.old (D.files disk.old) (D.files disk.new) }
+        ensures cause { HasCause (D.faults disk.old) (D.faults disk.new) (IsErr result) }
+    {
+        // The length of the block bounds all places.
+        let _len = words.len();
+        self.touches += 1;
+        match self.table.find(array, tile) {
+            Some(frame) => {
+                self.table.touch(frame, write);
+                Ok(self.place(frame))
+            }
+            None => {
+                let frame = self.bring(disk, words, array, tile, write)?;
+                Ok(self.place(frame))
+            }
+        }
+    }
+
+    /// Writes each tile that is marked to its file, and takes all marks away.
+    pub fn flush<D: Disk>(&mut self, disk: &mut D, words: &Words) -> Result<(), Failed>
+        requires room { HasRoom self.old words.now }
+        requires ready { ForSome (D.files disk.old) (λ fs. IsReady self.old fs words.now) }
+        ensures flushed { OnOk result (self.new ≡ with_held self.old (map unmarked self.old.held) self.old.touches) }
+        ensures arrays { OnOk result (KeepsArrays self.old self.new (D.files disk.old) (D.files disk.new) words.now words.now) }
+        ensures written { OnOk result (AreWritten self.old (D.files disk.old) (D.files disk.new) words.now) }
+        ensures same { self.new ≡ with_held self.old self.new.held self.old.touches }
+        ensures cache { IsCache self.new }
+        ensures others { OnlyWritableDiffers self.old (D.files disk.old) (D.files disk.new) }
+        ensures cause { HasCause (D.faults disk.old) (D.faults disk.new) (IsErr result) }
+    {
+        // The length of the block bounds all places.
+        let _len = words.len();
+        for frame in 0..self.table.len() {
+            self.write_back(disk, words, frame)?;
+        }
+        Ok(())
+    }
+}

@@ -1,0 +1,18 @@
+//! A cache of tiles: frames among the words of a run, which hold tiles of arrays in files.
+//!
+//! A [`Cache`] is seen as the list of the tiles that it holds, the one touched last first. A touch brings a tile into
+//! a frame, and gives up the tile touched least recently where all frames are in use. A tile that was touched for
+//! writing is marked, and is written to its file before its frame is given to another tile, or by a flush. So the
+//! current word of a tile, which is the one in its frame or else the one in its file, never changes by a call here.
+//!
+//! Tiles pass between files and frames in pieces of 4,096 bytes, which stand outside the words of the run. The tables
+//! are taken when a cache is made. `specs/Cache.antt` has the model, `specs/Touch.antt` says what a touch and a flush
+//! do, and `specs/Transfer.antt` what is read and written.
+#![tactic(auto)]
+
+mod array;
+mod cache;
+mod transfer;
+
+pub use array::ArrayRef;
+pub use cache::Cache;

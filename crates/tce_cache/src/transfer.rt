@@ -1,0 +1,173 @@
+// Words between files and a block of words, in pieces.
+ghost use Rattle.std.specs.Prelude.{◌≡◌, ℕ, ◌+◌, ◌*◌, ◌/◌, ◌%◌, ◌^◌, ◌<◌, ◌≤◌, length, slice_index, OnOk, IsErr};
+ghost use Rattle.std.specs.Option.{ForSome};
+ghost use Rattle.tce_outside.specs.Files.{others};
+ghost use Rattle.tce_outside.specs.Fault.{HasCause};
+ghost use Rattle.tce_space.specs.Tiling.{IsTiling, padded_words};
+ghost use Rattle.tce_array.specs.Forms.{width, word_in, word_place};
+ghost use Rattle.tce_words.specs.Load.{IsLoaded};
+ghost use Rattle.tce_cache.specs.Transfer.{HasFile, AreWordsOf, IsSameBut, IsWritten};
+
+use crate::array::ArrayRef;
+use tce_array::Form;
+use tce_outside::{Disk, Failed};
+use tce_words::Words;
+
+// How many bytes one transfer moves at most. They stand outside the block of words.
+const PIECE: usize = 4096;
+
+// So many words fit into a piece in every form.
+const PIECE_WORDS: u64 = 512;
+
+// Makes the words from `at` on those of one piece.
+fn load_piece(words: &mut Words, at: u64, form: Form, piece: &[u8])
+    requires whole { length piece.now % width form ≡ 0 }
+    requires room { at + length piece.now / width form ≤ length words.old }
+    ensures { IsLoaded (word_in form) (width form) at piece.now words.old words.new }
+{
+    match form {
+        Form::One => words.load(at, piece),
+        Form::Wide => words.load(at, piece),
+        Form::Narrow => words.load_narrow(at, piece),
+    }
+}
+
+// The place in bytes of the word with this number.
+fn place_of(array: &ArrayRef, word: u64) -> u64
+    requires limits { IsTiling array.now.shape }
+    requires inside { word ≤ padded_words array.now.shape }
+    ensures place { result ≡ word_place array.now.form array.now.shape word }
+    ensures small { result < 2 ^ 60 }
+{
+    array.form.head_len(&array.shape) + array.form.width() * word
+}
+
+// Reads the words of one piece.
+fn read_piece<D: Disk>(
+    disk: &mut D,
+    array: &ArrayRef,
+    from: u64,
+    words: &mut Words,
+    at: u64,
+    n: u64,
+    piece: &mut [u8],
+) -> Result<(), Failed>
+    requires whole { length piece.old ≡ width array.now.form * n }
+    requires limits { IsTiling array.now.shape }
+    requires inside { from + n ≤ padded_words array.now.shape }
+    requires room { at + n ≤ length words.old }
+    requires file { ForSome (D.files disk.old) (λ fs. HasFile array.now fs) }
+    ensures read { OnOk result (ForSome (D.files disk.old) (λ fs. AreWordsOf array.now fs from words.new at n)) }
+    ensures len { length words.new ≡ length words.old }
+    ensures others { IsSameBut at n words.old words.new }
+    ensures same { D.files disk.new ≡ D.files disk.old }
+    ensures cause { HasCause (D.faults disk.old) (D.faults disk.new) (IsErr result) }
+{
+    disk.read_at(array.file.as_str(), place_of(array, from), piece)?;
+    load_piece(words, at, array.form, piece);
+    Ok(())
+}
+
+/// Reads `n` words of an array's file, from the number `from` on, into those from `at` on.
+///
+/// Where the disk fails, these words may be anything. All others stay in every case.
+pub(crate) fn read_words<D: Disk>(
+    disk: &mut D,
+    array: &ArrayRef,
+    from: u64,
+    words: &mut Words,
+    at: u64,
+    n: u64,
+) -> Result<(), Failed>
+    requires limits { IsTiling array.now.shape }
+    requires inside { from + n ≤ padded_words array.now.shape }
+    requires room { at + n ≤ length words.old }
+    requires bounded { length words.old < 2 ^ 60 }
+    requires file { ForSome (D.files disk.old) (λ fs. HasFile array.now fs) }
+    ensures read { OnOk result (ForSome (D.files disk.old) (λ fs. AreWordsOf array.now fs from words.new at n)) }
+    ensures len { length words.new ≡ length words.old }
+    ensures others { IsSameBut at n words.old words.new }
+    ensures same { D.files disk.new ≡ D.files disk.old }
+    ensures cause { HasCause (D.faults disk.old) (D.faults disk.new) (IsErr result) }
+{
+    let mut buffer = [0; PIECE];
+    let width = array.form.width();
+    let mut done = 0;
+    while done < n {
+        let count = (n - done).min(PIECE_WORDS);
+        let piece = &mut buffer[..(width * count) as usize];
+        read_piece(disk, array, from + done, words, at + done, count, piece)?;
+        done += count;
+    }
+    Ok(())
+}
+
+// Looks at each of the n words from `at` on: a word has 64 bits.
+fn look_at_words(words: &Words, at: u64, n: u64)
+    requires room { at + n ≤ length words.now }
+    requires bounded { length words.now < 2 ^ 60 }
+    ensures { (k : ℕ) → k < n → slice_index words.now (at + k) < 2 ^ 64 }
+{
+    for k in 0..n {
+        let _word = words.get(at + k);
+    }
+}
+
+// Writes the words of one piece.
+fn write_piece<D: Disk>(
+    disk: &mut D,
+    array: &ArrayRef,
+    from: u64,
+    words: &Words,
+    at: u64,
+    n: u64,
+    piece: &mut [u8],
+) -> Result<(), Failed>
+    requires whole { length piece.old ≡ 8 * n }
+    requires one { array.now.form ≡ Form.One }
+    requires limits { IsTiling array.now.shape }
+    requires inside { from + n ≤ padded_words array.now.shape }
+    requires room { at + n ≤ length words.now }
+    requires bounded { length words.now < 2 ^ 60 }
+    requires file { ForSome (D.files disk.old) (λ fs. HasFile array.now fs) }
+    ensures written { OnOk result (ForSome (D.files disk.old) (λ fs. ForSome (D.files disk.new) (λ gs. IsWritten array.now fs gs from words.now at n))) }
+    ensures others { others array.now.file.bytes (D.files disk.new) ≡ others array.now.file.bytes (D.files disk.old) }
+    ensures cause { HasCause (D.faults disk.old) (D.faults disk.new) (IsErr result) }
+{
+    look_at_words(words, at, n);
+    words.store(at, piece);
+    disk.write_at(array.file.as_str(), place_of(array, from), piece)?;
+    Ok(())
+}
+
+/// Writes the `n` words from `at` on over those of an array's file from the number `from` on.
+///
+/// Where the disk fails, the file may hold anything. All other files stay in every case.
+pub(crate) fn write_words<D: Disk>(
+    disk: &mut D,
+    array: &ArrayRef,
+    from: u64,
+    words: &Words,
+    at: u64,
+    n: u64,
+) -> Result<(), Failed>
+    requires one { array.now.form ≡ Form.One }
+    requires limits { IsTiling array.now.shape }
+    requires inside { from + n ≤ padded_words array.now.shape }
+    requires room { at + n ≤ length words.now }
+    requires bounded { length words.now < 2 ^ 60 }
+    requires file { ForSome (D.files disk.old) (λ fs. HasFile array.now fs) }
+    ensures written { OnOk result (ForSome (D.files disk.old) (λ fs. ForSome (D.files disk.new) (λ gs. IsWritten array.now fs gs from words.now at n))) }
+    ensures others { others array.now.file.bytes (D.files disk.new) ≡ others array.now.file.bytes (D.files disk.old) }
+    ensures cause { HasCause (D.faults disk.old) (D.faults disk.new) (IsErr result) }
+{
+    let mut buffer = [0; PIECE];
+    let mut done = 0;
+    while done < n {
+        let count = (n - done).min(PIECE_WORDS);
+        let piece = &mut buffer[..(8 * count) as usize];
+        write_piece(disk, array, from + done, words, at + done, count, piece)?;
+        done += count;
+    }
+    Ok(())
+}

@@ -1,0 +1,14 @@
+pub mod Coords
+pub mod Draws
+pub mod RowMajor
+pub mod Rows
+pub mod Forms
+pub mod Misfits
+pub mod Overwrites
+pub mod Pieces
+pub mod Splices
+pub mod Sums
+pub mod Stored
+pub mod Told
+pub mod Worked
+pub mod Zeros

@@ -1,0 +1,19 @@
+use Rattle.std.proofs.Common.{◌∙◌, ap, List, ℕ}
+use Rattle.tce_space.specs.Tiling.{Tiling}
+use Rattle.tce_outside.specs.Files.{Files}
+use Rattle.tce_array.specs.declared.form.Form.TheVariants.{One}
+use Rattle.tce_tools.specs.declared.storage.Storage.TheVariants.{Flat, Array}
+use Rattle.tce_tools.specs.Flat.{contents, flat_element}
+use Rattle.tce_tools.specs.Storage.{stored_bytes, element_in, holding_by}
+use Rattle.tce_tools.proofs.Forms.{flat_is}
+use Rattle.tce_tools.proofs.Stored.{stored_same}
+use Rattle.tce_tools.proofs.Told.{held_same}
+use Rattle.tce_tools.proofs.packing.pack.Goals as goal
+
+pub returns-in-Ok-copy-clause-packed : goal.returns-in-Ok-copy-clause-packed
+returns-in-Ok-copy-clause-packed g c =
+    let s : Tiling = c.args.shape.now in
+    let old : Files → List ℕ = λ fs. stored_bytes (Array One) s (element_in Flat s (contents fs c.args.flat.now)) in
+    held_same (g.D.Disk.files c.args.disk.now) _ c.args.array.now old (λ fs. stored_bytes (Array One) s (flat_element s (contents fs c.args.flat.now)))
+    (c.in-Ok-copy.ensures.copied ∙ ap (holding_by c.args.array.now old) c.in-Ok.ensures.same)
+    (λ fs. stored_same (Array One) s c.elements.ensures.limits _ _ (λ xs h. flat_is s (contents fs c.args.flat.now) xs))

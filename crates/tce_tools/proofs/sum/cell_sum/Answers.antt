@@ -1,0 +1,25 @@
+use Rattle.std.proofs.Common.{◌∙◌, refl, subst, arith, List, ℕ}
+use Rattle.tce_array.specs.Forms.{cell}
+use Rattle.tce_tools.specs.Flat.{contents}
+use Rattle.tce_tools.specs.Runs.{AreElements}
+use Rattle.tce_tools.proofs.Sums.{sum_none, sum_of_run, sum_of_all}
+use Rattle.tce_tools.proofs.sum.cell_sum.Goals as goal
+
+pub loop-done-init : goal.loop-done-init
+loop-done-init g c = record { done = omega arith; sum = λ x told. sum_none; files = refl; later = omega arith }
+
+pub loop-done-preserved : goal.loop-done-preserved
+loop-done-preserved g c = record {
+  done = omega (arith, c.run_at-run.ensures.run.inside, c.run_at-run.ensures.start, c.elements-elements.ensures.elements);
+  sum = λ x told.
+      let f : List ℕ → ℕ = cell c.args.form c.args.shape.now (contents x c.args.array.now) in
+      sum_of_run c.args.shape.now f c.loop-done.done c.run_at-run.result.len c.loop-done.total c.sum_of-total.result c.read_run.new.words
+      (subst (λ n. AreElements c.args.shape.now f n c.read_run.new.words) c.run_at-run.ensures.start (c.in_ok-read_run.ensures.read x (c.loop-done.invariant.files ∙ told)))
+      c.in_ok-read_run.ensures.len (omega (arith, c.run_at-run.ensures.run.inside, c.run_at-run.ensures.start)) (c.loop-done.invariant.sum x told) c.sum_of-total.ensures;
+  files = c.in_ok-read_run.ensures.same ∙ c.loop-done.invariant.files;
+  later = omega (arith, c.in_ok-read_run.ensures.cause.later, c.loop-done.invariant.later);
+}
+
+pub returns-clause-sum : goal.returns-clause-sum
+returns-clause-sum g c = λ x told.
+    sum_of_all c.args.shape.now (cell c.args.form c.args.shape.now (contents x c.args.array.now)) c.loop-done.done c.loop-done.total (omega (arith, c.loop-done-test.false, c.elements-elements.ensures.elements)) (c.loop-done.invariant.sum x told)

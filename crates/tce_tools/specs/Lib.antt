@@ -1,0 +1,6 @@
+pub mod Flat
+pub mod Storage
+pub mod Runs
+pub mod Answers
+pub mod Demo
+pub mod Laws

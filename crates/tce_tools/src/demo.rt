@@ -1,0 +1,116 @@
+// The data of the demonstration.
+ghost use Rattle.std.specs.Prelude.{◌≡◌, ℕ, ◌+◌, ◌<◌, ◌≤◌, length, slice_index, OnOk, IfOk, IsErrOf};
+ghost use Rattle.tce_space.specs.Tiling.{elements};
+ghost use Rattle.tce_outside.specs.Files.{others, holding};
+ghost use Rattle.tce_outside.specs.Fault.{HasCause};
+ghost use Rattle.tce_array.specs.Forms.{array_bytes};
+ghost use Rattle.std.specs.String.{string_bytes};
+ghost use Rattle.tce_tools.specs.Demo.{drawn, digit, demo_element, range_line, demo_text};
+
+use crate::run::{LONGEST_RUN, run_at};
+use crate::storage::{Storage, make};
+use crate::transfer::{PIECE, write_run};
+use std::alloc::{AllocError, Global};
+use tce_array::Form;
+use tce_outside::{Disk, OutFault};
+use tce_space::Shape;
+
+const FORMULA: &str =
+    "index V a b c d e f\nindex O i j k l\ntensor demoA[V,V,O,O]\ntensor demoB[V,V,V,O]\ntensor demoC[V,V,O,O]\ntensor demoD[V,V,V,O]\ntensor demoS[V,V,O,O]\ndemoS[a,b,i,j] = sum{c,k}(sum{d,f}(sum{e,l}(demoB[b,e,f,l] * demoD[c,d,e,l]) * demoC[d,f,j,k]) * demoA[a,c,i,k])\n";
+
+// The line of a range, in tiles of at most four; tiles of one are not said.
+fn range_line(alloc: Global, name: &str, extent: u64) -> Result<String, AllocError>
+    ensures { IfOk result (λ line. string_bytes line ≡ range_line name.now extent) }
+{
+    if extent == 1 {
+        return format!(in alloc; "range {name} {extent}\n");
+    }
+    let edge = extent.min(4);
+    format!(in alloc; "range {name} {extent} tile {edge}\n")
+}
+
+/// The text of the specification of the demonstration: the ranges `V` and `O` have these extents, in tiles of at most
+/// four, and the formula multiplies and sums four arrays as the term of a coupled cluster theory does (Baumgartner et
+/// al. 2005).
+pub fn demo_spec(alloc: Global, v: u64, o: u64) -> Result<Vec<u8>, AllocError>
+    requires v { (1 ≤ v) × (v ≤ 32) }
+    requires o { (1 ≤ o) × (o ≤ 32) }
+    ensures { IfOk result (λ text. text.items ≡ demo_text v o) }
+{
+    let mut text = range_line(alloc, "V", v)?;
+    let other = range_line(alloc, "O", o)?;
+    text.push_str(other.as_str())?;
+    text.push_str(FORMULA)?;
+    Ok(text.into_bytes())
+}
+
+// The next number of the generator of Park and Miller (1988), with the multiplier of 1993.
+#[tactic(auto, unfolding(crate::specs::Demo::drawn))]
+fn next_number(x: u64) -> u64
+    requires { x < 2147483647 }
+    ensures drawn { result ≡ drawn x 1 }
+    ensures small { result < 2147483647 }
+{
+    x * 48271 % 2147483647
+}
+
+// Puts the last digits of the next numbers, and gives the last number.
+fn draw(x: u64, digits: &mut [u64]) -> u64
+    requires { x < 2147483647 }
+    ensures digits { (k : ℕ) → k < length digits.new → slice_index digits.new k ≡ digit x (k + 1) }
+    ensures last { result ≡ drawn x (length digits.new) }
+    ensures len { length digits.new ≡ length digits.old }
+    ensures small { result < 2147483647 }
+{
+    let mut number = x;
+    for k in 0..digits.len() {
+        number = next_number(number);
+        digits[k] = number % 10;
+    }
+    number
+}
+
+/// Makes an array file, in the first form, of the last digits of the numbers that the generator draws after `x`, in
+/// row-major order, and gives the last number drawn.
+///
+/// The generator takes 48271 times its number, modulo 2^31 - 1 (Park, Miller and Stockmeyer 1993). For want of memory no
+/// file changes; where the disk fails, the array file may hold anything or be absent.
+pub fn demo_array<D: Disk>(
+    disk: &mut D,
+    shape: &Shape,
+    array: &str,
+    x: u64,
+) -> Result<u64, OutFault>
+    requires low { 1 ≤ x }
+    requires high { x ≤ 2147483646 }
+    ensures made { OnOk result (D.files disk.new ≡ holding array.now (array_bytes shape.now (demo_element shape.now x)) (D.files disk.old)) }
+    ensures last { IfOk result (λ number. number ≡ drawn x (elements shape.now)) }
+    ensures memory { IsErrOf result OutFault.Memory → D.files disk.new ≡ D.files disk.old }
+    ensures others { others array.now (D.files disk.new) ≡ others array.now (D.files disk.old) }
+    ensures cause { HasCause (D.faults disk.old) (D.faults disk.new) (IsErrOf result OutFault.Failed) }
+{
+    make(disk, array, Storage::Array(Form::One), shape)?;
+    let mut bytes = [0; PIECE];
+    let mut buffer = [0; LONGEST_RUN];
+    let elements = shape.elements();
+    let mut number = x;
+    let mut done = 0;
+    while done < elements {
+        let run = run_at(shape, done);
+        let digits = &mut buffer[..run.len as usize];
+        number = draw(number, digits);
+        let Ok(()) = write_run(
+            disk,
+            array,
+            Storage::Array(Form::One),
+            shape,
+            run,
+            &mut bytes,
+            digits,
+        ) else {
+            return Err(OutFault::Failed);
+        };
+        done += run.len;
+    }
+    Ok(number)
+}

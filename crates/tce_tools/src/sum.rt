@@ -1,0 +1,61 @@
+// The sum of an array's elements.
+ghost use Rattle.std.specs.Prelude.{◌≡◌, IfOk, IsErr};
+ghost use Rattle.std.specs.Option.{ForSome, IsSomeAnd};
+ghost use Rattle.tce_base.specs.Word.{wrapping_sum};
+ghost use Rattle.tce_outside.specs.Files.{file};
+ghost use Rattle.tce_outside.specs.Fault.{HasCause};
+ghost use Rattle.tce_array.specs.Forms.{IsForm, cell};
+ghost use Rattle.tce_tools.specs.Flat.{in_order, contents};
+
+use crate::run::{LONGEST_RUN, run_at};
+use crate::storage::Storage;
+use crate::transfer::{PIECE, read_run};
+use tce_array::Form;
+use tce_outside::{Disk, Failed};
+use tce_space::Shape;
+
+// The sum of words modulo 2^64.
+fn sum_of(words: &[u64]) -> u64
+    ensures { result ≡ wrapping_sum words.now }
+{
+    let mut total: u64 = 0;
+    for word in words {
+        total = total.wrapping_add(*word);
+    }
+    total
+}
+
+/// The sum of all elements of an array file of this form, modulo 2^64. Padding is not looked at. No file changes.
+pub fn cell_sum<D: Disk>(
+    disk: &mut D,
+    form: Form,
+    shape: &Shape,
+    array: &str,
+) -> Result<u64, Failed>
+    requires { ForSome (D.files disk.old) (λ fs. IsSomeAnd (file fs array.now) (IsForm form shape.now)) }
+    ensures sum { IfOk result (λ n. ForSome (D.files disk.old) (λ fs. n ≡ wrapping_sum (in_order shape.now (cell form shape.now (contents fs array.now))))) }
+    ensures same { D.files disk.new ≡ D.files disk.old }
+    ensures cause { HasCause (D.faults disk.old) (D.faults disk.new) (IsErr result) }
+{
+    let mut bytes = [0; PIECE];
+    let mut buffer = [0; LONGEST_RUN];
+    let elements = shape.elements();
+    let mut done = 0;
+    let mut total: u64 = 0;
+    while done < elements {
+        let run = run_at(shape, done);
+        let words = &mut buffer[..run.len as usize];
+        read_run(
+            disk,
+            array,
+            Storage::Array(form),
+            shape,
+            run,
+            &mut bytes,
+            words,
+        )?;
+        total = total.wrapping_add(sum_of(words));
+        done += run.len;
+    }
+    Ok(total)
+}

@@ -1,0 +1,126 @@
+// Runs of words between files and memory.
+ghost use Rattle.std.specs.Prelude.{◌≡◌, ℕ, ◌*◌, ◌<◌, ◌≤◌, length, slice_index, drop, OnOk, IsErr};
+ghost use Rattle.std.specs.List.{flat_map};
+ghost use Rattle.std.specs.Option.{ForSome};
+ghost use Rattle.tce_base.specs.Word.{word_bytes, word_of_bytes, widened};
+ghost use Rattle.tce_outside.specs.Files.{file, written, others};
+ghost use Rattle.tce_outside.specs.Fault.{HasCause};
+ghost use Rattle.tce_array.specs.Forms.{width, word_in};
+ghost use Rattle.tce_tools.specs.Flat.{contents};
+ghost use Rattle.tce_tools.specs.Storage.{form_in, element_in, HasStored};
+ghost use Rattle.tce_tools.specs.Runs.{IsRun, AreElements, run_place};
+
+use crate::run::{LONGEST_RUN, Run};
+use crate::storage::Storage;
+use byteorder::{ByteOrder, LittleEndian};
+use tce_array::Form;
+use tce_outside::{Disk, Failed};
+use tce_space::Shape;
+
+/// The bytes of the longest run.
+pub const PIECE: usize = 8 * LONGEST_RUN;
+
+// A signed number of 32 bits as a word.
+fn widened(number: u32) -> u64
+    ensures { result ≡ widened number }
+{
+    if number < 0x8000_0000 {
+        u64::from(number)
+    } else {
+        u64::from(number) + 0xFFFF_FFFF_0000_0000
+    }
+}
+
+// The words of signed numbers of four bytes each.
+fn decode_narrow(bytes: &[u8], words: &mut [u64])
+    requires { length bytes.now ≡ 4 * length words.old }
+    ensures { (k : ℕ) → k < length words.new → slice_index words.new k ≡ widened (word_of_bytes 4 (drop (4 * k) bytes.now)) }
+{
+    for k in 0..words.len() {
+        words[k] = widened(LittleEndian::read_u32(&bytes[4 * k..]));
+    }
+}
+
+// The words that are stored so.
+fn decode(form: Form, bytes: &[u8], words: &mut [u64])
+    requires { length bytes.now ≡ width form * length words.old }
+    ensures { (k : ℕ) → k < length words.new → slice_index words.new k ≡ word_in form (drop (width form * k) bytes.now) }
+{
+    match form {
+        Form::One => LittleEndian::read_u64_into(bytes, words),
+        Form::Wide => LittleEndian::read_u64_into(bytes, words),
+        Form::Narrow => decode_narrow(bytes, words),
+    }
+}
+
+// The lowest four bytes of each word.
+fn encode_narrow(words: &[u64], bytes: &mut [u8])
+    requires { length bytes.old ≡ 4 * length words.now }
+    ensures { bytes.new ≡ flat_map (word_bytes 4) words.now }
+{
+    for k in 0..words.len() {
+        LittleEndian::write_u32(&mut bytes[4 * k..], (words[k] % (1 << 32)) as u32);
+    }
+}
+
+// The bytes in which words are stored.
+fn encode(form: Form, words: &[u64], bytes: &mut [u8])
+    requires { length bytes.old ≡ width form * length words.now }
+    ensures { bytes.new ≡ flat_map (word_bytes (width form)) words.now }
+{
+    match form {
+        Form::One => LittleEndian::write_u64_into(words, bytes),
+        Form::Wide => LittleEndian::write_u64_into(words, bytes),
+        Form::Narrow => encode_narrow(words, bytes),
+    }
+}
+
+/// Reads the words of a run.
+pub fn read_run<D: Disk>(
+    disk: &mut D,
+    name: &str,
+    storage: Storage,
+    shape: &Shape,
+    run: Run,
+    bytes: &mut [u8],
+    words: &mut [u64],
+) -> Result<(), Failed>
+    requires run { IsRun shape.now run }
+    requires buffer { 32768 ≤ length bytes.old }
+    requires words { length words.old ≡ run.len }
+    requires file { ForSome (D.files disk.old) (λ fs. HasStored storage shape.now (file fs name.now)) }
+    ensures read { OnOk result (ForSome (D.files disk.old) (λ fs. AreElements shape.now (element_in storage shape.now (contents fs name.now)) run.start words.new)) }
+    ensures len { length words.new ≡ run.len }
+    ensures same { D.files disk.new ≡ D.files disk.old }
+    ensures cause { HasCause (D.faults disk.old) (D.faults disk.new) (IsErr result) }
+{
+    let form = storage.form();
+    let piece = &mut bytes[..form.width() as usize * words.len()];
+    disk.read_at(name, storage.place(shape, run), piece)?;
+    decode(form, piece, words);
+    Ok(())
+}
+
+/// Writes words over those of a run.
+pub fn write_run<D: Disk>(
+    disk: &mut D,
+    name: &str,
+    storage: Storage,
+    shape: &Shape,
+    run: Run,
+    bytes: &mut [u8],
+    words: &[u64],
+) -> Result<(), Failed>
+    requires run { IsRun shape.now run }
+    requires buffer { 32768 ≤ length bytes.old }
+    requires words { length words.now ≡ run.len }
+    requires file { ForSome (D.files disk.old) (λ fs. HasStored storage shape.now (file fs name.now)) }
+    ensures written { OnOk result (D.files disk.new ≡ written name.now (run_place storage shape.now run) (flat_map (word_bytes (width (form_in storage))) words.now) (D.files disk.old)) }
+    ensures others { others name.now (D.files disk.new) ≡ others name.now (D.files disk.old) }
+    ensures cause { HasCause (D.faults disk.old) (D.faults disk.new) (IsErr result) }
+{
+    let form = storage.form();
+    let piece = &mut bytes[..form.width() as usize * words.len()];
+    encode(form, words, piece);
+    disk.write_at(name, storage.place(shape, run), piece)
+}
