@@ -4,19 +4,30 @@ use Rattle.std.proofs.lemmas.Bool.{ltb-false}
 use Rattle.tce_tree.specs.ContractionTree.{operations as node_count}
 use Rattle.tce_tree.specs.WellFormed.{sums_distinct}
 use Rattle.tce_tree.specs.Faults.{fault_of}
+use Rattle.tce_grammar.specs.Formula as formula
 use Rattle.tce_grammar.specs.Formula.{Formula, operations}
 use Rattle.tce_declarations.specs.Declarations.{Declarations, IsDeclarations}
 use Rattle.tce_declarations.specs.Faults.{Fault, fault_if, too_many_nodes, tree}
 use Rattle.tce_formula.specs.FormulaFaults.{formula_fault}
+use Rattle.tce_formula.specs.Lengths.{IsShort}
 use Rattle.tce_formula.specs.Meaning.{meaning}
 use Rattle.tce_formula.specs.Rules.{places_fault, tree_fault}
 use Rattle.tce_formula.proofs.Nothing.{none_or, none_mapped}
 use Rattle.tce_formula.proofs.FormulaParts.{fault_parts, is_ready}
+use Rattle.tce_spec.specs.Specification.{ConstantsAreWords}
 
 pub record LineKeeps (d : Declarations) (f : Formula) : Type 0 where
   pub few : node_count (meaning d f) ≤ 32
   pub distinct : sums_distinct (meaning d f) ≡ true
   pub faultless : fault_of d.space (meaning d f) ≡ None
+  pub constants : ConstantsAreWords (meaning d f)
+
+-- short formulas mean trees over words
+words_of : (d : Declarations) (f : Formula) → IsShort f → ConstantsAreWords (meaning d f)
+words_of d (formula.tensor name indexes) short = tt
+words_of d (formula.constant digits) short = short
+words_of d (formula.sum indexes operand) short = words_of d operand short.1
+words_of d (formula.binary operator left right) short = (words_of d left short.0, words_of d right short.1)
 
 not_more : (n line : ℕ) → fault_if (nat_lt 32 n) (too_many_nodes line) ≡ None → n ≤ 32
 not_more n line h = by_test (nat_lt 32 n) refl h
@@ -34,4 +45,5 @@ line_keeps line d result indexes f rules none =
       few = subst (λ n. n ≤ 32) (sym ready.same_count) (not_more (operations f) line parts.0);
       distinct = ready.distinct;
       faultless = none_mapped (tree line) _ (none_or _ _ later.1).0;
+      constants = words_of d f ready.short;
     }

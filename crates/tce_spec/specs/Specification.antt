@@ -1,6 +1,6 @@
 -- Specifications: declared ranges, indexes and tensors, and what is computed over them.
-use Rattle.std.specs.Prelude.{◌≡◌, ℕ, ◌≤◌, None, IsTrue, List}
-use Rattle.tce_tree.specs.ContractionTree.{ContractionTree, operations}
+use Rattle.std.specs.Prelude.{◌≡◌, ⊤, ℕ, ◌<◌, ◌≤◌, ◌^◌, None, IsTrue, List}
+use Rattle.tce_tree.specs.ContractionTree.{ContractionTree, leaf, constant, binary, sum, operations}
 use Rattle.tce_tree.specs.WellFormed.{sums_distinct}
 use Rattle.tce_tree.specs.Faults.{fault_of}
 use Rattle.tce_tree.specs.Measure.{IsMeasured}
@@ -14,6 +14,13 @@ pub record Specification : Type 0 where
   pub indexes : List ℕ
   pub tree : ContractionTree
 
+-- each constant is a word
+abbrev pub ConstantsAreWords : ContractionTree → Type 0
+ConstantsAreWords (leaf tensor indexes) = ⊤
+ConstantsAreWords (constant number) = number < 2 ^ 64
+ConstantsAreWords (binary op left right) = ConstantsAreWords left × ConstantsAreWords right
+ConstantsAreWords (sum indexes operand) = ConstantsAreWords operand
+
 -- what every specification keeps
 pub record IsSpecification (s : Specification) : Type 0 where
   pub declarations : IsDeclarations s.declarations
@@ -22,3 +29,4 @@ pub record IsSpecification (s : Specification) : Type 0 where
   pub distinct : IsTrue (sums_distinct s.tree)
   pub faultless : fault_of s.declarations.space s.tree ≡ None
   pub measured : IsMeasured s.declarations.space s.tree
+  pub constants : ConstantsAreWords s.tree

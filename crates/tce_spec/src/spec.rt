@@ -10,11 +10,13 @@ ghost use Rattle.tce_spec.specs.Specification.{Specification as SpecificationOfT
 ghost use Rattle.tce_spec.specs.Operands.{operands, largest_tile, shape_of};
 ghost use Rattle.tce_spec.specs.Outcome.{IsOutcome};
 ghost use Rattle.tce_spec.specs.OutcomeCode.{Answers};
+ghost use Rattle.tce_spec.specs.Canonical.{canonical_of};
 
 use crate::operands::add_operands;
 use arrayvec::ArrayVec;
-use std::alloc::Global;
+use std::alloc::{AllocError, Global};
 use std::marker::Model;
+use tce_canonical::print_lines;
 use tce_declarations::{Declarations, SpecFault, Tensor, check_rest, read_head};
 use tce_formula::{Contraction, read_formula};
 use tce_space::Space;
@@ -155,4 +157,14 @@ pub fn read_spec(alloc: Global, text: &[u8]) -> Result<Spec, SpecFault>
         declarations: head.declarations,
         contraction,
     })
+}
+
+/// The canonical text of a specification: a line for each range, the indexes in order of declaration with neighbours of
+/// one range on one line, a line for each tensor, and the formula. An edge of 1 is not written, and an expression has no
+/// more parentheses than it needs.
+pub fn print_spec(alloc: Global, spec: &Spec) -> Result<Vec<u8>, AllocError>
+    ensures { IfOk result (λ text. text.items ≡ canonical_of spec.now) }
+{
+    let Contraction { result, expr, .. } = &spec.contraction;
+    print_lines(alloc, &spec.declarations, result, expr)
 }

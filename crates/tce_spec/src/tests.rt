@@ -1,6 +1,6 @@
 //! Whole texts that were judged by hand.
 
-use crate::{Limit, Spec, SpecFault, read_spec};
+use crate::{Limit, Spec, SpecFault, print_spec, read_spec};
 use std::alloc::{AllocError, Global};
 use std::test::Fail;
 
@@ -84,6 +84,14 @@ fn told(alloc: Global, text: &[u8]) -> Result<Vec<u8>, AllocError> {
     match read_spec(alloc, text) {
         Ok(spec) => told_spec(alloc, &spec),
         Err(fault) => told_fault(alloc, &fault),
+    }
+}
+
+/// The canonical text of what a text specifies.
+fn reprinted(alloc: Global, text: &[u8]) -> Result<Vec<u8>, Fail> {
+    match read_spec(alloc, text) {
+        Ok(spec) => Ok(print_spec(alloc, &spec)?),
+        Err(_) => Err(Fail::new("the text is refused")),
     }
 }
 
@@ -175,5 +183,14 @@ fn long_texts_are_refused_unread(rt: HostRuntime) -> Result<(), Fail> {
     let feeds = repeated(rt.alloc(), b"", b'\n', 65536)?;
     let found = told(rt.alloc(), feeds.as_slice())?;
     assert_eq!(rt; found.as_slice(), b"text 65537".as_slice());
+    Ok(())
+}
+
+#[test]
+fn the_canonical_text_is_printed(rt: HostRuntime) -> Result<(), Fail> {
+    let text: &[u8] =
+        b"# an outer product\r\nrange N 2\r\nindex N i j\r\ntensor A[N]\r\ntensor B[N]\r\ntensor C[N,N]\r\nC[i,j] = A[i] * B[j]";
+    let found = reprinted(rt.alloc(), text)?;
+    assert_eq!(rt; found.as_slice(), OUTER);
     Ok(())
 }

@@ -11,6 +11,7 @@ use Rattle.tce_declarations.specs.TextCode.{head}
 use Rattle.tce_declarations.proofs.Readings.{computed_head, head_is, closing_is, lines_of}
 use Rattle.tce_formula.specs.FormulaFaults.{formula_fault}
 use Rattle.tce_formula.proofs.LineNames.{line_names}
+use Rattle.tce_spec.specs.Specification.{ConstantsAreWords}
 use Rattle.tce_spec.proofs.Reading.{head_fault, formula_shown, rest_shown, rest_lines, all_specified}
 use Rattle.tce_spec.proofs.Kept.{line_keeps}
 use Rattle.tce_spec.proofs.spec.read_spec.Goals as goal
@@ -49,6 +50,7 @@ invariant_of-result c =
         distinct = subst (λ t. sums_distinct t ≡ true) same keeps.distinct;
         faultless = subst (λ t. fault_of c.in_ok-head.head.declarations.space t ≡ None) same keeps.faultless;
         measured = c.in_ok-contraction.ensures.measured;
+        constants = subst ConstantsAreWords same keeps.constants;
       };
       expression = c.in_ok-contraction.ensures.expr ∙ same;
     }

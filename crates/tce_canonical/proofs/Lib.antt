@@ -1,0 +1,4 @@
+pub mod Printing
+pub mod Lists
+pub mod Groups
+pub mod Declared

@@ -1,0 +1,73 @@
+-- The canonical text of declarations and of a contraction over them, by the statements of its lines.
+use Rattle.std.specs.Prelude.{ℕ, ◌==◌, if◌then◌else◌, List, [], ◌∷◌, ◌++◌, map, Option}
+use Rattle.std.specs.declared.option.Option.TheVariants.{Some, None}
+use Rattle.std.specs.Fmt.{decimal}
+use Rattle.tce_space.specs.Space.{Range, Index, IndexSpace, range_at, index_at}
+use Rattle.tce_tree.specs.ContractionTree.{ContractionTree, Arithmetic, multiply, add, subtract, leaf, constant, binary, sum}
+use Rattle.tce_grammar.specs.Formula as formulas
+use Rattle.tce_grammar.specs.Formula.{Formula, Operator, times, plus, minus}
+use Rattle.tce_grammar.specs.Grammar.{Statement, range, index, declaration, formula}
+use Rattle.tce_grammar.specs.Canonical.{canonical_text}
+use Rattle.tce_declarations.specs.Declarations.{Declarations, Tensor, tensor_at}
+
+-- an edge of 1 is not written
+abbrev pub edge_digits : ℕ → Option (List ℕ)
+edge_digits edge = if edge == 1 then None else Some (decimal edge)
+
+abbrev pub range_statement : Range → Statement
+range_statement r = range r.name (decimal r.extent) (edge_digits r.edge)
+
+abbrev pub range_names : IndexSpace → List ℕ → List (List ℕ)
+range_names space rs = map (λ r. (range_at space r).name) rs
+
+abbrev pub index_names : IndexSpace → List ℕ → List (List ℕ)
+index_names space is = map (λ i. (index_at space i).name) is
+
+-- the names of indexes of one range
+pub record Group : Type 0 where
+  pub of_range : ℕ
+  pub names : List (List ℕ)
+
+-- an index in front of groups joins the first one where that is of its range
+abbrev pub in_group : Index → List Group → List Group
+in_group i [] = record { of_range = i.of_range; names = i.name ∷ [] } ∷ []
+in_group i (g ∷ gs) =
+    if i.of_range == g.of_range then record { of_range = i.of_range; names = i.name ∷ g.names } ∷ gs
+    else record { of_range = i.of_range; names = i.name ∷ [] } ∷ g ∷ gs
+
+-- neighbours of one range stand in one group
+abbrev pub groups : List Index → List Group
+groups [] = []
+groups (i ∷ is) = in_group i (groups is)
+
+abbrev pub index_statement : IndexSpace → Group → Statement
+index_statement space g = index (range_at space g.of_range).name g.names
+
+abbrev pub tensor_statement : IndexSpace → Tensor → Statement
+tensor_statement space t = declaration t.name (range_names space t.ranges)
+
+abbrev pub operator : Arithmetic → Operator
+operator multiply = times
+operator add = plus
+operator subtract = minus
+
+-- a tree with names for its numbers
+abbrev pub formula_of : Declarations → ContractionTree → Formula
+formula_of d (leaf tensor indexes) = formulas.tensor (tensor_at d tensor).name (index_names d.space indexes)
+formula_of d (constant number) = formulas.constant (decimal number)
+formula_of d (binary op left right) = formulas.binary (operator op) (formula_of d left) (formula_of d right)
+formula_of d (sum indexes operand) = formulas.sum (index_names d.space indexes) (formula_of d operand)
+
+abbrev pub formula_statement : Declarations → ℕ → List ℕ → ContractionTree → Statement
+formula_statement d result indexes tree = formula (tensor_at d result).name (index_names d.space indexes) (formula_of d tree)
+
+-- the ranges, the indexes, the tensors, and the formula
+abbrev pub statements : Declarations → ℕ → List ℕ → ContractionTree → List Statement
+statements d result indexes tree =
+    map range_statement d.space.ranges
+    ++ (map (index_statement d.space) (groups d.space.indexes)
+    ++ (map (tensor_statement d.space) d.tensors
+    ++ formula_statement d result indexes tree ∷ []))
+
+abbrev pub canonical : Declarations → ℕ → List ℕ → ContractionTree → List ℕ
+canonical d result indexes tree = canonical_text (statements d result indexes tree)

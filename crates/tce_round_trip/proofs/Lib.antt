@@ -1,0 +1,13 @@
+pub mod Lookups
+pub mod SpaceNames
+pub mod Numbers
+pub mod Lengths
+pub mod NumbersBack
+pub mod WrittenStatements
+pub mod Meanings
+pub mod Heads
+pub mod TextLengths
+pub mod Outcomes
+pub mod KeptDeclarations
+pub mod Written
+pub mod ReadBack

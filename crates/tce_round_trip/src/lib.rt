@@ -1,0 +1,16 @@
+//! The way of a specification to its canonical text and back.
+//!
+//! What a text specifies is `tce_spec`'s `Outcome.antt`; the canonical text is `tce_canonical`'s `Statements.antt`.
+#![tactic(auto)]
+
+mod laws;
+#[cfg(test)]
+mod tests;
+mod texts;
+
+pub use laws::{
+    accepted_texts_have_canonical_texts, canonical_texts_are_short,
+    canonical_texts_specify_the_same, canonical_texts_tell_specifications,
+    texts_specify_what_can_be_written,
+};
+pub use texts::read_back;
