@@ -24,7 +24,7 @@ all_cons : (P : ℕ → Type 0) (x : ℕ) (xs : List ℕ) → P x → All P xs �
 all_cons P x xs h t zero d l = h
 all_cons P x xs h t (suc k) d l = t k d (omega arith)
 
-filter_passes : (p : ℕ → Bool) (P : ℕ → Type 0) → ((x : ℕ) → p x ≡ true → P x) → (xs : List ℕ) → All P (filter p xs)
+pub filter_passes : (p : ℕ → Bool) (P : ℕ → Type 0) → ((x : ℕ) → p x ≡ true → P x) → (xs : List ℕ) → All P (filter p xs)
 filter_passes p P f [] = λ k d l. absurd (omega arith)
 filter_passes p P f (x ∷ xs) = elim (cases_Bool (p x)) [
   | inl t ↦ rw t (all_cons P x (filter p xs) (f x t) (filter_passes p P f xs))

@@ -1,10 +1,8 @@
 -- Lists of names as they are pushed.
-use Rattle.std.proofs.Common.{◌≡◌, ℕ, suc, ◌+◌, ◌<◌, Bool, true, false, cond, List, [], ◌∷◌, ◌++◌, length, get_or, take, refl, ap, subst, sym, ◌∙◌, append_assoc, append-nil, length-append, arith, add-one, zero-add}
-use Rattle.std.specs.List.{join_with_byte, filter, range_with_len, All}
+use Rattle.std.proofs.Common.{◌≡◌, ℕ, suc, ◌+◌, ◌<◌, List, [], ◌∷◌, ◌++◌, length, get_or, take, refl, ap, subst, sym, ◌∙◌, append_assoc, length-append, arith}
+use Rattle.std.specs.List.{join_with_byte, All}
 use Rattle.std.proofs.lemmas.List.{take_more, map-append}
-use Rattle.std.proofs.lemmas.List.Elements.{filter-append}
 use Rattle.tce_space.specs.Space.{IndexSpace, index_at}
-use Rattle.tce_space.proofs.IndexSetLaws.{range_more}
 use Rattle.tce_report.specs.Names.{names_of, index_list}
 
 join_push : (c : ℕ) (x : List ℕ) (xs : List (List ℕ)) (y : List ℕ) → join_with_byte c (x ∷ (xs ++ y ∷ [])) ≡ join_with_byte c (x ∷ xs) ++ c ∷ y
@@ -34,19 +32,6 @@ name_pushed space x rest i d old line comma new l is_line is_comma is_new =
 -- what holds of each number of a list holds of those behind the first
 pub below_tail : (n : ℕ) (xs : List ℕ) (y : ℕ) (ys : List ℕ) → xs ≡ y ∷ ys → All (λ i. i < n) xs → (k d : ℕ) → k < length ys → get_or ys k d < n
 below_tail n xs y ys is all k d l = subst (All (λ i. i < n)) is all (suc k) d (omega arith)
-
-pub range_next : (i : ℕ) → range_with_len 0 (i + 1) ≡ range_with_len 0 i ++ i ∷ []
-range_next i = ap (range_with_len 0) (add-one i) ∙ range_more 0 i ∙ ap (λ k. range_with_len 0 i ++ k ∷ []) (zero-add i)
-
--- what passes a test among the numbers up to `i`
-pub filter_one : (p : ℕ → Bool) (i : ℕ) → p i ≡ true → filter p (range_with_len 0 (i + 1)) ≡ filter p (range_with_len 0 i) ++ i ∷ []
-filter_one p i h =
-    ap (filter p) (range_next i) ∙ filter-append p (range_with_len 0 i) (i ∷ []) ∙ ap (λ b. filter p (range_with_len 0 i) ++ cond b (i ∷ []) []) h
-
-pub filter_same : (p : ℕ → Bool) (i : ℕ) → p i ≡ false → filter p (range_with_len 0 (i + 1)) ≡ filter p (range_with_len 0 i)
-filter_same p i h =
-    ap (filter p) (range_next i) ∙ filter-append p (range_with_len 0 i) (i ∷ []) ∙ ap (λ b. filter p (range_with_len 0 i) ++ cond b (i ∷ []) []) h
-    ∙ append-nil (filter p (range_with_len 0 i))
 
 pub longer_by_one : (line new : List ℕ) (b : ℕ) → new ≡ line ++ b ∷ [] → length new ≡ length line + 1
 longer_by_one line new b is = ap length is ∙ length-append line (b ∷ [])

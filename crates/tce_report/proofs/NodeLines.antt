@@ -8,8 +8,8 @@ use Rattle.tce_tree.specs.ContractionTree.{ContractionTree, operations, node}
 use Rattle.tce_tree.specs.FlatTree.{kind_of}
 use Rattle.tce_tree.specs.Fusion.{fused_at, order_at}
 use Rattle.tce_tree.specs.declared.node.Kind.{Kind}
-use Rattle.tce_report.specs.NodeLine.{Stated, node_line, loops_text, set_text}
-use Rattle.tce_report.proofs.Lists.{range_next}
+use Rattle.tce_report.specs.NodeLine.{Stated, node_line, line_saying, loops_text, set_text}
+use Rattle.tce_fields.proofs.Ranges.{range_next}
 
 same_test : (a b : ℕ) → a ≡ b → eqb a b ≡ true
 same_test a b is = search (rules, tests)
@@ -20,7 +20,7 @@ other_test a b other = search (rules, tests)
 pub root_line : (space : IndexSpace) (tree : ContractionTree) (s : Stated) (v : ℕ) (kind : Kind) (order line new : List ℕ) → v + 1 ≡ operations tree
     → kind ≡ kind_of (node tree v) → order ≡ order_at s.orders v → line ≡ loops_text space v kind order → new ≡ line ++ codes " result"
     → new ≡ node_line space tree s v
-unfolding node_line
+unfolding node_line line_saying
 root_line space tree s v kind order line new is is_kind is_order is_line is_new =
     rw (same_test (v + 1) (operations tree) is)
     (is_new ∙ ap (λ t. t ++ codes " result") (is_line ∙ ap₂ (λ k o. loops_text space v k o) is_kind is_order))
@@ -29,7 +29,7 @@ pub inner_line : (space : IndexSpace) (tree : ContractionTree) (s : Stated) (v :
     → kind ≡ kind_of (node tree v) → order ≡ order_at s.orders v → fused ≡ fused_at s.fusion v → size ≡ slice_index s.sizes v → line ≡ loops_text space v kind order
     → new ≡ line ++ (codes " fused " ++ (set_text space fused ++ (codes " size " ++ decimal size)))
     → new ≡ node_line space tree s v
-unfolding node_line
+unfolding node_line line_saying
 inner_line space tree s v kind order fused size line new other is_kind is_order is_fused is_size is_line is_new =
     rw (other_test (v + 1) (operations tree) other)
     (is_new ∙ ap₂ (λ t r. t ++ r) (is_line ∙ ap₂ (λ k o. loops_text space v k o) is_kind is_order)

@@ -4,11 +4,16 @@
 #![tactic(auto)]
 
 mod decimal;
+mod form;
+mod laws;
 mod line;
 mod names;
+mod reader;
 mod report;
 
+pub use laws::written_lines_say_the_plan;
 pub use line::node_line;
+pub use reader::{LineFault, NodeLine, read_node_line};
 pub use report::{plan_text, run_text};
 
 #[cfg(test)]

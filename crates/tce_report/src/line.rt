@@ -10,8 +10,9 @@ ghost use Rattle.tce_nesting.specs.Plan.{PlanFits};
 ghost use Rattle.tce_report.specs.NodeLine as lines;
 
 use crate::decimal::push_decimal;
-use crate::names::{members_of, push_names};
+use crate::names::push_names;
 use arrayvec::ArrayString;
+use tce_fields::members_of;
 use tce_nesting::Plan;
 use tce_space::{IndexSet, Space};
 use tce_tree::{Kind, Tree};

@@ -1,12 +1,10 @@
 // Lists of indexes as their names.
 ghost use Rattle.std.specs.Prelude.{◌≡◌, ◌<◌, ◌≤◌, ◌+◌, ◌*◌, ◌++◌, length, All};
-ghost use Rattle.tce_space.specs.IndexSet.{members};
 ghost use Rattle.tce_space.specs.Space.{index_at};
 ghost use Rattle.tce_report.specs.Names.{index_list};
 
 use crate::line::Line;
-use arrayvec::ArrayVec;
-use tce_space::{IndexSet, Space};
+use tce_space::Space;
 
 // Appends the names of the indexes with commas between them, or `-` where there are none.
 pub(crate) fn push_names(line: &mut Line, space: &Space, indexes: &[u8])
@@ -33,17 +31,4 @@ fn push_name(line: &mut Line, space: &Space, index: u8)
     ensures length { length line.new.bytes ≤ length line.old.bytes + 16 }
 {
     line.push_str(space.index_name(index).as_str());
-}
-
-// The members of a set in order.
-pub(crate) fn members_of(set: IndexSet) -> ArrayVec<u8, 24>
-    ensures { result.items ≡ members set }
-{
-    let mut all = ArrayVec::new();
-    for index in 0..24 {
-        if set.has(index) {
-            all.push(index);
-        }
-    }
-    all
 }

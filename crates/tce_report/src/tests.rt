@@ -4,9 +4,10 @@ ghost use Rattle.tce_space.specs.Name.{is_name};
 ghost use Rattle.tce_tree.specs.Measure.{IsMeasured};
 ghost use Rattle.tce_tree.specs.WellFormed.{IsDeclaredTree};
 
-use crate::{node_line, plan_text, run_text};
+use crate::{LineFault, NodeLine, node_line, plan_text, read_node_line, run_text};
 use arrayvec::{ArrayString, ArrayVec};
 use std::alloc::Global;
+use std::process::Abort;
 use std::test::Fail;
 use tce_nesting::{Plan, Tables};
 use tce_space::{FileName, IndexSet, LoopOrder, Name, Space, is_name};
@@ -329,5 +330,158 @@ fn the_longest_line_has_room(rt: HostRuntime) -> Result<(), Fail> {
     let wanted =
         "node 0 product loops index_number_j_0,index_number_i_9,index_number_h_8,index_number_g_7,index_number_f_6,index_number_e_5,index_number_d_4,index_number_c_3,index_number_b_2,index_number_a_1 fused index_number_a_1,index_number_b_2,index_number_c_3,index_number_d_4,index_number_e_5,index_number_f_6,index_number_g_7,index_number_h_8,index_number_i_9,index_number_j_0 size 79228162514264337593543950335";
     assert_eq!(rt; line.as_str(), wanted);
+    Ok(())
+}
+
+fn read_line(space: &Space, tree: &Tree, v: u8, line: &str) -> Result<NodeLine, LineFault>
+    requires { IsDeclaredTree space.now tree.now }
+{
+    if v >= tree.count() {
+        return Err(LineFault::WrongTree);
+    }
+    read_node_line(space, tree, v, line.as_bytes())
+}
+
+// A line and what it says: its loops, its fused indexes and its size.
+#[derive(Clone, Copy)]
+struct ExpectedLine<'a> {
+    node: u8,
+    line: &'a str,
+    order: &'a [u8],
+    fused: &'a [u8],
+    size: u128,
+}
+
+fn check_read(
+    rt: &impl Abort,
+    space: &Space,
+    tree: &Tree,
+    wanted: &ExpectedLine<'_>,
+) -> Result<(), Fail>
+    requires { IsDeclaredTree space.now tree.now }
+{
+    let Ok(said) = read_line(space, tree, wanted.node, wanted.line) else {
+        return Err(Fail::new("a line that fits is refused"));
+    };
+    assert_eq!(rt; said.order.0.as_slice(), wanted.order, "{}", wanted.line);
+    assert_eq!(rt;
+        said.fused.bits(),
+        set(wanted.fused).bits(),
+        "{}",
+        wanted.line
+    );
+    assert_eq!(rt; said.size, wanted.size, "{}", wanted.line);
+    Ok(())
+}
+
+fn fault_number(answer: &Result<NodeLine, LineFault>) -> u8 {
+    match answer {
+        Ok(_) => 0,
+        Err(LineFault::BadText) => 1,
+        Err(LineFault::WrongTree) => 2,
+    }
+}
+
+fn check_fault(rt: &impl Abort, space: &Space, tree: &Tree, v: u8, lines: &[&str], number: u8)
+    requires { IsDeclaredTree space.now tree.now }
+{
+    for line in lines {
+        assert_eq!(rt;
+            fault_number(&read_line(space, tree, v, *line)),
+            number,
+            "{line}"
+        );
+    }
+}
+
+const FITTING: [ExpectedLine<'static>; 4] = [
+    ExpectedLine {
+        node: 0,
+        line: "node 0 sum loops i,k fused - size 5",
+        order: &[0, 2],
+        fused: &[],
+        size: 5,
+    },
+    ExpectedLine {
+        node: 1,
+        line: "node 1 sum loops j,l fused j size 1",
+        order: &[1, 3],
+        fused: &[1],
+        size: 1,
+    },
+    ExpectedLine {
+        node: 1,
+        line: "node 1 sum loops l,j fused - size 79228162514264337593543950335",
+        order: &[3, 1],
+        fused: &[],
+        size: 79228162514264337593543950335,
+    },
+    ExpectedLine {
+        node: 2,
+        line: "node 2 product loops j,i result",
+        order: &[1, 0],
+        fused: &[],
+        size: 0,
+    },
+];
+
+const BAD_TEXT: [&str; 12] = [
+    "",
+    "node 0 sum loops i,k",
+    "node 0 sum loops i,k fused - size 5 ",
+    "node  0 sum loops i,k fused - size 5",
+    "node 00 sum loops i,k fused - size 5",
+    "node 0 max loops i,k fused - size 5",
+    "node 0 sum loops i,,k fused - size 5",
+    "node 0 sum loops i,sum fused - size 5",
+    "node 0 sum loops a,b,c,d,e,f,g,h,i,j,k fused - size 5",
+    "node 0 sum loops i,k fused i,- size 5",
+    "node 0 sum loops i,k fused - size 05",
+    "node 0 sum loops i,k fused - size 79228162514264337593543950336",
+];
+
+const WRONG_TREE: [&str; 10] = [
+    "node 1 sum loops i,k fused - size 5",
+    "node 0 product loops i,k fused - size 5",
+    "node 0 sum loops i,k result",
+    "node 0 sum loops i,z fused - size 5",
+    "node 0 sum loops i fused - size 5",
+    "node 0 sum loops i,i fused - size 5",
+    "node 0 sum loops i,k,j fused - size 5",
+    "node 0 sum loops i,k fused k size 5",
+    "node 0 sum loops i,k fused i,i size 5",
+    "node 0 sum loops - fused a,b,c,d,e,f,g,h,i,j,k size 5",
+];
+
+#[test]
+fn lines_of_a_tree_are_read(rt: HostRuntime) -> Result<(), Fail> {
+    let alloc = rt.alloc();
+    let space = space_of(alloc, &["i", "j", "k", "l"])?;
+    let tree = tree_over(alloc, &space, two_sums(alloc)?.as_ref())?;
+    for wanted in &FITTING {
+        check_read(&rt, &space, &tree, wanted)?;
+    }
+    check_fault(&rt, &space, &tree, 0, &BAD_TEXT, 1);
+    check_fault(&rt, &space, &tree, 0, &WRONG_TREE, 2);
+    let root = ["node 2 product loops i,j fused - size 0"];
+    check_fault(&rt, &space, &tree, 2, &root, 2);
+    Ok(())
+}
+
+#[test]
+fn fused_indexes_are_read_in_order_of_declaration(rt: HostRuntime) -> Result<(), Fail> {
+    let alloc = rt.alloc();
+    let space = space_of(alloc, &LETTERS)?;
+    let tree = tree_over(alloc, &space, three_sums(alloc)?.as_ref())?;
+    let wanted = ExpectedLine {
+        node: 1,
+        line: "node 1 sum loops b,c,d,f,e,l fused b,c,d,f size 1",
+        order: &[1, 2, 3, 5, 4, 9],
+        fused: &[1, 2, 3, 5],
+        size: 1,
+    };
+    check_read(&rt, &space, &tree, &wanted)?;
+    let turned = ["node 1 sum loops b,c,d,f,e,l fused c,b,d,f size 1"];
+    check_fault(&rt, &space, &tree, 1, &turned, 2);
     Ok(())
 }

@@ -1,7 +1,7 @@
 use Rattle.std.proofs.Common.{arith, length, length-append, ap, ◌∙◌, codes, ◌++◌}
 use Rattle.std.specs.Fmt.{decimal}
 use Rattle.tce_report.specs.Names.{index_list}
-use Rattle.tce_report.specs.NodeLine.{loops_text, kind_word}
+use Rattle.tce_report.specs.NodeLine.{loops_text, loops_written, kind_word}
 use Rattle.tce_report.proofs.Joined.{six_pushed}
 use Rattle.tce_report.proofs.Numbers.{length_node}
 use Rattle.tce_report.proofs.line.loops_text.Goals as goal
@@ -70,7 +70,7 @@ push_names-requires-clause-room c =
     )
 
 pub returns-clause-text : goal.returns-clause-text
-unfolding loops_text
+unfolding loops_text loops_written
 returns-clause-text c =
     six_pushed _ _ _ _ _ _ _ (codes "node ") (decimal c.args.v) (codes " ") (kind_word c.args.kind) (codes " loops ") (index_list c.args.space.now c.args.order.now)
     c.new-line.ensures c.push_str.ensures.bytes c.push_decimal.ensures c.push_str-2.ensures.bytes

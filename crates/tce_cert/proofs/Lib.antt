@@ -1,0 +1,10 @@
+pub mod Sets
+pub mod Texts
+pub mod Faulty
+pub mod DueLines
+pub mod TableRows
+pub mod TableRuns
+pub mod NodeRuns
+pub mod Whole
+pub mod OneFault
+pub mod NoFault

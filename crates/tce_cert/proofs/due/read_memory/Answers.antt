@@ -1,0 +1,19 @@
+use Rattle.std.proofs.Common.{refl}
+use Rattle.std.proofs.lemmas.Result.{err_from_is_err_and}
+use Rattle.tce_cert.specs.Faults.{memory}
+use Rattle.tce_cert.proofs.Faulty.{missing, not_due}
+use Rattle.tce_cert.proofs.DueLines.{no_memory}
+use Rattle.tce_cert.proofs.due.read_memory.Goals as goal
+
+pub returns-in_err-line-clause-err : goal.returns-in_err-line-clause-err
+returns-in_err-line-clause-err c =
+    let p = err_from_is_err_and c.from_residual.result c.from_residual.ensures.1 in
+    rw (p.1, p.2) (λ ds. missing c.args.space.now c.args.tree.now memory ds c.args.from.number c.args.from.rest.now c.in_err-line.field-0.0 c.in_err-line.ensures.0 c.in_err-line.ensures.1)
+
+pub returns-in-Some-clause-ok : goal.returns-in-Some-clause-ok
+returns-in-Some-clause-ok c = record { line = c.in_ok-line.line.now; reads = c.in_ok-line.ensures; holds = (c.in-Some.ensures c.in-Some.total).0 refl }
+
+pub returns-in-None-clause-err : goal.returns-in-None-clause-err
+returns-in-None-clause-err c ds =
+    not_due c.args.space.now c.args.tree.now memory ds c.args.from.number c.in_ok-line.to.number c.args.from.rest.now c.in_ok-line.line.now c.in_ok-line.to.rest.now c.fault_of.result c.in_ok-line.ensures
+    (no_memory c.args.space.now c.args.tree.now c.in_ok-line.line.now c.in-None.ensures) c.fault_of.ensures

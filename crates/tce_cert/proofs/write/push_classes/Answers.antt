@@ -1,0 +1,15 @@
+use Rattle.std.proofs.Common.{get_or, subst, sym}
+use Rattle.tce_space.specs.Space.{IsDeclared}
+use Rattle.tce_cert.proofs.Sets.{class_pushed, holds_of_tail}
+use Rattle.tce_cert.proofs.write.push_classes.Goals as goal
+
+pub push_set-requires-in-loop-class : goal.push_set-requires-in-loop-class
+push_set-requires-in-loop-class c =
+    subst (IsDeclared c.args.space.now) (sym c.class-item.is)
+    (holds_of_tail (IsDeclared c.args.space.now) c.args.classes.now c.in-Some.first.now c.in-Some.rest.now c.in-Some.ensures.cases.0 c.requires c.loop-class.class-index c.class-item.result
+    c.loop-class-test.true)
+
+pub loop-class-preserved : goal.loop-class-preserved
+loop-class-preserved c =
+    class_pushed c.args.space.now (get_or c.args.classes.now 0 0) c.in-Some.rest.now c.loop-class.class-index c.class-item.result c.args.text.now.items _ _ _ c.loop-class-test.true c.class-item.is
+    c.loop-class.invariant c.in_ok-push-2.ensures.items c.in_ok-push_set-2.ensures

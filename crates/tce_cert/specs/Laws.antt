@@ -1,0 +1,37 @@
+-- Laws of certificates and of their faults.
+use Rattle.std.specs.Prelude.{◌≡◌, ℕ, ◌<◌, ◌≤◌, ◌^◌, List, length}
+use Rattle.std.specs.List.{All}
+use Rattle.tce_space.specs.Space.{IndexSpace, IsSpace}
+use Rattle.tce_tree.specs.ContractionTree.{ContractionTree}
+use Rattle.tce_tree.specs.FlatTree.{IsTree}
+use Rattle.tce_tree.specs.WellFormed.{IsDeclaredTree}
+use Rattle.tce_states.specs.Classes.{IsNesting}
+use Rattle.tce_states.specs.Row.{Row, rows_at}
+use Rattle.tce_nesting.specs.Plan.{PlanFits}
+use Rattle.tce_nesting.specs.declared.plan.Plan.{Plan}
+use Rattle.tce_cert.specs.declared.fault.CertFault.{CertFault}
+use Rattle.tce_cert.specs.Certificate.{certificate}
+use Rattle.tce_cert.specs.Faults.{IsFault}
+
+-- what a row is by its type: a nesting of at most ten classes
+pub record IsNestingRow (row : Row) : Type 0 where
+  pub nesting : IsNesting row.classes
+  pub few : length row.classes ≤ 10
+
+-- such rows, and in each list fewer than the limit of all numbers in lines
+pub record AreNestingRows (rows : List Row) : Type 0 where
+  pub each : All IsNestingRow rows
+  pub few : length rows < 2 ^ 96
+
+abbrev pub RowsAreNestings : List (List Row) → Type 0
+RowsAreNestings tables = (v : ℕ) → v < length tables → AreNestingRows (rows_at tables v)
+
+-- a text has at most one first fault
+abbrev pub FirstFaultsAreAlone : Type 0
+FirstFaultsAreAlone = (space : IndexSpace) (tree : ContractionTree) (text : List ℕ) (f g : CertFault) → IsFault space tree text f → IsFault space tree text g → f ≡ g
+
+-- the certificate of a plan that fits has none
+abbrev pub CertificatesHaveNoFault : Type 0
+CertificatesHaveNoFault =
+    (space : IndexSpace) (tree : ContractionTree) (plan : Plan) (fault : CertFault) → IsSpace space → IsTree tree → IsDeclaredTree space tree
+    → PlanFits tree plan → RowsAreNestings plan.tables → IsFault space tree (certificate space tree plan) fault → ⊥

@@ -1,0 +1,116 @@
+// The text of a certificate.
+ghost use Rattle.std.specs.Prelude.{◌≡◌, ◌<◌, ◌≤◌, ◌++◌, ℕ, [], ◌∷◌, length, map, All, OnOk, IfOk};
+ghost use Rattle.std.specs.List.{flat_map};
+ghost use Rattle.tce_space.specs.Space.{IsDeclared};
+ghost use Rattle.tce_tree.specs.ContractionTree.{operations};
+ghost use Rattle.tce_tree.specs.WellFormed.{IsDeclaredTree};
+ghost use Rattle.tce_states.specs.Row.{rows_at};
+ghost use Rattle.tce_nesting.specs.Plan.{PlanFits};
+ghost use Rattle.tce_cert_lines.specs.Lines.{row_line, classes_text};
+ghost use Rattle.tce_cert.specs.Certificate as lines;
+
+use crate::names::push_set;
+use std::alloc::{AllocError, Global};
+use tce_nesting::{Plan, Row, Tables};
+use tce_report::node_line;
+use tce_space::{IndexSet, Space};
+use tce_tree::Tree;
+
+/// The certificate of a plan that fits the tree: a head line, the lines of all nodes, the memory, in elements, and for each node but the root the number of its rows and a line for each row.
+pub fn write_cert(
+    alloc: Global,
+    space: &Space,
+    tree: &Tree,
+    plan: &Plan,
+) -> Result<Vec<u8>, AllocError>
+    requires declared { IsDeclaredTree space.now tree.now }
+    requires fits { PlanFits tree.now plan.now }
+    ensures { IfOk result (λ text. text.items ≡ lines.certificate space.now tree.now plan.now) }
+{
+    let _declared = space.index_count();
+    let mut text = Vec::new(alloc);
+    text.extend_from_slice(b"tce certificate 1\n")?;
+    push_nodes(&mut text, space, tree, plan)?;
+    let memory = format!(in alloc; "memory {}\n", plan.memory)?;
+    text.extend_from_slice(memory.as_str().as_bytes())?;
+    push_tables(alloc, &mut text, space, &plan.tables)?;
+    text.extend_from_slice(b"end\n")?;
+    Ok(text)
+}
+
+// Appends the lines of all nodes in order.
+fn push_nodes(text: &mut Vec<u8>, space: &Space, tree: &Tree, plan: &Plan) -> Result<(), AllocError>
+    requires declared { IsDeclaredTree space.now tree.now }
+    requires fits { PlanFits tree.now plan.now }
+    ensures { OnOk result (text.new.items ≡ text.old.items ++ lines.text_of (lines.nodes_lines space.now tree.now plan.now (operations tree.now))) }
+{
+    for v in 0..tree.count() {
+        text.extend_from_slice(node_line(space, tree, plan, v).as_str().as_bytes())?;
+        text.push(b'\n')?;
+    }
+    Ok(())
+}
+
+// Appends the tables of all nodes but the root, in order.
+fn push_tables(
+    alloc: Global,
+    text: &mut Vec<u8>,
+    space: &Space,
+    tables: &Tables,
+) -> Result<(), AllocError>
+    requires { (v : ℕ) → v < length tables.now → All (λ row. All (IsDeclared space.now) row.classes) (rows_at tables.now v) }
+    ensures { OnOk result (text.new.items ≡ text.old.items ++ lines.text_of (lines.tables_lines space.now tables.now (length tables.now))) }
+{
+    for v in 0..tables.lists() {
+        let rows = tables.rows(v);
+        let head = format!(in alloc; "table {v} {}\n", rows.len())?;
+        text.extend_from_slice(head.as_str().as_bytes())?;
+        push_rows(alloc, text, space, rows)?;
+    }
+    Ok(())
+}
+
+// Appends a line for each row.
+fn push_rows(
+    alloc: Global,
+    text: &mut Vec<u8>,
+    space: &Space,
+    rows: &[Row],
+) -> Result<(), AllocError>
+    requires { All (λ row. All (IsDeclared space.now) row.classes) rows.now }
+    ensures { OnOk result (text.new.items ≡ text.old.items ++ lines.text_of (map (row_line space.now) rows.now)) }
+{
+    for row in rows {
+        push_row(alloc, text, space, row)?;
+    }
+    Ok(())
+}
+
+// Appends the line of a row with its line feed.
+fn push_row(alloc: Global, text: &mut Vec<u8>, space: &Space, row: &Row) -> Result<(), AllocError>
+    requires { All (IsDeclared space.now) row.now.classes }
+    ensures { OnOk result (text.new.items ≡ text.old.items ++ (row_line space.now row.now ++ 10 ∷ [])) }
+{
+    let head = format!(in alloc; "row {} ", row.cost)?;
+    text.extend_from_slice(head.as_str().as_bytes())?;
+    push_classes(text, space, row.classes.classes())?;
+    text.push(b'\n')?;
+    Ok(())
+}
+
+// Appends the classes with `/` between them, or `-` where there are none.
+fn push_classes(text: &mut Vec<u8>, space: &Space, classes: &[IndexSet]) -> Result<(), AllocError>
+    requires { All (IsDeclared space.now) classes.now }
+    ensures { OnOk result (text.new.items ≡ text.old.items ++ classes_text space.now classes.now) }
+{
+    let Some((first, rest)) = classes.split_first() else {
+        text.push(b'-')?;
+        return Ok(());
+    };
+    push_set(text, space, *first)?;
+    for class in rest {
+        text.push(b'/')?;
+        push_set(text, space, *class)?;
+    }
+    Ok(())
+}

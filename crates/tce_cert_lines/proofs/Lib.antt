@@ -1,0 +1,4 @@
+pub mod Cuts
+pub mod Stated
+pub mod StatedClass
+pub mod StatedRows

@@ -1,0 +1,4 @@
+pub mod Digits
+pub mod Fields
+pub mod Names
+pub mod Reading
