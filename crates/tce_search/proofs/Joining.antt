@@ -1,0 +1,115 @@
+-- Fusions of the whole tree that candidates of the root's operands make.
+use Rattle.std.proofs.Common.{◌≡◌, ℕ, ◌+◌, ◌-◌, ◌<◌, ◌≤◌, true, Option, Some, None, List, [], ◌∷◌, ◌++◌, map, length, get_or, refl, sym, ap, ◌∙◌, subst, inl, inr, arith}
+use Rattle.std.specs.Prelude.{IfSome, IsSome, ◌⊎◌}
+use Rattle.std.specs.List.{All, Any, Contains}
+use Rattle.std.proofs.lemmas.List.{length-map, get_or-map, get_or_default}
+use Rattle.std.proofs.lemmas.List.Elements.{All-contains, All-map}
+use Rattle.tce_space.specs.IndexSet.{empty}
+use Rattle.tce_space.specs.Space.{IndexSpace}
+use Rattle.tce_tree.specs.ContractionTree.{ContractionTree, operations, node_loops, parent}
+use Rattle.tce_tree.specs.Fusion.{FusionFits}
+use Rattle.tce_tree.specs.Memory.{memory}
+use Rattle.tce_tree.proofs.Parents.{parent_is}
+use Rattle.tce_fusion.specs.Scope.{IsLegal}
+use Rattle.tce_states.specs.Relation.{HasNoConflict}
+use Rattle.tce_states.specs.Row.{Row, AreApart, rows_at, rows_joined}
+use Rattle.tce_states.specs.Cover.{left_rows, right_rows, NodesCovered, RootBelow, ArePruned}
+use Rattle.tce_states.specs.Reached as reached
+use Rattle.tce_states.specs.Reached.{left_below, right_below, IsLegalWith, sets_of_step}
+use Rattle.tce_states.proofs.Reached.{root_is_reached}
+use Rattle.tce_states.proofs.Unfused.{some_rows_join}
+use Rattle.tce_candidates.specs.declared.candidate.Candidate.{Candidate}
+use Rattle.tce_candidates.specs.Laws.{rows_of}
+use Rattle.tce_candidates.specs.Reached.{IsStateOf}
+use Rattle.tce_search.specs.declared.root.WholeFusion.{WholeFusion}
+use Rattle.tce_search.specs.CandidateLists.{tables_of, leaf_candidate, left_candidates, right_candidates, AreFound}
+use Rattle.tce_search.specs.Root.{IsMadeOf, IsMadeOfSome, IsAtMost, IsBound, IsBoundOfAll}
+use Rattle.tce_search.proofs.Operands.{tables-at, left_rows-are, right_rows-are, left_kept, right_kept}
+
+-- ---- the best of two lists
+
+pub at_most_some : (best : Option WholeFusion) (limit : ℕ) → IsAtMost best limit → IsSome best
+at_most_some None limit h = absurd h
+at_most_some (Some whole) limit h = refl
+
+-- each element of a list of rows is that of a candidate
+candidate_of_row : (candidates : List Candidate) (P : Row → Type 0) → Any P (rows_of candidates) → Any (λ (c : Candidate). P c.row) candidates
+candidate_of_row candidates P found =
+    let low : found.0 < length candidates = rw length-map at found.2 in
+    let is = get_or-map (λ (c : Candidate). c.row) candidates found.0 leaf_candidate found.1 low in
+    (found.0, get_or candidates found.0 leaf_candidate, low, same_default candidates found.0 low, subst P (sym found.3 ∙ is) found.4)
+  where
+    same_default : (xs : List Candidate) (k : ℕ) → k < length xs → get_or xs k (get_or xs k leaf_candidate) ≡ get_or xs k leaf_candidate
+    same_default xs k low = get_or_default xs k (get_or xs k leaf_candidate) leaf_candidate low
+
+contained : {P : Candidate → Type 0} (candidates : List Candidate) (found : Any P candidates) → Contains candidates found.1
+contained candidates found = (found.0, found.2, found.3)
+
+-- where two rows have no conflict there is a best
+best_exists : (loops : ℕ) (best : Option WholeFusion) (lefts rights : List Candidate) → IsBoundOfAll loops best lefts rights
+    → Any (λ left. Any (λ right. HasNoConflict loops (rows_joined left right)) (rows_of rights)) (rows_of lefts) → IsSome best
+best_exists loops best lefts rights bound some =
+    let left = candidate_of_row lefts (λ l. Any (λ right. HasNoConflict loops (rows_joined l right)) (rows_of rights)) some in
+    let right = candidate_of_row rights (λ r. HasNoConflict loops (rows_joined left.1.row r)) left.4 in
+    let of_left = All-contains (λ l. All (IsBound loops best l) rights) lefts left.1 bound (contained lefts left) in
+    let of_pair = All-contains (IsBound loops best left.1) rights right.1 of_left (contained rights right) in
+    at_most_some best (left.1.row.cost + right.1.row.cost) (of_pair right.4)
+
+-- ---- at the root
+
+module _ (space : IndexSpace) (tree : ContractionTree) (found : List (List Candidate)) (root : ℕ) (all : AreFound space tree found)
+    (next : length found ≡ root) (last : root + 1 ≡ operations tree) where
+  is_root : root ≡ operations tree - 1
+  is_root = omega arith
+
+  pub nodes_covered : NodesCovered space tree (tables_of found)
+  nodes_covered v p is = let up = parent_is tree v p is in (all v (omega (arith, up.above, up.inside, next, last))).covered p is
+
+  pub pruned : ArePruned tree (tables_of found)
+  pruned v p is = let up = parent_is tree v p is in rw (tables-at found v) ((all v (omega (arith, up.above, up.inside, next, last))).apart p is)
+
+  pub root_joins : (loops : ℕ) (best : Option WholeFusion) → loops ≡ node_loops tree root
+      → IsBoundOfAll loops best (left_candidates tree found root) (right_candidates tree found root) → IsSome best
+  root_joins loops best is bound =
+      let some = some_rows_join space tree (tables_of found) (omega (arith, last)) nodes_covered in
+      best_exists loops best (left_candidates tree found root) (right_candidates tree found root) bound
+      (rw (is, ← left_rows-are tree found root, ← right_rows-are tree found root, is_root) some)
+
+  pub root_below : (loops : ℕ) (whole : WholeFusion) → loops ≡ node_loops tree root
+      → IsBoundOfAll loops (Some whole) (left_candidates tree found root) (right_candidates tree found root) → RootBelow tree (tables_of found) whole.memory
+  root_below loops whole is bound = rw (← is_root, left_rows-are tree found root, right_rows-are tree found root) rows_below
+    where
+      rows_below : All (λ (left : Row). All (λ (right : Row). HasNoConflict (node_loops tree root) (rows_joined left right) → whole.memory ≤ left.cost + right.cost) (rows_of (right_candidates tree found root))) (rows_of (left_candidates tree found root))
+      rows_below =
+          All-map (λ (left : Row). All (λ (right : Row). HasNoConflict (node_loops tree root) (rows_joined left right) → whole.memory ≤ left.cost + right.cost) (rows_of (right_candidates tree found root)))
+          (λ (c : Candidate). c.row) (left_candidates tree found root)
+          (λ k d low.
+          All-map (λ (right : Row). HasNoConflict (node_loops tree root) (rows_joined (get_or (left_candidates tree found root) k d).row right) → whole.memory ≤ (get_or (left_candidates tree found root) k d).row.cost + right.cost)
+          (λ (c : Candidate). c.row) (right_candidates tree found root)
+          (λ m e inner quiet. bound k d low m e inner (rw is quiet)))
+
+  state_of : (subtree : ContractionTree) (candidate : Candidate) → IsStateOf space subtree candidate → reached.IsStateOf space subtree candidate.sets.items candidate.row
+  state_of subtree candidate state = record { count = state.count; within = state.within; exists = state.has_state; relation = state.relation; cost_is = state.cost }
+
+  pub root_legal : (loops : ℕ) (whole : WholeFusion) → loops ≡ node_loops tree root
+      → IsMadeOfSome loops (left_candidates tree found root) (right_candidates tree found root) whole → IsLegalWith space tree whole.sets.items whole.memory
+  root_legal loops whole is from =
+      let inside : root < operations tree = omega (arith, last) in
+      let left = state_of (left_below tree root) from.left (All-contains (IsStateOf space (left_below tree root)) (left_candidates tree found root) from.left (left_kept space tree found root all inside next).states from.from_left) in
+      let right = state_of (right_below tree root) from.right (All-contains (IsStateOf space (right_below tree root)) (right_candidates tree found root) from.right (right_kept space tree found root all inside next).states from.from_right) in
+      rw (from.made.sets_are, from.made.memory_is)
+      (root_is_reached space tree from.left.sets.items from.right.sets.items from.left.row from.right.row (omega (arith, last))
+      (subst (λ r. reached.IsStateOf space (left_below tree r) from.left.sets.items from.left.row) is_root left)
+      (subst (λ r. reached.IsStateOf space (right_below tree r) from.right.sets.items from.right.row) is_root right)
+      (subst (λ r. HasNoConflict (node_loops tree r) (rows_joined from.left.row from.right.row)) is_root (subst (λ s. HasNoConflict s (rows_joined from.left.row from.right.row)) is from.made.quiet)))
+
+  -- what is said of the best, said of the fusion that it is
+  pub whole_legal : (loops : ℕ) (best : Option WholeFusion) (whole : WholeFusion) → loops ≡ node_loops tree root → best ≡ Some whole
+      → IfSome best (IsMadeOfSome loops (left_candidates tree found root) (right_candidates tree found root)) → IsLegalWith space tree whole.sets.items whole.memory
+  whole_legal loops best whole is are made =
+      root_legal loops whole is (subst (λ o. IfSome o (IsMadeOfSome loops (left_candidates tree found root) (right_candidates tree found root))) are made)
+
+  pub whole_below : (loops : ℕ) (best : Option WholeFusion) (whole : WholeFusion) → loops ≡ node_loops tree root → best ≡ Some whole
+      → IsBoundOfAll loops best (left_candidates tree found root) (right_candidates tree found root) → RootBelow tree (tables_of found) whole.memory
+  whole_below loops best whole is are bound =
+      root_below loops whole is (subst (λ o. IsBoundOfAll loops o (left_candidates tree found root) (right_candidates tree found root)) are bound)

@@ -1,0 +1,6 @@
+pub mod Operands
+pub mod Steps
+pub mod Growing
+pub mod Joining
+pub mod Proving
+pub mod RowLists

@@ -1,0 +1,48 @@
+-- What the plan that is found keeps.
+use Rattle.std.specs.Prelude.{◌≡◌, ℕ, ◌+◌, ◌-◌, ◌<◌, ◌^◌, List, length, slice_index}
+use Rattle.std.specs.List.{All}
+use Rattle.tce_space.specs.Space.{IndexSpace}
+use Rattle.tce_tree.specs.ContractionTree.{ContractionTree, operations}
+use Rattle.tce_tree.specs.Fusion.{OrdersFit, Carries, order_at}
+use Rattle.tce_tree.specs.Orders.{lists_of}
+use Rattle.tce_tree.specs.Memory.{size_at, memory}
+use Rattle.tce_fusion.specs.Scope.{IsStandardAt}
+use Rattle.tce_fusion.specs.Least.{IsLeast}
+use Rattle.tce_states.specs.Row.{Row}
+use Rattle.tce_states.specs.Cover.{Covers, ArePruned}
+use Rattle.tce_nesting.specs.declared.plan.Plan.{Plan}
+use Rattle.tce_nesting.specs.Plan.{PlanFits}
+
+-- the orders are the standard ones of the plan's fusion
+abbrev pub HasStandardOrders : ContractionTree → Plan → Type 0
+HasStandardOrders tree plan =
+    (v : ℕ) → v < operations tree → IsStandardAt tree plan.fusion.0.items v (order_at (lists_of plan.orders.0.items) v)
+
+-- the size of each node but the root is the number of elements that it keeps
+abbrev pub HasSizes : IndexSpace → ContractionTree → Plan → Type 0
+HasSizes space tree plan =
+    (v : ℕ) → v < operations tree - 1 → slice_index plan.sizes.items v ≡ size_at space tree plan.fusion.0.items v
+
+-- a plan of a least fusion, with its standard orders, which carry it, its sizes and its memory, and with pruned tables that cover all fusions
+pub record IsLeastPlan (space : IndexSpace) (tree : ContractionTree) (plan : Plan) : Type 0 where
+  pub fits : PlanFits tree plan
+  pub least : IsLeast space tree plan.fusion.0.items
+  pub carried : Carries tree plan.fusion.0.items (lists_of plan.orders.0.items)
+  pub standard : HasStandardOrders tree plan
+  pub sizes : HasSizes space tree plan
+  pub memory_is : plan.memory ≡ memory space tree plan.fusion.0.items
+  pub covers : Covers space tree plan.tables plan.memory
+  pub pruned : ArePruned tree plan.tables
+
+-- the plan of a fusion with these tables: its standard orders, its sizes and its memory
+pub record IsPlanOf (space : IndexSpace) (tree : ContractionTree) (fusion : List ℕ) (tables : List (List Row)) (plan : Plan) : Type 0 where
+  pub fusion_is : plan.fusion.0.items ≡ fusion
+  pub orders_fit : OrdersFit tree (lists_of plan.orders.0.items)
+  pub carried : Carries tree plan.fusion.0.items (lists_of plan.orders.0.items)
+  pub standard : HasStandardOrders tree plan
+  pub count : length plan.sizes.items + 1 ≡ operations tree
+  pub sizes : HasSizes space tree plan
+  pub size_limit : All (λ n. n < 2 ^ 96) plan.sizes.items
+  pub memory_is : plan.memory ≡ memory space tree plan.fusion.0.items
+  pub memory_limit : plan.memory < 2 ^ 96
+  pub tables_are : plan.tables ≡ tables

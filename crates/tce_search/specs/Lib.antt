@@ -1,0 +1,3 @@
+pub mod CandidateLists
+pub mod Root
+pub mod LeastPlan

@@ -1,0 +1,12 @@
+//! The search for a fusion of least memory: the candidates of each node from those of its operands, and at the root the two that together cost least (after Lam et al. 1999).
+#![tactic(auto)]
+
+mod found;
+mod node;
+mod plan;
+mod root;
+
+pub use plan::search;
+
+#[cfg(test)]
+mod tests;

@@ -1,0 +1,101 @@
+// Plans of least fusions.
+ghost use Rattle.std.specs.Prelude.{◌≡◌, ℕ, ◌+◌, ◌-◌, ◌<◌, ◌≤◌, ◌^◌, ◌++◌, length, slice_index, slice_set, All, IfOk, OnOk};
+ghost use Rattle.tce_tree.specs.ContractionTree.{operations};
+ghost use Rattle.tce_tree.specs.Fusion.{FusionFits};
+ghost use Rattle.tce_tree.specs.Measure.{IsMeasured};
+ghost use Rattle.tce_tree.specs.Memory.{size_at};
+ghost use Rattle.tce_fusion.specs.Scope.{IsLegal};
+ghost use Rattle.tce_states.specs.Row.{rows_at};
+ghost use Rattle.tce_candidates.specs.Laws.{rows_of};
+ghost use Rattle.tce_search.specs.CandidateLists as list;
+ghost use Rattle.tce_search.specs.LeastPlan.{IsLeastPlan, IsPlanOf};
+
+use crate::found::Found;
+use crate::node::find_candidates;
+use crate::root::least_fusion;
+use arrayvec::ArrayVec;
+use std::alloc::{AllocError, Global};
+use tce_candidates::Candidate;
+use tce_fusion::{memory, size_of, standard_orders};
+use tce_nesting::{Plan, Tables};
+use tce_space::Space;
+use tce_tree::{Fusion, Tree};
+
+/// A plan of a legal fusion of the tree such that no legal fusion takes less memory, with its standard orders, the sizes of its nodes, its memory in elements, and tables of states that show it to be least.
+///
+/// The tables have for each step from rows of a node's operands a row that is coarser on the loops of the node's parent and costs no more, and no row that is so for another row of its node. Only want of memory is refused.
+pub fn search(alloc: Global, space: &Space, tree: &Tree) -> Result<Plan, AllocError>
+    requires { IsMeasured space.now tree.now }
+    ensures { IfOk result (IsLeastPlan space.now tree.now) }
+{
+    let found = find_candidates(alloc, space, tree)?;
+    let root = tree.count() - 1;
+    let leaf = [Candidate::default()];
+    let lefts = found.of_left(tree, root, &leaf);
+    let rights = found.of_right(tree, root, &leaf);
+    let whole = least_fusion(lefts, rights, tree.loops(root)).unwrap();
+    plan_of(alloc, space, tree, Fusion(whole.sets), &found)
+}
+
+// The plan of a legal fusion, with the states of all candidates as its tables.
+fn plan_of(
+    alloc: Global,
+    space: &Space,
+    tree: &Tree,
+    fusion: Fusion,
+    found: &Found,
+) -> Result<Plan, AllocError>
+    requires measured { IsMeasured space.now tree.now }
+    requires fits { FusionFits tree.now fusion.0.items }
+    requires legal { IsLegal tree.now fusion.0.items }
+    requires lists { length found.now + 1 ≡ operations tree.now }
+    ensures { IfOk result (IsPlanOf space.now tree.now fusion.0.items (list.tables_of found.now)) }
+{
+    let tables = tables_of(alloc, tree.count() - 1, found)?;
+    Ok(Plan {
+        orders: standard_orders(tree, &fusion),
+        sizes: sizes_of(space, tree, &fusion),
+        memory: memory(space, tree, &fusion),
+        fusion,
+        tables,
+    })
+}
+
+// The elements that each node but the root keeps.
+fn sizes_of(space: &Space, tree: &Tree, fusion: &Fusion) -> ArrayVec<u128, 32>
+    requires measured { IsMeasured space.now tree.now }
+    requires fits { FusionFits tree.now fusion.now.0.items }
+    ensures count { length result.items + 1 ≡ operations tree.now }
+    ensures sizes { (v : ℕ) → v < operations tree.now - 1 → slice_index result.items v ≡ size_at space.now tree.now fusion.now.0.items v }
+    ensures limit { All (λ n. n < 2 ^ 96) result.items }
+{
+    let mut sizes = ArrayVec::<u128, 32>::new();
+    for v in 0..tree.count() - 1 {
+        sizes.push(size_of(space, tree, fusion, v));
+    }
+    sizes
+}
+
+// The states of the candidates of that many nodes.
+fn tables_of(alloc: Global, count: u8, found: &Found) -> Result<Tables, AllocError>
+    requires count { count ≡ length found.now }
+    requires limit { count ≤ 31 }
+    ensures { IfOk result (λ tables. tables ≡ list.tables_of found.now) }
+{
+    let mut tables = Tables::new(alloc, count)?;
+    for v in 0..count {
+        push_rows(&mut tables, v, found.candidates(v))?;
+    }
+    Ok(tables)
+}
+
+// Appends the states of candidates to the rows of a node.
+fn push_rows(tables: &mut Tables, v: u8, candidates: &[Candidate]) -> Result<(), AllocError>
+    requires { v < length tables.old }
+    ensures { OnOk result (tables.new ≡ slice_set tables.old v (rows_at tables.old v ++ rows_of candidates.now)) }
+{
+    for candidate in candidates {
+        tables.push(v, candidate.row.clone()?)?;
+    }
+    Ok(())
+}

@@ -1,0 +1,72 @@
+// The fusion of least memory that candidates of the root's operands make.
+ghost use Rattle.std.specs.Prelude.{◌≡◌, ◌⊎◌, ℕ, ◌+◌, ◌<◌, ◌≤◌, length, IfSome, All};
+ghost use Rattle.tce_space.specs.IndexSet.{count};
+ghost use Rattle.tce_candidates.specs.Candidates.{IsLimited, HaveRoom};
+ghost use Rattle.tce_search.specs.Root.{IsMadeOf, IsMadeOfSome, IsAtMost, IsBound, IsBoundOfAll};
+
+use arrayvec::ArrayVec;
+use tce_candidates::{Candidate, joined_sets};
+use tce_space::IndexSet;
+use tce_steps::join_rows;
+
+/// A fusion of a whole tree, as the sets of its nodes, and its memory.
+#[derive(Drop)]
+pub(crate) struct WholeFusion {
+    pub(crate) sets: ArrayVec<IndexSet, 32>,
+    pub(crate) memory: u128,
+}
+
+/// The fusion of least memory that two candidates of the root's operands make, the first of these; `None` exactly where each two have a conflict.
+pub(crate) fn least_fusion(
+    lefts: &[Candidate],
+    rights: &[Candidate],
+    loops: IndexSet,
+) -> Option<WholeFusion>
+    requires loops { count loops ≤ 10 }
+    requires lefts { All IsLimited lefts.now }
+    requires rights { All IsLimited rights.now }
+    requires room { HaveRoom lefts.now rights.now }
+    ensures bound { IsBoundOfAll loops result lefts.now rights.now }
+    ensures made { IfSome result (IsMadeOfSome loops lefts.now rights.now) }
+{
+    let mut best = None;
+    for left in lefts {
+        for right in rights {
+            best = lesser(best, left, right, loops);
+        }
+    }
+    best
+}
+
+// The best so far, or what two candidates make where they have no conflict and it needs less memory.
+fn lesser(
+    best: Option<WholeFusion>,
+    left: &Candidate,
+    right: &Candidate,
+    loops: IndexSet,
+) -> Option<WholeFusion>
+    requires loops { count loops ≤ 10 }
+    requires left { IsLimited left.now }
+    requires right { IsLimited right.now }
+    requires room { length left.now.sets.items + length right.now.sets.items < 32 }
+    ensures bound { IsBound loops result left.now right.now }
+    ensures kept { (limit : ℕ) → IsAtMost best limit → IsAtMost result limit }
+    ensures made { IfSome result (λ whole. (best ≡ Some whole) ⊎ IsMadeOf loops left.now right.now whole) }
+{
+    let Some(joined) = join_rows(&left.row, &right.row, loops) else {
+        return best;
+    };
+    if let Some(whole) = &best {
+        if whole.memory <= joined.cost {
+            return best;
+        }
+    }
+    Some(WholeFusion {
+        sets: joined_sets(
+            left.sets.as_slice(),
+            right.sets.as_slice(),
+            IndexSet::empty(),
+        ),
+        memory: joined.cost,
+    })
+}
