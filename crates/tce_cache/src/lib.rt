@@ -12,6 +12,8 @@
 
 mod array;
 mod cache;
+#[cfg(test)]
+mod tests;
 mod transfer;
 
 pub use array::ArrayRef;

@@ -1,5 +1,5 @@
 // Words between files and a block of words, in pieces.
-ghost use Rattle.std.specs.Prelude.{◌≡◌, ℕ, ◌+◌, ◌*◌, ◌/◌, ◌%◌, ◌^◌, ◌<◌, ◌≤◌, length, slice_index, OnOk, IsErr};
+ghost use Rattle.std.specs.Prelude.{◌≡◌, ◌+◌, ◌*◌, ◌/◌, ◌%◌, ◌^◌, ◌<◌, ◌≤◌, length, OnOk, IsErr};
 ghost use Rattle.std.specs.Option.{ForSome};
 ghost use Rattle.tce_outside.specs.Files.{others};
 ghost use Rattle.tce_outside.specs.Fault.{HasCause};
@@ -102,17 +102,6 @@ pub(crate) fn read_words<D: Disk>(
     Ok(())
 }
 
-// Looks at each of the n words from `at` on: a word has 64 bits.
-fn look_at_words(words: &Words, at: u64, n: u64)
-    requires room { at + n ≤ length words.now }
-    requires bounded { length words.now < 2 ^ 60 }
-    ensures { (k : ℕ) → k < n → slice_index words.now (at + k) < 2 ^ 64 }
-{
-    for k in 0..n {
-        let _word = words.get(at + k);
-    }
-}
-
 // Writes the words of one piece.
 fn write_piece<D: Disk>(
     disk: &mut D,
@@ -134,7 +123,8 @@ fn write_piece<D: Disk>(
     ensures others { others array.now.file.bytes (D.files disk.new) ≡ others array.now.file.bytes (D.files disk.old) }
     ensures cause { HasCause (D.faults disk.old) (D.faults disk.new) (IsErr result) }
 {
-    look_at_words(words, at, n);
+    // The block says that each word has 64 bits.
+    let _len = words.len();
     words.store(at, piece);
     disk.write_at(array.file.as_str(), place_of(array, from), piece)?;
     Ok(())

@@ -1,5 +1,5 @@
 //! A block of words.
-ghost use Rattle.std.specs.Prelude.{◌≡◌, ◌+◌, ◌*◌, ◌/◌, ◌%◌, ◌^◌, ◌<◌, ◌≤◌, length, slice_index, slice_range, slice_set, replicate, IfOk};
+ghost use Rattle.std.specs.Prelude.{◌≡◌, ℕ, ◌+◌, ◌*◌, ◌/◌, ◌%◌, ◌^◌, ◌<◌, ◌≤◌, length, slice_index, slice_range, slice_set, replicate, IfOk};
 ghost use Rattle.std.specs.List.{flat_map};
 ghost use Rattle.std.specs.Simd.Lanes.{zip2};
 ghost use Rattle.tce_base.specs.Word.{wrapping_add, wrapping_sub, wrapping_mul, wrapping_sum, word_bytes, word_of_bytes, widened};
@@ -29,6 +29,14 @@ struct Block {
     places: Places,
     deed: Deed<Global>,
     alloc: Global,
+}
+
+// How many words there are.
+fn count(words: &[u64]) -> u64
+    ensures value { result ≡ length words.now }
+    ensures words { (k : ℕ) → slice_index words.now k < 2 ^ 64 }
+{
+    words.len() as u64
 }
 
 impl Model for Words {
@@ -84,8 +92,9 @@ impl Words {
     pub fn len(&self) -> u64
         ensures value { result ≡ length self.now }
         ensures limit { length self.now < 2 ^ 60 }
+        ensures words { (k : ℕ) → slice_index self.now k < 2 ^ 64 }
     {
-        self.as_slice().len() as u64
+        count(self.as_slice())
     }
 
     /// The word at this place.

@@ -10,7 +10,7 @@ pub returns-clause-written : goal.returns-clause-written
 returns-clause-written g c x told y now =
     let a = c.args.array.now in
     let count : c.args.at + length c.args.piece.now / 8 ≡ c.args.at + c.args.n = omega (arith, c.requires.whole) in
-    piece_written a x y c.args.from c.args.at c.args.n c.args.words.now c.requires.one (c.requires.file x told) c.requires.inside c.requires.room c.look_at_words.ensures
+    piece_written a x y c.args.from c.args.at c.args.n c.args.words.now c.requires.one (c.requires.file x told) c.requires.inside c.requires.room (λ k _. c.len-len.ensures.words (c.args.at + k))
     (sym now
     ∙ c.in_ok-write_at.ensures.written
     ∙ ap (written c.as_str.result.now c.place_of.result c.store.new.out) told

@@ -1,0 +1,160 @@
+#!/bin/sh
+# Times pack and unpack over real files of 2^24 elements against cp, and prints the ratio of the times of each shape.
+# To be run by hand, at the top of the repository: sh bench/flat.sh
+#
+# The disk is copied from crates/tce into a throw-away program that packs or unpacks once. Each side is timed from its
+# start to its end; the rounds alternate, and the least time of each side counts. Work that earlier checks kept in out/
+# is used, so `rt check` in crates/tce_tools makes this quick.
+set -eu
+rounds=5
+top=$(pwd)
+work=$(mktemp -d)
+trap 'rm -rf "$work"' EXIT INT TERM
+mkdir -p "$work/crates/tce/src" "$work/crates/tce/specs" "$work/crates/tce/proofs"
+for crate in tce_base tce_outside tce_space tce_array tce_tools; do
+    cp -r "$top/crates/$crate" "$work/crates/"
+done
+for part in src/disk.rt src/kept.rt specs/Kept.antt proofs/Counted.antt proofs/Tables.antt proofs/disk proofs/kept; do
+    cp -r "$top/crates/tce/$part" "$work/crates/tce/$part"
+done
+echo 'pub mod Kept' > "$work/crates/tce/specs/Lib.antt"
+printf 'pub mod Counted\npub mod Tables\n' > "$work/crates/tce/proofs/Lib.antt"
+grep -E '^(tce_base|tce_outside|tce_space|tce_array|tce_tools):' "$top/crates.txt" > "$work/crates.txt"
+echo 'tce: arrayvec tce_outside tce_space tce_tools' >> "$work/crates.txt"
+cp "$top/HANDLES" "$work/"
+
+cat > "$work/crates/tce/src/main.rt" <<'RATTLE'
+//! Packs or unpacks one file: the words are 0 or 1, and then an extent and an edge for each dimension.
+#![tactic(auto)]
+
+ghost use Rattle.std.specs.Prelude.{◌<◌, ◌≤◌, IsTrue};
+ghost use Rattle.tce_space.specs.Name.{is_name};
+
+mod disk;
+mod kept;
+
+use arrayvec::ArrayVec;
+use disk::FileDisk;
+use std::process::ExitCode;
+use std::{env, io};
+use tce_outside::Disk;
+use tce_space::{Name, Shape, Space, is_name};
+use tce_tools::{pack, unpack};
+
+const LETTERS: [&str; 8] = ["a", "b", "c", "d", "e", "f", "g", "h"];
+
+fn word(rt: &HostRuntime, place: usize) -> io::Result<u64> {
+    let word = env::args(rt)?.nth(place);
+    Ok(word.and_then(|word| word.parse::<u64>().ok()).unwrap_or(0))
+}
+
+fn declared(space: &mut Space, number: usize, extent: u64, edge: u64) -> Option<u8> {
+    if 8 <= number {
+        return None;
+    }
+    let Ok(name) = Name::from(LETTERS[number]) else {
+        return None;
+    };
+    if !is_name(name.as_str().as_bytes()) || edge < 1 || extent < edge || 1 << 32 <= extent {
+        return None;
+    }
+    space.add_range(&name, extent, edge).ok()
+}
+
+fn shape_of(space: &Space, ranges: &ArrayVec<u8, 8>) -> Option<Shape> {
+    let count = space.range_count();
+    if ranges.iter().all(|range| *range < count) {
+        space.shape(ranges).ok()
+    } else {
+        None
+    }
+}
+
+fn given_shape(rt: &HostRuntime) -> io::Result<Option<Shape>> {
+    let Ok(mut space) = Space::new(rt.alloc()) else {
+        return Ok(None);
+    };
+    let mut ranges = ArrayVec::new();
+    for number in 0..8 {
+        let extent = word(rt, 2 + 2 * number)?;
+        let edge = word(rt, 3 + 2 * number)?;
+        if 0 < extent {
+            let Some(range) = declared(&mut space, number, extent, edge) else {
+                return Ok(None);
+            };
+            if ranges.try_push(range).is_err() {
+                return Ok(None);
+            }
+        }
+    }
+    Ok(shape_of(&space, &ranges))
+}
+
+fn moved<D: Disk>(disk: &mut D, shape: &Shape, command: u64, flat: &str, array: &str) -> bool {
+    if flat == array {
+        return false;
+    }
+    if array == flat {
+        return false;
+    }
+    if command == 0 {
+        pack(disk, shape, flat, array).is_ok()
+    } else {
+        unpack(disk, shape, array, flat).is_ok()
+    }
+}
+
+fn run(rt: &HostRuntime) -> io::Result<bool> {
+    let Some(shape) = given_shape(rt)? else {
+        return Ok(false);
+    };
+    let mut disk = FileDisk::new(rt.alloc(), rt);
+    let command = word(rt, 1)?;
+    let flat = if command == 0 { "in.flat" } else { "out.flat" };
+    Ok(moved(&mut disk, &shape, command, flat, "out.tca"))
+}
+
+fn main(rt: HostRuntime) -> ExitCode {
+    match run(&rt) {
+        Ok(true) => ExitCode::SUCCESS,
+        _ => ExitCode::FAILURE,
+    }
+}
+RATTLE
+
+cd "$work"
+git init -q .
+(cd crates/tce && rt run) > build.log 2>&1 || true
+[ -x crates/tce/out/tce ] || { tail -20 build.log; exit 1; }
+head -c 134217728 /dev/urandom > in.flat
+
+# the time of a command in microseconds
+timed() {
+    start=$(date +%s%N)
+    "$@"
+    end=$(date +%s%N)
+    echo $(((end - start) / 1000))
+}
+
+least() {
+    sort -n "$1" | head -1
+}
+
+echo '2^24 elements: milliseconds of cp, pack and unpack, and the speed of the two in parts of that of cp'
+for shape in '16777216 1' '16777216 64' '4096 1 4096 1' '4096 64 4096 64' '4096 256 4096 4096' \
+    '4096 1 4096 4096' '256 64 256 64 256 64' '256 16 256 256 256 256'; do
+    : > times.cp
+    : > times.pack
+    : > times.unpack
+    round=0
+    while [ $round -lt $rounds ]; do
+        rm -f copy.flat out.tca out.flat
+        timed cp in.flat copy.flat >> times.cp
+        timed crates/tce/out/tce 0 $shape >> times.pack
+        timed crates/tce/out/tce 1 $shape >> times.unpack
+        cmp -s in.flat out.flat || { echo "the elements differ"; exit 1; }
+        round=$((round + 1))
+    done
+    echo "$(least times.cp) $(least times.pack) $(least times.unpack)" | awk -v what="$shape" '{
+        printf "%-28s cp %5.0f   pack %6.0f  %.2f   unpack %6.0f  %.2f\n", what, $1 / 1e3, $2 / 1e3, $1 / $2, $3 / 1e3, $1 / $3 }'
+done
