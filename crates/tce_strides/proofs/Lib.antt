@@ -1,0 +1,7 @@
+pub mod Folds
+pub mod Innermost
+pub mod Moves
+pub mod Outer
+pub mod Regions
+pub mod Growths
+pub mod Lasts

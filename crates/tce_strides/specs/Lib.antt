@@ -1,0 +1,5 @@
+pub mod Places
+pub mod Steps
+pub mod Turns
+pub mod Laws
+pub mod Results

@@ -1,0 +1,272 @@
+use Rattle.std.proofs.Common.{◌≡◌, ◌+◌, ◌-◌, ◌<◌, length, get_or, set, refl, sym, ap, ◌∙◌, subst, arith}
+use Rattle.tce_space.specs.Space.{extent_at}
+use Rattle.tce_code.specs.Program.{stop, loop}
+use Rattle.tce_code.specs.declared.op.Op.TheVariants.{Open}
+use Rattle.tce_tree.specs.Value.{with_number}
+use Rattle.tce_walk.specs.Machine.{assignment_of}
+use Rattle.tce_walk.specs.Positions.{program_at, IsPlain, plain_program}
+use Rattle.tce_walk.specs.Run.{RunsOver, IsPart, IsRun}
+use Rattle.tce_walk.proofs.Turns.{IsIndex, AreTurns, loop-index, assignment-set, set-again, turn-part, turn-few, turns-none, turns-next, turns-all}
+use Rattle.tce_walk.proofs.TailParts.{part-shaped, tail-asks}
+use Rattle.tce_walk.proofs.Walking.{over-later, over-part, over-extents, plain-is, plain-part, plain-rest, plain-few, plain-left, open-part, open-few, open-rest, open-left, set-next, set-back}
+use Rattle.tce_walk.proofs.running.+walking.Goals as goal
+
+pub run_loop-find_tail-requires-clause-shaped : goal.run_loop-find_tail-requires-clause-shaped
+run_loop-find_tail-requires-clause-shaped g t c =
+    part-shaped c.args.space.now c.args.tree.now c.args.i (program_at c.args.ops.now (c.args.at + 1)) (assignment_of c.args.numbers.now) c.requires.part
+
+pub run_loop-run_tail-requires-clause-tail : goal.run_loop-run_tail-requires-clause-tail
+run_loop-run_tail-requires-clause-tail g t c =
+    tail-asks c.args.space.now c.args.tree.now (g.M.Machine.space c.args.machine.now) (g.M.Machine.setting c.args.machine.now) c.args.i
+    (program_at c.args.ops.now (c.args.at + 1)) (assignment_of c.args.numbers.now) c.in-Some.found.tail c.requires.over c.requires.part (c.in-Some.ensures).0
+
+pub run_part-run_loop-requires : goal.run_part-run_loop-requires
+run_part-run_loop-requires g t c = λ κs lives. (
+  omega (arith, c.loop-at-test.true, c.loop-at.invariant.behind),
+  (
+    lives,
+    (
+      c.loop-at-test.true,
+      (
+        c.requires.limits,
+        (
+          over-later c.args.space.now c.args.tree.now (g.M.Machine.space c.args.machine.now) (g.M.Machine.space c.loop-at.machine)
+              (g.M.Machine.setting c.args.machine.now) (g.M.Machine.setting c.loop-at.machine) c.loop-at.invariant.space c.loop-at.invariant.setting c.requires.over,
+          (
+            subst (λ ns. IsPart c.args.space.now c.args.tree.now (loop c.in-Open.i (program_at c.args.ops.now (c.loop-at.at + 1)) stop) (assignment_of ns)) (sym c.loop-at.invariant.numbers_same)
+                (open-part c.args.space.now c.args.tree.now c.args.ops.now c.loop-at.at c.in-Open.i (Open 0) (assignment_of c.args.numbers.now) c.loop-at-test.true
+                c.in-Open.is c.loop-at.invariant.part),
+            (
+              c.loop-at.invariant.ready,
+              open-few c.args.space.now c.args.tree.now (g.M.Machine.setting c.args.machine.now) c.args.ops.now c.args.start c.loop-at.at c.in-Open.i (Open 0)
+                  (assignment_of c.args.numbers.now) (g.M.Machine.state c.args.machine.now) (g.M.Machine.state c.loop-at.machine)
+                  (g.M.Machine.touches c.args.machine.now) (g.M.Machine.touches c.loop-at.machine) c.loop-at-test.true c.in-Open.is c.loop-at.invariant.left c.requires.few,
+            ),
+          ),
+        ),
+      ),
+    ),
+  ),
+)
+
+pub run_part-loop-at-preserved-in-Open : goal.run_part-loop-at-preserved-in-Open
+run_part-loop-at-preserved-in-Open g t c = record {
+  setting = c.run_loop.ensures.setting ∙ c.loop-at.invariant.setting;
+  space = c.run_loop.ensures.space ∙ c.loop-at.invariant.space;
+  ready = (c.in_ok-close-in-Open.ensures).ready;
+  kept = g.met.M.Machine.keeps_on c.args.machine.now c.loop-at.machine c.run_loop.new.machine c.loop-at.invariant.kept c.run_loop.ensures.kept;
+  faults = omega (arith, c.loop-at.invariant.faults, c.run_loop.ensures.cause.later);
+  left =
+      open-left c.args.space.now c.args.tree.now (g.M.Machine.setting c.args.machine.now) (g.M.Machine.setting c.loop-at.machine) c.args.ops.now c.args.start c.loop-at.at
+      c.in-Open.i (Open 0) c.in_ok-close-in-Open.close c.min-at.result (assignment_of c.args.numbers.now) (g.M.Machine.state c.args.machine.now)
+      (g.M.Machine.state c.loop-at.machine) (g.M.Machine.state c.run_loop.new.machine) (g.M.Machine.touches c.args.machine.now)
+      (g.M.Machine.touches c.loop-at.machine) (g.M.Machine.touches c.run_loop.new.machine) c.loop-at.invariant.setting c.loop-at-test.true c.in-Open.is
+      (c.in_ok-close-in-Open.ensures).end.ends c.min-at.ensures c.loop-at.invariant.left
+      (subst (λ ns. IsRun c.args.space.now c.args.tree.now (g.M.Machine.setting c.loop-at.machine) (loop c.in-Open.i (program_at c.args.ops.now (c.loop-at.at + 1)) stop)
+      (assignment_of ns) (g.M.Machine.state c.loop-at.machine) (g.M.Machine.state c.run_loop.new.machine) (g.M.Machine.touches c.loop-at.machine)
+      (g.M.Machine.touches c.run_loop.new.machine)) c.loop-at.invariant.numbers_same (c.in_ok-close-in-Open.ensures).run);
+  part =
+      open-rest c.args.space.now c.args.tree.now c.args.ops.now c.loop-at.at c.in-Open.i (Open 0) c.in_ok-close-in-Open.close c.min-at.result
+      (assignment_of c.args.numbers.now) c.loop-at-test.true c.in-Open.is (c.in_ok-close-in-Open.ensures).end.ends c.min-at.ensures c.loop-at.invariant.part;
+  numbers_same = (c.in_ok-close-in-Open.ensures).numbers ∙ c.loop-at.invariant.numbers_same;
+  behind = omega (arith, c.min-at.ensures, c.loop-at.invariant.behind, (c.in_ok-close-in-Open.ensures).end.behind, c.loop-at-test.true);
+  within = omega (arith, c.min-at.ensures);
+}
+
+pub run_part-run_action-requires : goal.run_part-run_action-requires
+run_part-run_action-requires g t c =
+    let plain : IsPlain (get_or c.args.ops.now c.loop-at.at (Open 0)) = plain-is (get_or c.args.ops.now c.loop-at.at (Open 0)) c.in_default.not-Open c.in_default.not-Close in
+    let over : RunsOver c.args.space.now c.args.tree.now (g.M.Machine.space c.loop-at.machine) (g.M.Machine.setting c.loop-at.machine) =
+    over-later c.args.space.now c.args.tree.now (g.M.Machine.space c.args.machine.now) (g.M.Machine.space c.loop-at.machine)
+    (g.M.Machine.setting c.args.machine.now) (g.M.Machine.setting c.loop-at.machine) c.loop-at.invariant.space c.loop-at.invariant.setting c.requires.over in
+    record {
+      plain = plain;
+      ready = c.loop-at.invariant.ready;
+      part =
+          over-part c.args.space.now c.args.tree.now (g.M.Machine.space c.loop-at.machine) (g.M.Machine.setting c.loop-at.machine)
+          (plain_program (get_or c.args.ops.now c.loop-at.at (Open 0))) (assignment_of c.loop-at.numbers) over
+          (subst (λ ns. IsPart c.args.space.now c.args.tree.now (plain_program (get_or c.args.ops.now c.loop-at.at (Open 0))) (assignment_of ns))
+          (sym c.loop-at.invariant.numbers_same)
+          (plain-part c.args.space.now c.args.tree.now c.args.ops.now c.loop-at.at (Open 0) (assignment_of c.args.numbers.now) c.loop-at-test.true plain c.loop-at.invariant.part));
+      extents = over-extents c.args.space.now c.args.tree.now (g.M.Machine.space c.loop-at.machine) (g.M.Machine.setting c.loop-at.machine) over;
+      few =
+          plain-few c.args.space.now c.args.tree.now (g.M.Machine.space c.loop-at.machine) (g.M.Machine.setting c.args.machine.now) (g.M.Machine.setting c.loop-at.machine)
+          c.args.ops.now c.args.start c.loop-at.at (Open 0) (assignment_of c.args.numbers.now) (g.M.Machine.state c.args.machine.now) (g.M.Machine.state c.loop-at.machine)
+          (g.M.Machine.touches c.args.machine.now) (g.M.Machine.touches c.loop-at.machine) over c.loop-at-test.true plain c.loop-at.invariant.left c.requires.few;
+    }
+
+pub run_part-loop-at-preserved : goal.run_part-loop-at-preserved
+run_part-loop-at-preserved g t c =
+    let plain : IsPlain (get_or c.args.ops.now c.loop-at.at (Open 0)) = plain-is (get_or c.args.ops.now c.loop-at.at (Open 0)) c.in_default.not-Open c.in_default.not-Close in
+    let over : RunsOver c.args.space.now c.args.tree.now (g.M.Machine.space c.loop-at.machine) (g.M.Machine.setting c.loop-at.machine) =
+    over-later c.args.space.now c.args.tree.now (g.M.Machine.space c.args.machine.now) (g.M.Machine.space c.loop-at.machine)
+    (g.M.Machine.setting c.args.machine.now) (g.M.Machine.setting c.loop-at.machine) c.loop-at.invariant.space c.loop-at.invariant.setting c.requires.over in
+    record {
+      setting = c.run_action.ensures.setting ∙ c.loop-at.invariant.setting;
+      space = c.run_action.ensures.space ∙ c.loop-at.invariant.space;
+      ready = (c.in_ok-run_action-in_default.ensures).ready;
+      kept = g.met.M.Machine.keeps_on c.args.machine.now c.loop-at.machine c.run_action.new.machine c.loop-at.invariant.kept c.run_action.ensures.kept;
+      faults = omega (arith, c.loop-at.invariant.faults, c.run_action.ensures.cause.later);
+      left =
+          plain-left c.args.space.now c.args.tree.now (g.M.Machine.space c.loop-at.machine) (g.M.Machine.setting c.args.machine.now) (g.M.Machine.setting c.loop-at.machine)
+          c.args.ops.now c.args.start c.loop-at.at (Open 0) (assignment_of c.args.numbers.now) (g.M.Machine.state c.args.machine.now) (g.M.Machine.state c.loop-at.machine)
+          (g.M.Machine.state c.run_action.new.machine) (g.M.Machine.touches c.args.machine.now) (g.M.Machine.touches c.loop-at.machine)
+          (g.M.Machine.touches c.run_action.new.machine) over c.loop-at.invariant.setting c.loop-at-test.true plain c.loop-at.invariant.left
+          (subst (λ ns. IsRun (g.M.Machine.space c.loop-at.machine) (g.M.Machine.setting c.loop-at.machine).tree (g.M.Machine.setting c.loop-at.machine)
+          (plain_program (get_or c.args.ops.now c.loop-at.at (Open 0))) (assignment_of ns) (g.M.Machine.state c.loop-at.machine)
+          (g.M.Machine.state c.run_action.new.machine) (g.M.Machine.touches c.loop-at.machine) (g.M.Machine.touches c.run_action.new.machine))
+          c.loop-at.invariant.numbers_same (c.in_ok-run_action-in_default.ensures).run);
+      part = plain-rest c.args.space.now c.args.tree.now c.args.ops.now c.loop-at.at (Open 0) (assignment_of c.args.numbers.now) c.loop-at-test.true plain c.loop-at.invariant.part;
+      numbers_same = c.loop-at.invariant.numbers_same;
+      behind = omega (arith, c.loop-at.invariant.behind);
+      within = omega (arith, c.loop-at-test.true);
+    }
+
+pub run_turns-extent-extent-requires : goal.run_turns-extent-extent-requires
+run_turns-extent-extent-requires g t c =
+    (loop-index c.args.space.now c.args.tree.now c.args.i (program_at c.args.ops.now (c.args.at + 1)) (assignment_of c.args.numbers.now) c.requires.limits
+    c.requires.over.measured c.requires.part).declared
+
+pub run_turns-bounds-numbers-i : goal.run_turns-bounds-numbers-i
+run_turns-bounds-numbers-i g t c =
+    (loop-index c.args.space.now c.args.tree.now c.args.i (program_at c.args.ops.now (c.args.at + 1)) (assignment_of c.args.numbers.now) c.requires.limits
+    c.requires.over.measured c.requires.part).small
+
+pub run_turns-bounds-numbers-i-2 : goal.run_turns-bounds-numbers-i-2
+run_turns-bounds-numbers-i-2 g t c =
+    (loop-index c.args.space.now c.args.tree.now c.args.i (program_at c.args.ops.now (c.args.at + 1)) (assignment_of c.args.numbers.now) c.requires.limits
+    c.requires.over.measured c.requires.part).small
+
+pub run_turns-run_part-requires : goal.run_turns-run_part-requires
+run_turns-run_part-requires g t c = λ κs lives.
+    let index : IsIndex c.args.space.now c.args.i = loop-index c.args.space.now c.args.tree.now c.args.i (program_at c.args.ops.now (c.args.at + 1))
+    (assignment_of c.args.numbers.now) c.requires.limits c.requires.over.measured c.requires.part in
+    let within : c.args.i < length c.args.numbers.now = omega (arith, index.small, c.told-numbers) in (
+      omega (arith, c.requires.within),
+      (
+        lives,
+        (
+          omega (arith, c.requires.within),
+          (
+            c.requires.limits,
+            (
+              c.requires.over,
+              (
+                turn-part c.args.space.now c.args.tree.now c.args.i (program_at c.args.ops.now (c.args.at + 1)) (assignment_of c.args.numbers.now)
+                    (assignment_of (set c.args.numbers.now c.args.i 0)) 0 (assignment-set c.args.numbers.now c.args.i 0 within) index.some c.requires.part,
+                (
+                  c.requires.ready,
+                  turn-few c.args.space.now c.args.tree.now (g.M.Machine.setting c.args.machine.now) c.args.i (program_at c.args.ops.now (c.args.at + 1))
+                      (assignment_of c.args.numbers.now) 0 (g.M.Machine.state c.args.machine.now) (g.M.Machine.state c.args.machine.now)
+                      (g.M.Machine.touches c.args.machine.now) (g.M.Machine.touches c.args.machine.now) c.requires.no_tail index.some
+                      (turns-none c.args.space.now c.args.tree.now (g.M.Machine.setting c.args.machine.now) c.args.i (program_at c.args.ops.now (c.args.at + 1))
+                      (assignment_of c.args.numbers.now) (g.M.Machine.state c.args.machine.now) (g.M.Machine.touches c.args.machine.now)) c.requires.few,
+                ),
+              ),
+            ),
+          ),
+        ),
+      ),
+    )
+
+pub run_turns-loop-x-init : goal.run_turns-loop-x-init
+run_turns-loop-x-init g t c =
+    let index : IsIndex c.args.space.now c.args.i = loop-index c.args.space.now c.args.tree.now c.args.i (program_at c.args.ops.now (c.args.at + 1))
+    (assignment_of c.args.numbers.now) c.requires.limits c.requires.over.measured c.requires.part in
+    let within : c.args.i < length c.args.numbers.now = omega (arith, index.small, c.told-numbers) in
+    record {
+      setting = c.run_part.ensures.setting;
+      space = c.run_part.ensures.space;
+      ready = (c.in_ok-close.ensures).ready;
+      kept = c.run_part.ensures.kept;
+      faults = c.run_part.ensures.cause.later;
+      turns =
+          turns-next c.args.space.now c.args.tree.now (g.M.Machine.setting c.args.machine.now) (g.M.Machine.setting c.args.machine.now) c.args.i
+          (program_at c.args.ops.now (c.args.at + 1)) (assignment_of c.args.numbers.now) (assignment_of (set c.args.numbers.now c.args.i 0)) 0
+          (g.M.Machine.state c.args.machine.now) (g.M.Machine.state c.args.machine.now) (g.M.Machine.state c.run_part.new.machine)
+          (g.M.Machine.touches c.args.machine.now) (g.M.Machine.touches c.args.machine.now) (g.M.Machine.touches c.run_part.new.machine) refl
+          (assignment-set c.args.numbers.now c.args.i 0 within)
+          (turns-none c.args.space.now c.args.tree.now (g.M.Machine.setting c.args.machine.now) c.args.i (program_at c.args.ops.now (c.args.at + 1))
+          (assignment_of c.args.numbers.now) (g.M.Machine.state c.args.machine.now) (g.M.Machine.touches c.args.machine.now)) (c.in_ok-close.ensures).run;
+      numbers_set = (c.in_ok-close.ensures).numbers;
+      end = (c.in_ok-close.ensures).end;
+    }
+
+pub run_turns-run_part-requires-in-loop-x : goal.run_turns-run_part-requires-in-loop-x
+run_turns-run_part-requires-in-loop-x g t c = λ κs lives.
+    let index : IsIndex c.args.space.now c.args.i = loop-index c.args.space.now c.args.tree.now c.args.i (program_at c.args.ops.now (c.args.at + 1))
+    (assignment_of c.args.numbers.now) c.requires.limits c.requires.over.measured c.requires.part in
+    let within : c.args.i < length c.args.numbers.now = omega (arith, index.small, c.told-numbers) in
+    let turn : c.loop-x.x < extent_at c.args.space.now c.args.i = omega (arith, c.loop-x-test.true, c.extent-extent.ensures.extent) in (
+      omega (arith, c.requires.within),
+      (
+        lives,
+        (
+          omega (arith, c.requires.within),
+          (
+            c.requires.limits,
+            (
+              over-later c.args.space.now c.args.tree.now (g.M.Machine.space c.args.machine.now) (g.M.Machine.space c.loop-x.machine)
+                  (g.M.Machine.setting c.args.machine.now) (g.M.Machine.setting c.loop-x.machine) c.loop-x.invariant.space c.loop-x.invariant.setting c.requires.over,
+              (
+                turn-part c.args.space.now c.args.tree.now c.args.i (program_at c.args.ops.now (c.args.at + 1)) (assignment_of c.args.numbers.now)
+                    (assignment_of (set c.loop-x.numbers c.args.i c.loop-x.x)) c.loop-x.x
+                    (set-again c.args.numbers.now c.loop-x.numbers c.args.i c.loop-x.x (c.loop-x.x - 1) within c.loop-x.invariant.numbers_set) turn c.requires.part,
+                (
+                  c.loop-x.invariant.ready,
+                  turn-few c.args.space.now c.args.tree.now (g.M.Machine.setting c.args.machine.now) c.args.i (program_at c.args.ops.now (c.args.at + 1))
+                      (assignment_of c.args.numbers.now) c.loop-x.x (g.M.Machine.state c.args.machine.now) (g.M.Machine.state c.loop-x.machine)
+                      (g.M.Machine.touches c.args.machine.now) (g.M.Machine.touches c.loop-x.machine) c.requires.no_tail turn c.loop-x.invariant.turns c.requires.few,
+                ),
+              ),
+            ),
+          ),
+        ),
+      ),
+    )
+
+pub run_turns-loop-x-preserved : goal.run_turns-loop-x-preserved
+run_turns-loop-x-preserved g t c =
+    let index : IsIndex c.args.space.now c.args.i = loop-index c.args.space.now c.args.tree.now c.args.i (program_at c.args.ops.now (c.args.at + 1))
+    (assignment_of c.args.numbers.now) c.requires.limits c.requires.over.measured c.requires.part in
+    let within : c.args.i < length c.args.numbers.now = omega (arith, index.small, c.told-numbers) in
+    let back : c.loop-x.x ≡ c.loop-x.x + 1 - 1 = omega arith in
+    record {
+      setting = c.run_part-in-loop-x.ensures.setting ∙ c.loop-x.invariant.setting;
+      space = c.run_part-in-loop-x.ensures.space ∙ c.loop-x.invariant.space;
+      ready = (c.in_ok-close-2.ensures).ready;
+      kept = g.met.M.Machine.keeps_on c.args.machine.now c.loop-x.machine c.run_part-in-loop-x.new.machine c.loop-x.invariant.kept c.run_part-in-loop-x.ensures.kept;
+      faults = omega (arith, c.loop-x.invariant.faults, c.run_part-in-loop-x.ensures.cause.later);
+      turns =
+          turns-next c.args.space.now c.args.tree.now (g.M.Machine.setting c.args.machine.now) (g.M.Machine.setting c.loop-x.machine) c.args.i
+          (program_at c.args.ops.now (c.args.at + 1)) (assignment_of c.args.numbers.now) (assignment_of (set c.loop-x.numbers c.args.i c.loop-x.x)) c.loop-x.x
+          (g.M.Machine.state c.args.machine.now) (g.M.Machine.state c.loop-x.machine) (g.M.Machine.state c.run_part-in-loop-x.new.machine)
+          (g.M.Machine.touches c.args.machine.now) (g.M.Machine.touches c.loop-x.machine) (g.M.Machine.touches c.run_part-in-loop-x.new.machine) c.loop-x.invariant.setting
+          (set-again c.args.numbers.now c.loop-x.numbers c.args.i c.loop-x.x (c.loop-x.x - 1) within c.loop-x.invariant.numbers_set)
+          c.loop-x.invariant.turns (c.in_ok-close-2.ensures).run;
+      numbers_set =
+          set-next c.args.numbers.now c.loop-x.numbers c.run_part-in-loop-x.new.numbers c.args.i c.loop-x.x (c.loop-x.x - 1) c.loop-x.invariant.numbers_set
+          (c.in_ok-close-2.ensures).numbers ∙ ap (set c.args.numbers.now c.args.i) back;
+      end = (c.in_ok-close-2.ensures).end;
+    }
+
+pub run_turns-bounds-numbers-i-3 : goal.run_turns-bounds-numbers-i-3
+run_turns-bounds-numbers-i-3 g t c =
+    (loop-index c.args.space.now c.args.tree.now c.args.i (program_at c.args.ops.now (c.args.at + 1)) (assignment_of c.args.numbers.now) c.requires.limits
+    c.requires.over.measured c.requires.part).small
+
+pub run_turns-returns-clause-run : goal.run_turns-returns-clause-run
+run_turns-returns-clause-run g t c =
+    let all : c.loop-x.x ≡ extent_at c.args.space.now c.args.i = omega (arith, c.loop-x-test.false, c.extent-extent.ensures.extent, c.extent-extent.ensures.positive, c.loop-x.auto) in
+    turns-all c.args.space.now c.args.tree.now (g.M.Machine.setting c.args.machine.now) c.args.i (program_at c.args.ops.now (c.args.at + 1))
+    (assignment_of c.args.numbers.now) (g.M.Machine.state c.args.machine.now) (g.M.Machine.state c.loop-x.machine) (g.M.Machine.touches c.args.machine.now)
+    (g.M.Machine.touches c.loop-x.machine) c.requires.over.extents c.requires.no_tail
+    (subst (λ n. AreTurns c.args.space.now c.args.tree.now (g.M.Machine.setting c.args.machine.now) c.args.i (program_at c.args.ops.now (c.args.at + 1))
+    (assignment_of c.args.numbers.now) n (g.M.Machine.state c.args.machine.now) (g.M.Machine.state c.loop-x.machine) (g.M.Machine.touches c.args.machine.now)
+    (g.M.Machine.touches c.loop-x.machine)) all c.loop-x.invariant.turns)
+
+pub run_turns-returns-clause-numbers : goal.run_turns-returns-clause-numbers
+run_turns-returns-clause-numbers g t c =
+    let index : IsIndex c.args.space.now c.args.i = loop-index c.args.space.now c.args.tree.now c.args.i (program_at c.args.ops.now (c.args.at + 1))
+    (assignment_of c.args.numbers.now) c.requires.limits c.requires.over.measured c.requires.part in
+    set-back c.args.numbers.now c.loop-x.numbers c.args.i (c.loop-x.x - 1) (omega (arith, index.small, c.told-numbers)) c.loop-x.invariant.numbers_set

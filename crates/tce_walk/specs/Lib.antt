@@ -1,0 +1,5 @@
+pub mod Machine
+pub mod Positions
+pub mod Run
+pub mod Search
+pub mod Laws
