@@ -1,10 +1,1 @@
-pub mod Rows
-pub mod Commands
-pub mod Arrays
-pub mod StoredWords
-pub mod Shapes
-pub mod Elements
-pub mod Files
-pub mod State
-pub mod Causes
-pub mod Outcomes
+pub mod Joined

@@ -1,22 +1,14 @@
-//! The commands of the program: `run SPEC BUDGET` for the outer product of two vectors.
+//! The commands of the program.
 //!
 //! [`tce`] does all that the program does. Its contract says when each [`Status`] comes and what it leaves on the disk,
-//! on the sink and in the room.
+//! on the sink and in the room. What a command needs, why it is refused and what it leaves stands for each command in
+//! `specs/Performed.antt`.
 #![tactic(auto)]
 
-mod command;
-mod element;
-mod operands;
-mod product;
-mod refusal;
-mod report;
-mod result;
-mod run;
-mod source;
-mod status;
+mod perform;
 mod top;
 
-pub use status::Status;
+pub use tce_command::Status;
 pub use top::tce;
 
 #[cfg(test)]

@@ -1,21 +1,20 @@
 // The top call.
 ghost use Rattle.std.specs.Prelude.{◌≡◌, ◌⊎◌, ℕ, List, map};
 ghost use Rattle.std.specs.String.{string_bytes};
-ghost use Rattle.tce_outside.specs.Files.{others};
 ghost use Rattle.tce_outside.specs.Fault.{HasCause};
-ghost use Rattle.tce_top.specs.Command.{IsNoCommand};
-ghost use Rattle.tce_top.specs.Cause.{Answers, IsCause, IsFault, OfRun};
-ghost use Rattle.tce_top.specs.Outcome.{Grew, GrewWithin, HasErrorLine, HasLine, IsFinished, IsRefusal, IsTaking, result_file};
+ghost use Rattle.tce_command.specs.Command.{IsNoCommand};
+ghost use Rattle.tce_command.specs.Outcome.{Answers, Grew, GrewWithin, HasErrorLine, HasLine, IsFault, IsRefusal};
+ghost use Rattle.tce_top.specs.Performed.{MayTake, OthersStay, output_file};
+ghost use Rattle.tce_top.specs.Cause.{IsCause, OfCommand, Told};
+ghost use Rattle.tce_top.specs.Outcome.{IsFinished};
 
-use crate::Status;
-use crate::command::read_command;
-use crate::report::{finish, refuse};
-use crate::run::run;
+use crate::perform::perform;
 use std::alloc::Global;
+use tce_command::{Status, finish, read_command, refuse};
 use tce_outside::{Disk, Sink};
 use tce_words::Room;
 
-/// Does all that the program does: reads the words of a command, runs it over the disk, takes words from the room, and
+/// Does all that the program does: reads the words of a command, does it over the disk, takes words from the room, and
 /// puts the report, or the line of a refusal, on the sink.
 pub fn tce<D: Disk, K: Sink, R: Room>(
     alloc: Global,
@@ -24,7 +23,7 @@ pub fn tce<D: Disk, K: Sink, R: Room>(
     out: &mut K,
     room: &mut R,
 ) -> Status
-    // A finished run: the bytes of the result, the one taking and the report.
+    // A command that is done: what it leaves, and the report.
     ensures done { result ≡ Status.Done → (report : List ℕ)
         × IsFinished (map string_bytes words.now) (D.files disk.old) (D.files disk.new) (R.takings room.old) (R.takings room.new) report
         × Grew report (K.bytes out.old) (K.bytes out.new) }
@@ -32,28 +31,28 @@ pub fn tce<D: Disk, K: Sink, R: Room>(
     // When each status comes: only where its cause stands, and where a cause stands no other status but a fault.
     ensures bad_words { result ≡ Status.BadWords → IsNoCommand (map string_bytes words.now) }
     ensures no_command { IsNoCommand (map string_bytes words.now) → (result ≡ Status.BadWords) ⊎ (result ≡ Status.WantOfMemory) }
-    ensures cause { OfRun (map string_bytes words.now) (D.files disk.old) (λ files spec budget. IsCause files spec budget result) }
-    ensures exactly { OfRun (map string_bytes words.now) (D.files disk.old) (λ files spec budget.
-        (due : Status) → (IsFault due → ⊥) → IsCause files spec budget due → Answers result due) }
+    ensures cause { Told (map string_bytes words.now) (D.files disk.old) (λ files command. IsCause files command result) }
+    ensures exactly { Told (map string_bytes words.now) (D.files disk.old) (λ files command.
+        (due : Status) → (IsFault due → ⊥) → IsCause files command due → Answers result due) }
     ensures disk_fault { HasCause (D.faults disk.old) (D.faults disk.new) (result ≡ Status.DiskFault) }
     ensures sink_fault { HasCause (K.faults out.old) (K.faults out.new) (result ≡ Status.SinkFault) }
 
     // What each outcome leaves.
     ensures unchanged { IsRefusal result → (D.files disk.new ≡ D.files disk.old) × (R.takings room.new ≡ R.takings room.old) }
+    ensures untouched { IsNoCommand (map string_bytes words.now) → (D.files disk.new ≡ D.files disk.old) × (R.takings room.new ≡ R.takings room.old) }
     ensures line { HasLine result → HasErrorLine result (K.bytes out.old) (K.bytes out.new) (K.faults out.old) (K.faults out.new) }
     ensures cut_short { result ≡ Status.SinkFault → (report : List ℕ)
         × IsFinished (map string_bytes words.now) (D.files disk.old) (D.files disk.new) (R.takings room.old) (R.takings room.new) report
         × GrewWithin report (K.bytes out.old) (K.bytes out.new) }
     ensures no_memory { result ≡ Status.WantOfMemory → (D.files disk.new ≡ D.files disk.old)
         ⊎ ((report : List ℕ) × IsFinished (map string_bytes words.now) (D.files disk.old) (D.files disk.new) (R.takings room.old) (R.takings room.new) report) }
-    ensures takings { (R.takings room.new ≡ R.takings room.old)
-        ⊎ IsTaking (map string_bytes words.now) (D.files disk.old) (R.takings room.old) (R.takings room.new) }
-    ensures others { others result_file (D.files disk.new) ≡ others result_file (D.files disk.old) }
+    ensures takings { OfCommand (map string_bytes words.now) (λ command. MayTake command (D.files disk.old) (R.takings room.old) (R.takings room.new)) }
+    ensures others { OfCommand (map string_bytes words.now) (λ command. OthersStay (output_file command) (D.files disk.old) (D.files disk.new)) }
 {
     let Some(command) = read_command(words) else {
         return refuse(Status::BadWords, out);
     };
-    match run(alloc, command, disk, room) {
+    match perform(alloc, command, disk, room) {
         Ok(report) => finish(&report, out),
         Err(refusal) => refuse(refusal.status(), out),
     }

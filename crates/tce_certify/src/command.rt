@@ -1,0 +1,45 @@
+// The command.
+ghost use Rattle.std.specs.Prelude.{◌≡◌, ◌≢◌, Err, IfOk, IfErr};
+ghost use Rattle.std.specs.Option.{ForSome};
+ghost use Rattle.std.specs.String.{string_bytes};
+ghost use Rattle.tce_outside.specs.Files.{others};
+ghost use Rattle.tce_outside.specs.Fault.{HasCause};
+ghost use Rattle.tce_command.specs.Command.{NamesSpec};
+ghost use Rattle.tce_certify.specs.Done.{NamesCertificate, IsCertified};
+ghost use Rattle.tce_certify.specs.Refusals.{IsCertifyRefusal};
+
+use crate::certificate::certificate_of;
+use crate::writing::write_file;
+use std::alloc::Global;
+use tce_command::Refusal;
+use tce_outside::{Disk, OutFault};
+use tce_source::read_source;
+
+/// Writes the certificate of a plan of least memory for the specification in a file, and gives the report.
+///
+/// Beside the refusals of the specification itself only want of memory and failures of the disk are refused. All
+/// memory but the disk's own is taken before the file is made.
+pub fn certify<D: Disk>(
+    alloc: Global,
+    spec: &str,
+    cert: &str,
+    disk: &mut D,
+) -> Result<String, Refusal>
+    requires spec { NamesSpec spec.now }
+    requires cert { NamesCertificate cert.now }
+    ensures done { IfOk result (λ report. IsCertified (D.files disk.old) (D.files disk.new) spec.now cert.now (string_bytes report)) }
+    ensures refused { IfErr result (λ refusal. ForSome (D.files disk.old) (λ files. IsCertifyRefusal files spec.now refusal)) }
+    ensures unchanged { IfErr result (λ refusal. refusal ≢ Refusal.Disk → D.files disk.new ≡ D.files disk.old) }
+    ensures others { others cert.now (D.files disk.new) ≡ others cert.now (D.files disk.old) }
+    ensures cause { HasCause (D.faults disk.old) (D.faults disk.new) (result ≡ Err Refusal.Disk) }
+{
+    let source = read_source(alloc, disk, spec)?;
+    let Ok(made) = certificate_of(alloc, &source, cert) else {
+        return Err(Refusal::Memory);
+    };
+    match write_file(disk, cert, &made.text) {
+        Ok(()) => Ok(made.report),
+        Err(OutFault::Failed) => Err(Refusal::Disk),
+        Err(OutFault::Memory) => Err(Refusal::Memory),
+    }
+}

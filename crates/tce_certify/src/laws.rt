@@ -1,0 +1,8 @@
+//! Laws of the definitions. These functions do nothing: their contracts are the laws.
+
+ghost use Rattle.tce_certify.specs.Laws.{CertificatesHaveOneAnswer};
+
+/// What can be certified is not refused, and what is refused has one reason.
+pub fn certificates_have_one_answer()
+    ensures { CertificatesHaveOneAnswer }
+{}

@@ -1,0 +1,173 @@
+-- Which words are those of a command.
+use Rattle.std.proofs.Common.{Bool, true, false, not, ◌≡◌, ◌≢◌, refl, sym, ap, subst, ◌∙◌, ℕ, ◌<◌, ◌≤◌, ◌^◌, List, [], ◌∷◌, map, length, get_or, arith, String, Global, codes}
+use Rattle.std.specs.String.{string_bytes}
+use Rattle.std.specs.Fmt.{decimal}
+use Rattle.std.specs.Str.{bytes_eq}
+use Rattle.std.proofs.lemmas.Slice.Eq.{bytes_eq-Decides}
+use Rattle.std.proofs.lemmas.Fmt.{decimal_injective, decimal_digit}
+use Rattle.tce_array.specs.declared.form.Form.{Form}
+use Rattle.tce_array.specs.declared.form.Form.TheVariants.{One, Narrow, Wide}
+use Rattle.tce_array.specs.Forms.{width}
+use Rattle.tce_command.specs.Command.{Command, run, plan, pack, unpack, convert, IsCommand, IsNoCommand, NamesSpec, NamesTensor, NamesFlat}
+
+-- the words of a list, where it has two, three or four
+pub two_words : (ws : List (String Global)) (a b : String Global) → 2 ≤ length ws → length ws < 3 → a ≡ get_or ws 0 a → b ≡ get_or ws 1 b
+    → map string_bytes ws ≡ string_bytes a ∷ string_bytes b ∷ []
+two_words [] a b l u ea eb = absurd (omega arith)
+two_words (x ∷ []) a b l u ea eb = absurd (omega arith)
+two_words (x ∷ y ∷ []) a b l u ea eb = rw (ea, eb) refl
+two_words (x ∷ y ∷ z ∷ ws) a b l u ea eb = absurd (omega arith)
+
+pub three_words : (ws : List (String Global)) (a b c : String Global) → 3 ≤ length ws → length ws < 4 → a ≡ get_or ws 0 a → b ≡ get_or ws 1 b → c ≡ get_or ws 2 c
+    → map string_bytes ws ≡ string_bytes a ∷ string_bytes b ∷ string_bytes c ∷ []
+three_words [] a b c l u ea eb ec = absurd (omega arith)
+three_words (x ∷ []) a b c l u ea eb ec = absurd (omega arith)
+three_words (x ∷ y ∷ []) a b c l u ea eb ec = absurd (omega arith)
+three_words (x ∷ y ∷ z ∷ []) a b c l u ea eb ec = rw (ea, eb, ec) refl
+three_words (x ∷ y ∷ z ∷ w ∷ ws) a b c l u ea eb ec = absurd (omega arith)
+
+pub four_words : (ws : List (String Global)) (a b c d : String Global) → 4 ≤ length ws → length ws < 5 → a ≡ get_or ws 0 a → b ≡ get_or ws 1 b → c ≡ get_or ws 2 c → d ≡ get_or ws 3 d
+    → map string_bytes ws ≡ string_bytes a ∷ string_bytes b ∷ string_bytes c ∷ string_bytes d ∷ []
+four_words [] a b c d l u ea eb ec ed = absurd (omega arith)
+four_words (x ∷ []) a b c d l u ea eb ec ed = absurd (omega arith)
+four_words (x ∷ y ∷ []) a b c d l u ea eb ec ed = absurd (omega arith)
+four_words (x ∷ y ∷ z ∷ []) a b c d l u ea eb ec ed = absurd (omega arith)
+four_words (x ∷ y ∷ z ∷ w ∷ []) a b c d l u ea eb ec ed = rw (ea, eb, ec, ed) refl
+four_words (x ∷ y ∷ z ∷ w ∷ v ∷ ws) a b c d l u ea eb ec ed = absurd (omega arith)
+
+-- a command has two to four words
+pub command_length : (words : List (List ℕ)) (command : Command) → IsCommand words command → (2 ≤ length words) × (length words ≤ 4)
+command_length words (run spec budget) h = let e : length words ≡ 3 = ap length h.words_are in (omega arith, omega arith)
+command_length words (plan spec) h = let e : length words ≡ 2 = ap length h.words_are in (omega arith, omega arith)
+command_length words (pack spec tensor flat) h = let e : length words ≡ 4 = ap length h.words_are in (omega arith, omega arith)
+command_length words (unpack spec tensor flat) h = let e : length words ≡ 4 = ap length h.words_are in (omega arith, omega arith)
+command_length words (convert spec tensor form) h = let e : length words ≡ 4 = ap length h.words_are in (omega arith, omega arith)
+
+-- the words of a list are equal in each place
+word_at : (k : ℕ) (xs ys : List (List ℕ)) → xs ≡ ys → get_or xs k [] ≡ get_or ys k []
+word_at k xs ys e = ap (λ ws. get_or ws k []) e
+
+-- no command has these words, where that of their number and their verb does not
+pub none_of_two : (verb spec : List ℕ) → (verb ≡ codes "plan" → NamesSpec spec → ⊥) → IsNoCommand (verb ∷ spec ∷ [])
+none_of_two verb spec refused (run s b) h = let e : 2 ≡ 3 = ap length h.words_are in absurd (omega (arith, e))
+none_of_two verb spec refused (plan s) h = refused (word_at 0 _ _ h.words_are) (subst NamesSpec (sym (word_at 1 _ _ h.words_are)) h.rules)
+none_of_two verb spec refused (pack s t f) h = let e : 2 ≡ 4 = ap length h.words_are in absurd (omega (arith, e))
+none_of_two verb spec refused (unpack s t f) h = let e : 2 ≡ 4 = ap length h.words_are in absurd (omega (arith, e))
+none_of_two verb spec refused (convert s t f) h = let e : 2 ≡ 4 = ap length h.words_are in absurd (omega (arith, e))
+
+pub none_of_three : (verb spec budget : List ℕ) → (verb ≡ codes "run" → NamesSpec spec → (n : ℕ) → n ≤ 2 ^ 40 → budget ≡ decimal n → ⊥) → IsNoCommand (verb ∷ spec ∷ budget ∷ [])
+none_of_three verb spec budget refused (run s b) h =
+    refused (word_at 0 _ _ h.words_are) (subst NamesSpec (sym (word_at 1 _ _ h.words_are)) h.rules.0) b h.rules.1 (word_at 2 _ _ h.words_are)
+none_of_three verb spec budget refused (plan s) h = let e : 3 ≡ 2 = ap length h.words_are in absurd (omega (arith, e))
+none_of_three verb spec budget refused (pack s t f) h = let e : 3 ≡ 4 = ap length h.words_are in absurd (omega (arith, e))
+none_of_three verb spec budget refused (unpack s t f) h = let e : 3 ≡ 4 = ap length h.words_are in absurd (omega (arith, e))
+none_of_three verb spec budget refused (convert s t f) h = let e : 3 ≡ 4 = ap length h.words_are in absurd (omega (arith, e))
+
+-- what the rules say of four words, by their verb
+pub record NoneOfFour (verb spec tensor last : List ℕ) : Type 0 where
+  pub pack : verb ≡ codes "pack" → NamesSpec spec → NamesTensor tensor → NamesFlat last → ⊥
+  pub unpack : verb ≡ codes "unpack" → NamesSpec spec → NamesTensor tensor → NamesFlat last → ⊥
+  pub convert : verb ≡ codes "convert" → NamesSpec spec → NamesTensor tensor → (form : Form) → form ≢ One → last ≡ decimal (width form) → ⊥
+
+pub none_of_four : (verb spec tensor last : List ℕ) → NoneOfFour verb spec tensor last → IsNoCommand (verb ∷ spec ∷ tensor ∷ last ∷ [])
+none_of_four verb spec tensor last refused (run s b) h = let e : 4 ≡ 3 = ap length h.words_are in absurd (omega (arith, e))
+none_of_four verb spec tensor last refused (plan s) h = let e : 4 ≡ 2 = ap length h.words_are in absurd (omega (arith, e))
+none_of_four verb spec tensor last refused (pack s t f) h =
+    refused.pack (word_at 0 _ _ h.words_are) (subst NamesSpec (sym (word_at 1 _ _ h.words_are)) h.rules.0)
+    (subst NamesTensor (sym (word_at 2 _ _ h.words_are)) h.rules.1) (subst NamesFlat (sym (word_at 3 _ _ h.words_are)) h.rules.2)
+none_of_four verb spec tensor last refused (unpack s t f) h =
+    refused.unpack (word_at 0 _ _ h.words_are) (subst NamesSpec (sym (word_at 1 _ _ h.words_are)) h.rules.0)
+    (subst NamesTensor (sym (word_at 2 _ _ h.words_are)) h.rules.1) (subst NamesFlat (sym (word_at 3 _ _ h.words_are)) h.rules.2)
+none_of_four verb spec tensor last refused (convert s t f) h =
+    refused.convert (word_at 0 _ _ h.words_are) (subst NamesSpec (sym (word_at 1 _ _ h.words_are)) h.rules.0)
+    (subst NamesTensor (sym (word_at 2 _ _ h.words_are)) h.rules.1) f h.rules.2 (word_at 3 _ _ h.words_are)
+
+-- Words are those of one command.
+
+same_budget : (b c : ℕ) → b ≤ 2 ^ 40 → c ≤ 2 ^ 40 → decimal b ≡ decimal c → b ≡ c
+same_budget b c h k e = decimal_injective b c (omega arith) (omega arith) e
+
+-- the widths of the second version differ
+same_form : (f g : Form) → f ≢ One → g ≢ One → decimal (width f) ≡ decimal (width g) → f ≡ g
+same_form One g h k e = absurd (h refl)
+same_form f One h k e = absurd (k refl)
+same_form Narrow Narrow h k e = refl
+same_form Wide Wide h k e = refl
+same_form Narrow Wide h k e = let n : 4 ≡ 8 = decimal_injective 4 8 (omega arith) (omega arith) e in absurd (omega (arith, n))
+same_form Wide Narrow h k e = let n : 8 ≡ 4 = decimal_injective 8 4 (omega arith) (omega arith) e in absurd (omega (arith, n))
+
+-- the byte at this place of the verb
+verb_byte : (k : ℕ) (xs ys : List (List ℕ)) → xs ≡ ys → get_or (get_or xs 0 []) k 0 ≡ get_or (get_or ys 0 []) k 0
+verb_byte k xs ys e = ap (λ ws. get_or (get_or ws 0 []) k 0) e
+
+pub one_command : (words : List (List ℕ)) (command other : Command) → IsCommand words command → IsCommand words other → other ≡ command
+one_command words (run s b) (run t c) h k =
+    let e = sym h.words_are ∙ k.words_are in
+    let specs : s ≡ t = word_at 1 _ _ e in
+    let budgets : b ≡ c = same_budget b c h.rules.1 k.rules.1 (word_at 2 _ _ e) in
+    cc
+one_command words (plan s) (plan t) h k = let specs : s ≡ t = word_at 1 _ _ (sym h.words_are ∙ k.words_are) in cc
+one_command words (pack s t f) (pack u v g) h k =
+    let e = sym h.words_are ∙ k.words_are in
+    let specs : s ≡ u = word_at 1 _ _ e in
+    let tensors : t ≡ v = word_at 2 _ _ e in
+    let flats : f ≡ g = word_at 3 _ _ e in
+    cc
+one_command words (unpack s t f) (unpack u v g) h k =
+    let e = sym h.words_are ∙ k.words_are in
+    let specs : s ≡ u = word_at 1 _ _ e in
+    let tensors : t ≡ v = word_at 2 _ _ e in
+    let flats : f ≡ g = word_at 3 _ _ e in
+    cc
+one_command words (convert s t f) (convert u v g) h k =
+    let e = sym h.words_are ∙ k.words_are in
+    let specs : s ≡ u = word_at 1 _ _ e in
+    let tensors : t ≡ v = word_at 2 _ _ e in
+    let forms : f ≡ g = same_form f g h.rules.2 k.rules.2 (word_at 3 _ _ e) in
+    cc
+one_command words (pack s t f) (unpack u v g) h k = let e : 112 ≡ 117 = verb_byte 0 _ _ (sym h.words_are ∙ k.words_are) in absurd (omega (arith, e))
+one_command words (unpack s t f) (pack u v g) h k = let e : 117 ≡ 112 = verb_byte 0 _ _ (sym h.words_are ∙ k.words_are) in absurd (omega (arith, e))
+one_command words (pack s t f) (convert u v g) h k = let e : 112 ≡ 99 = verb_byte 0 _ _ (sym h.words_are ∙ k.words_are) in absurd (omega (arith, e))
+one_command words (convert s t f) (pack u v g) h k = let e : 99 ≡ 112 = verb_byte 0 _ _ (sym h.words_are ∙ k.words_are) in absurd (omega (arith, e))
+one_command words (unpack s t f) (convert u v g) h k = let e : 117 ≡ 99 = verb_byte 0 _ _ (sym h.words_are ∙ k.words_are) in absurd (omega (arith, e))
+one_command words (convert s t f) (unpack u v g) h k = let e : 99 ≡ 117 = verb_byte 0 _ _ (sym h.words_are ∙ k.words_are) in absurd (omega (arith, e))
+one_command words (run s b) (plan t) h k = let e : 3 ≡ 2 = ap length (sym h.words_are ∙ k.words_are) in absurd (omega (arith, e))
+one_command words (run s b) (pack u v g) h k = let e : 3 ≡ 4 = ap length (sym h.words_are ∙ k.words_are) in absurd (omega (arith, e))
+one_command words (run s b) (unpack u v g) h k = let e : 3 ≡ 4 = ap length (sym h.words_are ∙ k.words_are) in absurd (omega (arith, e))
+one_command words (run s b) (convert u v g) h k = let e : 3 ≡ 4 = ap length (sym h.words_are ∙ k.words_are) in absurd (omega (arith, e))
+one_command words (plan s) (run u c) h k = let e : 2 ≡ 3 = ap length (sym h.words_are ∙ k.words_are) in absurd (omega (arith, e))
+one_command words (plan s) (pack u v g) h k = let e : 2 ≡ 4 = ap length (sym h.words_are ∙ k.words_are) in absurd (omega (arith, e))
+one_command words (plan s) (unpack u v g) h k = let e : 2 ≡ 4 = ap length (sym h.words_are ∙ k.words_are) in absurd (omega (arith, e))
+one_command words (plan s) (convert u v g) h k = let e : 2 ≡ 4 = ap length (sym h.words_are ∙ k.words_are) in absurd (omega (arith, e))
+one_command words (pack s t f) (run u c) h k = let e : 4 ≡ 3 = ap length (sym h.words_are ∙ k.words_are) in absurd (omega (arith, e))
+one_command words (unpack s t f) (run u c) h k = let e : 4 ≡ 3 = ap length (sym h.words_are ∙ k.words_are) in absurd (omega (arith, e))
+one_command words (convert s t f) (run u c) h k = let e : 4 ≡ 3 = ap length (sym h.words_are ∙ k.words_are) in absurd (omega (arith, e))
+one_command words (pack s t f) (plan u) h k = let e : 4 ≡ 2 = ap length (sym h.words_are ∙ k.words_are) in absurd (omega (arith, e))
+one_command words (unpack s t f) (plan u) h k = let e : 4 ≡ 2 = ap length (sym h.words_are ∙ k.words_are) in absurd (omega (arith, e))
+one_command words (convert s t f) (plan u) h k = let e : 4 ≡ 2 = ap length (sym h.words_are ∙ k.words_are) in absurd (omega (arith, e))
+
+-- a condition that was tested and does not hold is not
+pub is_true : (b : Bool) → false ≡ not b → b ≡ true
+is_true true e = refl
+is_true false e = e
+
+-- the words of the forms
+four_word : codes "4" ≡ decimal 4
+four_word = sym (decimal_digit 4 (omega arith))
+
+eight_word : codes "8" ≡ decimal 8
+eight_word = sym (decimal_digit 8 (omega arith))
+
+differs : (word given : List ℕ) → word ≡ given → bytes_eq word given ≡ false → ⊥
+differs word given e no_match = let same : bytes_eq word given ≡ true = (bytes_eq-Decides word given).1 e in absurd (cc)
+
+pub narrow_word : (word : List ℕ) → bytes_eq word (codes "4") ≡ true → (Narrow ≢ One) × (word ≡ decimal (width Narrow))
+narrow_word word e = ((λ f. absurd (cc)), (bytes_eq-Decides word (codes "4")).0 e ∙ four_word)
+
+pub wide_word : (word : List ℕ) → bytes_eq word (codes "8") ≡ true → (Wide ≢ One) × (word ≡ decimal (width Wide))
+wide_word word e = ((λ f. absurd (cc)), (bytes_eq-Decides word (codes "8")).0 e ∙ eight_word)
+
+pub other_word : (word : List ℕ) → bytes_eq word (codes "4") ≡ false → bytes_eq word (codes "8") ≡ false → (form : Form) → form ≢ One → word ≡ decimal (width form) → ⊥
+other_word word a b One h e = h refl
+other_word word a b Narrow h e = differs word (codes "4") (e ∙ sym four_word) a
+other_word word a b Wide h e = differs word (codes "8") (e ∙ sym eight_word) b

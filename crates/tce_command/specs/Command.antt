@@ -1,0 +1,68 @@
+-- The commands, as lists of words. Each word is a list of bytes.
+use Rattle.std.specs.Prelude.{◌≡◌, ◌≢◌, ℕ, ◌≤◌, ◌^◌, Bool, ◌||◌, ◌&&◌, ◌==◌, nat_eq, nat_lt, nat_le, IsTrue, List, [], ◌∷◌, length, codes}
+use Rattle.std.specs.List.{list_all, ends_with}
+use Rattle.std.specs.Char.{is_ascii_alphanumeric}
+use Rattle.std.specs.Fmt.{decimal}
+use Rattle.tce_space.specs.Name.{is_name}
+use Rattle.tce_array.specs.declared.form.Form.{Form}
+use Rattle.tce_array.specs.declared.form.Form.TheVariants.{One}
+use Rattle.tce_array.specs.Forms.{width}
+
+-- names of files and tensors, a budget in words, and a form of array files
+pub data Command : Type 0 where
+  run : List ℕ → ℕ → Command
+  plan : List ℕ → Command
+  pack : List ℕ → List ℕ → List ℕ → Command
+  unpack : List ℕ → List ℕ → List ℕ → Command
+  convert : List ℕ → List ℕ → Form → Command
+
+-- the first word of a command, and the words behind it
+abbrev pub verb_of : Command → List ℕ
+verb_of (run spec budget) = codes "run"
+verb_of (plan spec) = codes "plan"
+verb_of (pack spec tensor flat) = codes "pack"
+verb_of (unpack spec tensor flat) = codes "unpack"
+verb_of (convert spec tensor form) = codes "convert"
+
+abbrev pub arguments_of : Command → List (List ℕ)
+arguments_of (run spec budget) = spec ∷ decimal budget ∷ []
+arguments_of (plan spec) = spec ∷ []
+arguments_of (pack spec tensor flat) = spec ∷ tensor ∷ flat ∷ []
+arguments_of (unpack spec tensor flat) = spec ∷ tensor ∷ flat ∷ []
+arguments_of (convert spec tensor form) = spec ∷ tensor ∷ decimal (width form) ∷ []
+
+-- a byte that may stand in the name of a file: a letter, a digit, or one of `_`, `-`, `.` and `/`
+abbrev pub is_file_byte : ℕ → Bool
+is_file_byte b = is_ascii_alphanumeric b || b == 95 || b == 45 || b == 46 || b == 47
+
+-- a word of at most 200 such bytes that ends in the suffix and is longer than it
+abbrev pub is_file_word : List ℕ → List ℕ → Bool
+is_file_word suffix word =
+    nat_le (length word) 200 && nat_lt (length suffix) (length word) && ends_with nat_eq word suffix && list_all is_file_byte word
+
+-- the name of a specification's file, of a flat file, and of a tensor
+abbrev pub NamesSpec : List ℕ → Type 0
+NamesSpec word = IsTrue (is_file_word (codes ".tce") word)
+
+abbrev pub NamesFlat : List ℕ → Type 0
+NamesFlat word = IsTrue (is_file_word (codes ".flat") word)
+
+abbrev pub NamesTensor : List ℕ → Type 0
+NamesTensor word = IsTrue (is_name word)
+
+-- what the words of a command keep: a budget is at most 2^40, and files are converted to the second version of their format alone
+abbrev pub KeepsRules : Command → Type 0
+KeepsRules (run spec budget) = NamesSpec spec × (budget ≤ 2 ^ 40)
+KeepsRules (plan spec) = NamesSpec spec
+KeepsRules (pack spec tensor flat) = NamesSpec spec × NamesTensor tensor × NamesFlat flat
+KeepsRules (unpack spec tensor flat) = NamesSpec spec × NamesTensor tensor × NamesFlat flat
+KeepsRules (convert spec tensor form) = NamesSpec spec × NamesTensor tensor × (form ≢ One)
+
+-- the words are those of this command
+pub record IsCommand (words : List (List ℕ)) (command : Command) : Type 0 where
+  pub words_are : words ≡ verb_of command ∷ arguments_of command
+  pub rules : KeepsRules command
+
+-- the words are those of no command
+abbrev pub IsNoCommand : List (List ℕ) → Type 0
+IsNoCommand words = (command : Command) → IsCommand words command → ⊥

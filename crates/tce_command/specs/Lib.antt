@@ -1,0 +1,7 @@
+pub mod Command
+pub mod CommandCode
+pub mod Number
+pub mod Report
+pub mod Refusals
+pub mod Outcome
+pub mod Laws

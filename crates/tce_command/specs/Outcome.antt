@@ -1,0 +1,44 @@
+-- What a command leaves on the sink.
+use Rattle.std.specs.Prelude.{◌≡◌, ◌⊎◌, ⊤, ℕ, List, ◌++◌, take, Option}
+use Rattle.std.specs.Option.{option_map}
+use Rattle.tce_outside.specs.Fault.{Rose}
+use Rattle.tce_command.specs.Report.{code_of, error_text}
+use Rattle.tce_command.specs.declared.status.Status.{Status}
+use Rattle.tce_command.specs.declared.status.Status.TheVariants.{Done, DiskFault, SinkFault, WantOfMemory}
+
+-- a device failed, or memory was wanting; these may come in the place of each other status
+abbrev pub IsFault : Status → Type 0
+IsFault DiskFault = ⊤
+IsFault SinkFault = ⊤
+IsFault WantOfMemory = ⊤
+IsFault status = ⊥
+
+-- a refusal that is neither a fault nor want of memory
+abbrev pub IsRefusal : Status → Type 0
+IsRefusal Done = ⊥
+IsRefusal DiskFault = ⊥
+IsRefusal SinkFault = ⊥
+IsRefusal WantOfMemory = ⊥
+IsRefusal status = ⊤
+
+-- a status that has an error line
+abbrev pub HasLine : Status → Type 0
+HasLine Done = ⊥
+HasLine SinkFault = ⊥
+HasLine status = ⊤
+
+-- the status is the one that is due, or a fault
+abbrev pub Answers : Status → Status → Type 0
+Answers status due = IsFault status ⊎ ((code_of status ≡ code_of due) × (error_text status ≡ error_text due))
+
+-- a sink that tells its bytes grew by the text, or by a part of it from the front
+abbrev pub Grew : List ℕ → Option (List ℕ) → Option (List ℕ) → Type 0
+Grew text before after = after ≡ option_map (λ bytes. bytes ++ text) before
+
+abbrev pub GrewWithin : List ℕ → Option (List ℕ) → Option (List ℕ) → Type 0
+GrewWithin text before after = (k : ℕ) × Grew (take k text) before after
+
+-- the sink grew by a part of the error line from the front, and by the whole of it where the status is no fault and the count of faults did not rise
+pub record HasErrorLine (status : Status) (before after : Option (List ℕ)) (faults faults_after : ℕ) : Type 0 where
+  pub part : GrewWithin (error_text status) before after
+  pub whole : IsRefusal status → Grew (error_text status) before after ⊎ Rose faults faults_after

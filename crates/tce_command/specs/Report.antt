@@ -1,0 +1,128 @@
+-- The exit status of each status, and the line of each refusal.
+use Rattle.std.specs.Prelude.{ℕ, Bool, true, false, if◌then◌else◌, List, [], ◌++◌, codes}
+use Rattle.std.specs.Fmt.{decimal}
+use Rattle.tce_tree.specs.declared.fault.TreeFault.{TreeFault}
+use Rattle.tce_tree.specs.declared.fault.TreeFault.TheVariants as trees
+use Rattle.tce_declarations.specs.declared.fault.Limit.{Limit}
+use Rattle.tce_declarations.specs.declared.fault.Limit.TheVariants.{Ranges, Indexes, Tensors, Rank, TileWords, ArrayWords}
+use Rattle.tce_declarations.specs.declared.fault.SpecFault.{SpecFault}
+use Rattle.tce_declarations.specs.declared.fault.SpecFault.TheVariants.{TooLong, BadText, TooManyNodes, NameTwice, UnknownName, BadNumber, LimitPassed, RankDiffers, RangeDiffers, IndexTwice, ResultIsOperand, Tree, ResultIndices, Memory}
+use Rattle.tce_array.specs.declared.fault.ArrayFault.{ArrayFault}
+use Rattle.tce_array.specs.declared.fault.ArrayFault.TheVariants as arrays
+use Rattle.tce_command.specs.declared.status.Status.{Status}
+use Rattle.tce_command.specs.declared.status.Status.TheVariants.{Done, BadWords, SpecRefused, NotBuilt, NoFile, ArrayRefused, BudgetTooSmall, IntermediatesTooLarge, DiskFault, SinkFault, WantOfMemory, FlatRefused, UnknownTensor, DoesNotFit}
+use Rattle.tce_command.specs.declared.refusal.Refusal.{Refusal}
+use Rattle.tce_command.specs.declared.refusal.Refusal.TheVariants as refusals
+
+-- the exit status of the process
+abbrev pub code_of : Status → ℕ
+code_of Done = 0
+code_of BadWords = 1
+code_of (SpecRefused fault) = 2
+code_of NotBuilt = 2
+code_of (NoFile name) = 3
+code_of (ArrayRefused tensor fault) = 4
+code_of (BudgetTooSmall least) = 5
+code_of (IntermediatesTooLarge memory) = 6
+code_of DiskFault = 8
+code_of SinkFault = 9
+code_of WantOfMemory = 10
+code_of (FlatRefused len) = 11
+code_of (UnknownTensor name) = 12
+code_of (DoesNotFit place) = 13
+
+-- the line of the specification at which the fault stands
+abbrev pub at_line : ℕ → List ℕ
+at_line line = codes "line " ++ decimal line ++ codes ": "
+
+abbrev pub place_text : SpecFault → List ℕ
+place_text TooLong = []
+place_text (BadText line) = at_line line
+place_text (TooManyNodes line) = at_line line
+place_text (NameTwice line name) = at_line line
+place_text (UnknownName line name) = at_line line
+place_text (BadNumber line) = at_line line
+place_text (LimitPassed line limit) = at_line line
+place_text (RankDiffers line name) = at_line line
+place_text (RangeDiffers line name) = at_line line
+place_text (IndexTwice line name) = at_line line
+place_text (ResultIsOperand line name) = at_line line
+place_text (Tree line fault) = at_line line
+place_text (ResultIndices line) = at_line line
+place_text Memory = []
+
+-- what is wrong there
+abbrev pub limit_text : Limit → List ℕ
+limit_text Ranges = codes "ranges"
+limit_text Indexes = codes "indexes"
+limit_text Tensors = codes "tensors"
+limit_text Rank = codes "rank"
+limit_text TileWords = codes "tile words"
+limit_text ArrayWords = codes "array words"
+
+abbrev pub tree_text : TreeFault → List ℕ
+tree_text trees.NoOperation = codes "no operation"
+tree_text (trees.SumOverAbsent name) = codes "sum over absent " ++ name.bytes ++ []
+tree_text (trees.TooManyLoops node) = codes "node " ++ decimal node ++ codes " has more than 10 loops"
+tree_text (trees.VolumeTooLarge node) = codes "node " ++ decimal node ++ codes " has too many iterations"
+tree_text trees.Memory = codes "want of memory"
+
+abbrev pub fault_text : SpecFault → List ℕ
+fault_text TooLong = codes "too long"
+fault_text (BadText line) = codes "bad text"
+fault_text (TooManyNodes line) = codes "more than 32 operations"
+fault_text (NameTwice line name) = [] ++ name.bytes ++ codes " declared twice"
+fault_text (UnknownName line name) = codes "unknown name " ++ name.bytes ++ []
+fault_text (BadNumber line) = codes "bad number"
+fault_text (LimitPassed line limit) = codes "limit of " ++ limit_text limit ++ codes " passed"
+fault_text (RankDiffers line name) = codes "rank of " ++ name.bytes ++ codes " differs"
+fault_text (RangeDiffers line name) = codes "range of " ++ name.bytes ++ codes " differs"
+fault_text (IndexTwice line name) = codes "index " ++ name.bytes ++ codes " twice"
+fault_text (ResultIsOperand line name) = [] ++ name.bytes ++ codes " is result and operand"
+fault_text (Tree line fault) = tree_text fault
+fault_text (ResultIndices line) = codes "result indexes differ"
+fault_text Memory = codes "want of memory"
+
+-- what is wrong with the file of an array
+abbrev pub array_text : ArrayFault → List ℕ
+array_text arrays.NoFile = codes "no file"
+array_text (arrays.BadLength len) = codes "length " ++ decimal len ++ []
+array_text (arrays.BadHeader place) = codes "head byte " ++ decimal place ++ []
+array_text arrays.Disk = codes "disk fault"
+
+-- the line of a refusal
+abbrev pub error_text : Status → List ℕ
+error_text Done = []
+error_text BadWords = codes "error 1: bad words\n"
+error_text (SpecRefused fault) = codes "error 2: " ++ place_text fault ++ fault_text fault ++ codes "\n"
+error_text NotBuilt = codes "error 2: not built yet\n"
+error_text (NoFile name) = codes "error 3: no file " ++ name.bytes ++ codes "\n"
+error_text (ArrayRefused tensor fault) = codes "error 4: " ++ tensor.bytes ++ codes ".tca: " ++ array_text fault ++ codes "\n"
+error_text (BudgetTooSmall least) = codes "error 5: budget needs " ++ decimal least ++ codes "\n"
+error_text (IntermediatesTooLarge memory) = codes "error 6: intermediates " ++ decimal memory ++ codes "\n"
+error_text DiskFault = codes "error 8: disk fault\n"
+error_text SinkFault = []
+error_text WantOfMemory = codes "error 10: want of memory\n"
+error_text (FlatRefused len) = codes "error 11: flat length " ++ decimal len ++ codes "\n"
+error_text (UnknownTensor name) = codes "error 12: no tensor " ++ name.bytes ++ codes "\n"
+error_text (DoesNotFit place) = codes "error 13: element " ++ decimal place ++ codes " does not fit\n"
+
+-- whether a fault is want of memory
+abbrev pub wants_memory : SpecFault → Bool
+wants_memory Memory = true
+wants_memory (Tree line trees.Memory) = true
+wants_memory fault = false
+
+-- the status of a command that is refused so
+abbrev pub status_of : Refusal → Status
+status_of (refusals.Specification fault) = if wants_memory fault then WantOfMemory else SpecRefused fault
+status_of refusals.NotBuilt = NotBuilt
+status_of (refusals.Missing name) = NoFile name
+status_of (refusals.Array tensor fault) = ArrayRefused tensor fault
+status_of (refusals.Budget least) = BudgetTooSmall least
+status_of (refusals.Intermediates memory) = IntermediatesTooLarge memory
+status_of (refusals.Flat len) = FlatRefused len
+status_of (refusals.Tensor name) = UnknownTensor name
+status_of (refusals.Misfit place) = DoesNotFit place
+status_of refusals.Disk = DiskFault
+status_of refusals.Memory = WantOfMemory

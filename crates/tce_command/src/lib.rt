@@ -1,0 +1,25 @@
+//! The commands of the program as words, and how commands end: refusals, statuses and what stands on the sink.
+//!
+//! [`read_command`] reads words. A command is refused with a [`Refusal`], whose [`Status`] has an exit status and a line;
+//! [`refuse`] puts that line on a sink, and [`finish`] puts the report of a command that is done.
+#![tactic(auto)]
+
+mod command;
+mod laws;
+mod line;
+mod number;
+mod reading;
+mod refusal;
+mod report;
+mod status;
+
+pub use command::Command;
+pub use laws::words_are_one_command;
+pub use number::read_number;
+pub use reading::read_command;
+pub use refusal::Refusal;
+pub use report::{finish, refuse};
+pub use status::Status;
+
+#[cfg(test)]
+mod tests;

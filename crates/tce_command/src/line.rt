@@ -1,0 +1,185 @@
+// The lines of refusals. They take no memory.
+ghost use Rattle.std.specs.Prelude.{◌≡◌, ◌+◌, ◌≤◌, ◌++◌, length};
+ghost use Rattle.std.specs.Fmt.{decimal};
+ghost use Rattle.tce_command.specs.Report as reports;
+
+use crate::Status;
+use arrayvec::ArrayString;
+use tce_array::ArrayFault;
+use tce_declarations::{Limit, SpecFault};
+use tce_fields::decimal_text;
+use tce_space::Name;
+use tce_tree::TreeFault;
+
+pub(crate) type Line = ArrayString<256>;
+
+// The line of a status; `Done` and `SinkFault` have none.
+pub(crate) fn error_line(status: &Status) -> Line
+    ensures { result.bytes ≡ reports.error_text status.now }
+{
+    match status {
+        Status::Done | Status::SinkFault => Line::new(),
+        Status::BadWords => fixed("error 1: bad words\n"),
+        Status::SpecRefused(fault) => spec_line(fault),
+        Status::NotBuilt => fixed("error 2: not built yet\n"),
+        Status::NoFile(name) => joined("error 3: no file ", name.as_str(), "\n"),
+        Status::ArrayRefused(tensor, fault) => array_line(tensor, *fault),
+        Status::BudgetTooSmall(least) => numbered("error 5: budget needs ", *least as u128, "\n"),
+        Status::IntermediatesTooLarge(memory) => numbered("error 6: intermediates ", *memory, "\n"),
+        Status::DiskFault => fixed("error 8: disk fault\n"),
+        Status::WantOfMemory => fixed("error 10: want of memory\n"),
+        Status::FlatRefused(len) => numbered("error 11: flat length ", *len as u128, "\n"),
+        Status::UnknownTensor(name) => joined("error 12: no tensor ", name.as_str(), "\n"),
+        Status::DoesNotFit(place) => {
+            numbered("error 13: element ", *place as u128, " does not fit\n")
+        }
+    }
+}
+
+fn fixed(text: &str) -> Line
+    requires { length text.now ≤ 256 }
+    ensures bytes { result.bytes ≡ text.now }
+    ensures len { length result.bytes ≤ length text.now }
+{
+    let mut line = Line::new();
+    line.push_str(text);
+    line
+}
+
+fn joined(before: &str, text: &str, after: &str) -> Line
+    requires { length before.now + length text.now + length after.now ≤ 256 }
+    ensures bytes { result.bytes ≡ before.now ++ text.now ++ after.now }
+    ensures len { length result.bytes ≤ length before.now + length text.now + length after.now }
+{
+    let mut line = fixed(before);
+    line.push_str(text);
+    line.push_str(after);
+    line
+}
+
+fn numbered(before: &str, number: u128, after: &str) -> Line
+    requires { length before.now + length after.now ≤ 216 }
+    ensures bytes { result.bytes ≡ before.now ++ decimal number ++ after.now }
+    ensures len { length result.bytes ≤ length before.now + 40 + length after.now }
+{
+    let digits = decimal_text(number);
+    joined(before, digits.as_str(), after)
+}
+
+// The line of a text that is no specification.
+fn spec_line(fault: &SpecFault) -> Line
+    ensures { result.bytes ≡ reports.error_text (Status.SpecRefused fault.now) }
+{
+    let mut line = fixed("error 2: ");
+    line.push_str(place_text(fault).as_str());
+    line.push_str(fault_text(fault).as_str());
+    line.push_str("\n");
+    line
+}
+
+fn place_text(fault: &SpecFault) -> Line
+    ensures text { result.bytes ≡ reports.place_text fault.now }
+    ensures len { length result.bytes ≤ 50 }
+{
+    match fault {
+        SpecFault::TooLong | SpecFault::Memory => Line::new(),
+        SpecFault::BadText(line)
+        | SpecFault::TooManyNodes(line)
+        | SpecFault::NameTwice(line, _)
+        | SpecFault::UnknownName(line, _)
+        | SpecFault::BadNumber(line)
+        | SpecFault::LimitPassed(line, _)
+        | SpecFault::RankDiffers(line, _)
+        | SpecFault::RangeDiffers(line, _)
+        | SpecFault::IndexTwice(line, _)
+        | SpecFault::ResultIsOperand(line, _)
+        | SpecFault::Tree(line, _)
+        | SpecFault::ResultIndices(line) => numbered("line ", *line as u128, ": "),
+    }
+}
+
+// What is wrong in the place.
+fn fault_text(fault: &SpecFault) -> Line
+    ensures text { result.bytes ≡ reports.fault_text fault.now }
+    ensures len { length result.bytes ≤ 100 }
+{
+    match fault {
+        SpecFault::TooLong => fixed("too long"),
+        SpecFault::BadText(_) => fixed("bad text"),
+        SpecFault::TooManyNodes(_) => fixed("more than 32 operations"),
+        SpecFault::NameTwice(_, name) => named("", name, " declared twice"),
+        SpecFault::UnknownName(_, name) => named("unknown name ", name, ""),
+        SpecFault::BadNumber(_) => fixed("bad number"),
+        SpecFault::LimitPassed(_, limit) => joined("limit of ", limit_text(*limit), " passed"),
+        SpecFault::RankDiffers(_, name) => named("rank of ", name, " differs"),
+        SpecFault::RangeDiffers(_, name) => named("range of ", name, " differs"),
+        SpecFault::IndexTwice(_, name) => named("index ", name, " twice"),
+        SpecFault::ResultIsOperand(_, name) => named("", name, " is result and operand"),
+        SpecFault::Tree(_, fault) => tree_text(fault),
+        SpecFault::ResultIndices(_) => fixed("result indexes differ"),
+        SpecFault::Memory => fixed("want of memory"),
+    }
+}
+
+fn named(before: &str, name: &Name, after: &str) -> Line
+    requires { length before.now + length after.now ≤ 40 }
+    ensures bytes { result.bytes ≡ before.now ++ name.now.bytes ++ after.now }
+    ensures len { length result.bytes ≤ 60 }
+{
+    joined(before, name.as_str(), after)
+}
+
+fn limit_text(limit: Limit) -> &'static str
+    ensures text { result.now ≡ reports.limit_text limit }
+    ensures len { length result.now ≤ 20 }
+{
+    match limit {
+        Limit::Ranges => "ranges",
+        Limit::Indexes => "indexes",
+        Limit::Tensors => "tensors",
+        Limit::Rank => "rank",
+        Limit::TileWords => "tile words",
+        Limit::ArrayWords => "array words",
+    }
+}
+
+fn tree_text(fault: &TreeFault) -> Line
+    ensures text { result.bytes ≡ reports.tree_text fault.now }
+    ensures len { length result.bytes ≤ 100 }
+{
+    match fault {
+        TreeFault::NoOperation => fixed("no operation"),
+        TreeFault::SumOverAbsent(name) => named("sum over absent ", name, ""),
+        TreeFault::TooManyLoops(node) => numbered(
+            "node ",
+            *node as u128,
+            " has more than 10 loops",
+        ),
+        TreeFault::VolumeTooLarge(node) => {
+            numbered("node ", *node as u128, " has too many iterations")
+        }
+        TreeFault::Memory => fixed("want of memory"),
+    }
+}
+
+// The line of a file that is no array.
+fn array_line(tensor: &Name, fault: ArrayFault) -> Line
+    ensures { result.bytes ≡ reports.error_text (Status.ArrayRefused tensor.now fault) }
+{
+    let mut line = named("error 4: ", tensor, ".tca: ");
+    line.push_str(array_text(fault).as_str());
+    line.push_str("\n");
+    line
+}
+
+fn array_text(fault: ArrayFault) -> Line
+    ensures text { result.bytes ≡ reports.array_text fault }
+    ensures len { length result.bytes ≤ 60 }
+{
+    match fault {
+        ArrayFault::NoFile => fixed("no file"),
+        ArrayFault::BadLength(len) => numbered("length ", len as u128, ""),
+        ArrayFault::BadHeader(place) => numbered("head byte ", place as u128, ""),
+        ArrayFault::Disk => fixed("disk fault"),
+    }
+}

@@ -1,0 +1,64 @@
+// What a command ends with.
+ghost use Rattle.std.specs.Prelude.{◌≡◌};
+ghost use Rattle.tce_command.specs.Report.{code_of};
+
+use tce_array::ArrayFault;
+use tce_declarations::SpecFault;
+use tce_space::{FileName, Name};
+
+/// What a command ends with.
+#[derive(Clone, Copy, Debug)]
+pub enum Status {
+    /// The command is done and reported.
+    Done,
+    /// The words are those of no command.
+    BadWords,
+    /// The text is no specification.
+    SpecRefused(SpecFault),
+    /// The program cannot do this yet.
+    NotBuilt,
+    /// This file is not there.
+    NoFile(FileName),
+    /// The file of this tensor is no array of the tensor's shape: its length or its head differs.
+    ArrayRefused(Name, ArrayFault),
+    /// The budget is below this number of words.
+    BudgetTooSmall(u64),
+    /// The intermediates need this number of words, which is too many.
+    IntermediatesTooLarge(u128),
+    /// The disk failed.
+    DiskFault,
+    /// The sink failed at the report of a finished command.
+    SinkFault,
+    /// There was no memory.
+    WantOfMemory,
+    /// The flat file has this length in bytes, which is not that of the tensor's elements.
+    FlatRefused(u64),
+    /// No tensor of this name is declared.
+    UnknownTensor(Name),
+    /// The element at this place in row-major order is the first that cannot be stored in the form.
+    DoesNotFit(u64),
+}
+
+impl Status {
+    /// The exit status of the process.
+    pub fn code(&self) -> u8
+        ensures { result ≡ code_of self.now }
+    {
+        match self {
+            Status::Done => 0,
+            Status::BadWords => 1,
+            Status::SpecRefused(_) => 2,
+            Status::NotBuilt => 2,
+            Status::NoFile(_) => 3,
+            Status::ArrayRefused(_, _) => 4,
+            Status::BudgetTooSmall(_) => 5,
+            Status::IntermediatesTooLarge(_) => 6,
+            Status::DiskFault => 8,
+            Status::SinkFault => 9,
+            Status::WantOfMemory => 10,
+            Status::FlatRefused(_) => 11,
+            Status::UnknownTensor(_) => 12,
+            Status::DoesNotFit(_) => 13,
+        }
+    }
+}

@@ -1,0 +1,5 @@
+pub mod Lines
+pub mod Stages
+pub mod Inputs
+pub mod Tools
+pub mod Names

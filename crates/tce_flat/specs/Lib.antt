@@ -1,0 +1,5 @@
+pub mod Tensors
+pub mod Refusals
+pub mod Done
+pub mod Tools
+pub mod Laws

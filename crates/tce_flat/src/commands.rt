@@ -1,0 +1,85 @@
+// The commands.
+ghost use Rattle.std.specs.Prelude.{◌≡◌, ◌≢◌, Err, IfOk, IfErr};
+ghost use Rattle.std.specs.Option.{ForSome};
+ghost use Rattle.std.specs.String.{string_bytes};
+ghost use Rattle.tce_outside.specs.Files.{others};
+ghost use Rattle.tce_outside.specs.Fault.{HasCause};
+ghost use Rattle.tce_command.specs.Command as commands;
+ghost use Rattle.tce_command.specs.Command.{KeepsRules};
+ghost use Rattle.tce_flat.specs.Tensors.{array_file, converted_file};
+ghost use Rattle.tce_flat.specs.Refusals.{IsPackRefusal, IsUnpackRefusal, IsConvertRefusal};
+ghost use Rattle.tce_flat.specs.Done.{IsPacked, IsUnpacked, IsConverted};
+
+use crate::moving::{convert_tensor, pack_tensor, unpack_tensor};
+use crate::tensor::find_tensor;
+use std::alloc::Global;
+use tce_array::Form;
+use tce_command::Refusal;
+use tce_outside::Disk;
+
+/// Makes the array file of a tensor of the elements of a flat file, and gives the report.
+///
+/// All memory but the disk's own is taken before the file is made.
+pub fn pack<D: Disk>(
+    alloc: Global,
+    spec: &str,
+    tensor: &str,
+    flat: &str,
+    disk: &mut D,
+) -> Result<String, Refusal>
+    requires { KeepsRules (commands.pack spec.now tensor.now flat.now) }
+    ensures done { IfOk result (λ report. IsPacked (D.files disk.old) (D.files disk.new) spec.now tensor.now flat.now (string_bytes report)) }
+    ensures refused { IfErr result (λ refusal. ForSome (D.files disk.old) (λ files. IsPackRefusal files spec.now tensor.now flat.now refusal)) }
+    ensures unchanged { IfErr result (λ refusal. refusal ≢ Refusal.Disk → D.files disk.new ≡ D.files disk.old) }
+    ensures others { others (array_file tensor.now) (D.files disk.new) ≡ others (array_file tensor.now) (D.files disk.old) }
+    ensures cause { HasCause (D.faults disk.old) (D.faults disk.new) (result ≡ Err Refusal.Disk) }
+{
+    let found = find_tensor(alloc, spec, tensor, disk)?;
+    let moved = pack_tensor(alloc, found.shape(), tensor, flat, disk);
+    moved
+}
+
+/// Makes a flat file of the elements of a tensor's array file, and gives the report.
+///
+/// All memory but the disk's own is taken before the file is made.
+pub fn unpack<D: Disk>(
+    alloc: Global,
+    spec: &str,
+    tensor: &str,
+    flat: &str,
+    disk: &mut D,
+) -> Result<String, Refusal>
+    requires { KeepsRules (commands.unpack spec.now tensor.now flat.now) }
+    ensures done { IfOk result (λ report. IsUnpacked (D.files disk.old) (D.files disk.new) spec.now tensor.now flat.now (string_bytes report)) }
+    ensures refused { IfErr result (λ refusal. ForSome (D.files disk.old) (λ files. IsUnpackRefusal files spec.now tensor.now refusal)) }
+    ensures unchanged { IfErr result (λ refusal. refusal ≢ Refusal.Disk → D.files disk.new ≡ D.files disk.old) }
+    ensures others { others flat.now (D.files disk.new) ≡ others flat.now (D.files disk.old) }
+    ensures cause { HasCause (D.faults disk.old) (D.faults disk.new) (result ≡ Err Refusal.Disk) }
+{
+    let found = find_tensor(alloc, spec, tensor, disk)?;
+    let moved = unpack_tensor(alloc, found.shape(), tensor, flat, disk);
+    moved
+}
+
+/// Makes a second array file of the elements of a tensor's array file, in the form that is asked for, and gives the
+/// report.
+///
+/// All memory but the disk's own is taken before the file is made.
+pub fn convert<D: Disk>(
+    alloc: Global,
+    spec: &str,
+    tensor: &str,
+    form: Form,
+    disk: &mut D,
+) -> Result<String, Refusal>
+    requires { KeepsRules (commands.convert spec.now tensor.now form) }
+    ensures done { IfOk result (λ report. IsConverted (D.files disk.old) (D.files disk.new) spec.now tensor.now form (string_bytes report)) }
+    ensures refused { IfErr result (λ refusal. ForSome (D.files disk.old) (λ files. IsConvertRefusal files spec.now tensor.now form refusal)) }
+    ensures unchanged { IfErr result (λ refusal. refusal ≢ Refusal.Disk → D.files disk.new ≡ D.files disk.old) }
+    ensures others { others (converted_file tensor.now) (D.files disk.new) ≡ others (converted_file tensor.now) (D.files disk.old) }
+    ensures cause { HasCause (D.faults disk.old) (D.faults disk.new) (result ≡ Err Refusal.Disk) }
+{
+    let found = find_tensor(alloc, spec, tensor, disk)?;
+    let moved = convert_tensor(alloc, found.shape(), tensor, form, disk);
+    moved
+}

@@ -1,0 +1,97 @@
+// Elements of a tensor of a known shape, moved between its files.
+ghost use Rattle.std.specs.Prelude.{◌≡◌, ◌≢◌, ◌⊎◌, ◌≤◌, Err, IfOk, IfErr, length};
+ghost use Rattle.std.specs.Option.{ForSome};
+ghost use Rattle.std.specs.String.{string_bytes};
+ghost use Rattle.tce_outside.specs.Files.{others};
+ghost use Rattle.tce_outside.specs.Fault.{HasCause};
+ghost use Rattle.tce_command.specs.Refusals.{IsFree};
+ghost use Rattle.tce_flat.specs.Tensors.{array_file, converted_file};
+ghost use Rattle.tce_flat.specs.Refusals.{IsFlatRefusal, IsArrayRefusal, IsFormRefusal};
+ghost use Rattle.tce_flat.specs.Done.{IsPacking, IsUnpacking, IsConverting};
+
+use crate::naming::{file_of, report};
+use crate::refusals::refusal_of;
+use std::alloc::Global;
+use tce_array::{Form, form_len};
+use tce_command::Refusal;
+use tce_outside::Disk;
+use tce_space::Shape;
+
+/// Packs a tensor.
+pub fn pack_tensor<D: Disk>(
+    alloc: Global,
+    shape: &Shape,
+    tensor: &str,
+    flat: &str,
+    disk: &mut D,
+) -> Result<String, Refusal>
+    requires tensor { length tensor.now ≤ 16 }
+    requires flat { length flat.now ≤ 200 }
+    requires apart { flat.now ≢ array_file tensor.now }
+    ensures done { IfOk result (λ report. IsPacking (D.files disk.old) (D.files disk.new) shape.now tensor.now flat.now (string_bytes report)) }
+    ensures refused { IfErr result (λ refusal. ForSome (D.files disk.old) (λ files. IsFree refusal ⊎ IsFlatRefusal files flat.now shape.now refusal)) }
+    ensures unchanged { IfErr result (λ refusal. refusal ≢ Refusal.Disk → D.files disk.new ≡ D.files disk.old) }
+    ensures others { others (array_file tensor.now) (D.files disk.new) ≡ others (array_file tensor.now) (D.files disk.old) }
+    ensures cause { HasCause (D.faults disk.old) (D.faults disk.new) (result ≡ Err Refusal.Disk) }
+{
+    let array = file_of(tensor, ".tca");
+    let Ok(text) = report(alloc, "pack", array.as_str(), form_len(Form::One, shape)) else {
+        return Err(Refusal::Memory);
+    };
+    match tce_tools::pack(disk, shape, flat, array.as_str()) {
+        Ok(()) => Ok(text),
+        Err(fault) => Err(refusal_of(fault, tensor, flat)),
+    }
+}
+
+/// Unpacks a tensor.
+pub fn unpack_tensor<D: Disk>(
+    alloc: Global,
+    shape: &Shape,
+    tensor: &str,
+    flat: &str,
+    disk: &mut D,
+) -> Result<String, Refusal>
+    requires tensor { length tensor.now ≤ 16 }
+    requires apart { array_file tensor.now ≢ flat.now }
+    ensures done { IfOk result (λ report. IsUnpacking (D.files disk.old) (D.files disk.new) shape.now tensor.now flat.now (string_bytes report)) }
+    ensures refused { IfErr result (λ refusal. ForSome (D.files disk.old) (λ files. IsFree refusal ⊎ IsArrayRefusal files tensor.now shape.now refusal)) }
+    ensures unchanged { IfErr result (λ refusal. refusal ≢ Refusal.Disk → D.files disk.new ≡ D.files disk.old) }
+    ensures others { others flat.now (D.files disk.new) ≡ others flat.now (D.files disk.old) }
+    ensures cause { HasCause (D.faults disk.old) (D.faults disk.new) (result ≡ Err Refusal.Disk) }
+{
+    let array = file_of(tensor, ".tca");
+    let Ok(text) = report(alloc, "unpack", flat, 8 * shape.elements()) else {
+        return Err(Refusal::Memory);
+    };
+    match tce_tools::unpack(disk, shape, array.as_str(), flat) {
+        Ok(()) => Ok(text),
+        Err(fault) => Err(refusal_of(fault, tensor, array.as_str())),
+    }
+}
+
+/// Converts the array of a tensor.
+pub fn convert_tensor<D: Disk>(
+    alloc: Global,
+    shape: &Shape,
+    tensor: &str,
+    form: Form,
+    disk: &mut D,
+) -> Result<String, Refusal>
+    requires tensor { length tensor.now ≤ 16 }
+    ensures done { IfOk result (λ report. IsConverting (D.files disk.old) (D.files disk.new) shape.now tensor.now form (string_bytes report)) }
+    ensures refused { IfErr result (λ refusal. ForSome (D.files disk.old) (λ files. IsFree refusal ⊎ IsFormRefusal files tensor.now form shape.now refusal)) }
+    ensures unchanged { IfErr result (λ refusal. refusal ≢ Refusal.Disk → D.files disk.new ≡ D.files disk.old) }
+    ensures others { others (converted_file tensor.now) (D.files disk.new) ≡ others (converted_file tensor.now) (D.files disk.old) }
+    ensures cause { HasCause (D.faults disk.old) (D.faults disk.new) (result ≡ Err Refusal.Disk) }
+{
+    let array = file_of(tensor, ".tca");
+    let converted = file_of(tensor, ".v2.tca");
+    let Ok(text) = report(alloc, "convert", converted.as_str(), form_len(form, shape)) else {
+        return Err(Refusal::Memory);
+    };
+    match tce_tools::convert(disk, shape, array.as_str(), form, converted.as_str()) {
+        Ok(()) => Ok(text),
+        Err(fault) => Err(refusal_of(fault, tensor, array.as_str())),
+    }
+}

@@ -1,0 +1,56 @@
+// Tensors, found by their names in the file of a specification.
+ghost use Rattle.std.specs.Prelude.{◌≡◌, ◌<◌, ◌≤◌, Err, IfOk, IfErr, length};
+ghost use Rattle.std.specs.Option.{ForSome};
+ghost use Rattle.tce_outside.specs.Fault.{HasCause};
+ghost use Rattle.tce_spec.specs.Operands.{shape_of};
+ghost use Rattle.tce_flat.specs.Tensors.{HasTensor};
+ghost use Rattle.tce_flat.specs.Refusals.{IsTensorRefusal};
+
+use std::alloc::Global;
+use tce_command::Refusal;
+use tce_outside::Disk;
+use tce_source::read_source;
+use tce_space::{Name, Shape};
+use tce_spec::Spec;
+
+/// A specification, and the number of one of its tensors.
+#[derive(Drop)]
+pub struct Found {
+    spec: Spec,
+    number: u8,
+    ghost declared: { number < length spec.declarations.tensors },
+}
+
+impl Found {
+    /// The shape of the tensor.
+    pub fn shape(&self) -> &Shape
+        ensures { result.now ≡ shape_of self.now.spec self.now.number }
+    {
+        &self.spec.tensor(self.number).shape
+    }
+}
+
+/// Reads a specification, and finds the tensor of this name.
+pub fn find_tensor<D: Disk>(
+    alloc: Global,
+    spec: &str,
+    tensor: &str,
+    disk: &mut D,
+) -> Result<Found, Refusal>
+    requires spec { length spec.now ≤ 200 }
+    requires tensor { length tensor.now ≤ 16 }
+    ensures found { IfOk result (λ found. ForSome (D.files disk.old) (λ files. HasTensor files spec.now tensor.now (shape_of found.spec found.number))) }
+    ensures refused { IfErr result (λ refusal. ForSome (D.files disk.old) (λ files. IsTensorRefusal files spec.now tensor.now refusal)) }
+    ensures same { D.files disk.new ≡ D.files disk.old }
+    ensures cause { HasCause (D.faults disk.old) (D.faults disk.new) (result ≡ Err Refusal.Disk) }
+{
+    let spec = read_source(alloc, disk, spec)?;
+    match spec.tensor_named(tensor) {
+        Some(number) => Ok(Found { spec, number }),
+        None => {
+            let mut name = Name::new();
+            name.push_str(tensor);
+            Err(Refusal::Tensor(name))
+        }
+    }
+}

@@ -1,0 +1,21 @@
+-- What the command reports.
+use Rattle.std.specs.Prelude.{◌≡◌, ℕ, List}
+use Rattle.tce_outside.specs.Files.{Files}
+use Rattle.tce_nesting.specs.declared.plan.Plan.{Plan}
+use Rattle.tce_search.specs.LeastPlan.{IsLeastPlan}
+use Rattle.tce_report.specs.NodeLine.{stated}
+use Rattle.tce_report.specs.Report.{plan_text}
+use Rattle.tce_spec.specs.Specification.{Specification}
+use Rattle.tce_source.specs.Source.{HasSpecification}
+
+-- the report of a plan of the specification's tree that fits it: its fusion is legal and no legal fusion takes less memory, its orders are the standard ones, its sizes and its memory are those of the fusion, and its tables cover all fusions
+pub record IsPlanReport (s : Specification) (report : List ℕ) : Type 0 where
+  pub plan : Plan
+  pub least : IsLeastPlan s.declarations.space s.tree plan
+  pub reported : report ≡ plan_text s.declarations.space s.tree (stated plan)
+
+-- the file specifies what is planned
+pub record IsPlanned (files : Files) (spec report : List ℕ) : Type 0 where
+  pub specification : Specification
+  pub specified : HasSpecification files spec specification
+  pub planned : IsPlanReport specification report

@@ -1,0 +1,14 @@
+-- Why the command is refused.
+use Rattle.std.specs.Prelude.{ℕ, List}
+use Rattle.tce_outside.specs.Files.{Files, file}
+use Rattle.tce_spec.specs.Specification.{Specification}
+use Rattle.tce_command.specs.declared.refusal.Refusal.{Refusal}
+use Rattle.tce_source.specs.Source.{HasSpecification, IsSourceRefusal}
+
+-- the file holds a specification
+abbrev pub CanPlan : Files → List ℕ → Type 0
+CanPlan files spec = (s : Specification) × HasSpecification files spec s
+
+-- the specification is refused. The disk may fail, and memory be wanting, at any place
+abbrev pub IsPlanRefusal : Files → List ℕ → Refusal → Type 0
+IsPlanRefusal files spec refusal = IsSourceRefusal spec (file files spec) refusal

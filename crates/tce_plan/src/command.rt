@@ -1,0 +1,43 @@
+// The command.
+ghost use Rattle.std.specs.Prelude.{◌≡◌, Err, IfOk, IfErr};
+ghost use Rattle.std.specs.Option.{ForSome};
+ghost use Rattle.tce_outside.specs.Fault.{HasCause};
+ghost use Rattle.tce_command.specs.Command as commands;
+ghost use Rattle.tce_command.specs.Command.{KeepsRules};
+ghost use Rattle.tce_plan.specs.Done.{IsPlanReport, IsPlanned};
+ghost use Rattle.tce_plan.specs.Refusals.{IsPlanRefusal};
+
+use std::alloc::{AllocError, Global};
+use tce_command::Refusal;
+use tce_outside::Disk;
+use tce_report::plan_text;
+use tce_search::search;
+use tce_source::read_source;
+use tce_spec::Spec;
+
+/// The report of a plan of least memory for the specification in a file. Nothing is written.
+///
+/// Beside the refusals of the specification itself only want of memory and failures of the disk are refused.
+pub fn plan<D: Disk>(alloc: Global, spec: &str, disk: &mut D) -> Result<Vec<u8>, Refusal>
+    requires { KeepsRules (commands.plan spec.now) }
+    ensures done { IfOk result (λ report. ForSome (D.files disk.old) (λ files. IsPlanned files spec.now report.items)) }
+    ensures refused { IfErr result (λ refusal. ForSome (D.files disk.old) (λ files. IsPlanRefusal files spec.now refusal)) }
+    ensures unchanged { D.files disk.new ≡ D.files disk.old }
+    ensures cause { HasCause (D.faults disk.old) (D.faults disk.new) (result ≡ Err Refusal.Disk) }
+{
+    let source = read_source(alloc, disk, spec)?;
+    match least_report(alloc, &source) {
+        Ok(report) => Ok(report),
+        Err(_) => Err(Refusal::Memory),
+    }
+}
+
+// The report of a plan of least memory.
+fn least_report(alloc: Global, spec: &Spec) -> Result<Vec<u8>, AllocError>
+    ensures { IfOk result (λ report. IsPlanReport spec.now report.items) }
+{
+    let space = spec.space();
+    let tree = spec.tree();
+    let least = search(alloc, space, tree)?;
+    plan_text(alloc, space, tree, &least)
+}

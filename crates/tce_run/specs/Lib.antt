@@ -1,0 +1,4 @@
+pub mod OuterProduct
+pub mod ResultBytes
+pub mod Cause
+pub mod Outcome

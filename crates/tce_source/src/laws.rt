@@ -1,0 +1,8 @@
+//! Laws of the definitions. These functions do nothing: their contracts are the laws.
+
+ghost use Rattle.tce_source.specs.Laws.{SourcesHaveOneOutcome};
+
+/// A file specifies one thing, or is refused for one reason.
+pub fn sources_have_one_outcome()
+    ensures { SourcesHaveOneOutcome }
+{}

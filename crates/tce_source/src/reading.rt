@@ -1,0 +1,67 @@
+// Files of specifications.
+ghost use Rattle.std.specs.Prelude.{◌≡◌, ◌≤◌, ◌↔◌, IsTrue, length, Some, Err, IfOk, IfErr};
+ghost use Rattle.std.specs.Option.{ForSome, IsSomeAnd};
+ghost use Rattle.tce_outside.specs.Files.{file};
+ghost use Rattle.tce_outside.specs.Fault.{HasCause};
+ghost use Rattle.tce_declarations.specs.Declarations.{HaveNames};
+ghost use Rattle.tce_source.specs.Source.{HasSpecification, IsSourceRefusal};
+
+use std::alloc::Global;
+use tce_command::Refusal;
+use tce_outside::Disk;
+use tce_spec::{Spec, SpecFault, read_spec};
+
+// The bytes of a specification at most.
+const MAX_LEN: u64 = 65_536;
+
+/// Reads the specification in a file.
+///
+/// Of a file that is too long no more is read than shows it.
+pub fn read_source<D: Disk>(alloc: Global, disk: &mut D, name: &str) -> Result<Spec, Refusal>
+    requires { length name.now ≤ 200 }
+    ensures read { IfOk result (λ s. ForSome (D.files disk.old) (λ files. HasSpecification files name.now s)) }
+    ensures names { IfOk result (λ s. HaveNames s.declarations.tensors) }
+    ensures refused { IfErr result (λ refusal. ForSome (D.files disk.old) (λ files. IsSourceRefusal name.now (file files name.now) refusal)) }
+    ensures same { D.files disk.new ≡ D.files disk.old }
+    ensures cause { HasCause (D.faults disk.old) (D.faults disk.new) (result ≡ Err Refusal.Disk) }
+{
+    let text = read_text(alloc, disk, name)?;
+    match read_spec(alloc, &text) {
+        Ok(spec) => Ok(spec),
+        Err(fault) if is_memory(&fault) => Err(Refusal::Memory),
+        Err(fault) => Err(Refusal::Specification(fault)),
+    }
+}
+
+// Whether a fault is want of memory.
+fn is_memory(fault: &SpecFault) -> bool
+    ensures { IsTrue result ↔ (fault.now ≡ SpecFault.Memory) }
+{
+    matches!(fault, SpecFault::Memory)
+}
+
+// Reads a text that is not too long.
+fn read_text<D: Disk>(alloc: Global, disk: &mut D, name: &str) -> Result<Vec<u8>, Refusal>
+    requires { length name.now ≤ 200 }
+    ensures bytes { IfOk result (λ bytes. ForSome (D.files disk.old) (λ files. file files name.now ≡ Some bytes.items)) }
+    ensures refused { IfErr result (λ refusal. ForSome (D.files disk.old) (λ files. IsSourceRefusal name.now (file files name.now) refusal)) }
+    ensures same { D.files disk.new ≡ D.files disk.old }
+    ensures cause { HasCause (D.faults disk.old) (D.faults disk.new) (result ≡ Err Refusal.Disk) }
+{
+    let Ok(size) = disk.size(name) else {
+        return Err(Refusal::Disk);
+    };
+    let Some(len) = size else {
+        return Err(Refusal::missing(name));
+    };
+    if len > MAX_LEN {
+        return Err(Refusal::Specification(SpecFault::TooLong));
+    }
+    let Ok(mut bytes) = vec![in alloc; 0; len as usize] else {
+        return Err(Refusal::Memory);
+    };
+    match disk.read_at(name, 0, &mut bytes) {
+        Ok(()) => Ok(bytes),
+        Err(_) => Err(Refusal::Disk),
+    }
+}

@@ -1,0 +1,47 @@
+// What a command does.
+ghost use Rattle.std.specs.Prelude.{◌≡◌, ◌⊎◌, Err, IfOk, IfErr};
+ghost use Rattle.std.specs.Option.{ForSome};
+ghost use Rattle.tce_outside.specs.Fault.{HasCause};
+ghost use Rattle.tce_command.specs.Command.{KeepsRules};
+ghost use Rattle.tce_command.specs.CommandCode.{command_of};
+ghost use Rattle.tce_command.specs.Refusals.{IsFree};
+ghost use Rattle.tce_top.specs.Performed.{IsCommandRefusal, IsDone, MayTake, OthersStay, output_file};
+
+use std::alloc::Global;
+use tce_command::{Command, Refusal};
+use tce_flat::{convert, pack, unpack};
+use tce_outside::Disk;
+use tce_plan::plan;
+use tce_run::run;
+use tce_words::Room;
+
+/// Does what a command says, and gives its report.
+pub fn perform<D: Disk, R: Room>(
+    alloc: Global,
+    command: Command<'_>,
+    disk: &mut D,
+    room: &mut R,
+) -> Result<Vec<u8>, Refusal>
+    requires { KeepsRules (command_of command) }
+    ensures done { IfOk result (λ report. IsDone (command_of command.entry) (D.files disk.old) (D.files disk.new) (R.takings room.old) (R.takings room.new) report.items) }
+    ensures refused { IfErr result (λ refusal. ForSome (D.files disk.old) (λ files. IsCommandRefusal files (command_of command.entry) refusal)) }
+    ensures unchanged { IfErr result (λ refusal. (refusal ≡ Refusal.Disk) ⊎ (D.files disk.new ≡ D.files disk.old)) }
+    ensures takings { IfErr result (λ refusal. MayTake (command_of command.entry) (D.files disk.old) (R.takings room.old) (R.takings room.new)) }
+    ensures untaken { IfErr result (λ refusal. IsFree refusal ⊎ (R.takings room.new ≡ R.takings room.old)) }
+    ensures others { OthersStay (output_file (command_of command.entry)) (D.files disk.old) (D.files disk.new) }
+    ensures cause { HasCause (D.faults disk.old) (D.faults disk.new) (result ≡ Err Refusal.Disk) }
+{
+    match command {
+        Command::Run { spec, budget } => Ok(run(alloc, spec, budget, disk, room)?.into_bytes()),
+        Command::Plan { spec } => plan(alloc, spec, disk),
+        Command::Pack { spec, tensor, flat } => Ok(pack(
+            alloc, spec, tensor, flat, disk,
+        )?.into_bytes()),
+        Command::Unpack { spec, tensor, flat } => Ok(unpack(
+            alloc, spec, tensor, flat, disk,
+        )?.into_bytes()),
+        Command::Convert { spec, tensor, form } => Ok(convert(
+            alloc, spec, tensor, form, disk,
+        )?.into_bytes()),
+    }
+}
