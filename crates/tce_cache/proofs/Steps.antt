@@ -87,6 +87,7 @@ same_trans c h1 h2 n1 n2 fs gs hs w w1 w2 first second = record {
   };
   ready = second.ready;
   fronts = λ i a e. second.fronts i a e ∙ first.fronts i a e;
+  bytes = λ i a e are. second.bytes i a e (first.bytes i a e are);
 }
 
 pub same_stay : (c : State) (n : ℕ) (fs : Files) (words : List ℕ) → IsCache c → IsReady c fs words → IsSameArrays c (with_held c c.held n) fs fs words words
@@ -94,6 +95,7 @@ same_stay c n fs words is ready = record {
   kept = record { current = λ b u j lt. refl; apart = is.apart; clean = ready.clean };
   ready = record { files_of_held = ready.files_of_held; clean = ready.clean };
   fronts = λ i a e. refl;
+  bytes = λ i a e are. are;
 }
 
 pub same_written : (c : State) (n : ℕ) (fs gs : Files) (words : List ℕ) (a t : ℕ) (h : Held) → IsCache c → IsReady c fs words → look_up c.held a t ≡ Some h → IsTileWritten c fs gs words a t h.frame
@@ -107,6 +109,7 @@ same_written c n fs gs words a t h is ready found w =
         clean = kept.clean;
       };
       fronts = w.fronts;
+      bytes = w.bytes;
     }
 
 pub same_dropped : (c : State) (rest : List Held) (z : Held) (n m : ℕ) (fs : Files) (words : List ℕ) → AreApart c.frames (rest ++ z ∷ []) → z.marked ≡ false → IsReady (with_held c (rest ++ z ∷ []) n) fs words
@@ -120,6 +123,7 @@ same_dropped c rest z n m fs words apart unmarked ready =
         clean = kept.clean;
       };
       fronts = λ i a e. refl;
+      bytes = λ i a e are. are;
     }
 
 tiles_fit : (c : State) → IsCache c → TilesFit (layout c)
@@ -145,6 +149,7 @@ same_loaded c rest g n m fs old new is apart ready absent free low has outside l
         clean = kept.clean;
       };
       fronts = λ i a e. refl;
+      bytes = λ i a e are. are;
     }
 
 pub same_touched : (c : State) (a t n : ℕ) (h g : Held) (fs : Files) (words : List ℕ) → IsCache c → IsReady c fs words → look_up c.held a t ≡ Some h → g.array ≡ a → g.tile ≡ t → g.frame ≡ h.frame → (g.marked ≡ false → h.marked ≡ false)
@@ -161,6 +166,7 @@ same_touched c a t n h g fs words is ready found ga gt gf gm =
         clean = kept.clean;
       };
       fronts = λ i y e. refl;
+      bytes = λ i y e are. are;
     }
 
 pub cache_touched : (c : State) (a t n : ℕ) (h g : Held) → IsCache c → look_up c.held a t ≡ Some h → g.array ≡ a → g.tile ≡ t → (g.marked ≡ true → IsWritable c a) → AreApart c.frames (g ∷ without a t c.held) → length (g ∷ without a t c.held) ≤ c.frames
@@ -236,7 +242,7 @@ pub ready_again : (c : State) (n : ℕ) (fs : Files) (words : List ℕ) → IsRe
 ready_again c n fs words r = record { files_of_held = r.files_of_held; clean = r.clean }
 
 pub same_again : (c new : State) (n : ℕ) (fs gs : Files) (words words' : List ℕ) → IsSameArrays (record c { touches = n }) new fs gs words words' → IsSameArrays c new fs gs words words'
-same_again c new n fs gs words words' s = record { kept = s.kept; ready = s.ready; fronts = s.fronts }
+same_again c new n fs gs words words' s = record { kept = s.kept; ready = s.ready; fronts = s.fronts; bytes = s.bytes }
 
 -- without marks each file has the current words
 pub all_written : (c : State) (held : List Held) (n : ℕ) (fs gs : Files) (words : List ℕ) → IsSameArrays c (with_held c held n) fs gs words words → ((a t : ℕ) (h : Held) → look_up held a t ≡ Some h → h.marked ≡ false)

@@ -8,6 +8,7 @@ use Rattle.tce_space.specs.Tiling.{Tiling, tile_words, tiles, padded_words}
 use Rattle.tce_space.proofs.Tilings.{word-lt}
 use Rattle.tce_outside.specs.Files.{Files, file, others}
 use Rattle.tce_outside.proofs.Told.{other_files, disks_tell}
+use Rattle.tce_array.specs.Files.{AreBytes}
 use Rattle.tce_array.specs.Forms.{head_len, word_at}
 use Rattle.tce_frames.specs.Current.{place, IsSameOutside}
 use Rattle.tce_cache.specs.declared.array.ArrayRef.{ArrayRef}
@@ -99,6 +100,13 @@ tile_written c a before after array tile frame n at words are here n_is at_is ha
         let is : b ≡ a = cc in
         subst (λ (x : ArrayRef). option_map (front x) (file after x.file.bytes) ≡ option_map (front x) (file before x.file.bytes)) (sym is) same_front
     | inr differs ↦ ap (option_map (front b)) (file_of_other c a before after array i b are here there differs same)
+  ];
+  bytes = λ i b there were. elim (cases_eq i array) [
+    | inl e ↦
+        let both : Some b ≡ Some a = sym there ∙ ap (slice_get c.arrays) e ∙ here in
+        let is : b ≡ a = cc in
+        subst (λ (x : ArrayRef). AreBytes (contents x before) → AreBytes (contents x after)) (sym is) w.bytes were
+    | inr differs ↦ subst (λ o. AreBytes (unwrap_or o [])) (sym (file_of_other c a before after array i b are here there differs same)) were
   ];
 }
   where

@@ -15,12 +15,14 @@ use Rattle.tce_outside.specs.Files.{Files, file, with_file, with_part, without_f
 use Rattle.tce_outside.proofs.Places.{same_name}
 use Rattle.tce_array.specs.declared.form.Form.{Form}
 use Rattle.tce_array.specs.declared.form.Form.TheVariants.{One, Narrow, Wide}
+use Rattle.tce_array.specs.Files.{AreBytes}
 use Rattle.tce_array.specs.Forms.{width, word_in, head_len, form_len, Fits, word_place, word_at}
 use Rattle.tce_array.proofs.WordBytes.{word_in_same, word_of_words}
 use Rattle.tce_array.proofs.Writes.{word_of_part}
 use Rattle.tce_array.proofs.Fitting.{words_fit}
 use Rattle.tce_words.specs.Load.{IsLoaded}
 use Rattle.tce_cache.specs.declared.array.ArrayRef.{ArrayRef}
+use Rattle.tce_cache.proofs.Bytes.{words_are, overwritten_are}
 use Rattle.tce_cache.specs.Transfer.{contents, HasFile, word_in_file, AreWordsOf, IsSameBut, IsWritten}
 
 -- a place in a file is small
@@ -203,6 +205,7 @@ words_written a files from at n words ws has le count same fit =
       head = ap (take (head_len a.form a.shape)) contents_is ∙ over.head;
       written = λ k lt. sym (same k lt) ∙ sym (over.stored k (omega arith)) ∙ sym (ap (λ bs. word_at a.form a.shape bs (from + k)) contents_is);
       others = λ k out. ap (λ bs. word_at a.form a.shape bs k) contents_is ∙ over.others k (elim out [ inl low ↦ inl low | inr high ↦ inr (omega arith) ]);
+      bytes = λ are. subst AreBytes (sym contents_is) (overwritten_are (contents a files) (word_place a.form a.shape from) (flat_map (word_bytes (width a.form)) ws) are (words_are (width a.form) ws));
     }
 
 -- the words of one form, from a block
@@ -225,7 +228,7 @@ piece_written a files now from at n words one has le room small is =
     subst (λ gs. IsWritten a files gs from words at n) (sym same_files) (words_written a files from at n words ws has le count same fit)
 
 pub nothing_written : (a : ArrayRef) (files : Files) (from at : ℕ) (words : List ℕ) → HasFile a files → IsWritten a files files from words at 0
-nothing_written a files from at words has = record { has_file = has; head = refl; written = λ k lt. absurd (omega arith); others = λ k out. refl }
+nothing_written a files from at words has = record { has_file = has; head = refl; written = λ k lt. absurd (omega arith); others = λ k out. refl; bytes = λ are. are }
 
 -- a piece behind the words that were written before
 pub written_joined : (a : ArrayRef) (first old new : Files) (from at d n : ℕ) (words : List ℕ) → IsWritten a first old from words at d → IsWritten a old new (from + d) words (at + d) n → IsWritten a first new from words at (d + n)
@@ -242,4 +245,5 @@ written_joined a first old new from at d n words before piece = record {
   others = λ k out.
       piece.others k (elim out [ inl low ↦ inl (omega arith) | inr high ↦ inr (omega arith) ])
       ∙ before.others k (elim out [ inl low ↦ inl low | inr high ↦ inr (omega arith) ]);
+  bytes = λ are. piece.bytes (before.bytes are);
 }

@@ -2,10 +2,12 @@
 use Rattle.std.specs.Prelude.{◌≡◌, ℕ, ◌+◌, ◌<◌, Bool, false, ◌||◌, List, ◌∷◌, take, length, Option, Some, None, slice_get, slice_index}
 use Rattle.std.specs.Option.{ForSome, option_map}
 use Rattle.tce_outside.specs.Files.{Files, file}
+use Rattle.tce_array.specs.Files.{AreBytes}
 use Rattle.tce_array.specs.Forms.{head_len}
 use Rattle.tce_frames.specs.Held.{Held, look_up, touched, IsFree}
 use Rattle.tce_frames.specs.Current.{place, AreOther, IsKept}
 use Rattle.tce_cache.specs.declared.array.ArrayRef.{ArrayRef}
+use Rattle.tce_cache.specs.Transfer.{contents}
 use Rattle.tce_cache.specs.Cache.{State, layout, stored, current_word, IsReady, words_of_tile}
 
 -- the cache with these held tiles and touches
@@ -25,11 +27,12 @@ pub record IsTouched (old new : State) (array tile : ℕ) (write : Bool) (answer
 abbrev pub front : ArrayRef → List ℕ → ℕ × List ℕ
 front a bytes = (length bytes, take (head_len a.form a.shape) bytes)
 
--- no current word changed, each file has its length and its head, and the cache is ready for the next call
+-- no current word changed, each file has its length and its head, and bytes as numbers if it had, and the cache is ready for the next call
 pub record IsSameArrays (old new : State) (before after : Files) (words words' : List ℕ) : Type 0 where
   pub kept : IsKept (layout old) (stored old before) (stored old after) old.held new.held words words'
   pub ready : IsReady new after words'
   pub fronts : (i : ℕ) (a : ArrayRef) → slice_get old.arrays i ≡ Some a → option_map (front a) (file after a.file.bytes) ≡ option_map (front a) (file before a.file.bytes)
+  pub bytes : (i : ℕ) (a : ArrayRef) → slice_get old.arrays i ≡ Some a → AreBytes (contents a before) → AreBytes (contents a after)
 
 -- where the disk tells
 abbrev pub KeepsArrays : State → State → Option Files → Option Files → List ℕ → List ℕ → Type 0
@@ -55,6 +58,7 @@ pub record IsTileWritten (c : State) (before after : Files) (words : List ℕ) (
   pub here : (k : ℕ) → k < words_of_tile (slice_get c.arrays array) → stored c after array tile k ≡ slice_index words (place (layout c) frame + k)
   pub others : (b u k : ℕ) → AreOther array tile b u → k < words_of_tile (slice_get c.arrays b) → stored c after b u k ≡ stored c before b u k
   pub fronts : (i : ℕ) (a : ArrayRef) → slice_get c.arrays i ≡ Some a → option_map (front a) (file after a.file.bytes) ≡ option_map (front a) (file before a.file.bytes)
+  pub bytes : (i : ℕ) (a : ArrayRef) → slice_get c.arrays i ≡ Some a → AreBytes (contents a before) → AreBytes (contents a after)
 
 -- the tile is in front, in a frame that no other tile is in
 pub record IsPlaced (old new : State) (g : Held) : Type 0 where

@@ -2,6 +2,7 @@
 use Rattle.std.specs.Prelude.{◌≡◌, ◌⊎◌, ℕ, ◌+◌, ◌<◌, ◌≤◌, List, [], length, slice_index, take, unwrap_or}
 use Rattle.std.specs.Option.{IsSomeAnd}
 use Rattle.tce_outside.specs.Files.{Files, file}
+use Rattle.tce_array.specs.Files.{AreBytes}
 use Rattle.tce_array.specs.Forms.{word_at, form_len, head_len}
 use Rattle.tce_cache.specs.declared.array.ArrayRef.{ArrayRef}
 
@@ -25,9 +26,10 @@ AreWordsOf a files from words at n = (k : ℕ) → k < n → slice_index words (
 abbrev pub IsSameBut : ℕ → ℕ → List ℕ → List ℕ → Type 0
 IsSameBut at n old new = (p : ℕ) → (p < at) ⊎ (at + n ≤ p) → slice_index new p ≡ slice_index old p
 
--- the file keeps its length and its head, has the n words from `at` on from the number `from` on, and all others as before
+-- the file keeps its length and its head, has the n words from `at` on from the number `from` on, and all others as before; its numbers are bytes if they were
 pub record IsWritten (a : ArrayRef) (old new : Files) (from : ℕ) (words : List ℕ) (at n : ℕ) : Type 0 where
   pub has_file : HasFile a new
   pub head : take (head_len a.form a.shape) (contents a new) ≡ take (head_len a.form a.shape) (contents a old)
   pub written : AreWordsOf a new from words at n
   pub others : (k : ℕ) → (k < from) ⊎ (from + n ≤ k) → word_in_file a new k ≡ word_in_file a old k
+  pub bytes : AreBytes (contents a old) → AreBytes (contents a new)

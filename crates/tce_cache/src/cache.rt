@@ -106,6 +106,15 @@ impl Cache {
         self.table.find(array, tile).is_some()
     }
 
+    /// The array with this number.
+    pub fn array(&self, number: u8) -> &ArrayRef
+        requires { number < length self.now.arrays }
+        ensures array { slice_get self.now.arrays number ≡ Some result.now }
+        ensures cache { IsCache self.now }
+    {
+        &self.arrays[number as usize]
+    }
+
     /// How often a tile was touched since the cache was made.
     pub fn touches(&self) -> u128
         ensures { result ≡ self.now.touches }

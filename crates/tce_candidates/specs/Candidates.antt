@@ -59,6 +59,15 @@ pub record IsReached (loops : ℕ) (choices : List Choice) (lefts rights : List 
   pub from_right : Contains rights right
   pub step : IsStepOf loops choices left right candidate
 
+-- such a step that costs less than a limit
+pub record IsReachedBelow (limit loops : ℕ) (choices : List Choice) (lefts rights : List Candidate) (candidate : Candidate) : Type 0 where
+  pub reached : IsReached loops choices lefts rights candidate
+  pub cheap : candidate.row.cost < limit
+
+-- the candidate at a limit, which stands for each state that costs no less: it puts no index above another, and has no sets
+abbrev pub limit_candidate : ℕ → Candidate
+limit_candidate limit = record { row = record { classes = []; cost = limit }; sets = record { items = [] } }
+
 -- the row's cost is within the limit of a plan's numbers
 abbrev pub IsLimited : Candidate → Type 0
 IsLimited candidate = candidate.row.cost < 2 ^ 96

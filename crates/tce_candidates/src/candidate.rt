@@ -1,10 +1,10 @@
 // Candidates: states with the fusions that reach them.
 ghost use Rattle.std.specs.Prelude.{◌≡◌, ◌↔◌, ◌+◌, ◌<◌, [], ◌∷◌, ◌++◌, length, IsTrue, Any};
 ghost use Rattle.tce_states.specs.Relation.{above};
-ghost use Rattle.tce_candidates.specs.Candidates.{Stands};
+ghost use Rattle.tce_candidates.specs.Candidates.{Stands, limit_candidate};
 
 use arrayvec::ArrayVec;
-use tce_nesting::Row;
+use tce_nesting::{Nesting, Row};
 use tce_space::IndexSet;
 use tce_steps::stands_for;
 
@@ -13,6 +13,19 @@ use tce_steps::stands_for;
 pub struct Candidate {
     pub row: Row,
     pub sets: ArrayVec<IndexSet, 32>,
+}
+
+// The candidate that stands for every state that costs at least the limit: no classes and no sets, at that cost.
+pub(crate) fn at_limit(limit: u128) -> Candidate
+    ensures { result ≡ limit_candidate limit }
+{
+    Candidate {
+        row: Row {
+            classes: Nesting::none(),
+            cost: limit,
+        },
+        sets: ArrayVec::new(),
+    }
 }
 
 /// The sets of the left operand's nodes, then those of the right one's, then the node's own. There are at most 32.

@@ -1,10 +1,10 @@
 // Tables of candidates of which none stands for another.
 ghost use Rattle.std.specs.Prelude.{◌≡◌, ◌⊎◌, ℕ, ◌+◌, ◌<◌, ◌≤◌, ◌^◌, length, IfOk, OnOk, All, AllPairs, Any, Contains};
 ghost use Rattle.tce_space.specs.IndexSet.{count};
-ghost use Rattle.tce_states.specs.Relation.{above};
-ghost use Rattle.tce_candidates.specs.Candidates.{Stands, StandForAll, AreApart, ChoiceCovered, PairCovered, IsStep, IsStepOf, IsReached, IsLimited, IsSmall, HaveRoom};
+ghost use Rattle.tce_states.specs.Relation.{none, above};
+ghost use Rattle.tce_candidates.specs.Candidates.{Stands, StandForAll, AreApart, ChoiceCovered, PairCovered, IsStep, IsStepOf, IsReachedBelow, IsLimited, IsSmall, HaveRoom, limit_candidate};
 
-use crate::candidate::{Candidate, is_covered, joined_sets};
+use crate::candidate::{Candidate, at_limit, is_covered, joined_sets};
 use std::alloc::{AllocError, Global};
 use tce_nesting::Row;
 use tce_space::IndexSet;
@@ -25,7 +25,7 @@ fn keep(table: &mut Vec<Candidate>, candidate: Candidate, outer: IndexSet) -> Re
     Ok(())
 }
 
-// Keeps the step of one choice, where its set is allowed.
+// Keeps the step of one choice, where its set is allowed and it costs less than the limit.
 fn add_step(
     table: &mut Vec<Candidate>,
     joined: &Row,
@@ -33,15 +33,20 @@ fn add_step(
     right: &Candidate,
     choice: &Choice,
     outer: IndexSet,
+    limit: u128,
 ) -> Result<(), AllocError>
+    requires limit { Any (Stands outer none limit) table.old.items }
     requires cost { joined.now.cost < 2 ^ 97 }
     requires size { choice.now.size < 2 ^ 96 }
     requires room { length left.now.sets.items + length right.now.sets.items < 32 }
     ensures covered { OnOk result (ChoiceCovered outer joined.now table.new.items choice.now) }
     ensures others { OnOk result (StandForAll outer table.old.items table.new.items) }
     ensures apart { OnOk result (AllPairs (AreApart outer) table.old.items → AllPairs (AreApart outer) table.new.items) }
-    ensures origin { OnOk result (All (λ x. Contains table.old.items x ⊎ IsStep joined.now left.now right.now choice.now x) table.new.items) }
+    ensures origin { OnOk result (All (λ x. Contains table.old.items x ⊎ (IsStep joined.now left.now right.now choice.now x × (x.row.cost < limit))) table.new.items) }
 {
+    if limit <= joined.cost + choice.size {
+        return Ok(());
+    }
     let Some(row) = step(joined, choice) else {
         return Ok(());
     };
@@ -49,7 +54,7 @@ fn add_step(
     keep(table, Candidate { row, sets }, outer)
 }
 
-// Keeps the steps of all choices from two operands' candidates, where their rows have no conflict.
+// Keeps the steps below the limit of all choices from two operands' candidates, where their rows have no conflict.
 fn add_steps(
     table: &mut Vec<Candidate>,
     left: &Candidate,
@@ -57,7 +62,9 @@ fn add_steps(
     loops: IndexSet,
     choices: &[Choice],
     outer: IndexSet,
+    limit: u128,
 ) -> Result<(), AllocError>
+    requires limit { Any (Stands outer none limit) table.old.items }
     requires loops { count loops ≤ 10 }
     requires left { IsLimited left.now }
     requires right { IsLimited right.now }
@@ -66,17 +73,22 @@ fn add_steps(
     ensures covered { OnOk result (PairCovered loops outer choices.now table.new.items left.now right.now) }
     ensures others { OnOk result (StandForAll outer table.old.items table.new.items) }
     ensures apart { OnOk result (AllPairs (AreApart outer) table.old.items → AllPairs (AreApart outer) table.new.items) }
-    ensures origin { OnOk result (All (λ x. Contains table.old.items x ⊎ IsStepOf loops choices.now left.now right.now x) table.new.items) }
+    ensures origin { OnOk result (All (λ x. Contains table.old.items x ⊎ (IsStepOf loops choices.now left.now right.now x × (x.row.cost < limit))) table.new.items) }
 {
     if let Some(joined) = join_rows(&left.row, &right.row, loops) {
+        if limit <= joined.cost {
+            return Ok(());
+        }
         for choice in choices {
-            add_step(table, &joined, left, right, choice, outer)?;
+            add_step(table, &joined, left, right, choice, outer, limit)?;
         }
     }
     Ok(())
 }
 
-/// The candidates of a node: of the steps from its operands' candidates with one of the choices, so many that for each step one of them is coarser on the outer loops, those of the node's parent, and costs no more. None of them is so for another.
+/// The candidates of a node: of the steps from its operands' candidates with one of the choices so many that for each step one of them is coarser on the outer loops, those of the node's parent, and costs no more. None of them is so for another.
+///
+/// Steps that cost the limit or more are not among them. One candidate without classes and sets, which costs as much as the limit, stands for these.
 pub fn candidates_of(
     alloc: Global,
     lefts: &[Candidate],
@@ -84,6 +96,7 @@ pub fn candidates_of(
     loops: IndexSet,
     choices: &[Choice],
     outer: IndexSet,
+    limit: u128,
 ) -> Result<Vec<Candidate>, AllocError>
     requires loops { count loops ≤ 10 }
     requires lefts { All IsLimited lefts.now }
@@ -91,13 +104,14 @@ pub fn candidates_of(
     requires room { HaveRoom lefts.now rights.now }
     requires choices { All IsSmall choices.now }
     ensures covered { IfOk result (λ table. All (λ left. All (PairCovered loops outer choices.now table.items left) rights.now) lefts.now) }
-    ensures reached { IfOk result (λ table. All (IsReached loops choices.now lefts.now rights.now) table.items) }
+    ensures reached { IfOk result (λ table. All (λ x. IsReachedBelow limit loops choices.now lefts.now rights.now x ⊎ (x ≡ limit_candidate limit)) table.items) }
     ensures apart { IfOk result (λ table. AllPairs (AreApart outer) table.items) }
 {
     let mut table = Vec::new(alloc);
+    table.push(at_limit(limit))?;
     for left in lefts {
         for right in rights {
-            add_steps(&mut table, left, right, loops, choices, outer)?;
+            add_steps(&mut table, left, right, loops, choices, outer, limit)?;
         }
     }
     Ok(table)

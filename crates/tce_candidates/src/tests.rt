@@ -71,6 +71,7 @@ fn found(
     loops: u32,
     choices: &[Choice],
     outer: u32,
+    limit: u128,
 ) -> Result<Vec<Candidate>, Fail> {
     let loops = set(rt, loops);
     assert!(rt; loops.count() <= 10);
@@ -78,7 +79,7 @@ fn found(
     assert!(rt; are_limited(rights));
     assert!(rt; have_room(lefts, rights));
     assert!(rt; are_small(choices));
-    Ok(candidates_of(alloc, lefts, rights, loops, choices, set(rt, outer))?)
+    Ok(candidates_of(alloc, lefts, rights, loops, choices, set(rt, outer), limit)?)
 }
 
 fn choice(rt: &impl Abort, bits: u32, size: u128) -> Choice {
@@ -101,6 +102,7 @@ fn candidates_of_two_sums(rt: HostRuntime) -> Result<(), Fail> {
         0b0101,
         choices.as_slice(),
         0b11,
+        100,
     )?;
     let wanted = [
         candidate(&rt, 0, 5, &[0])?,
@@ -116,6 +118,7 @@ fn candidates_of_two_sums(rt: HostRuntime) -> Result<(), Fail> {
         0b1010,
         choices.as_slice(),
         0b11,
+        100,
     )?;
     let wanted = [
         candidate(&rt, 0, 7, &[0])?,
@@ -132,6 +135,7 @@ fn candidates_of_two_sums(rt: HostRuntime) -> Result<(), Fail> {
         0b11,
         unfused.as_slice(),
         0b11,
+        100,
     )?;
     let wanted = [candidate(&rt, 0, 41, &[0, 0b10, 0])?];
     assert_eq!(rt; product.as_slice(), wanted.as_slice());
@@ -161,6 +165,7 @@ fn one_class_of_all_loops_covers_all(rt: HostRuntime) -> Result<(), Fail> {
         0b111111,
         choices.as_slice(),
         0b111111,
+        100,
     )?;
     let wanted = [candidate(&rt, 0b111111, 1, &[0b111111])?];
     assert_eq!(rt; product.as_slice(), wanted.as_slice());

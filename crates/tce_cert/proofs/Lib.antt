@@ -8,3 +8,6 @@ pub mod NodeRuns
 pub mod Whole
 pub mod OneFault
 pub mod NoFault
+pub mod Nestings
+pub mod OneSaid
+pub mod OnePlan

@@ -25,7 +25,7 @@ use Rattle.tce_states.specs.Row.{Row, rows_at}
 use Rattle.tce_nesting.specs.Plan.{PlanFits, RowFits, LiesWithin}
 use Rattle.tce_nesting.specs.declared.plan.Plan.{Plan}
 use Rattle.tce_report.specs.NodeForm.{Form, IsForm, IsArrayForm, ArrayForm, form_text, array_text}
-use Rattle.tce_report.specs.NodeLine.{MaySay, said_of, stated, node_line, line_saying, set_text, loops_written, kind_word}
+use Rattle.tce_report.specs.NodeLine.{MaySay, Said, said_of, stated, node_line, line_saying, set_text, loops_written, kind_word}
 use Rattle.tce_report.specs.ReadLine.{form_saying}
 use Rattle.tce_report.proofs.Reading.{saying_form, saying_text}
 use Rattle.tce_cert_lines.specs.Cut.{Lacks}
@@ -45,7 +45,7 @@ not_true : (b : Bool) → not b ≡ true → b ≡ false
 not_true true e = cc
 not_true false e = refl
 
-to_lacks : (text : List ℕ) → lacks 10 text ≡ true → Lacks 10 text
+pub to_lacks : (text : List ℕ) → lacks 10 text ≡ true → Lacks 10 text
 to_lacks [] e k d l = absurd (omega arith)
 to_lacks (b ∷ bs) e zero d l = not_true (b == 10) (and_parts (not (b == 10)) (lacks 10 bs) e).0
 to_lacks (b ∷ bs) e (suc k) d l = to_lacks bs (and_parts (not (b == 10)) (lacks 10 bs) e).1 k d (omega arith)
@@ -54,10 +54,10 @@ from_lacks : (text : List ℕ) → Lacks 10 text → lacks 10 text ≡ true
 from_lacks [] all = refl
 from_lacks (b ∷ bs) all = both (not (b == 10)) (lacks 10 bs) (ap not (all 0 0 (omega arith))) (from_lacks bs (λ k d l. all (suc k) d (omega arith)))
 
-in_both : (xs ys : List ℕ) → lacks 10 xs ≡ true → lacks 10 ys ≡ true → lacks 10 (xs ++ ys) ≡ true
+pub in_both : (xs ys : List ℕ) → lacks 10 xs ≡ true → lacks 10 ys ≡ true → lacks 10 (xs ++ ys) ≡ true
 in_both xs ys e f = list_all-append (λ b. not (b == 10)) xs ys ∙ both (lacks 10 xs) (lacks 10 ys) e f
 
-number_lacks : (n : ℕ) → n < 2 ^ 96 → lacks 10 (decimal n) ≡ true
+pub number_lacks : (n : ℕ) → n < 2 ^ 96 → lacks 10 (decimal n) ≡ true
 number_lacks n l = from_lacks (decimal n) (decimal_lacks 10 n (omega arith) l)
 
 names_lack_feeds : (names : List (List ℕ)) → list_all is_name names ≡ true → lacks 10 (listed names) ≡ true
@@ -90,6 +90,12 @@ form_lacks form is =
     (in_both (codes " loops ") (listed form.order) refl (names_lack_feeds form.order is.order.named))))))
     (array_lacks form.array is.array)
 
+-- the line of a node that may say this has none
+pub saying_lacks : (space : IndexSpace) (tree : ContractionTree) (v : ℕ) (s : Said) → IsSpace space → IsTree tree → IsDeclaredTree space tree → v < operations tree → MaySay tree v s
+    → lacks 10 (line_saying space tree v s) ≡ true
+saying_lacks space tree v s is_space is_tree declared inside may =
+    subst (λ l. lacks 10 l ≡ true) (saying_text space tree v s) (form_lacks (form_saying space tree v s) (saying_form space tree v s is_space is_tree declared inside may))
+
 sets_lack : (space : IndexSpace) (dims : ℕ) (classes : List ℕ) → IsSpace space → IsDeclared space dims → All (LiesWithin dims) classes → list_all (lacks 10) (map (set_text space) classes) ≡ true
 unfolding set_text
 sets_lack space dims [] is declared within = refl
@@ -102,7 +108,7 @@ classes_lack : (space : IndexSpace) (dims : ℕ) (classes : List ℕ) → IsSpac
 classes_lack space dims [] is declared within = refl
 classes_lack space dims (c ∷ cs) is declared within = joined_lacks 10 47 (map (set_text space) (c ∷ cs)) refl (sets_lack space dims (c ∷ cs) is declared within)
 
-row_lacks : (space : IndexSpace) (dims : ℕ) (r : Row) → IsSpace space → IsDeclared space dims → RowFits dims r → lacks 10 (row_line space r) ≡ true
+pub row_lacks : (space : IndexSpace) (dims : ℕ) (r : Row) → IsSpace space → IsDeclared space dims → RowFits dims r → lacks 10 (row_line space r) ≡ true
 row_lacks space dims r is declared fits =
     in_both (codes "row ") (decimal r.cost ++ (codes " " ++ classes_text space r.classes)) refl
     (in_both (decimal r.cost) (codes " " ++ classes_text space r.classes) (number_lacks r.cost fits.cost)
@@ -138,7 +144,7 @@ clean_more : (space : IndexSpace) (tree : ContractionTree) (due : List Due) (lin
 clean_more space tree due lines more rest clean =
     subst (Clean space tree due) (text_more lines more (text_of lines ++ (text_of more ++ rest)) (text_of more ++ rest) rest refl refl) clean
 
-may_say : (tree : ContractionTree) (plan : Plan) (v : ℕ) → v < operations tree → PlanFits tree plan → MaySay tree v (said_of (stated plan) v)
+pub may_say : (tree : ContractionTree) (plan : Plan) (v : ℕ) → v < operations tree → PlanFits tree plan → MaySay tree v (said_of (stated plan) v)
 may_say tree plan v l fits = record {
   order = fits.orders.permute v l;
   fused = fits.fusion.within v l;
@@ -159,7 +165,7 @@ may_say tree plan v l fits = record {
     ]
 
 -- what the lines of a plan rest on
-record Fit (space : IndexSpace) (tree : ContractionTree) (plan : Plan) : Type 0 where
+pub record Fit (space : IndexSpace) (tree : ContractionTree) (plan : Plan) : Type 0 where
   pub is_space : IsSpace space
   pub is_tree : IsTree tree
   pub declared : IsDeclaredTree space tree
@@ -190,7 +196,7 @@ rows_clean space tree v behind rest (r ∷ rows) is declared fits nestings clean
     ((r, record { fits = fit; few = nesting.few; nesting = nesting.nesting; text_is = refl }), refl)
     (rows_clean space tree v behind rest rows is declared (λ k d l. fits (suc k) d (omega arith)) (λ k d l. nestings (suc k) d (omega arith)) clean)
 
-head_lacks : (v rows : ℕ) → v < 2 ^ 96 → rows < 2 ^ 96 → lacks 10 (table_line v rows) ≡ true
+pub head_lacks : (v rows : ℕ) → v < 2 ^ 96 → rows < 2 ^ 96 → lacks 10 (table_line v rows) ≡ true
 head_lacks v rows l m =
     in_both (codes "table ") (decimal v ++ (codes " " ++ decimal rows)) refl
     (in_both (decimal v) (codes " " ++ decimal rows) (number_lacks v l) (in_both (codes " ") (decimal rows) refl (number_lacks rows m)))

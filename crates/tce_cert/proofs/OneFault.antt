@@ -12,7 +12,7 @@ use Rattle.tce_cert.specs.Faults.{Due, opening, node, memory, table, row, ending
 use Rattle.tce_cert.specs.Laws.{FirstFaultsAreAlone}
 use Rattle.tce_cert.proofs.Faulty.{parts}
 
-rows_once : (line : List ℕ) (v a b : ℕ) → StatesTable line v a → StatesTable line v b → a ≡ b
+pub rows_once : (line : List ℕ) (v a b : ℕ) → StatesTable line v a → StatesTable line v b → a ≡ b
 rows_once line v a b s t =
     let behind : decimal v ++ 32 ∷ decimal a ≡ decimal v ++ 32 ∷ decimal b = (let e = sym s.text_is ∙ t.text_is in cc) in
     decimal_once a b s.rows_limit t.rows_limit

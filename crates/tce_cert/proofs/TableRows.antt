@@ -13,6 +13,7 @@ use Rattle.tce_cert_lines.specs.Lines.{row_line}
 use Rattle.tce_cert.specs.declared.fault.CertFault.{CertFault}
 use Rattle.tce_cert.specs.Certificate.{text_of}
 use Rattle.tce_cert.specs.Faults.{Due, row, IsDue, IsFaultIn}
+use Rattle.tce_cert.specs.Laws.{IsNestingRow}
 use Rattle.tce_cert.specs.Reading.{ReadsThat, ReadsRows, KeepsFaults}
 use Rattle.tce_cert.proofs.Faulty.{passed}
 use Rattle.tce_cert.proofs.Texts.{text_of-append}
@@ -43,6 +44,7 @@ one_row space tree v i m next old tables new text at rest r inside read that is_
       ∙ set-set old v rows (rows ++ r ∷ [])
       ∙ ap (slice_set old v) (append_assoc (rows_at old v) read.rows (r ∷ []));
   fit = All-append (RowFits (node_dims tree v)) read.rows (r ∷ []) read.fit (alone (RowFits (node_dims tree v)) r that.holds.fits);
+  nestings = All-append IsNestingRow read.rows (r ∷ []) read.nestings (alone IsNestingRow r (record { nesting = that.holds.nesting; few = that.holds.few }));
   text_is =
       behind text at rest (row_line space r) (map (row_line space) read.rows) read.text_is (that.reads.cut.text_is ∙ ap (λ l. l ++ 10 ∷ rest) that.holds.text_is)
       ∙ ap (λ ls. text_of ls ++ rest) (sym (map-append (row_line space) read.rows (r ∷ [])));

@@ -1,5 +1,5 @@
 -- Lines of nodes and tables as they are read, one after the other.
-use Rattle.std.proofs.Common.{◌≡◌, ℕ, zero, suc, ◌+◌, ◌-◌, ◌<◌, ◌≤◌, List, [], ◌∷◌, ◌++◌, length, map, refl, ap, ap₂, sym, ◌∙◌, subst, arith, append_assoc, replicate, add-one, inl, inr}
+use Rattle.std.proofs.Common.{◌≡◌, ℕ, zero, suc, ◌+◌, ◌-◌, ◌<◌, ◌≤◌, ◌^◌, List, [], ◌∷◌, ◌++◌, length, map, refl, ap, ap₂, sym, ◌∙◌, subst, arith, append_assoc, replicate, add-one, inl, inr}
 use Rattle.std.specs.Prelude.{slice_set}
 use Rattle.std.specs.List.{All, flat_map, range_with_len}
 use Rattle.std.proofs.lemmas.List.{get_or-set_other, get_or-set_same, flat_map_more}
@@ -14,6 +14,7 @@ use Rattle.tce_cert_lines.specs.Lines.{row_line, table_line}
 use Rattle.tce_cert.specs.declared.fault.CertFault.{CertFault}
 use Rattle.tce_cert.specs.Certificate.{text_of, table_lines, tables_lines}
 use Rattle.tce_cert.specs.Faults.{Due, table, row, IsDue, IsFaultIn}
+use Rattle.tce_cert.specs.Laws.{AreNestingRows}
 use Rattle.tce_cert.specs.Reading.{ReadsThat, ReadsRows, ReadsTables, KeepsFaults}
 use Rattle.tce_cert.proofs.Faulty.{passed}
 use Rattle.tce_cert.proofs.Texts.{text_of-append, range_lines_more}
@@ -122,6 +123,7 @@ one_table space tree v count m next tables new text at rest to inside empty read
     let there : (w : ℕ) → w < v → rows_at new w ≡ rows_at tables w = λ w l. set_elsewhere tables v w (rows_at tables v ++ of_rows.rows) new of_rows.tables_are (λ same. absurd (omega (arith, l, same))) in
     record {
       fit = by_place here there;
+      nestings = nestings_by_place here there;
       text_is =
           text_more (tables_lines space tables v) (table_line v count ∷ map (row_line space) of_rows.rows) text at to read.text_is
           (text_line (table_line v count) (map (row_line space) of_rows.rows) at rest to (that.reads.cut.text_is ∙ ap (λ l. l ++ 10 ∷ rest) that.holds.text_is) of_rows.text_is)
@@ -136,4 +138,13 @@ one_table space tree v count m next tables new text at rest to inside empty read
     by_place here there w l = elim (eq-or-lt_of_le {n = w} {m = v} (omega (arith, l))) [
       | inl same ↦ subst (λ u. All (RowFits (node_dims tree u)) (rows_at new u)) (sym same) (subst (All (RowFits (node_dims tree v))) (sym here) of_rows.fit)
       | inr below ↦ subst (All (RowFits (node_dims tree w))) (sym (there w below)) (read.fit w below)
+    ]
+
+    of_this : AreNestingRows of_rows.rows
+    of_this = record { each = of_rows.nestings; few = subst (λ n. n < 2 ^ 96) (sym of_rows.count_is) that.holds.rows_limit }
+
+    nestings_by_place : rows_at new v ≡ of_rows.rows → ((w : ℕ) → w < v → rows_at new w ≡ rows_at tables w) → (w : ℕ) → w < v + 1 → AreNestingRows (rows_at new w)
+    nestings_by_place here there w l = elim (eq-or-lt_of_le {n = w} {m = v} (omega (arith, l))) [
+      | inl same ↦ subst (λ u. AreNestingRows (rows_at new u)) (sym same) (subst AreNestingRows (sym here) of_this)
+      | inr below ↦ subst AreNestingRows (sym (there w below)) (read.nestings w below)
     ]

@@ -12,6 +12,7 @@ use Rattle.tce_cert_lines.specs.Lines.{opening_line, memory_line, end_line}
 use Rattle.tce_cert.specs.declared.fault.CertFault.{CertFault}
 use Rattle.tce_cert.specs.Certificate.{text_of, certificate, certificate_lines, nodes_lines, tables_lines}
 use Rattle.tce_cert.specs.Faults.{opening, node, memory, all_due, tables_due, IsFaultIn, IsFault}
+use Rattle.tce_cert.specs.Laws.{RowsAreNestings}
 use Rattle.tce_cert.specs.Reading.{ReadsThat, ReadsNodes, ReadsTables, saying}
 use Rattle.tce_cert.proofs.Faulty.{passed}
 use Rattle.tce_cert.proofs.NodeRuns.{fusion_fits, orders_fit, sizes_limited}
@@ -41,7 +42,7 @@ pub plan_read : (space : IndexSpace) (tree : ContractionTree) (plan : Plan) (n1 
     → ReadsThat t2 n2 t3 n3 (λ line. StatesMemory line plan.memory)
     → ReadsTables space tree (length plan.tables) plan.tables t3 t4
     → t4 ≡ end_line ++ 10 ∷ []
-    → PlanFits tree plan × (bytes ≡ certificate space tree plan)
+    → PlanFits tree plan × (bytes ≡ certificate space tree plan) × RowsAreNestings plan.tables
 unfolding certificate certificate_lines
 plan_read space tree plan n1 n2 n3 bytes text t1 t2 t3 t4 n whole some sizes tables opened nodes total heads ended = (
   record {
@@ -60,6 +61,7 @@ plan_read space tree plan n1 n2 n3 bytes text t1 t2 t3 t4 n whole some sizes tab
       (total.reads.cut.text_is ∙ ap (λ l. l ++ 10 ∷ t3) total.holds.text_is)
       heads.text_is
       ended,
+  heads.nestings,
 )
   where
     s : Stated

@@ -26,6 +26,12 @@ pub record AreNestingRows (rows : List Row) : Type 0 where
 abbrev pub RowsAreNestings : List (List Row) → Type 0
 RowsAreNestings tables = (v : ℕ) → v < length tables → AreNestingRows (rows_at tables v)
 
+-- plans that fit are their certificates
+abbrev pub PlansAreTheirCertificates : Type 0
+PlansAreTheirCertificates =
+    (space : IndexSpace) (tree : ContractionTree) (p q : Plan) → IsSpace space → IsTree tree → IsDeclaredTree space tree
+    → PlanFits tree p → RowsAreNestings p.tables → PlanFits tree q → RowsAreNestings q.tables → certificate space tree p ≡ certificate space tree q → p ≡ q
+
 -- a text has at most one first fault
 abbrev pub FirstFaultsAreAlone : Type 0
 FirstFaultsAreAlone = (space : IndexSpace) (tree : ContractionTree) (text : List ℕ) (f g : CertFault) → IsFault space tree text f → IsFault space tree text g → f ≡ g

@@ -10,6 +10,7 @@ use Rattle.tce_cert_lines.specs.Lines.{row_line}
 use Rattle.tce_cert.specs.declared.fault.CertFault.{CertFault}
 use Rattle.tce_cert.specs.Certificate.{text_of, tables_lines}
 use Rattle.tce_cert.specs.Faults.{Due, IsFaultIn}
+use Rattle.tce_cert.specs.Laws.{IsNestingRow, AreNestingRows}
 use Rattle.tce_cert_lines.specs.Cut.{IsCut}
 
 -- the text, whose first line has number `n`, begins with this line and its line feed
@@ -29,6 +30,7 @@ pub record ReadsRows (space : IndexSpace) (tree : ContractionTree) (v count : �
   pub count_is : length rows ≡ count
   pub tables_are : new ≡ slice_set old v (rows_at old v ++ rows)
   pub fit : All (RowFits (node_dims tree v)) rows
+  pub nestings : All IsNestingRow rows
   pub text_is : text ≡ text_of (map (row_line space) rows) ++ rest
 
 -- a fault behind what was read is one of the whole
@@ -39,6 +41,7 @@ KeepsFaults space tree before n text behind next rest =
 -- the tables of the nodes below `v` were read
 pub record ReadsTables (space : IndexSpace) (tree : ContractionTree) (v : ℕ) (tables : List (List Row)) (text rest : List ℕ) : Type 0 where
   pub fit : (w : ℕ) → w < v → All (RowFits (node_dims tree w)) (rows_at tables w)
+  pub nestings : (w : ℕ) → w < v → AreNestingRows (rows_at tables w)
   pub text_is : text ≡ text_of (tables_lines space tables v) ++ rest
 
 -- what lines of nodes say, in lists by the numbers of the nodes

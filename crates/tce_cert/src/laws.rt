@@ -10,3 +10,8 @@ pub fn first_faults_are_alone()
 pub fn certificates_have_no_fault()
     ensures { law.CertificatesHaveNoFault }
 {}
+
+/// Plans that fit a tree and have one certificate are one plan.
+pub fn plans_are_their_certificates()
+    ensures { law.PlansAreTheirCertificates }
+{}

@@ -21,7 +21,7 @@ use tce_tree::Tree;
 /// Errors: the fault of the first line that is not the one due, or `Memory`, which alone refuses the certificate of such a plan.
 pub fn read_cert(alloc: Global, space: &Space, tree: &Tree, bytes: &[u8]) -> Result<Plan, CertFault>
     requires { IsDeclaredTree space.now tree.now }
-    ensures ok { IfOk result (λ plan. PlanFits tree.now plan × (bytes.now ≡ certificate space.now tree.now plan)) }
+    ensures ok { IfOk result (λ plan. PlanFits tree.now plan × (bytes.now ≡ certificate space.now tree.now plan) × RowsAreNestings plan.tables) }
     ensures fault { IfErr result (λ fault. fault ≢ CertFault.Memory → IsFault space.now tree.now bytes.now fault) }
     ensures exact { (plan : Plan) → PlanFits tree.now plan → RowsAreNestings plan.tables → bytes.now ≡ certificate space.now tree.now plan
         → IfErr result (λ fault. fault ≡ CertFault.Memory) }

@@ -8,6 +8,7 @@ ghost use Rattle.tce_states.specs.Row.{rows_at};
 ghost use Rattle.tce_nesting.specs.Plan.{PlanFits};
 ghost use Rattle.tce_cert_lines.specs.Lines.{row_line, classes_text};
 ghost use Rattle.tce_cert.specs.Certificate as lines;
+ghost use Rattle.tce_cert.specs.Laws.{IsNestingRow, RowsAreNestings};
 
 use crate::names::push_set;
 use std::alloc::{AllocError, Global};
@@ -25,7 +26,8 @@ pub fn write_cert(
 ) -> Result<Vec<u8>, AllocError>
     requires declared { IsDeclaredTree space.now tree.now }
     requires fits { PlanFits tree.now plan.now }
-    ensures { IfOk result (λ text. text.items ≡ lines.certificate space.now tree.now plan.now) }
+    ensures text { IfOk result (λ text. text.items ≡ lines.certificate space.now tree.now plan.now) }
+    ensures nestings { OnOk result (RowsAreNestings plan.now.tables) }
 {
     let _declared = space.index_count();
     let mut text = Vec::new(alloc);
@@ -59,7 +61,8 @@ fn push_tables(
     tables: &Tables,
 ) -> Result<(), AllocError>
     requires { (v : ℕ) → v < length tables.now → All (λ row. All (IsDeclared space.now) row.classes) (rows_at tables.now v) }
-    ensures { OnOk result (text.new.items ≡ text.old.items ++ lines.text_of (lines.tables_lines space.now tables.now (length tables.now))) }
+    ensures text { OnOk result (text.new.items ≡ text.old.items ++ lines.text_of (lines.tables_lines space.now tables.now (length tables.now))) }
+    ensures nestings { OnOk result (RowsAreNestings tables.now) }
 {
     for v in 0..tables.lists() {
         let rows = tables.rows(v);
@@ -78,7 +81,8 @@ fn push_rows(
     rows: &[Row],
 ) -> Result<(), AllocError>
     requires { All (λ row. All (IsDeclared space.now) row.classes) rows.now }
-    ensures { OnOk result (text.new.items ≡ text.old.items ++ lines.text_of (map (row_line space.now) rows.now)) }
+    ensures text { OnOk result (text.new.items ≡ text.old.items ++ lines.text_of (map (row_line space.now) rows.now)) }
+    ensures nestings { OnOk result (All IsNestingRow rows.now) }
 {
     for row in rows {
         push_row(alloc, text, space, row)?;
@@ -89,7 +93,8 @@ fn push_rows(
 // Appends the line of a row with its line feed.
 fn push_row(alloc: Global, text: &mut Vec<u8>, space: &Space, row: &Row) -> Result<(), AllocError>
     requires { All (IsDeclared space.now) row.now.classes }
-    ensures { OnOk result (text.new.items ≡ text.old.items ++ (row_line space.now row.now ++ 10 ∷ [])) }
+    ensures text { OnOk result (text.new.items ≡ text.old.items ++ (row_line space.now row.now ++ 10 ∷ [])) }
+    ensures nesting { OnOk result (IsNestingRow row.now) }
 {
     let head = format!(in alloc; "row {} ", row.cost)?;
     text.extend_from_slice(head.as_str().as_bytes())?;

@@ -21,6 +21,8 @@ pub fn certificate_of(alloc: Global, spec: &Spec, cert: &str) -> Result<Certific
 {
     let space = spec.space();
     let tree = spec.tree();
+    let _declared = space.index_count();
+    let _count = tree.count();
     let least = search(alloc, space, tree)?;
     let text = write_cert(alloc, space, tree, &least)?;
     let report = report(alloc, least.memory, cert, text.len())?;

@@ -4,16 +4,16 @@ ghost use Rattle.std.specs.Option.{ForSome};
 ghost use Rattle.std.specs.String.{string_bytes};
 ghost use Rattle.tce_outside.specs.Files.{others};
 ghost use Rattle.tce_outside.specs.Fault.{HasCause};
-ghost use Rattle.tce_command.specs.Command.{NamesSpec};
-ghost use Rattle.tce_certify.specs.Done.{NamesCertificate, IsCertified};
+ghost use Rattle.tce_command.specs.Command.{NamesCertificate, NamesSpec};
+ghost use Rattle.tce_certify.specs.Done.{IsCertified};
 ghost use Rattle.tce_certify.specs.Refusals.{IsCertifyRefusal};
 
 use crate::certificate::certificate_of;
-use crate::writing::write_file;
 use std::alloc::Global;
 use tce_command::Refusal;
 use tce_outside::{Disk, OutFault};
 use tce_source::read_source;
+use tce_writing::write_file;
 
 /// Writes the certificate of a plan of least memory for the specification in a file, and gives the report.
 ///

@@ -6,7 +6,6 @@
 mod certificate;
 mod command;
 mod laws;
-mod writing;
 
 pub use command::certify;
 pub use laws::certificates_have_one_answer;

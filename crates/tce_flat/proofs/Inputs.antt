@@ -17,7 +17,7 @@ use Rattle.tce_tools.specs.Answers.{IsFirstMisfit, IsRefused, HasFlat, HasArray,
 use Rattle.tce_command.specs.Report.{array_text}
 use Rattle.tce_command.specs.Refusals.{SameRefusal}
 use Rattle.tce_command.specs.declared.refusal.Refusal.{Refusal}
-use Rattle.tce_command.specs.declared.refusal.Refusal.TheVariants.{Specification, NotBuilt, Missing, Array, Budget, Intermediates, Flat, Tensor, Misfit, Disk, Memory}
+use Rattle.tce_command.specs.declared.refusal.Refusal.TheVariants.{Specification, Missing, Array, Budget, Intermediates, Flat, Tensor, Misfit, Disk, Memory}
 use Rattle.tce_flat.specs.Tensors.{array_file}
 use Rattle.tce_flat.specs.Refusals.{IsFlatRefusal, IsArrayRefusal, IsFormRefusal}
 use Rattle.tce_flat.proofs.Lines.{Says, say_alike, say_same}
@@ -43,7 +43,6 @@ flat_cases : (files : Files) (flat : List â„•) (shape : Tiling) (a : Refusal) â†
 flat_cases files flat shape (Missing name) p = inl (record { gone = p.1; says = record { code_is = refl; line_is = ap missing_line p.0 } })
 flat_cases files flat shape (Flat len) p = inr (record { len = len; wrong = p; says = record { code_is = refl; line_is = refl } })
 flat_cases files flat shape (Specification x) p = absurd p
-flat_cases files flat shape NotBuilt p = absurd p
 flat_cases files flat shape (Array x u) p = absurd p
 flat_cases files flat shape (Budget x) p = absurd p
 flat_cases files flat shape (Intermediates x) p = absurd p
@@ -95,7 +94,6 @@ array_cases files tensor shape (Array name fault) p =
     })
 array_cases files tensor shape (Flat x) p = absurd p
 array_cases files tensor shape (Specification x) p = absurd p
-array_cases files tensor shape NotBuilt p = absurd p
 array_cases files tensor shape (Budget x) p = absurd p
 array_cases files tensor shape (Intermediates x) p = absurd p
 array_cases files tensor shape (Tensor x) p = absurd p
@@ -171,7 +169,6 @@ form_cases files tensor form shape (Missing x) p = inl p
 form_cases files tensor form shape (Array x u) p = inl p
 form_cases files tensor form shape (Flat x) p = inl p
 form_cases files tensor form shape (Specification x) p = inl p
-form_cases files tensor form shape NotBuilt p = inl p
 form_cases files tensor form shape (Budget x) p = inl p
 form_cases files tensor form shape (Intermediates x) p = inl p
 form_cases files tensor form shape (Tensor x) p = inl p

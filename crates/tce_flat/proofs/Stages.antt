@@ -8,7 +8,7 @@ use Rattle.tce_spec.specs.Operands.{shape_of}
 use Rattle.tce_source.proofs.Outcomes.{one, one_refusal, not_both}
 use Rattle.tce_command.specs.Refusals.{IsFree, SameRefusal}
 use Rattle.tce_command.specs.declared.refusal.Refusal.{Refusal}
-use Rattle.tce_command.specs.declared.refusal.Refusal.TheVariants.{Specification, NotBuilt, Missing, Array, Budget, Intermediates, Flat, Tensor, Misfit, Disk, Memory}
+use Rattle.tce_command.specs.declared.refusal.Refusal.TheVariants.{Specification, Missing, Array, Budget, Intermediates, Flat, Tensor, Misfit, Disk, Memory}
 use Rattle.tce_flat.specs.Tensors.{HasTensor, LacksTensor}
 use Rattle.tce_flat.proofs.Lines.{Says, say_alike}
 use Rattle.tce_flat.specs.Refusals.{NamesTensor, Need, Refuses, IsTensorRefusal, IsReadyFor, IsRefusedFor}
@@ -42,7 +42,6 @@ found_not_refused files spec tensor shape refusal a (inr b) = absurd (found_not_
 undeclared : (tensor : List ℕ) (refusal : Refusal) → NamesTensor tensor refusal → Says 12 (codes "error 12: no tensor " ++ tensor ++ codes "\n") refusal
 undeclared tensor (Tensor name) e = record { code_is = refl; line_is = ap (λ n. codes "error 12: no tensor " ++ n ++ codes "\n") e }
 undeclared tensor (Specification x) e = absurd e
-undeclared tensor NotBuilt e = absurd e
 undeclared tensor (Missing x) e = absurd e
 undeclared tensor (Array x u) e = absurd e
 undeclared tensor (Budget x) e = absurd e

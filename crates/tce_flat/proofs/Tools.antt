@@ -13,7 +13,7 @@ use Rattle.tce_tools.specs.Answers.{IsPackAnswer, IsUnpackAnswer, IsConvertAnswe
 use Rattle.tce_tools.specs.declared.fault.ToolFault.{ToolFault}
 use Rattle.tce_tools.specs.declared.fault.ToolFault.TheVariants as tool
 use Rattle.tce_command.specs.declared.refusal.Refusal.{Refusal}
-use Rattle.tce_command.specs.declared.refusal.Refusal.TheVariants.{Specification, NotBuilt, Missing, Array, Budget, Intermediates, Flat, Tensor, Misfit, Disk, Memory}
+use Rattle.tce_command.specs.declared.refusal.Refusal.TheVariants.{Specification, Missing, Array, Budget, Intermediates, Flat, Tensor, Misfit, Disk, Memory}
 use Rattle.tce_command.specs.Refusals.{IsFree, NamesFile}
 use Rattle.tce_flat.specs.Tensors.{HasTensor, array_file}
 use Rattle.tce_flat.specs.Refusals.{Refuses, IsFlatRefusal, IsArrayRefusal, IsFormRefusal, IsRefusedFor}
@@ -23,7 +23,6 @@ use Rattle.tce_flat.specs.Tools.{Stands, KeepsFault}
 gone_flat : (files : Files) (flat : List ℕ) (shape : Tiling) (a : Refusal) → NamesFile flat a → file files flat ≡ None → IsFlatRefusal files flat shape a
 gone_flat files flat shape (Missing name) p gone = (p, gone)
 gone_flat files flat shape (Specification x) p gone = absurd p
-gone_flat files flat shape NotBuilt p gone = absurd p
 gone_flat files flat shape (Array x u) p gone = absurd p
 gone_flat files flat shape (Budget x) p gone = absurd p
 gone_flat files flat shape (Intermediates x) p gone = absurd p
@@ -36,7 +35,6 @@ gone_flat files flat shape Memory p gone = absurd p
 gone_array : (files : Files) (tensor : List ℕ) (shape : Tiling) (a : Refusal) → NamesFile (array_file tensor) a → file files (array_file tensor) ≡ None → IsArrayRefusal files tensor shape a
 gone_array files tensor shape (Missing name) p gone = (p, gone)
 gone_array files tensor shape (Specification x) p gone = absurd p
-gone_array files tensor shape NotBuilt p gone = absurd p
 gone_array files tensor shape (Array x u) p gone = absurd p
 gone_array files tensor shape (Budget x) p gone = absurd p
 gone_array files tensor shape (Intermediates x) p gone = absurd p
@@ -54,7 +52,6 @@ kept_array files tensor shape fault (Array name kept) p there wrong =
     (p.1, subst (λ f. f ≢ array_fault.NoFile) e there, subst (IsRefused shape (file files (array_file tensor))) e wrong)
 kept_array files tensor shape fault (Missing x) p there wrong = absurd p
 kept_array files tensor shape fault (Specification x) p there wrong = absurd p
-kept_array files tensor shape fault NotBuilt p there wrong = absurd p
 kept_array files tensor shape fault (Budget x) p there wrong = absurd p
 kept_array files tensor shape fault (Intermediates x) p there wrong = absurd p
 kept_array files tensor shape fault (Flat x) p there wrong = absurd p
@@ -101,7 +98,6 @@ form_refusal files tensor form shape (Missing x) p = p
 form_refusal files tensor form shape (Array x u) p = p
 form_refusal files tensor form shape (Flat x) p = absurd p
 form_refusal files tensor form shape (Specification x) p = absurd p
-form_refusal files tensor form shape NotBuilt p = absurd p
 form_refusal files tensor form shape (Budget x) p = absurd p
 form_refusal files tensor form shape (Intermediates x) p = absurd p
 form_refusal files tensor form shape (Tensor x) p = absurd p
@@ -127,7 +123,6 @@ found_refusal refuses files spec tensor shape (Missing x) there (inl p) = absurd
 found_refusal refuses files spec tensor shape (Array x u) there (inl p) = absurd p
 found_refusal refuses files spec tensor shape (Flat x) there (inl p) = absurd p
 found_refusal refuses files spec tensor shape (Specification x) there (inl p) = absurd p
-found_refusal refuses files spec tensor shape NotBuilt there (inl p) = absurd p
 found_refusal refuses files spec tensor shape (Budget x) there (inl p) = absurd p
 found_refusal refuses files spec tensor shape (Intermediates x) there (inl p) = absurd p
 found_refusal refuses files spec tensor shape (Tensor x) there (inl p) = absurd p

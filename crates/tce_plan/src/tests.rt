@@ -17,6 +17,37 @@ const THREE_SUMS: &[u8] =
 const LONG_REPORT: &[u8] =
     b"tce plan 1\nnode 0 product loops b,c,d,f,e,l fused b,c,d,e,f,l size 1\nnode 1 sum loops b,c,d,f,e,l fused b,c,d,f size 1\nnode 2 product loops b,c,d,f,j,k fused b,c,d,f,j,k size 1\nnode 3 sum loops b,c,d,f,j,k fused b,c size 10000\nnode 4 product loops b,c,a,i,j,k fused a,b,c,i,j,k size 1\nnode 5 sum loops b,c,a,i,j,k result\nmemory 10004\n";
 
+const PRODUCT_SUM: &[u8] =
+    b"range N 2\nindex N i j k\ntensor A[N,N]\ntensor B[N,N]\ntensor C[N,N]\nC[i,j] = sum{k}(A[i,k] * B[k,j])\n";
+
+const PRODUCT_SUM_REPORT: &[u8] =
+    b"tce plan 1\nnode 0 product loops i,j,k fused i,j,k size 1\nnode 1 sum loops i,j,k result\nmemory 1\n";
+
+const SHARED_INDEX: &[u8] =
+    b"range N 2\nindex N i j\ntensor A[N,N]\ntensor B[N,N]\ntensor C[N]\nC[j] = sum{i}(A[i,j]) * sum{i}(B[i,j])\n";
+
+const SHARED_INDEX_REPORT: &[u8] =
+    b"tce plan 1\nnode 0 sum loops j,i fused j size 1\nnode 1 sum loops j,i fused j size 1\nnode 2 product loops j result\nmemory 2\n";
+
+const WITH_CONSTANTS: &[u8] =
+    b"range N 2\nindex N i\ntensor A[N]\ntensor B[N]\ntensor C[N]\nC[i] = 2 * A[i] - B[i] + 1\n";
+
+const WITH_CONSTANTS_REPORT: &[u8] =
+    b"tce plan 1\nnode 0 product loops i fused i size 1\nnode 1 sub loops i fused i size 1\nnode 2 add loops i result\nmemory 2\n";
+
+const ADDITION: &[u8] =
+    b"range N 2\nindex N i j\ntensor A[N]\ntensor B[N]\ntensor C[N,N]\nC[i,j] = A[i] + B[j]\n";
+
+const ADDITION_REPORT: &[u8] = b"tce plan 1\nnode 0 add loops i,j result\nmemory 0\n";
+
+const TWO_CONSTANTS: &[u8] = b"tensor C[]\nC[] = 2 + 3\n";
+
+const TWO_CONSTANTS_REPORT: &[u8] = b"tce plan 1\nnode 0 add loops - result\nmemory 0\n";
+
+// All extents are 1, so each fusion keeps one element at each node but the root.
+const SHORT_SUMS: &[u8] =
+    b"range V 1\nrange O 1\nindex V a b c d e f\nindex O i j k l\ntensor A[V,V,O,O]\ntensor B[V,V,V,O]\ntensor C[V,V,O,O]\ntensor D[V,V,V,O]\ntensor S[V,V,V,O,O,O]\nS[a,b,c,i,j,k] = sum{d,f}(sum{e,l}(B[b,e,f,l] * D[c,d,e,l]) * C[d,f,j,k]) * A[a,c,i,k]\n";
+
 // The report of the plan of a text.
 fn report_of(alloc: Global, text: &[u8]) -> Result<Vec<u8>, Fail> {
     let mut disk = MemDisk::new(alloc);
@@ -38,8 +69,38 @@ fn refused_code(alloc: Global, disk: &mut MemDisk) -> u8 {
 #[test]
 fn least_plans_are_reported(rt: HostRuntime) -> Result<(), Fail> {
     let alloc = rt.alloc();
-    assert_eq!(rt; report_of(alloc, TWO_SUMS)?.as_slice(), REPORT);
-    assert_eq!(rt; report_of(alloc, THREE_SUMS)?.as_slice(), LONG_REPORT);
+    for (text, wanted) in [
+        (TWO_SUMS, REPORT),
+        (THREE_SUMS, LONG_REPORT),
+        (PRODUCT_SUM, PRODUCT_SUM_REPORT),
+        (SHARED_INDEX, SHARED_INDEX_REPORT),
+        (WITH_CONSTANTS, WITH_CONSTANTS_REPORT),
+        (ADDITION, ADDITION_REPORT),
+        (TWO_CONSTANTS, TWO_CONSTANTS_REPORT),
+    ] {
+        assert_eq!(rt; report_of(alloc, text)?.as_slice(), wanted);
+    }
+    assert!(rt;
+        report_of(alloc, SHORT_SUMS)?
+            .as_slice()
+            .ends_with(b"\nmemory 4\n")
+    );
+    Ok(())
+}
+
+#[test]
+fn faulty_formulas_have_no_plan(rt: HostRuntime) -> Result<(), Fail> {
+    let alloc = rt.alloc();
+    let texts: [&[u8]; 3] = [
+        b"tensor C[]\nC[] = 3\n",
+        b"range N 2\nindex N i\ntensor A[N]\ntensor C[N]\nC[i] = 07 * A[i]\n",
+        b"range N 2\nindex N i\ntensor C[]\nC[] = sum{i}(3)\n",
+    ];
+    for text in texts {
+        let mut disk = MemDisk::new(alloc);
+        disk.put_file("sums.tce", text)?;
+        assert_eq!(rt; refused_code(alloc, &mut disk), 2);
+    }
     Ok(())
 }
 

@@ -13,6 +13,7 @@ mod report;
 
 pub use laws::written_lines_say_the_plan;
 pub use line::node_line;
+pub use names::push_names;
 pub use reader::{LineFault, NodeLine, read_node_line};
 pub use report::{plan_text, run_text};
 

@@ -4,10 +4,11 @@ ghost use Rattle.tce_space.specs.Space.{index_at};
 ghost use Rattle.tce_report.specs.Names.{index_list};
 
 use crate::line::Line;
+use arrayvec::ArrayString;
 use tce_space::Space;
 
-// Appends the names of the indexes with commas between them, or `-` where there are none.
-pub(crate) fn push_names(line: &mut Line, space: &Space, indexes: &[u8])
+/// Appends the names of the indexes with commas between them, or `-` where there are none.
+pub fn push_names(line: &mut ArrayString<512>, space: &Space, indexes: &[u8])
     requires declared { All (λ i. i < length space.now.indexes) indexes.now }
     requires room { length line.old.bytes + 17 * length indexes.now + 1 ≤ 512 }
     ensures names { line.new.bytes ≡ line.old.bytes ++ index_list space.now indexes.now }

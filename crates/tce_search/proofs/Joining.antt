@@ -1,30 +1,28 @@
 -- Fusions of the whole tree that candidates of the root's operands make.
-use Rattle.std.proofs.Common.{◌≡◌, ℕ, ◌+◌, ◌-◌, ◌<◌, ◌≤◌, true, Option, Some, None, List, [], ◌∷◌, ◌++◌, map, length, get_or, refl, sym, ap, ◌∙◌, subst, inl, inr, arith}
-use Rattle.std.specs.Prelude.{IfSome, IsSome, ◌⊎◌}
+use Rattle.std.proofs.Common.{◌≡◌, ℕ, ◌+◌, ◌-◌, ◌<◌, ◌≤◌, Option, Some, None, List, length, get_or, refl, sym, ◌∙◌, subst, arith}
+use Rattle.std.specs.Prelude.{IfSome, IsSome}
 use Rattle.std.specs.List.{All, Any, Contains}
 use Rattle.std.proofs.lemmas.List.{length-map, get_or-map, get_or_default}
 use Rattle.std.proofs.lemmas.List.Elements.{All-contains, All-map}
-use Rattle.tce_space.specs.IndexSet.{empty}
 use Rattle.tce_space.specs.Space.{IndexSpace}
-use Rattle.tce_tree.specs.ContractionTree.{ContractionTree, operations, node_loops, parent}
-use Rattle.tce_tree.specs.Fusion.{FusionFits}
-use Rattle.tce_tree.specs.Memory.{memory}
+use Rattle.tce_tree.specs.ContractionTree.{ContractionTree, operations, node_loops}
 use Rattle.tce_tree.proofs.Parents.{parent_is}
-use Rattle.tce_fusion.specs.Scope.{IsLegal}
 use Rattle.tce_states.specs.Relation.{HasNoConflict}
-use Rattle.tce_states.specs.Row.{Row, AreApart, rows_at, rows_joined}
-use Rattle.tce_states.specs.Cover.{left_rows, right_rows, NodesCovered, RootBelow, ArePruned}
+use Rattle.tce_states.specs.Row.{Row, rows_joined}
+use Rattle.tce_states.specs.Cover.{NodesCovered, RootBelow, ArePruned}
 use Rattle.tce_states.specs.Reached as reached
 use Rattle.tce_states.specs.Reached.{left_below, right_below, IsLegalWith, sets_of_step}
+use Rattle.tce_states.proofs.Covers.{total_is_bound}
 use Rattle.tce_states.proofs.Reached.{root_is_reached}
 use Rattle.tce_states.proofs.Unfused.{some_rows_join}
 use Rattle.tce_candidates.specs.declared.candidate.Candidate.{Candidate}
 use Rattle.tce_candidates.specs.Laws.{rows_of}
 use Rattle.tce_candidates.specs.Reached.{IsStateOf}
 use Rattle.tce_search.specs.declared.root.WholeFusion.{WholeFusion}
-use Rattle.tce_search.specs.CandidateLists.{tables_of, leaf_candidate, left_candidates, right_candidates, AreFound}
-use Rattle.tce_search.specs.Root.{IsMadeOf, IsMadeOfSome, IsAtMost, IsBound, IsBoundOfAll}
-use Rattle.tce_search.proofs.Operands.{tables-at, left_rows-are, right_rows-are, left_kept, right_kept}
+use Rattle.tce_search.specs.CandidateLists.{tables_of, leaf_candidate, left_candidates, right_candidates, IsStateWithin, AreFound}
+use Rattle.tce_search.specs.LeastPlan.{IsBelowFusions}
+use Rattle.tce_search.specs.Root.{IsMadeOfSome, IsAtMost, IsBound, IsBoundOfAll}
+use Rattle.tce_search.proofs.Operands.{tables-at, left_rows-are, right_rows-are, left_kept, right_kept, state_below}
 
 -- ---- the best of two lists
 
@@ -57,7 +55,7 @@ best_exists loops best lefts rights bound some =
 
 -- ---- at the root
 
-module _ (space : IndexSpace) (tree : ContractionTree) (found : List (List Candidate)) (root : ℕ) (all : AreFound space tree found)
+module _ (space : IndexSpace) (tree : ContractionTree) (limit : ℕ) (found : List (List Candidate)) (root : ℕ) (some : 0 < limit) (all : AreFound space tree limit found)
     (next : length found ≡ root) (last : root + 1 ≡ operations tree) where
   is_root : root ≡ operations tree - 1
   is_root = omega arith
@@ -71,9 +69,9 @@ module _ (space : IndexSpace) (tree : ContractionTree) (found : List (List Candi
   pub root_joins : (loops : ℕ) (best : Option WholeFusion) → loops ≡ node_loops tree root
       → IsBoundOfAll loops best (left_candidates tree found root) (right_candidates tree found root) → IsSome best
   root_joins loops best is bound =
-      let some = some_rows_join space tree (tables_of found) (omega (arith, last)) nodes_covered in
+      let joins = some_rows_join space tree (tables_of found) (omega (arith, last)) nodes_covered in
       best_exists loops best (left_candidates tree found root) (right_candidates tree found root) bound
-      (rw (is, ← left_rows-are tree found root, ← right_rows-are tree found root, is_root) some)
+      (rw (is, ← left_rows-are tree found root, ← right_rows-are tree found root, is_root) joins)
 
   pub root_below : (loops : ℕ) (whole : WholeFusion) → loops ≡ node_loops tree root
       → IsBoundOfAll loops (Some whole) (left_candidates tree found root) (right_candidates tree found root) → RootBelow tree (tables_of found) whole.memory
@@ -92,11 +90,14 @@ module _ (space : IndexSpace) (tree : ContractionTree) (found : List (List Candi
   state_of subtree candidate state = record { count = state.count; within = state.within; exists = state.has_state; relation = state.relation; cost_is = state.cost }
 
   pub root_legal : (loops : ℕ) (whole : WholeFusion) → loops ≡ node_loops tree root
-      → IsMadeOfSome loops (left_candidates tree found root) (right_candidates tree found root) whole → IsLegalWith space tree whole.sets.items whole.memory
-  root_legal loops whole is from =
+      → whole.memory < limit → IsMadeOfSome loops (left_candidates tree found root) (right_candidates tree found root) whole → IsLegalWith space tree whole.sets.items whole.memory
+  root_legal loops whole is low from =
       let inside : root < operations tree = omega (arith, last) in
-      let left = state_of (left_below tree root) from.left (All-contains (IsStateOf space (left_below tree root)) (left_candidates tree found root) from.left (left_kept space tree found root all inside next).states from.from_left) in
-      let right = state_of (right_below tree root) from.right (All-contains (IsStateOf space (right_below tree root)) (right_candidates tree found root) from.right (right_kept space tree found root all inside next).states from.from_right) in
+      let sum = from.made.memory_is in
+      let left_within = All-contains (IsStateWithin space (left_below tree root) limit) (left_candidates tree found root) from.left (left_kept space tree limit found some all root inside next) from.from_left in
+      let right_within = All-contains (IsStateWithin space (right_below tree root) limit) (right_candidates tree found root) from.right (right_kept space tree limit found some all root inside next) from.from_right in
+      let left = state_of (left_below tree root) from.left (state_below space (left_below tree root) limit from.left left_within (omega (arith, low, sum))) in
+      let right = state_of (right_below tree root) from.right (state_below space (right_below tree root) limit from.right right_within (omega (arith, low, sum))) in
       rw (from.made.sets_are, from.made.memory_is)
       (root_is_reached space tree from.left.sets.items from.right.sets.items from.left.row from.right.row (omega (arith, last))
       (subst (λ r. reached.IsStateOf space (left_below tree r) from.left.sets.items from.left.row) is_root left)
@@ -104,12 +105,19 @@ module _ (space : IndexSpace) (tree : ContractionTree) (found : List (List Candi
       (subst (λ r. HasNoConflict (node_loops tree r) (rows_joined from.left.row from.right.row)) is_root (subst (λ s. HasNoConflict s (rows_joined from.left.row from.right.row)) is from.made.quiet)))
 
   -- what is said of the best, said of the fusion that it is
-  pub whole_legal : (loops : ℕ) (best : Option WholeFusion) (whole : WholeFusion) → loops ≡ node_loops tree root → best ≡ Some whole
+  pub whole_legal : (loops : ℕ) (best : Option WholeFusion) (whole : WholeFusion) → loops ≡ node_loops tree root → whole.memory < limit → best ≡ Some whole
       → IfSome best (IsMadeOfSome loops (left_candidates tree found root) (right_candidates tree found root)) → IsLegalWith space tree whole.sets.items whole.memory
-  whole_legal loops best whole is are made =
-      root_legal loops whole is (subst (λ o. IfSome o (IsMadeOfSome loops (left_candidates tree found root) (right_candidates tree found root))) are made)
+  whole_legal loops best whole is low are made =
+      root_legal loops whole is low (subst (λ o. IfSome o (IsMadeOfSome loops (left_candidates tree found root) (right_candidates tree found root))) are made)
 
   pub whole_below : (loops : ℕ) (best : Option WholeFusion) (whole : WholeFusion) → loops ≡ node_loops tree root → best ≡ Some whole
       → IsBoundOfAll loops best (left_candidates tree found root) (right_candidates tree found root) → RootBelow tree (tables_of found) whole.memory
   whole_below loops best whole is are bound =
       root_below loops whole is (subst (λ o. IsBoundOfAll loops o (left_candidates tree found root) (right_candidates tree found root)) are bound)
+
+  -- where the best takes the limit, each legal fusion does
+  pub below_fusions : (loops : ℕ) (best : Option WholeFusion) (whole : WholeFusion) → loops ≡ node_loops tree root → limit ≤ whole.memory → best ≡ Some whole
+      → IsBoundOfAll loops best (left_candidates tree found root) (right_candidates tree found root) → IsBelowFusions space tree limit
+  below_fusions loops best whole is high are bound fusion fits legal =
+      let total = total_is_bound space tree (tables_of found) whole.memory (record { nodes = nodes_covered; root = whole_below loops best whole is are bound }) fusion fits legal in
+      omega (arith, high, total)

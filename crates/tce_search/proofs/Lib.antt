@@ -4,3 +4,4 @@ pub mod Growing
 pub mod Joining
 pub mod Proving
 pub mod RowLists
+pub mod LastLimit

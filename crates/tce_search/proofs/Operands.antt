@@ -1,28 +1,28 @@
 -- The candidates of the operands of a node.
-use Rattle.std.proofs.Common.{◌≡◌, ℕ, ◌+◌, ◌*◌, ◌^◌, ◌<◌, ◌≤◌, true, Option, Some, None, List, [], ◌∷◌, ◌++◌, map, length, get_or, refl, sym, ap, ◌∙◌, subst, inl, inr, arith}
+use Rattle.std.proofs.Common.{◌≡◌, ℕ, ◌+◌, ◌^◌, ◌<◌, ◌≤◌, true, Option, Some, None, List, [], ◌∷◌, ◌++◌, map, length, get_or, refl, sym, ap, ◌∙◌, subst, inl, inr, arith}
 use Rattle.std.specs.Prelude.{IfSome}
 use Rattle.std.specs.List.{All}
 use Rattle.std.proofs.lemmas.Bool.{cases_lt}
 use Rattle.std.proofs.lemmas.List.{length-map, get_or-map, get_or_past, get_or_append_left}
 use Rattle.std.proofs.lemmas.List.Elements.{All-cons, All-nil}
 use Rattle.tce_space.specs.Space.{IndexSpace}
-use Rattle.tce_tree.specs.ContractionTree.{ContractionTree, leaf, constant, is_leaf, left_tree, right_tree, operations, node}
-use Rattle.tce_tree.specs.FlatTree.{IsTree, IsBefore, left_of, right_of}
+use Rattle.tce_tree.specs.ContractionTree.{ContractionTree, leaf, constant, is_leaf, operations, node}
+use Rattle.tce_tree.specs.FlatTree.{IsBefore, left_of, right_of}
 use Rattle.tce_tree.specs.declared.node.Operand.{Operand}
 use Rattle.tce_tree.specs.declared.node.Operand.TheVariants.{Leaf, Constant, Node}
 use Rattle.tce_tree.proofs.Nodes.{size_bounds}
 use Rattle.tce_tree.proofs.Operands.{left_before, right_before}
-use Rattle.tce_states.specs.Row.{Row, rows_at}
+use Rattle.tce_states.specs.Row.{rows_at}
 use Rattle.tce_states.specs.Cover.{operand_rows, right_operand_rows, left_rows, right_rows}
 use Rattle.tce_states.specs.Reached.{tree_of_operand, tree_of_right, left_below, right_below}
 use Rattle.tce_states.proofs.Operands.{operations-node, node_of_some}
 use Rattle.tce_states.proofs.Reached.{operands_are_joined}
 use Rattle.tce_candidates.specs.declared.candidate.Candidate.{Candidate}
-use Rattle.tce_candidates.specs.Candidates.{IsLimited, LeavesRoom, HaveRoom}
+use Rattle.tce_candidates.specs.Candidates.{IsLimited, HaveRoom}
 use Rattle.tce_candidates.specs.Laws.{rows_of}
 use Rattle.tce_candidates.specs.Reached.{IsStateOf}
 use Rattle.tce_candidates.proofs.ReachedStates.{leaves_have_states}
-use Rattle.tce_search.specs.CandidateLists.{candidates_at, tables_of, leaf_candidate, operand_candidates, right_operand_candidates, left_candidates, right_candidates, IsModest, AreFound}
+use Rattle.tce_search.specs.CandidateLists.{candidates_at, tables_of, leaf_candidate, operand_candidates, right_operand_candidates, left_candidates, right_candidates, IsStateWithin, AreFound}
 
 -- ---- their rows
 
@@ -74,37 +74,41 @@ right_candidates-push tree found more v inside next =
 
 -- ---- what is kept of them
 
--- states of a subtree whose costs are within the bound
-pub record AreOperands (space : IndexSpace) (tree : ContractionTree) (candidates : List Candidate) : Type 0 where
-  pub states : All (IsStateOf space tree) candidates
-  pub modest : All IsModest candidates
+-- what a candidate within the limit keeps
+pub cost_within : (space : IndexSpace) (tree : ContractionTree) (limit : ℕ) (candidate : Candidate) → IsStateWithin space tree limit candidate → candidate.row.cost ≤ limit
+cost_within space tree limit candidate (inl below) = omega (arith, below.cheap)
+cost_within space tree limit candidate (inr at_limit) = rw at_limit (omega arith)
 
-leaf_operands : (space : IndexSpace) (tree : ContractionTree) → is_leaf tree ≡ true → AreOperands space tree (leaf_candidate ∷ [])
-leaf_operands space tree leaf_tree = record {
-  states = All-cons (IsStateOf space tree) leaf_candidate [] (leaves_have_states space tree leaf_candidate leaf_tree refl refl) (All-nil (IsStateOf space tree));
-  modest = All-cons IsModest leaf_candidate [] (omega arith) (All-nil IsModest);
-}
+pub sets_within : (space : IndexSpace) (tree : ContractionTree) (limit : ℕ) (candidate : Candidate) → IsStateWithin space tree limit candidate → length candidate.sets.items ≤ operations tree
+sets_within space tree limit candidate (inl below) = omega (arith, below.state.count)
+sets_within space tree limit candidate (inr at_limit) = rw at_limit (omega arith)
 
-operand_kept : (space : IndexSpace) (tree : ContractionTree) (found : List (List Candidate)) (operand : Operand) → AreFound space tree found → IsBefore (length found) operand
-    → AreOperands space (tree_of_operand tree operand) (operand_candidates found operand)
-operand_kept space tree found (Leaf reference) all before = leaf_operands space (leaf reference.tensor reference.indexes.items) refl
-operand_kept space tree found (Constant number) all before = leaf_operands space (constant number) refl
-operand_kept space tree found (Node v) all before = record { states = (all v before).states; modest = (all v before).modest }
+-- it is a state where it costs less
+pub state_below : (space : IndexSpace) (tree : ContractionTree) (limit : ℕ) (candidate : Candidate) → IsStateWithin space tree limit candidate → candidate.row.cost < limit
+    → IsStateOf space tree candidate
+state_below space tree limit candidate (inl below) low = below.state
+state_below space tree limit candidate (inr at_limit) low = absurd (let cost = ap (λ (c : Candidate). c.row.cost) at_limit in omega (arith, cost, low))
 
-right_operand_kept : (space : IndexSpace) (tree : ContractionTree) (found : List (List Candidate)) (operand : Option Operand) → AreFound space tree found
-    → IfSome operand (IsBefore (length found)) → AreOperands space (tree_of_right tree operand) (right_operand_candidates found operand)
-right_operand_kept space tree found None all before = leaf_operands space (constant 0) refl
-right_operand_kept space tree found (Some operand) all before = operand_kept space tree found operand all before
+module _ (space : IndexSpace) (tree : ContractionTree) (limit : ℕ) (found : List (List Candidate)) (some : 0 < limit) (all : AreFound space tree limit found) where
+  leaf_kept : (subtree : ContractionTree) → is_leaf subtree ≡ true → All (IsStateWithin space subtree limit) (leaf_candidate ∷ [])
+  leaf_kept subtree leaf_tree =
+      All-cons (IsStateWithin space subtree limit) leaf_candidate [] (inl (record { state = leaves_have_states space subtree leaf_candidate leaf_tree refl refl; cheap = some }))
+      (All-nil (IsStateWithin space subtree limit))
 
-pub left_kept : (space : IndexSpace) (tree : ContractionTree) (found : List (List Candidate)) (v : ℕ) → AreFound space tree found → v < operations tree → length found ≡ v
-    → AreOperands space (left_below tree v) (left_candidates tree found v)
-left_kept space tree found v all inside next =
-    operand_kept space tree found (left_of tree v) all (subst (λ n. IsBefore n (left_of tree v)) (sym next) (left_before tree v inside))
+  operand_kept : (operand : Operand) → IsBefore (length found) operand → All (IsStateWithin space (tree_of_operand tree operand) limit) (operand_candidates found operand)
+  operand_kept (Leaf reference) before = leaf_kept (leaf reference.tensor reference.indexes.items) refl
+  operand_kept (Constant number) before = leaf_kept (constant number) refl
+  operand_kept (Node v) before = (all v before).states
 
-pub right_kept : (space : IndexSpace) (tree : ContractionTree) (found : List (List Candidate)) (v : ℕ) → AreFound space tree found → v < operations tree → length found ≡ v
-    → AreOperands space (right_below tree v) (right_candidates tree found v)
-right_kept space tree found v all inside next =
-    right_operand_kept space tree found (right_of tree v) all (subst (λ n. IfSome (right_of tree v) (IsBefore n)) (sym next) (right_before tree v inside))
+  right_operand_kept : (operand : Option Operand) → IfSome operand (IsBefore (length found)) → All (IsStateWithin space (tree_of_right tree operand) limit) (right_operand_candidates found operand)
+  right_operand_kept None before = leaf_kept (constant 0) refl
+  right_operand_kept (Some operand) before = operand_kept operand before
+
+  pub left_kept : (v : ℕ) → v < operations tree → length found ≡ v → All (IsStateWithin space (left_below tree v) limit) (left_candidates tree found v)
+  left_kept v inside next = operand_kept (left_of tree v) (subst (λ n. IsBefore n (left_of tree v)) (sym next) (left_before tree v inside))
+
+  pub right_kept : (v : ℕ) → v < operations tree → length found ≡ v → All (IsStateWithin space (right_below tree v) limit) (right_candidates tree found v)
+  right_kept v inside next = right_operand_kept (right_of tree v) (subst (λ n. IfSome (right_of tree v) (IsBefore n)) (sym next) (right_before tree v inside))
 
 -- ---- limits
 
@@ -116,25 +120,16 @@ operand_sizes tree v inside =
     let whole = operations-node (node tree v) (node_of_some (node tree v) bounds.0) in
     rw (both.0, both.1) (omega (arith, whole, bounds))
 
-limited : (space : IndexSpace) (tree : ContractionTree) (candidates : List Candidate) → operations tree < 32 → AreOperands space tree candidates → All IsLimited candidates
-limited space tree candidates few kept k d low =
-    let count = (kept.states k d low).count in
-    let cost = kept.modest k d low in
-    omega (arith, count, cost)
+module _ (space : IndexSpace) (tree : ContractionTree) (limit : ℕ) (found : List (List Candidate)) (v : ℕ) (some : 0 < limit) (small : limit < 2 ^ 96) (few : operations tree ≤ 32)
+    (all : AreFound space tree limit found) (inside : v < operations tree) (next : length found ≡ v) where
+  pub left_limited : All IsLimited (left_candidates tree found v)
+  left_limited k d low = omega (arith, small, cost_within space (left_below tree v) limit (get_or (left_candidates tree found v) k d) (left_kept space tree limit found some all v inside next k d low))
 
-pub left_limited : (space : IndexSpace) (tree : ContractionTree) (found : List (List Candidate)) (v : ℕ) → operations tree ≤ 32 → AreFound space tree found → v < operations tree → length found ≡ v
-    → All IsLimited (left_candidates tree found v)
-left_limited space tree found v few all inside next =
-    limited space (left_below tree v) (left_candidates tree found v) (omega (arith, operand_sizes tree v inside)) (left_kept space tree found v all inside next)
+  pub right_limited : All IsLimited (right_candidates tree found v)
+  right_limited k d low = omega (arith, small, cost_within space (right_below tree v) limit (get_or (right_candidates tree found v) k d) (right_kept space tree limit found some all v inside next k d low))
 
-pub right_limited : (space : IndexSpace) (tree : ContractionTree) (found : List (List Candidate)) (v : ℕ) → operations tree ≤ 32 → AreFound space tree found → v < operations tree → length found ≡ v
-    → All IsLimited (right_candidates tree found v)
-right_limited space tree found v few all inside next =
-    limited space (right_below tree v) (right_candidates tree found v) (omega (arith, operand_sizes tree v inside)) (right_kept space tree found v all inside next)
-
-pub have_room : (space : IndexSpace) (tree : ContractionTree) (found : List (List Candidate)) (v : ℕ) → operations tree ≤ 32 → AreFound space tree found → v < operations tree → length found ≡ v
-    → HaveRoom (left_candidates tree found v) (right_candidates tree found v)
-have_room space tree found v few all inside next k d low m e inner =
-    let left = ((left_kept space tree found v all inside next).states k d low).count in
-    let right = ((right_kept space tree found v all inside next).states m e inner).count in
-    omega (arith, left, right, operand_sizes tree v inside)
+  pub have_room : HaveRoom (left_candidates tree found v) (right_candidates tree found v)
+  have_room k d low m e inner =
+      let left = sets_within space (left_below tree v) limit (get_or (left_candidates tree found v) k d) (left_kept space tree limit found some all v inside next k d low) in
+      let right = sets_within space (right_below tree v) limit (get_or (right_candidates tree found v) m e) (right_kept space tree limit found some all v inside next m e inner) in
+      omega (arith, few, left, right, operand_sizes tree v inside)

@@ -1,5 +1,5 @@
 -- The plan that is found is that of a least fusion.
-use Rattle.std.proofs.Common.{◌≡◌, ℕ, ◌+◌, ◌-◌, ◌*◌, ◌^◌, ◌<◌, ◌≤◌, List, map, length, get_or, sym, ap, ◌∙◌, subst, arith}
+use Rattle.std.proofs.Common.{◌≡◌, ℕ, ◌+◌, ◌^◌, ◌<◌, List, length, get_or, sym, ap, ◌∙◌, subst, arith}
 use Rattle.std.specs.List.{All}
 use Rattle.std.proofs.lemmas.List.{length-map}
 use Rattle.std.proofs.lemmas.List.Elements.{All-map}
@@ -7,10 +7,7 @@ use Rattle.tce_space.specs.Space.{IndexSpace}
 use Rattle.tce_tree.specs.ContractionTree.{ContractionTree, operations, node, node_dims}
 use Rattle.tce_tree.specs.Fusion.{FusionFits}
 use Rattle.tce_tree.specs.Memory.{memory}
-use Rattle.tce_tree.proofs.Nodes.{size_bounds}
 use Rattle.tce_fusion.specs.Scope.{IsLegal}
-use Rattle.tce_fusion.specs.Least.{IsLeast}
-use Rattle.tce_states.specs.Row.{Row, rows_at}
 use Rattle.tce_states.specs.Cover.{Covers, ArePruned, NodesCovered, RootBelow}
 use Rattle.tce_states.specs.Reached.{IsLegalWith}
 use Rattle.tce_states.proofs.Covers.{least_by_cover}
@@ -20,29 +17,27 @@ use Rattle.tce_candidates.specs.declared.candidate.Candidate.{Candidate}
 use Rattle.tce_candidates.specs.Laws.{rows_of}
 use Rattle.tce_search.specs.CandidateLists.{candidates_at, tables_of, AreCandidates, AreFound}
 use Rattle.tce_search.specs.LeastPlan.{IsLeastPlan, IsPlanOf}
-use Rattle.tce_search.proofs.Operands.{tables-at}
+use Rattle.tce_search.proofs.Operands.{tables-at, cost_within}
 
 -- the rows of a node fit it
-rows_fit_node : (space : IndexSpace) (tree : ContractionTree) (found : List (List Candidate)) (v : ℕ) → operations tree ≤ 32 → v < operations tree → AreCandidates space tree found v
+rows_fit_node : (space : IndexSpace) (tree : ContractionTree) (limit : ℕ) (found : List (List Candidate)) (v : ℕ) → limit < 2 ^ 96 → AreCandidates space tree limit found v
     → All (RowFits (node_dims tree v)) (rows_of (candidates_at found v))
-rows_fit_node space tree found v few inside kept =
+rows_fit_node space tree limit found v small kept =
     All-map (RowFits (node_dims tree v)) (λ (c : Candidate). c.row) (candidates_at found v)
     (λ k d low.
-    let count = (kept.states k d low).count in
-    let cost = kept.modest k d low in
-    let size = size_bounds tree v inside in
-    record { classes = kept.classes k d low; cost = omega (arith, count, cost, size, few, inside) })
+    let cost = cost_within space (node tree v) limit (get_or (candidates_at found v) k d) (kept.states k d low) in
+    record { classes = kept.classes k d low; cost = omega (arith, cost, small) })
 
-rows_fit : (space : IndexSpace) (tree : ContractionTree) (found : List (List Candidate)) → operations tree ≤ 32 → length found + 1 ≡ operations tree → AreFound space tree found
+rows_fit : (space : IndexSpace) (tree : ContractionTree) (limit : ℕ) (found : List (List Candidate)) → limit < 2 ^ 96 → AreFound space tree limit found
     → RowsFit tree (tables_of found)
-rows_fit space tree found few count all v low =
+rows_fit space tree limit found small all v low =
     let inside : v < length found = rw length-map at low in
-    rw (tables-at found v) (rows_fit_node space tree found v few (omega (arith, inside, count)) (all v inside))
+    rw (tables-at found v) (rows_fit_node space tree limit found v small (all v inside))
 
-pub least_plan : (space : IndexSpace) (tree : ContractionTree) (found : List (List Candidate)) (fusion : List ℕ) (total : ℕ) (plan : Plan) → operations tree ≤ 32
-    → length found + 1 ≡ operations tree → AreFound space tree found → NodesCovered space tree (tables_of found) → ArePruned tree (tables_of found) → RootBelow tree (tables_of found) total
+pub least_plan : (space : IndexSpace) (tree : ContractionTree) (limit : ℕ) (found : List (List Candidate)) (fusion : List ℕ) (total : ℕ) (plan : Plan) → limit < 2 ^ 96
+    → length found + 1 ≡ operations tree → AreFound space tree limit found → NodesCovered space tree (tables_of found) → ArePruned tree (tables_of found) → RootBelow tree (tables_of found) total
     → IsLegalWith space tree fusion total → IsPlanOf space tree fusion (tables_of found) plan → IsLeastPlan space tree plan
-least_plan space tree found fusion total plan few count all covered pruned below legal made = record {
+least_plan space tree limit found fusion total plan small count all covered pruned below legal made = record {
   fits = record {
     fusion = fits;
     orders = made.orders_fit;
@@ -50,7 +45,7 @@ least_plan space tree found fusion total plan few count all covered pruned below
     size_limit = made.size_limit;
     memory_limit = made.memory_limit;
     tables = rw made.tables_are (rw length-map count);
-    rows = rw made.tables_are (rows_fit space tree found few count all);
+    rows = rw made.tables_are (rows_fit space tree limit found small all);
   };
   least = least_by_cover space tree plan.fusion.0.items plan.tables fits is_legal (subst (Covers space tree plan.tables) made.memory_is covers);
   carried = made.carried;

@@ -1,11 +1,11 @@
 -- Tables that are filled row by row.
-use Rattle.std.proofs.Common.{◌≡◌, ◌≢◌, ℕ, ◌+◌, ◌<◌, ◌≤◌, List, [], ◌∷◌, ◌++◌, map, take, set, length, get_or, refl, sym, ap, ◌∙◌, subst, inl, inr, arith, length-set}
+use Rattle.std.proofs.Common.{◌≡◌, ◌≢◌, ℕ, ◌+◌, ◌<◌, ◌≤◌, List, [], ◌∷◌, ◌++◌, map, take, set, length, get_or, sym, ap, ◌∙◌, inl, inr, arith, length-set}
 use Rattle.std.proofs.lemmas.Bool.{cases_eq}
 use Rattle.std.proofs.lemmas.List.{append-nil, append_assoc, length-map, get_or-set_same, get_or-set_other, set-set, set-get_or, map_more, ext_get_or}
 use Rattle.tce_states.specs.Row.{Row, rows_at}
 use Rattle.tce_candidates.specs.declared.candidate.Candidate.{Candidate}
 use Rattle.tce_candidates.specs.Laws.{rows_of}
-use Rattle.tce_search.specs.CandidateLists.{candidates_at, tables_of, leaf_candidate}
+use Rattle.tce_search.specs.CandidateLists.{candidates_at, tables_of}
 use Rattle.tce_search.proofs.Operands.{tables-at}
 
 -- no rows more

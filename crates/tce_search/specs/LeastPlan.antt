@@ -1,12 +1,12 @@
 -- What the plan that is found keeps.
-use Rattle.std.specs.Prelude.{◌≡◌, ℕ, ◌+◌, ◌-◌, ◌<◌, ◌^◌, List, length, slice_index}
+use Rattle.std.specs.Prelude.{◌≡◌, ℕ, ◌+◌, ◌-◌, ◌<◌, ◌≤◌, ◌^◌, List, length, slice_index}
 use Rattle.std.specs.List.{All}
 use Rattle.tce_space.specs.Space.{IndexSpace}
 use Rattle.tce_tree.specs.ContractionTree.{ContractionTree, operations}
-use Rattle.tce_tree.specs.Fusion.{OrdersFit, Carries, order_at}
+use Rattle.tce_tree.specs.Fusion.{FusionFits, OrdersFit, Carries, order_at}
 use Rattle.tce_tree.specs.Orders.{lists_of}
 use Rattle.tce_tree.specs.Memory.{size_at, memory}
-use Rattle.tce_fusion.specs.Scope.{IsStandardAt}
+use Rattle.tce_fusion.specs.Scope.{IsLegal, IsStandardAt}
 use Rattle.tce_fusion.specs.Least.{IsLeast}
 use Rattle.tce_states.specs.Row.{Row}
 use Rattle.tce_states.specs.Cover.{Covers, ArePruned}
@@ -33,6 +33,10 @@ pub record IsLeastPlan (space : IndexSpace) (tree : ContractionTree) (plan : Pla
   pub memory_is : plan.memory ≡ memory space tree plan.fusion.0.items
   pub covers : Covers space tree plan.tables plan.memory
   pub pruned : ArePruned tree plan.tables
+
+-- each legal fusion takes at least as much memory
+abbrev pub IsBelowFusions : IndexSpace → ContractionTree → ℕ → Type 0
+IsBelowFusions space tree limit = (fusion : List ℕ) → FusionFits tree fusion → IsLegal tree fusion → limit ≤ memory space tree fusion
 
 -- the plan of a fusion with these tables: its standard orders, its sizes and its memory
 pub record IsPlanOf (space : IndexSpace) (tree : ContractionTree) (fusion : List ℕ) (tables : List (List Row)) (plan : Plan) : Type 0 where

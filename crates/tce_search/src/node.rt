@@ -1,5 +1,5 @@
 // The candidates of the nodes, from the leaves up.
-ghost use Rattle.std.specs.Prelude.{◌≡◌, ℕ, ◌+◌, ◌<◌, [], ◌∷◌, ◌++◌, length, IfOk};
+ghost use Rattle.std.specs.Prelude.{◌≡◌, ℕ, ◌+◌, ◌<◌, ◌^◌, [], ◌∷◌, ◌++◌, length, IfOk};
 ghost use Rattle.tce_tree.specs.ContractionTree.{operations, node_loops, parent};
 ghost use Rattle.tce_tree.specs.Measure.{IsMeasured};
 ghost use Rattle.tce_search.specs.CandidateLists.{AreCandidates, AreFound};
@@ -11,19 +11,22 @@ use tce_space::{IndexSet, Space};
 use tce_steps::choices;
 use tce_tree::Tree;
 
-/// The candidates of all nodes but the root.
+/// The candidates of all nodes but the root: states that cost less than the limit, and what stands for all others.
 pub(crate) fn find_candidates(
     alloc: Global,
     space: &Space,
     tree: &Tree,
+    limit: u128,
 ) -> Result<Found, AllocError>
-    requires { IsMeasured space.now tree.now }
+    requires measured { IsMeasured space.now tree.now }
+    requires some { 0 < limit }
+    requires small { limit < 2 ^ 96 }
     ensures count { IfOk result (λ found. length found + 1 ≡ operations tree.now) }
-    ensures found { IfOk result (AreFound space.now tree.now) }
+    ensures found { IfOk result (AreFound space.now tree.now limit) }
 {
     let mut found = Found::new(alloc);
     for v in 0..tree.count() - 1 {
-        let candidates = candidates_of_node(alloc, space, tree, &found, v)?;
+        let candidates = candidates_of_node(alloc, space, tree, &found, v, limit)?;
         found.push(candidates)?;
     }
     Ok(found)
@@ -36,12 +39,15 @@ fn candidates_of_node(
     tree: &Tree,
     found: &Found,
     v: u8,
+    limit: u128,
 ) -> Result<Vec<Candidate>, AllocError>
     requires measured { IsMeasured space.now tree.now }
+    requires some { 0 < limit }
+    requires small { limit < 2 ^ 96 }
     requires inside { v < operations tree.now }
     requires next { length found.now ≡ v }
-    requires found { AreFound space.now tree.now found.now }
-    ensures { IfOk result (λ candidates. AreCandidates space.now tree.now (found.now ++ candidates.items ∷ []) v) }
+    requires found { AreFound space.now tree.now limit found.now }
+    ensures { IfOk result (λ candidates. AreCandidates space.now tree.now limit (found.now ++ candidates.items ∷ []) v) }
 {
     let _count = tree.count();
     let leaf = [Candidate::default()];
@@ -57,6 +63,7 @@ fn candidates_of_node(
         tree.loops(v),
         choices.as_slice(),
         outer_loops(tree, v),
+        limit,
     )
 }
 

@@ -1,5 +1,5 @@
 // Plans of least fusions.
-ghost use Rattle.std.specs.Prelude.{◌≡◌, ℕ, ◌+◌, ◌-◌, ◌<◌, ◌≤◌, ◌^◌, ◌++◌, length, slice_index, slice_set, All, IfOk, OnOk};
+ghost use Rattle.std.specs.Prelude.{◌≡◌, ℕ, ◌+◌, ◌-◌, ◌<◌, ◌≤◌, ◌^◌, ◌++◌, length, slice_index, slice_set, All, IfSome, IfOk, OnOk};
 ghost use Rattle.tce_tree.specs.ContractionTree.{operations};
 ghost use Rattle.tce_tree.specs.Fusion.{FusionFits};
 ghost use Rattle.tce_tree.specs.Measure.{IsMeasured};
@@ -8,7 +8,7 @@ ghost use Rattle.tce_fusion.specs.Scope.{IsLegal};
 ghost use Rattle.tce_states.specs.Row.{rows_at};
 ghost use Rattle.tce_candidates.specs.Laws.{rows_of};
 ghost use Rattle.tce_search.specs.CandidateLists as list;
-ghost use Rattle.tce_search.specs.LeastPlan.{IsLeastPlan, IsPlanOf};
+ghost use Rattle.tce_search.specs.LeastPlan.{IsLeastPlan, IsPlanOf, IsBelowFusions};
 
 use crate::found::Found;
 use crate::node::find_candidates;
@@ -21,20 +21,55 @@ use tce_nesting::{Plan, Tables};
 use tce_space::Space;
 use tce_tree::{Fusion, Tree};
 
+// No fusion takes as much as this.
+const LAST_LIMIT: u128 = 1 << 95;
+
 /// A plan of a legal fusion of the tree such that no legal fusion takes less memory, with its standard orders, the sizes of its nodes, its memory in elements, and tables of states that show it to be least.
+///
+/// It is sought below a limit that grows until there is one, so that states which cost more need not be told apart (a search in rounds, after Korf 1985).
 ///
 /// The tables have for each step from rows of a node's operands a row that is coarser on the loops of the node's parent and costs no more, and no row that is so for another row of its node. Only want of memory is refused.
 pub fn search(alloc: Global, space: &Space, tree: &Tree) -> Result<Plan, AllocError>
     requires { IsMeasured space.now tree.now }
     ensures { IfOk result (IsLeastPlan space.now tree.now) }
 {
-    let found = find_candidates(alloc, space, tree)?;
+    let _indexes = space.index_count();
+    let _nodes = tree.count();
+    let mut limit = 1;
+    while limit < LAST_LIMIT {
+        if let Some(plan) = search_below(alloc, space, tree, limit)? {
+            return Ok(plan);
+        }
+        limit *= 2;
+    }
+    let last = search_below(alloc, space, tree, LAST_LIMIT)?;
+    Ok(last.unwrap())
+}
+
+// A plan of a least fusion, where one takes less memory than the limit.
+fn search_below(
+    alloc: Global,
+    space: &Space,
+    tree: &Tree,
+    limit: u128,
+) -> Result<Option<Plan>, AllocError>
+    requires measured { IsMeasured space.now tree.now }
+    requires some { 0 < limit }
+    requires small { limit < 2 ^ 96 }
+    ensures plan { IfOk result (λ found. IfSome found (IsLeastPlan space.now tree.now)) }
+    ensures none { IfOk result (λ found. found ≡ None → IsBelowFusions space.now tree.now limit) }
+{
+    let found = find_candidates(alloc, space, tree, limit)?;
     let root = tree.count() - 1;
     let leaf = [Candidate::default()];
     let lefts = found.of_left(tree, root, &leaf);
     let rights = found.of_right(tree, root, &leaf);
     let whole = least_fusion(lefts, rights, tree.loops(root)).unwrap();
-    plan_of(alloc, space, tree, Fusion(whole.sets), &found)
+    if limit <= whole.memory {
+        return Ok(None);
+    }
+    let plan = plan_of(alloc, space, tree, Fusion(whole.sets), &found)?;
+    Ok(Some(plan))
 }
 
 // The plan of a legal fusion, with the states of all candidates as its tables.

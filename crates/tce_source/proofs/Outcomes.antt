@@ -8,7 +8,7 @@ use Rattle.tce_declarations.specs.FaultCode.{Shows}
 use Rattle.tce_declarations.specs.declared.fault.SpecFault.{SpecFault}
 use Rattle.tce_command.specs.Refusals.{IsFree, SameRefusal}
 use Rattle.tce_command.specs.declared.refusal.Refusal.{Refusal}
-use Rattle.tce_command.specs.declared.refusal.Refusal.TheVariants.{Specification, NotBuilt, Missing, Array, Budget, Intermediates, Flat, Tensor, Misfit, Disk, Memory}
+use Rattle.tce_command.specs.declared.refusal.Refusal.TheVariants.{Specification, Missing, Array, Budget, Intermediates, Flat, Tensor, Misfit, Disk, Memory}
 use Rattle.tce_source.specs.Source.{Specifies, HasFault, HasSpecification, IsSourceRefusal}
 use Rattle.tce_source.proofs.Faults.{told}
 
@@ -38,14 +38,12 @@ not_absent P found p e = subst (λ x. IsSomeAnd x P) e p
 pub one_refusal : (name : List ℕ) (found : Option (List ℕ)) (a b : Refusal) → IsSourceRefusal name found a → IsSourceRefusal name found b → (IsFree b → ⊥) → IsFree a ⊎ SameRefusal a b
 one_refusal name found Disk b p q free = inl tt
 one_refusal name found Memory b p q free = inl tt
-one_refusal name found NotBuilt b p q free = absurd p
 one_refusal name found (Array x u) b p q free = absurd p
 one_refusal name found (Budget x) b p q free = absurd p
 one_refusal name found (Intermediates x) b p q free = absurd p
 one_refusal name found (Flat x) b p q free = absurd p
 one_refusal name found (Tensor x) b p q free = absurd p
 one_refusal name found (Misfit x) b p q free = absurd p
-one_refusal name found a NotBuilt p q free = absurd q
 one_refusal name found a (Array y v) p q free = absurd q
 one_refusal name found a (Budget y) p q free = absurd q
 one_refusal name found a (Intermediates y) p q free = absurd q
@@ -70,7 +68,6 @@ not_both files spec s (Missing name) p q = absurd (not_absent _ (file files spec
 not_both files spec s (Specification f) p q = absurd (specified_not_faulty (file files spec) s f p q)
 not_both files spec s Disk p q = tt
 not_both files spec s Memory p q = tt
-not_both files spec s NotBuilt p q = absurd q
 not_both files spec s (Array name fault) p q = absurd q
 not_both files spec s (Budget n) p q = absurd q
 not_both files spec s (Intermediates n) p q = absurd q

@@ -84,3 +84,9 @@ reached_end ns cs d rest left number l r =
     let last : 0 ≡ left = omega (arith, r.below) in
     let all = r.reached [] (subst (λ (b : List ℕ). IsInside b []) (sym none) tt) (ap (λ (b : List ℕ). place b []) none ∙ last) in
     (subst (IsInside ns) (append_none cs) all.0, ap (place ns) (sym (append_none cs)) ∙ all.1)
+
+pub coordinate_below : (ns xs : List ℕ) (d : ℕ) → IsInside ns xs → d < length ns → get_or xs d 0 < get_or ns d 0
+coordinate_below [] xs d h l = absurd (omega arith)
+coordinate_below (n ∷ ns) [] d h l = absurd h
+coordinate_below (n ∷ ns) (x ∷ xs) zero h l = h.0
+coordinate_below (n ∷ ns) (x ∷ xs) (suc d) h l = coordinate_below ns xs d h.1 (omega arith)

@@ -11,7 +11,6 @@ use Rattle.tce_base.proofs.WordBytes.{length-words, drop-words}
 use Rattle.tce_space.proofs.Tilings.{word-lt}
 use Rattle.tce_outside.specs.Files.{overwritten}
 use Rattle.tce_array.specs.declared.form.Form.{Form}
-use Rattle.tce_array.specs.declared.form.Form.TheVariants.{One, Narrow, Wide}
 use Rattle.tce_array.specs.Forms.{width, word_in}
 use Rattle.tce_array.proofs.WordBytes.{word_in_same, take-words}
 
@@ -80,9 +79,3 @@ low_more ws bytes rest new post k room l is before =
 -- what was read, by other words
 pub piece_is : (bs piece : List ℕ) (m at n place : ℕ) → piece ≡ take m (drop at bs) → m ≡ n → at ≡ place → piece ≡ take n (drop place bs)
 piece_is bs piece m at n place e l p = e ∙ ap (λ i. take i (drop at bs)) l ∙ ap (λ i. take n (drop i bs)) p
-
--- a run fits the buffer
-pub run_bytes : (form : Form) (n : ℕ) → n ≤ 4096 → width form * n ≤ 32768
-run_bytes One n h = omega arith
-run_bytes Narrow n h = omega arith
-run_bytes Wide n h = omega arith

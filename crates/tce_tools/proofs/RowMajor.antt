@@ -7,7 +7,7 @@ use Rattle.tce_space.specs.Tiling.{Tiling, IsTiling, counts_along, divided, rema
 use Rattle.tce_space.proofs.Tilings.{place_in_tile-lt}
 use Rattle.tce_tools.specs.Runs.{IsRowMajor}
 
-below_one : (x e : ℕ) → x < e → x / e ≡ 0
+pub below_one : (x e : ℕ) → x < e → x / e ≡ 0
 below_one x e h = let is : x ≡ 0 * e + x = omega arith in ap (λ y. y / e) is ∙ div-mul-add 0 e x h
 
 -- at most one dimension

@@ -42,13 +42,13 @@ moved_place (n ∷ []) (x ∷ y ∷ ys) k l h = absurd h.1
 moved_place (n ∷ m ∷ ns) (x ∷ []) k l h = absurd h.1
 moved_place (n ∷ m ∷ ns) (x ∷ y ∷ ys) k l h = omega (arith, moved_place (m ∷ ns) (y ∷ ys) k (omega arith) h.1)
 
-quotient_same : (x k e : ℕ) → x % e + k < e → (x + k) / e ≡ x / e
+pub quotient_same : (x k e : ℕ) → x % e + k < e → (x + k) / e ≡ x / e
 quotient_same x k e h =
     let parts = div-add-mod' x e in
     let is : x + k ≡ x / e * e + (x % e + k) = omega arith in
     ap (λ y. y / e) is ∙ div-mul-add (x / e) e (x % e + k) h
 
-remainder_moved : (x k e : ℕ) → x % e + k < e → (x + k) % e ≡ x % e + k
+pub remainder_moved : (x k e : ℕ) → x % e + k < e → (x + k) % e ≡ x % e + k
 remainder_moved x k e h =
     let parts = div-add-mod' x e in
     let is : x + k ≡ x / e * e + (x % e + k) = omega arith in

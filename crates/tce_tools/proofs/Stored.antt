@@ -1,4 +1,4 @@
--- What a run is in each kind of file.
+-- The words of each kind of file, by its elements.
 use Rattle.std.proofs.Common.{◌≡◌, ◌∙◌, ◌⊎◌, ℕ, ◌+◌, ◌*◌, ◌<◌, ◌≤◌, true, false, nat_lt, if◌then◌else◌, List, [], ◌++◌, length, get_or, refl, sym, ap, inl, inr, arith, length-append}
 use Rattle.std.specs.List.{flat_map}
 use Rattle.std.proofs.lemmas.Bool.{cases_Bool}
@@ -15,10 +15,8 @@ use Rattle.tce_array.proofs.Contents.{word_of_element, get-words, length-file_wo
 use Rattle.tce_array.proofs.Padding.{word_with_number, word_at_place, passes_inside}
 use Rattle.tce_tools.specs.declared.storage.Storage.{Storage}
 use Rattle.tce_tools.specs.declared.storage.Storage.TheVariants.{Flat, Array}
-use Rattle.tce_tools.specs.declared.run.Run.{Run}
 use Rattle.tce_tools.specs.Flat.{in_order}
 use Rattle.tce_tools.specs.Storage.{form_in, start_of, start_len, words_of, word_count, stored_bytes, stored_len, number_of, first_elements}
-use Rattle.tce_tools.specs.Runs.{IsRun, first_word}
 
 -- each word is that of one element, or 0 whatever the elements are
 pub record IsElement (storage : Storage) (s : Tiling) (k : ℕ) : Type 0 where
@@ -113,12 +111,3 @@ length-stored storage s t f =
     let both = length-append (start_of storage s) (flat_map (word_bytes (width (form_in storage))) (words_of storage s f)) in
     both ∙ ap (λ n. n + length (flat_map (word_bytes (width (form_in storage))) (words_of storage s f))) (length-start storage s)
     ∙ ap (λ n. start_len storage s + n) (length-words (width (form_in storage)) (words_of storage s f) ∙ ap (λ n. width (form_in storage) * n) ((storage_holds storage s t).count f))
-
--- the words of a run
-pub run_numbers : (storage : Storage) (s : Tiling) (run : Run) → IsRun s run → (k : ℕ) → k < run.len → (xs : List ℕ) → IsInside s.extents xs → place s.extents xs ≡ run.start + k → number_of storage s xs ≡ first_word storage run + k
-run_numbers Flat s run r k lt xs h placed = placed
-run_numbers (Array form) s run r k lt xs h placed = r.numbers k lt xs h placed
-
-pub run_room : (storage : Storage) (s : Tiling) (run : Run) → IsRun s run → first_word storage run + run.len ≤ word_count storage s
-run_room Flat s run r = r.inside
-run_room (Array form) s run r = r.room

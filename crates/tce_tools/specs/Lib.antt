@@ -1,6 +1,7 @@
 pub mod Flat
 pub mod Storage
 pub mod Runs
+pub mod Bands
 pub mod Answers
 pub mod Demo
 pub mod Laws

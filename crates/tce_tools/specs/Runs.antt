@@ -1,12 +1,8 @@
 -- Runs: elements that follow each other both in row-major order and tile by tile.
-use Rattle.std.specs.Prelude.{◌≡◌, ℕ, ◌+◌, ◌*◌, ◌<◌, ◌≤◌, List, length, slice_index}
+use Rattle.std.specs.Prelude.{◌≡◌, ℕ, ◌+◌, ◌<◌, ◌≤◌, List, length, slice_index}
 use Rattle.tce_space.specs.Box.{place, IsInside}
 use Rattle.tce_space.specs.Tiling.{Tiling, IsTiling, word_number, elements, padded_words}
-use Rattle.tce_array.specs.Forms.{width}
-use Rattle.tce_tools.specs.declared.storage.Storage.{Storage}
-use Rattle.tce_tools.specs.declared.storage.Storage.TheVariants.{Flat, Array}
 use Rattle.tce_tools.specs.declared.run.Run.{Run}
-use Rattle.tce_tools.specs.Storage.{form_in, start_len}
 
 -- the elements from one on, in row-major order, are the words from one on
 pub record IsRun (s : Tiling) (run : Run) : Type 0 where
@@ -17,14 +13,6 @@ pub record IsRun (s : Tiling) (run : Run) : Type 0 where
   pub inside : run.start + run.len ≤ elements s
   pub room : run.word + run.len ≤ padded_words s
   pub numbers : (k : ℕ) → k < run.len → (xs : List ℕ) → IsInside s.extents xs → place s.extents xs ≡ run.start + k → word_number s xs ≡ run.word + k
-
--- the number of a run's first word, and the byte at which it begins
-abbrev pub first_word : Storage → Run → ℕ
-first_word Flat run = run.start
-first_word (Array form) run = run.word
-
-abbrev pub run_place : Storage → Tiling → Run → ℕ
-run_place storage s run = start_len storage s + width (form_in storage) * first_word storage run
 
 -- the values are those of the elements from one on, in row-major order
 abbrev pub AreElements : Tiling → (List ℕ → ℕ) → ℕ → List ℕ → Type 0

@@ -1,5 +1,5 @@
 -- The two ways in which a file stores the elements of an array: flat, or tile by tile behind a head.
-use Rattle.std.specs.Prelude.{◌≡◌, ℕ, ◌+◌, ◌*◌, nat_lt, if◌then◌else◌, List, [], ◌++◌, length, drop, Option}
+use Rattle.std.specs.Prelude.{◌≡◌, ℕ, ◌+◌, ◌*◌, ◌≤◌, nat_lt, if◌then◌else◌, List, [], ◌++◌, length, drop, Option}
 use Rattle.std.specs.Option.{IsSomeAnd, option_map}
 use Rattle.std.specs.List.{flat_map}
 use Rattle.tce_base.specs.Word.{word_bytes}
@@ -62,3 +62,7 @@ HasStored storage s found = IsSomeAnd found (λ bytes. length bytes ≡ stored_l
 -- the files with bytes under this name that are made from the files
 abbrev pub holding_by : List ℕ → (Files → List ℕ) → Option Files → Option Files
 holding_by name bytes told = option_map (λ files. with_file files name (bytes files)) told
+
+-- a file is there that has so many words from a byte on
+abbrev pub HasWords : Form → ℕ → ℕ → Option (List ℕ) → Type 0
+HasWords form at count found = IsSomeAnd found (λ bytes. at + width form * count ≤ length bytes)

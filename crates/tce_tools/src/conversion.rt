@@ -9,11 +9,11 @@ ghost use Rattle.tce_tools.specs.Flat.{array_element, contents};
 ghost use Rattle.tce_tools.specs.Storage.{element_in, HasStored, holding_by};
 ghost use Rattle.tce_tools.specs.Answers.{FitBefore, IsFirstMisfit, IsConvertAnswer, IsOfConvert};
 
+use crate::band::{LONGEST_BAND, band_at};
+use crate::banding::read_band;
 use crate::copying::copy;
 use crate::fault::ToolFault;
-use crate::run::{LONGEST_RUN, run_at};
 use crate::storage::Storage;
-use crate::transfer::{PIECE, read_run};
 use tce_array::{ArrayFault, Form, open};
 use tce_outside::{Disk, Failed, OutFault};
 use tce_space::Shape;
@@ -52,26 +52,28 @@ fn find_misfit<D: Disk>(
     ensures same { D.files disk.new ≡ D.files disk.old }
     ensures cause { HasCause (D.faults disk.old) (D.faults disk.new) (IsErr result) }
 {
-    let mut bytes = [0; PIECE];
-    let mut buffer = [0; LONGEST_RUN];
+    let mut bytes = [0; 8 * LONGEST_BAND];
+    let mut tiled = [0; LONGEST_BAND];
+    let mut buffer = [0; LONGEST_BAND];
     let elements = shape.elements();
     let mut done = 0;
     while done < elements {
-        let run = run_at(shape, done);
-        let words = &mut buffer[..run.len as usize];
-        read_run(
+        let band = band_at(shape, done);
+        let words = &mut buffer[..band.len as usize];
+        read_band(
             disk,
             name,
             Storage::Array(form),
             shape,
-            run,
+            band,
             &mut bytes,
+            &mut tiled,
             words,
         )?;
         if let Some(place) = first_misfit(words) {
             return Ok(Some(done + place as u64));
         }
-        done += run.len;
+        done += band.len;
     }
     Ok(None)
 }

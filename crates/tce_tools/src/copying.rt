@@ -6,9 +6,9 @@ ghost use Rattle.tce_outside.specs.Fault.{HasCause};
 ghost use Rattle.tce_tools.specs.Flat.{contents};
 ghost use Rattle.tce_tools.specs.Storage.{element_in, stored_bytes, HasStored, holding_by};
 
-use crate::run::{LONGEST_RUN, run_at};
+use crate::band::{LONGEST_BAND, band_at};
+use crate::banding::{read_band, write_band};
 use crate::storage::{Storage, make};
-use crate::transfer::{PIECE, read_run, write_run};
 use tce_outside::{Disk, OutFault};
 use tce_space::Shape;
 
@@ -31,20 +31,23 @@ pub fn copy<D: Disk>(
     ensures cause { HasCause (D.faults disk.old) (D.faults disk.new) (IsErrOf result OutFault.Failed) }
 {
     make(disk, target, to, shape)?;
-    let mut bytes = [0; PIECE];
-    let mut buffer = [0; LONGEST_RUN];
+    let mut bytes = [0; 8 * LONGEST_BAND];
+    let mut tiled = [0; LONGEST_BAND];
+    let mut buffer = [0; LONGEST_BAND];
     let elements = shape.elements();
     let mut done = 0;
     while done < elements {
-        let run = run_at(shape, done);
-        let words = &mut buffer[..run.len as usize];
-        let Ok(()) = read_run(disk, source, from, shape, run, &mut bytes, words) else {
+        let band = band_at(shape, done);
+        let words = &mut buffer[..band.len as usize];
+        let Ok(()) = read_band(
+            disk, source, from, shape, band, &mut bytes, &mut tiled, words,
+        ) else {
             return Err(OutFault::Failed);
         };
-        let Ok(()) = write_run(disk, target, to, shape, run, &mut bytes, words) else {
+        let Ok(()) = write_band(disk, target, to, shape, band, &mut bytes, &mut tiled, words) else {
             return Err(OutFault::Failed);
         };
-        done += run.len;
+        done += band.len;
     }
     Ok(())
 }

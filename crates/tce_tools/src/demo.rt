@@ -7,9 +7,9 @@ ghost use Rattle.tce_array.specs.Forms.{array_bytes};
 ghost use Rattle.std.specs.String.{string_bytes};
 ghost use Rattle.tce_tools.specs.Demo.{drawn, digit, demo_element, range_line, demo_text};
 
-use crate::run::{LONGEST_RUN, run_at};
+use crate::band::{LONGEST_BAND, band_at};
+use crate::banding::write_band;
 use crate::storage::{Storage, make};
-use crate::transfer::{PIECE, write_run};
 use std::alloc::{AllocError, Global};
 use tce_array::Form;
 use tce_outside::{Disk, OutFault};
@@ -90,27 +90,29 @@ pub fn demo_array<D: Disk>(
     ensures cause { HasCause (D.faults disk.old) (D.faults disk.new) (IsErrOf result OutFault.Failed) }
 {
     make(disk, array, Storage::Array(Form::One), shape)?;
-    let mut bytes = [0; PIECE];
-    let mut buffer = [0; LONGEST_RUN];
+    let mut bytes = [0; 8 * LONGEST_BAND];
+    let mut tiled = [0; LONGEST_BAND];
+    let mut buffer = [0; LONGEST_BAND];
     let elements = shape.elements();
     let mut number = x;
     let mut done = 0;
     while done < elements {
-        let run = run_at(shape, done);
-        let digits = &mut buffer[..run.len as usize];
+        let band = band_at(shape, done);
+        let digits = &mut buffer[..band.len as usize];
         number = draw(number, digits);
-        let Ok(()) = write_run(
+        let Ok(()) = write_band(
             disk,
             array,
             Storage::Array(Form::One),
             shape,
-            run,
+            band,
             &mut bytes,
+            &mut tiled,
             digits,
         ) else {
             return Err(OutFault::Failed);
         };
-        done += run.len;
+        done += band.len;
     }
     Ok(number)
 }

@@ -2,11 +2,13 @@
 //! the demonstration.
 //!
 //! A flat file has the elements of an array alone, in row-major order, eight bytes each, the lowest first. An array
-//! file has them tile by tile behind a head, as `tce_array` says. Elements move between files in runs that stand
-//! together in both, through a fixed buffer of at most 4,096 words, so a call needs no memory of its own, however
-//! large the files are.
+//! file has them tile by tile behind a head, as `tce_array` says. Elements move between files in bands: at most 32,768
+//! that follow each other in row-major order, and that stand in an array file in pieces of one length at equal distances.
+//! The buffers are of fixed length, so a call needs no memory of its own, however large the files are.
 #![tactic(auto)]
 
+mod band;
+mod banding;
 mod conversion;
 mod copying;
 mod demo;
@@ -14,6 +16,7 @@ mod fault;
 mod laws;
 mod packing;
 mod run;
+mod shuffle;
 mod storage;
 mod sum;
 #[cfg(test)]

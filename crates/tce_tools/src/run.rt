@@ -1,7 +1,7 @@
 // Runs of elements that stand together in a file, whether it is flat or cut into tiles.
 ghost use Rattle.std.specs.Prelude.{◌≡◌, ◌<◌, ◌≤◌, false, IsTrue, length};
 ghost use Rattle.tce_space.specs.Box.{place, IsInside};
-ghost use Rattle.tce_space.specs.Tiling.{elements, padded_words, word_number};
+ghost use Rattle.tce_space.specs.Tiling.{IsTiling, elements, padded_words, word_number};
 ghost use Rattle.tce_tools.specs.Runs.{IsRun, IsRowMajor};
 
 use arrayvec::ArrayVec;
@@ -22,12 +22,13 @@ pub struct Run {
     pub len: u64,
 }
 
-// The coordinates of the element at this place in row-major order.
-fn coords_at(shape: &Shape, number: u64) -> ArrayVec<u64, 8>
+/// The coordinates of the element at this place in row-major order.
+pub fn coords_at(shape: &Shape, number: u64) -> ArrayVec<u64, 8>
     requires { number < elements shape.now }
     ensures inside { IsInside shape.now.extents result.items }
     ensures place { place shape.now.extents result.items ≡ number }
     ensures few { elements shape.now ≤ padded_words shape.now }
+    ensures limits { IsTiling shape.now }
 {
     let mut coords = ArrayVec::new();
     let mut rest = shape.elements();
@@ -41,17 +42,17 @@ fn coords_at(shape: &Shape, number: u64) -> ArrayVec<u64, 8>
     coords
 }
 
-// How many words stand before an element's in an array file.
-fn word_number(shape: &Shape, coords: &[u64]) -> u64
+/// How many words stand before an element's in an array file.
+pub fn word_number(shape: &Shape, coords: &[u64]) -> u64
     requires { IsInside shape.now.extents coords.now }
     ensures { result ≡ word_number shape.now coords.now }
 {
     (address(Form::One, shape, coords) - Form::One.head_len(shape)) / 8
 }
 
-// Whether the words of an array file are in row-major order: there is one dimension, or tiles of one element, or one tile
-// without padding.
-fn is_row_major(shape: &Shape) -> bool
+/// Whether the words of an array file are in row-major order: there is one dimension, or tiles of one element, or one
+/// tile without padding.
+pub fn is_row_major(shape: &Shape) -> bool
     ensures yes { IsTrue result → IsRowMajor shape.now }
     ensures no { result ≡ false → 1 < length shape.now.extents }
 {

@@ -1,11 +1,9 @@
 // The two ways in which a file stores the elements of an array.
-ghost use Rattle.std.specs.Prelude.{◌≡◌, ◌*◌, ◌≤◌, ◌<◌, ◌^◌, OnOk, IsErrOf};
+ghost use Rattle.std.specs.Prelude.{◌≡◌, OnOk, IsErrOf};
 ghost use Rattle.tce_outside.specs.Files.{others, holding};
 ghost use Rattle.tce_outside.specs.Fault.{HasCause};
-ghost use Rattle.tce_tools.specs.Storage.{form_in, start_len, stored_bytes};
-ghost use Rattle.tce_tools.specs.Runs.{IsRun, run_place};
+ghost use Rattle.tce_tools.specs.Storage.{stored_bytes};
 
-use crate::run::Run;
 use tce_array::{Form, create};
 use tce_outside::{Disk, OutFault};
 use tce_space::Shape;
@@ -17,29 +15,6 @@ pub enum Storage {
     Flat,
     /// Tile by tile behind a head, in this form.
     Array(Form),
-}
-
-impl Storage {
-    /// How the words are stored.
-    pub fn form(self) -> Form
-        ensures { result ≡ form_in self }
-    {
-        match self {
-            Storage::Flat => Form::One,
-            Storage::Array(form) => form,
-        }
-    }
-
-    /// The byte at which a run begins.
-    pub fn place(self, shape: &Shape, run: Run) -> u64
-        requires { IsRun shape.now run }
-        ensures place { result ≡ run_place self shape.now run }
-    {
-        match self {
-            Storage::Flat => 8 * run.start,
-            Storage::Array(form) => form.head_len(shape) + form.width() * run.word,
-        }
-    }
 }
 
 /// Puts a file of elements that are all 0 in the place of whatever has this name.

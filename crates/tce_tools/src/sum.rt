@@ -7,9 +7,9 @@ ghost use Rattle.tce_outside.specs.Fault.{HasCause};
 ghost use Rattle.tce_array.specs.Forms.{IsForm, cell};
 ghost use Rattle.tce_tools.specs.Flat.{in_order, contents};
 
-use crate::run::{LONGEST_RUN, run_at};
+use crate::band::{LONGEST_BAND, band_at};
+use crate::banding::read_band;
 use crate::storage::Storage;
-use crate::transfer::{PIECE, read_run};
 use tce_array::Form;
 use tce_outside::{Disk, Failed};
 use tce_space::Shape;
@@ -37,25 +37,27 @@ pub fn cell_sum<D: Disk>(
     ensures same { D.files disk.new ≡ D.files disk.old }
     ensures cause { HasCause (D.faults disk.old) (D.faults disk.new) (IsErr result) }
 {
-    let mut bytes = [0; PIECE];
-    let mut buffer = [0; LONGEST_RUN];
+    let mut bytes = [0; 8 * LONGEST_BAND];
+    let mut tiled = [0; LONGEST_BAND];
+    let mut buffer = [0; LONGEST_BAND];
     let elements = shape.elements();
     let mut done = 0;
     let mut total: u64 = 0;
     while done < elements {
-        let run = run_at(shape, done);
-        let words = &mut buffer[..run.len as usize];
-        read_run(
+        let band = band_at(shape, done);
+        let words = &mut buffer[..band.len as usize];
+        read_band(
             disk,
             array,
             Storage::Array(form),
             shape,
-            run,
+            band,
             &mut bytes,
+            &mut tiled,
             words,
         )?;
         total = total.wrapping_add(sum_of(words));
-        done += run.len;
+        done += band.len;
     }
     Ok(total)
 }

@@ -1,5 +1,5 @@
-// Runs of words between files and memory.
-ghost use Rattle.std.specs.Prelude.{◌≡◌, ℕ, ◌*◌, ◌<◌, ◌≤◌, length, slice_index, drop, OnOk, IsErr};
+// Words between files and memory.
+ghost use Rattle.std.specs.Prelude.{◌≡◌, ℕ, ◌+◌, ◌*◌, ◌<◌, ◌≤◌, length, slice_index, drop, OnOk, IsErr};
 ghost use Rattle.std.specs.List.{flat_map};
 ghost use Rattle.std.specs.Option.{ForSome};
 ghost use Rattle.tce_base.specs.Word.{word_bytes, word_of_bytes, widened};
@@ -7,18 +7,11 @@ ghost use Rattle.tce_outside.specs.Files.{file, written, others};
 ghost use Rattle.tce_outside.specs.Fault.{HasCause};
 ghost use Rattle.tce_array.specs.Forms.{width, word_in};
 ghost use Rattle.tce_tools.specs.Flat.{contents};
-ghost use Rattle.tce_tools.specs.Storage.{form_in, element_in, HasStored};
-ghost use Rattle.tce_tools.specs.Runs.{IsRun, AreElements, run_place};
+ghost use Rattle.tce_tools.specs.Storage.{HasWords};
 
-use crate::run::{LONGEST_RUN, Run};
-use crate::storage::Storage;
 use byteorder::{ByteOrder, LittleEndian};
 use tce_array::Form;
 use tce_outside::{Disk, Failed};
-use tce_space::Shape;
-
-/// The bytes of the longest run.
-pub const PIECE: usize = 8 * LONGEST_RUN;
 
 // A signed number of 32 bits as a word.
 fn widened(number: u32) -> u64
@@ -75,52 +68,43 @@ fn encode(form: Form, words: &[u64], bytes: &mut [u8])
     }
 }
 
-/// Reads the words of a run.
-pub fn read_run<D: Disk>(
+/// Reads the words that begin at a byte of a file.
+pub fn read_words<D: Disk>(
     disk: &mut D,
     name: &str,
-    storage: Storage,
-    shape: &Shape,
-    run: Run,
+    form: Form,
+    at: u64,
     bytes: &mut [u8],
     words: &mut [u64],
 ) -> Result<(), Failed>
-    requires run { IsRun shape.now run }
-    requires buffer { 32768 ≤ length bytes.old }
-    requires words { length words.old ≡ run.len }
-    requires file { ForSome (D.files disk.old) (λ fs. HasStored storage shape.now (file fs name.now)) }
-    ensures read { OnOk result (ForSome (D.files disk.old) (λ fs. AreElements shape.now (element_in storage shape.now (contents fs name.now)) run.start words.new)) }
-    ensures len { length words.new ≡ run.len }
+    requires buffer { width form * length words.old ≤ length bytes.old }
+    requires file { ForSome (D.files disk.old) (λ fs. HasWords form at (length words.old) (file fs name.now)) }
+    ensures read { OnOk result (ForSome (D.files disk.old) (λ fs. (k : ℕ) → k < length words.new → slice_index words.new k ≡ word_in form (drop (at + width form * k) (contents fs name.now)))) }
     ensures same { D.files disk.new ≡ D.files disk.old }
     ensures cause { HasCause (D.faults disk.old) (D.faults disk.new) (IsErr result) }
 {
-    let form = storage.form();
     let piece = &mut bytes[..form.width() as usize * words.len()];
-    disk.read_at(name, storage.place(shape, run), piece)?;
+    disk.read_at(name, at, piece)?;
     decode(form, piece, words);
     Ok(())
 }
 
-/// Writes words over those of a run.
-pub fn write_run<D: Disk>(
+/// Writes words over those that begin at a byte of a file.
+pub fn write_words<D: Disk>(
     disk: &mut D,
     name: &str,
-    storage: Storage,
-    shape: &Shape,
-    run: Run,
+    form: Form,
+    at: u64,
     bytes: &mut [u8],
     words: &[u64],
 ) -> Result<(), Failed>
-    requires run { IsRun shape.now run }
-    requires buffer { 32768 ≤ length bytes.old }
-    requires words { length words.now ≡ run.len }
-    requires file { ForSome (D.files disk.old) (λ fs. HasStored storage shape.now (file fs name.now)) }
-    ensures written { OnOk result (D.files disk.new ≡ written name.now (run_place storage shape.now run) (flat_map (word_bytes (width (form_in storage))) words.now) (D.files disk.old)) }
+    requires buffer { width form * length words.now ≤ length bytes.old }
+    requires file { ForSome (D.files disk.old) (λ fs. HasWords form at (length words.now) (file fs name.now)) }
+    ensures written { OnOk result (D.files disk.new ≡ written name.now at (flat_map (word_bytes (width form)) words.now) (D.files disk.old)) }
     ensures others { others name.now (D.files disk.new) ≡ others name.now (D.files disk.old) }
     ensures cause { HasCause (D.faults disk.old) (D.faults disk.new) (IsErr result) }
 {
-    let form = storage.form();
     let piece = &mut bytes[..form.width() as usize * words.len()];
     encode(form, words, piece);
-    disk.write_at(name, storage.place(shape, run), piece)
+    disk.write_at(name, at, piece)
 }

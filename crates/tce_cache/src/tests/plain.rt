@@ -11,6 +11,7 @@ pub struct Plain {
 }
 
 impl Plain {
+    /// A cache of so many frames that holds no tile.
     pub fn new(alloc: Global, frames: usize) -> Plain {
         Plain {
             frames,
@@ -20,6 +21,7 @@ impl Plain {
         }
     }
 
+    /// Whether a tile is held.
     pub fn holds(&self, array: u8, tile: u64) -> bool {
         self.held
             .iter()
@@ -53,6 +55,7 @@ impl Plain {
         }
     }
 
+    /// Puts a tile last, and gives up the first one where there would be too many.
     pub fn touch(&mut self, array: u8, tile: u64, write: bool) -> Result<(), AllocError> {
         match self.take(array, tile) {
             Some(marked) => self.held.push((array, tile, marked | write))?,
@@ -67,6 +70,7 @@ impl Plain {
         Ok(())
     }
 
+    /// Counts the tiles that have still to be written as written.
     pub fn flush(&mut self) {
         for held in self.held.iter_mut() {
             if held.2 {

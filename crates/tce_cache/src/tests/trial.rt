@@ -262,6 +262,7 @@ impl Trial {
         self.cache.holds(array, tile)
     }
 
+    /// How many touches the cache has counted.
     pub fn touches(&self) -> u128 {
         self.cache.touches()
     }

@@ -26,6 +26,7 @@ fn has_part(disk: &MemDisk, name: &str, at: u64, len: usize) -> bool
 }
 
 impl UntoldDisk {
+    /// A disk that tells nothing of its files, over one that may fail.
     pub fn new(inner: FaultyDisk) -> UntoldDisk {
         UntoldDisk {
             inner,

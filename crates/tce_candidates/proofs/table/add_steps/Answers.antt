@@ -1,4 +1,5 @@
-use Rattle.std.proofs.Common.{◌⊎◌, inr, refl}
+use Rattle.std.proofs.Common.{◌⊎◌, ◌<◌, inr, refl}
+use Rattle.tce_states.specs.Relation.{none}
 use Rattle.std.specs.List.{Contains}
 use Rattle.std.proofs.lemmas.List.Elements.{AllWithin-more, All-from_all_within, at_read, AllWithin-upto}
 use Rattle.tce_candidates.specs.declared.candidate.Candidate.{Candidate}
@@ -26,8 +27,9 @@ loop-choice-preserved c =
           (at_read choices covers k choice c.loop-choice-test.true c.choice-item.is here.covered);
       others = λ r n found. here.others r n (c.loop-choice.invariant.others r n found);
       apart = λ pairs. here.apart (c.loop-choice.invariant.apart pairs);
-      origin = from_earlier (λ (x : Candidate). Contains c.args.table.now.items x ⊎ IsStepOf loops choices left right x) (IsStep joined left right choice) old new here.origin
-          (λ x s. inr (step_of loops choices left right joined choice (c.in-Some.ensures.conflict.0 refl) c.in-Some.ensures.joins (read_contains choices k choice c.loop-choice-test.true c.choice-item.is) x s))
+      limit = here.others none c.args.limit c.loop-choice.invariant.limit;
+      origin = from_earlier (λ (x : Candidate). Contains c.args.table.now.items x ⊎ (IsStepOf loops choices left right x × (x.row.cost < c.args.limit))) (λ (x : Candidate). IsStep joined left right choice x × (x.row.cost < c.args.limit)) old new here.origin
+          (λ x s. inr (step_of loops choices left right joined choice (c.in-Some.ensures.conflict.0 refl) c.in-Some.ensures.joins (read_contains choices k choice c.loop-choice-test.true c.choice-item.is) x s.0, s.1))
           c.loop-choice.invariant.origin;
     }
 

@@ -1,7 +1,9 @@
+use Rattle.std.proofs.Common.{◌≡◌, ◌⊎◌, ◌<◌, inl}
 use Rattle.std.specs.List.{All}
 use Rattle.std.proofs.lemmas.List.Elements.{AllWithin-more, All-from_all_within, at_read, AllWithin-upto}
+use Rattle.tce_states.specs.Relation.{none}
 use Rattle.tce_candidates.specs.declared.candidate.Candidate.{Candidate}
-use Rattle.tce_candidates.specs.Candidates.{PairCovered, IsStepOf, IsReached}
+use Rattle.tce_candidates.specs.Candidates.{PairCovered, IsStepOf, IsReachedBelow, limit_candidate}
 use Rattle.tce_candidates.proofs.Covers.{pair_later, from_earlier, read_contains}
 use Rattle.tce_candidates.proofs.table.candidates_of.Goals as goal
 
@@ -23,14 +25,19 @@ loop-right-preserved c =
       here = AllWithin-more covers rights 0 c.loop-right.right-index
           (λ m e from low. lifted _ _ later (c.loop-right.invariant.here m e from low))
           (at_read rights covers c.loop-right.right-index right c.loop-right-test.true c.right-item.is here.covered);
-      reached = from_earlier (IsReached c.args.loops choices lefts rights) (IsStepOf c.args.loops choices left right) old new here.origin
-          (λ x s. record {
-            left = left;
-            right = right;
-            from_left = read_contains lefts c.loop-left.left-index left c.loop-left-test.true c.left-item.is;
-            from_right = read_contains rights c.loop-right.right-index right c.loop-right-test.true c.right-item.is;
-            step = s;
-          })
+      limit = later none c.args.limit c.loop-right.invariant.limit;
+      reached = from_earlier (λ (x : Candidate). IsReachedBelow c.args.limit c.args.loops choices lefts rights x ⊎ (x ≡ limit_candidate c.args.limit))
+          (λ (x : Candidate). IsStepOf c.args.loops choices left right x × (x.row.cost < c.args.limit)) old new here.origin
+          (λ x s. inl (record {
+            reached = record {
+              left = left;
+              right = right;
+              from_left = read_contains lefts c.loop-left.left-index left c.loop-left-test.true c.left-item.is;
+              from_right = read_contains rights c.loop-right.right-index right c.loop-right-test.true c.right-item.is;
+              step = s.0;
+            };
+            cheap = s.1;
+          }))
           c.loop-right.invariant.reached;
       apart = here.apart c.loop-right.invariant.apart;
     }
@@ -45,6 +52,7 @@ loop-left-preserved c =
       covered = AllWithin-more covers c.args.lefts.now 0 c.loop-left.left-index c.loop-right.invariant.earlier
           (at_read c.args.lefts.now covers c.loop-left.left-index c.left-item.result c.loop-left-test.true c.left-item.is
           (All-from_all_within pairs rights (AllWithin-upto pairs rights 0 c.loop-right.right-index _ c.loop-right-test.false c.loop-right.invariant.here)));
+      limit = c.loop-right.invariant.limit;
       reached = c.loop-right.invariant.reached;
       apart = c.loop-right.invariant.apart;
     }

@@ -12,13 +12,13 @@ push_tables-requires c =
     rows_declared c.args.space.now c.args.tree.now c.args.plan.now.tables c.index_count-declared.ensures.limits.index_limit c.requires.declared
     c.requires.fits.tables c.requires.fits.rows
 
-pub returns : goal.returns
+pub returns-clause-text : goal.returns-clause-text
 unfolding certificate certificate_lines
-returns c =
+returns-clause-text c =
     certificate_pushed _ _ _ _ _ _ opening_line end_line (memory_line c.args.plan.now.memory)
     (nodes_lines c.args.space.now c.args.tree.now c.args.plan.now (operations c.args.tree.now))
     (tables_lines c.args.space.now c.args.plan.now.tables (length c.args.plan.now.tables))
     c.new-text.ensures.items c.in_ok-extend_from_slice.ensures.items c.in_ok-push_nodes.ensures
     (c.in_ok-extend_from_slice-2.ensures.items
     ∙ ap (λ t. c.push_nodes.new.text.items ++ t) (c.as_bytes.ensures.value ∙ c.as_str.ensures.value ∙ c.in_ok-memory.ensures.ok))
-    c.in_ok-push_tables.ensures c.in_ok-extend_from_slice-3.ensures.items
+    c.in_ok-push_tables.ensures.text c.in_ok-extend_from_slice-3.ensures.items

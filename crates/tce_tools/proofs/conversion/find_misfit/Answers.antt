@@ -13,22 +13,22 @@ pub returns-in-Some-clause-some : goal.returns-in-Some-clause-some
 returns-in-Some-clause-some g c k e x told =
     let s : Tiling = c.args.shape.now in
     let f : List ℕ → ℕ = element_in (Array c.args.form) s (contents x c.args.name.now) in
-    let values : AreElements s f c.loop-done.done c.read_run.new.words = subst (λ n. AreElements s f n c.read_run.new.words) c.run_at-run.ensures.start (c.in_ok-read_run.ensures.read x (c.loop-done.invariant.files ∙ told)) in
+    let values : AreElements s f c.loop-done.done c.read_band.new.words = subst (λ n. AreElements s f n c.read_band.new.words) c.band_at-band.ensures.start (c.in_ok-read_band.ensures.read x (c.loop-done.invariant.files ∙ told)) in
     let same : c.loop-done.done + c.in-Some.place ≡ k = cc in
     let first = c.in-Some.ensures.some in
     subst (IsFirstMisfit Narrow s f) same
-    (misfit_at Narrow s f c.loop-done.done c.in-Some.place c.read_run.new.words values (omega (arith, c.run_at-run.ensures.run.inside, c.run_at-run.ensures.start, c.in_ok-read_run.ensures.len)) (c.loop-done.invariant.fits x told) first.0 first.1 first.2)
+    (misfit_at Narrow s f c.loop-done.done c.in-Some.place c.read_band.new.words values (omega (arith, c.band_at-band.ensures.band.inside, c.band_at-band.ensures.start, c.in_ok-read_band.ensures.len)) (c.loop-done.invariant.fits x told) first.0 first.1 first.2)
 
 pub loop-done-preserved : goal.loop-done-preserved
 loop-done-preserved g c =
     let s : Tiling = c.args.shape.now in
-    let len = c.in_ok-read_run.ensures.len in
+    let len = c.in_ok-read_band.ensures.len in
     record {
-      done = omega (arith, c.run_at-run.ensures.run.inside, c.run_at-run.ensures.start, c.elements-elements.ensures.elements);
+      done = omega (arith, c.band_at-band.ensures.band.inside, c.band_at-band.ensures.start, c.elements-elements.ensures.elements);
       fits = λ x told.
           let f : List ℕ → ℕ = element_in (Array c.args.form) s (contents x c.args.name.now) in
-          let values : AreElements s f c.loop-done.done c.read_run.new.words = subst (λ n. AreElements s f n c.read_run.new.words) c.run_at-run.ensures.start (c.in_ok-read_run.ensures.read x (c.loop-done.invariant.files ∙ told)) in
-          fit_more Narrow s f c.loop-done.done c.run_at-run.result.len c.read_run.new.words values (omega (arith, len)) (c.loop-done.invariant.fits x told) (λ k lt. c.in_default.ensures.none k (omega (arith, len)));
-      files = c.in_ok-read_run.ensures.same ∙ c.loop-done.invariant.files;
-      later = omega (arith, c.in_ok-read_run.ensures.cause.later, c.loop-done.invariant.later);
+          let values : AreElements s f c.loop-done.done c.read_band.new.words = subst (λ n. AreElements s f n c.read_band.new.words) c.band_at-band.ensures.start (c.in_ok-read_band.ensures.read x (c.loop-done.invariant.files ∙ told)) in
+          fit_more Narrow s f c.loop-done.done c.band_at-band.result.len c.read_band.new.words values (omega (arith, len)) (c.loop-done.invariant.fits x told) (λ k lt. c.in_default.ensures.none k (omega (arith, len)));
+      files = c.in_ok-read_band.ensures.same ∙ c.loop-done.invariant.files;
+      later = omega (arith, c.in_ok-read_band.ensures.cause.later, c.loop-done.invariant.later);
     }

@@ -10,14 +10,14 @@ loop-done-init g c = record { done = omega arith; sum = λ x told. sum_none; fil
 
 pub loop-done-preserved : goal.loop-done-preserved
 loop-done-preserved g c = record {
-  done = omega (arith, c.run_at-run.ensures.run.inside, c.run_at-run.ensures.start, c.elements-elements.ensures.elements);
+  done = omega (arith, c.band_at-band.ensures.band.inside, c.band_at-band.ensures.start, c.elements-elements.ensures.elements);
   sum = λ x told.
       let f : List ℕ → ℕ = cell c.args.form c.args.shape.now (contents x c.args.array.now) in
-      sum_of_run c.args.shape.now f c.loop-done.done c.run_at-run.result.len c.loop-done.total c.sum_of-total.result c.read_run.new.words
-      (subst (λ n. AreElements c.args.shape.now f n c.read_run.new.words) c.run_at-run.ensures.start (c.in_ok-read_run.ensures.read x (c.loop-done.invariant.files ∙ told)))
-      c.in_ok-read_run.ensures.len (omega (arith, c.run_at-run.ensures.run.inside, c.run_at-run.ensures.start)) (c.loop-done.invariant.sum x told) c.sum_of-total.ensures;
-  files = c.in_ok-read_run.ensures.same ∙ c.loop-done.invariant.files;
-  later = omega (arith, c.in_ok-read_run.ensures.cause.later, c.loop-done.invariant.later);
+      sum_of_run c.args.shape.now f c.loop-done.done c.band_at-band.result.len c.loop-done.total c.sum_of-total.result c.read_band.new.words
+      (subst (λ n. AreElements c.args.shape.now f n c.read_band.new.words) c.band_at-band.ensures.start (c.in_ok-read_band.ensures.read x (c.loop-done.invariant.files ∙ told)))
+      c.in_ok-read_band.ensures.len (omega (arith, c.band_at-band.ensures.band.inside, c.band_at-band.ensures.start)) (c.loop-done.invariant.sum x told) c.sum_of-total.ensures;
+  files = c.in_ok-read_band.ensures.same ∙ c.loop-done.invariant.files;
+  later = omega (arith, c.in_ok-read_band.ensures.cause.later, c.loop-done.invariant.later);
 }
 
 pub returns-clause-sum : goal.returns-clause-sum

@@ -1,0 +1,246 @@
+-- Words written over those of a file, and the pieces of a band.
+use Rattle.std.proofs.Common.{◌≡◌, ◌∙◌, ◌⊎◌, ℕ, ◌+◌, ◌-◌, ◌*◌, ◌<◌, ◌≤◌, true, false, nat_lt, if◌then◌else◌, List, [], ◌++◌, length, get_or, slice_index, Option, Some, None, unwrap_or, refl, sym, ap, subst, inl, inr, arith}
+use Rattle.std.specs.List.{flat_map}
+use Rattle.std.specs.Option.{ForSome}
+use Rattle.std.proofs.Math.Nat.{mul-le-mul_left}
+use Rattle.std.proofs.lemmas.Bool.{cases_lt}
+use Rattle.std.proofs.lemmas.Option.{none-some}
+use Rattle.std.proofs.lemmas.Nat.{same_from_place}
+use Rattle.std.proofs.lemmas.List.{ext_get_or}
+use Rattle.tce_base.specs.Word.{word_bytes}
+use Rattle.tce_base.proofs.WordBytes.{length-words}
+use Rattle.tce_space.specs.Box.{place, places, IsInside}
+use Rattle.tce_space.proofs.Boxes.{places_every}
+use Rattle.tce_space.specs.Tiling.{Tiling, IsTiling, word_number, padded_words}
+use Rattle.tce_outside.specs.Files.{Files, file, with_file, written, overwritten}
+use Rattle.tce_array.specs.declared.form.Form.{Form}
+use Rattle.tce_array.specs.Forms.{width, head_len}
+use Rattle.tce_array.proofs.MadeFiles.{file-with_file}
+use Rattle.tce_tools.specs.declared.storage.Storage.{Storage}
+use Rattle.tce_tools.specs.declared.storage.Storage.TheVariants.{Flat, Array}
+use Rattle.tce_tools.specs.declared.band.Band.{Band}
+use Rattle.tce_tools.specs.Storage.{form_in, start_of, start_len, words_of, word_count, stored_bytes, stored_len, number_of, first_elements, HasStored}
+use Rattle.tce_tools.specs.Runs.{AreElements}
+use Rattle.tce_tools.specs.Bands.{IsAt, IsBand, AreTiled, AreZerosBetween}
+use Rattle.tce_tools.proofs.Overwrites.{length-overwritten, get_or-overwritten, get_or-overwritten_other}
+use Rattle.tce_tools.proofs.Pieces.{words_written}
+use Rattle.tce_tools.proofs.Shuffles.{IsCopy}
+use Rattle.tce_tools.proofs.Stored.{HoldsElements, storage_holds, stored_same, among_first, behind_first, length-start}
+
+-- words that are written change the elements that stand there, and no padding
+pub record IsChange (storage : Storage) (s : Tiling) (old new : List ℕ → ℕ) (at : ℕ) (vs : List ℕ) : Type 0 where
+  pub tiling : IsTiling s
+  pub room : at + length vs ≤ word_count storage s
+  pub here : (xs : List ℕ) → IsInside s.extents xs → (k : ℕ) → k < length vs → number_of storage s xs ≡ at + k → slice_index vs k ≡ new xs
+  pub elsewhere : (xs : List ℕ) → IsInside s.extents xs → ((number_of storage s xs < at) ⊎ (at + length vs ≤ number_of storage s xs)) → new xs ≡ old xs
+  pub padding : (k : ℕ) → k < length vs → ((xs : List ℕ) → IsInside s.extents xs → number_of storage s xs ≡ at + k → ⊥) → slice_index vs k ≡ 0
+
+words_changed : (storage : Storage) (s : Tiling) (old new : List ℕ → ℕ) (at : ℕ) (vs : List ℕ) → IsChange storage s old new at vs → overwritten (words_of storage s old) at vs ≡ words_of storage s new
+words_changed storage s old new at vs c =
+    ext_get_or 0 (overwritten before at vs) (words_of storage s new) (length-overwritten before at vs room ∙ holds.count old ∙ sym (holds.count new)) (λ k lt.
+    let below : k < word_count storage s = omega (arith, length-overwritten before at vs room, holds.count old) in
+    elim (cases_lt k at) [
+      | inl low ↦ out k below (inl low)
+      | inr from ↦ elim (cases_lt k (at + length vs)) [
+        | inl short ↦ within k below from short
+        | inr past ↦ out k below (inr past)
+      ]
+    ])
+  where
+    before : List ℕ
+    before = words_of storage s old
+
+    holds : HoldsElements storage s
+    holds = storage_holds storage s c.tiling
+
+    room : at + length vs ≤ length before
+    room = omega (arith, c.room, holds.count old)
+
+    out : (k : ℕ) → k < word_count storage s → (k < at) ⊎ (at + length vs ≤ k) → get_or (overwritten before at vs) k 0 ≡ get_or (words_of storage s new) k 0
+    out k below far =
+        get_or-overwritten_other before at vs k room far
+        ∙ elim (holds.each k below) [
+          | inl here ↦
+              ap (λ j. get_or before j 0) (sym here.number)
+              ∙ holds.word old here.coords here.inside
+              ∙ sym (c.elsewhere here.coords here.inside (elim far [ inl low ↦ inl (omega (arith, here.number)) | inr high ↦ inr (omega (arith, here.number)) ]))
+              ∙ sym (holds.word new here.coords here.inside)
+              ∙ ap (λ j. get_or (words_of storage s new) j 0) here.number
+          | inr none ↦ none old ∙ sym (none new)
+        ]
+
+    within : (k : ℕ) → k < word_count storage s → at ≤ k → k < at + length vs → get_or (overwritten before at vs) k 0 ≡ get_or (words_of storage s new) k 0
+    within k below from short =
+        let there : k ≡ at + (k - at) = omega arith in
+        ap (λ j. get_or (overwritten before at vs) j 0) there
+        ∙ get_or-overwritten before at vs (k - at) room (omega arith)
+        ∙ elim (holds.each k below) [
+          | inl here ↦
+              c.here here.coords here.inside (k - at) (omega arith) (omega (arith, here.number))
+              ∙ sym (holds.word new here.coords here.inside)
+              ∙ ap (λ j. get_or (words_of storage s new) j 0) here.number
+          | inr none ↦
+              c.padding (k - at) (omega arith) (λ xs h is.
+              let one = holds.word (λ _. 1) xs h in
+              let number : number_of storage s xs ≡ k = omega (arith, is) in
+              let nothing : get_or (words_of storage s (λ _. 1)) (number_of storage s xs) 0 ≡ 0 = ap (λ j. get_or (words_of storage s (λ _. 1)) j 0) number ∙ none (λ _. 1) in
+              let wrong : 1 ≡ 0 = sym one ∙ nothing in
+              absurd (omega (arith, wrong)))
+              ∙ sym (none new)
+        ]
+
+pub stored_changed : (storage : Storage) (s : Tiling) (old new : List ℕ → ℕ) (at : ℕ) (vs : List ℕ) → IsChange storage s old new at vs
+    → overwritten (stored_bytes storage s old) (start_len storage s + width (form_in storage) * at) (flat_map (word_bytes (width (form_in storage))) vs) ≡ stored_bytes storage s new
+stored_changed storage s old new at vs c =
+    words_written (width (form_in storage)) (start_len storage s) (start_of storage s) (words_of storage s old) vs at (length-start storage s)
+    ∙ ap (λ ws. start_of storage s ++ flat_map (word_bytes (width (form_in storage))) ws) (words_changed storage s old new at vs c)
+
+-- the elements outside a band
+same_outside : (s : Tiling) (f : List ℕ → ℕ) (start len : ℕ) (xs : List ℕ) → (start ≤ place s.extents xs → place s.extents xs < start + len → ⊥) → first_elements s f (start + len) xs ≡ first_elements s f start xs
+same_outside s f start len xs out =
+    elim (cases_lt (place s.extents xs) start) [
+      | inl low ↦ among_first s f (start + len) xs (omega arith) ∙ sym (among_first s f start xs low)
+      | inr high ↦ elim (cases_lt (place s.extents xs) (start + len)) [
+        | inl within ↦ absurd (out high within)
+        | inr past ↦ behind_first s f (start + len) xs past ∙ sym (behind_first s f start xs high)
+      ]
+    ]
+
+-- the words of a band in a flat file
+pub flat_change : (s : Tiling) (band : Band) (f : List ℕ → ℕ) (vs : List ℕ) → IsBand s band → length vs ≡ band.len → AreElements s f band.start vs
+    → IsChange Flat s (first_elements s f band.start) (first_elements s f (band.start + band.len)) band.start vs
+flat_change s band f vs b len values = record {
+  tiling = b.tiling;
+  room = omega (arith, b.inside);
+  here = λ xs h k lt is. values k lt xs h is ∙ sym (among_first s f (band.start + band.len) xs (omega (arith, is)));
+  elsewhere = λ xs h far. same_outside s f band.start band.len xs (λ low high. elim far [ inl l ↦ absurd (omega arith) | inr l ↦ absurd (omega arith) ]);
+  padding = λ k lt none.
+      let there = places_every s.extents (band.start + k) (omega (arith, b.inside)) in
+      absurd (none (get_or (places s.extents) (band.start + k) []) there.0 there.1);
+}
+
+-- the elements after some pieces of a band: those of the band where their words were written
+abbrev pub after_pieces : Tiling → Band → (List ℕ → ℕ) → ℕ → List ℕ → ℕ
+after_pieces s band f pieces xs = if nat_lt (word_number s xs) (band.word + pieces * band.stride) then first_elements s f (band.start + band.len) xs else first_elements s f band.start xs
+
+written_word : (s : Tiling) (band : Band) (f : List ℕ → ℕ) (t : ℕ) (xs : List ℕ) → word_number s xs < band.word + t * band.stride → after_pieces s band f t xs ≡ first_elements s f (band.start + band.len) xs
+written_word s band f t xs h =
+    let test : nat_lt (word_number s xs) (band.word + t * band.stride) ≡ true = grind (arith, h) in
+    ap (λ b. if b then first_elements s f (band.start + band.len) xs else first_elements s f band.start xs) test
+
+later_word : (s : Tiling) (band : Band) (f : List ℕ → ℕ) (t : ℕ) (xs : List ℕ) → band.word + t * band.stride ≤ word_number s xs → after_pieces s band f t xs ≡ first_elements s f band.start xs
+later_word s band f t xs h =
+    let test : nat_lt (word_number s xs) (band.word + t * band.stride) ≡ false = grind (arith, h) in
+    ap (λ b. if b then first_elements s f (band.start + band.len) xs else first_elements s f band.start xs) test
+
+-- an element between two pieces is none of the band
+between_pieces : (s : Tiling) (band : Band) (t : ℕ) (xs : List ℕ) → IsBand s band → IsInside s.extents xs → band.word + t * band.stride + band.piece_len ≤ word_number s xs → word_number s xs < band.word + (t + 1) * band.stride
+    → band.start ≤ place s.extents xs → place s.extents xs < band.start + band.len → ⊥
+between_pieces s band t xs b h from to low high =
+    let at = (b.word xs h low high).1 in
+    let gap : ℕ = word_number s xs - (band.word + t * band.stride) in
+    let both = same_from_place at.piece at.offset t (word_number s xs - (band.word + t * band.stride)) band.stride (omega (arith, at.within, b.apart)) (omega arith) (omega (arith, at.word_is)) in
+    absurd (omega (arith, both.1, at.within))
+
+piece_change : (form : Form) (s : Tiling) (band : Band) (f : List ℕ → ℕ) (tiled vs : List ℕ) (t : ℕ) → IsBand s band → t < band.pieces → IsCopy (t * band.piece_len) band.piece_len tiled vs
+    → AreTiled s band f tiled → AreZerosBetween s band tiled
+    → IsChange (Array form) s (after_pieces s band f t) (after_pieces s band f (t + 1)) (band.word + t * band.stride) vs
+piece_change form s band f tiled vs t b among copy values zeros = record {
+  tiling = b.tiling;
+  room = omega (arith, b.room t among, copy.len);
+  here = λ xs h k lt is.
+      let at : IsAt band (word_number s xs) (t * band.piece_len + k) = record { piece = t; offset = k; among = among; within = omega (arith, copy.len); word_is = omega (arith, is); index_is = refl } in
+      let within = b.element xs h (t * band.piece_len + k) at in
+      copy.each k (omega (arith, copy.len))
+      ∙ values xs h (t * band.piece_len + k) at
+      ∙ sym (among_first s f (band.start + band.len) xs within.1)
+      ∙ sym (written_word s band f (t + 1) xs (omega (arith, is, lt, copy.len, b.apart)));
+  elsewhere = λ xs h far. elim far [
+    | inl low ↦ written_word s band f (t + 1) xs (omega arith) ∙ sym (written_word s band f t xs low)
+    | inr high ↦ elim (cases_lt (word_number s xs) (band.word + (t + 1) * band.stride)) [
+      | inl short ↦
+          written_word s band f (t + 1) xs short
+          ∙ same_outside s f band.start band.len xs (between_pieces s band t xs b h (omega (arith, copy.len)) short)
+          ∙ sym (later_word s band f t xs (omega arith))
+      | inr past ↦ later_word s band f (t + 1) xs past ∙ sym (later_word s band f t xs (omega arith))
+    ]
+  ];
+  padding = λ k lt none.
+      copy.each k (omega (arith, copy.len))
+      ∙ zeros (t * band.piece_len + k) (λ xs h at.
+      let both = same_from_place at.piece at.offset t k band.piece_len at.within (omega (arith, copy.len)) (omega (arith, at.index_is)) in
+      let row : at.piece * band.stride ≡ t * band.stride = ap (λ p. p * band.stride) both.0 in
+      none xs h (omega (arith, at.word_is, row, both.1)));
+}
+
+pub piece_stored : (form : Form) (s : Tiling) (band : Band) (f : List ℕ → ℕ) (tiled vs : List ℕ) (t at : ℕ) → IsBand s band → t < band.pieces → IsCopy (t * band.piece_len) band.piece_len tiled vs
+    → AreTiled s band f tiled → AreZerosBetween s band tiled → at ≡ head_len form s + width form * (band.word + t * band.stride)
+    → overwritten (stored_bytes (Array form) s (after_pieces s band f t)) at (flat_map (word_bytes (width form)) vs) ≡ stored_bytes (Array form) s (after_pieces s band f (t + 1))
+piece_stored form s band f tiled vs t at b among copy values zeros is =
+    ap (λ n. overwritten (stored_bytes (Array form) s (after_pieces s band f t)) n (flat_map (word_bytes (width form)) vs)) is
+    ∙ stored_changed (Array form) s (after_pieces s band f t) (after_pieces s band f (t + 1)) (band.word + t * band.stride) vs (piece_change form s band f tiled vs t b among copy values zeros)
+
+-- no piece, and all pieces
+pub no_pieces : (form : Form) (s : Tiling) (band : Band) (f : List ℕ → ℕ) → IsBand s band → stored_bytes (Array form) s (first_elements s f band.start) ≡ stored_bytes (Array form) s (after_pieces s band f 0)
+no_pieces form s band f b =
+    stored_same (Array form) s b.tiling (first_elements s f band.start) (after_pieces s band f 0) (λ xs h.
+    elim (cases_lt (word_number s xs) (band.word + 0 * band.stride)) [
+      | inl low ↦ sym (written_word s band f 0 xs low ∙ same_outside s f band.start band.len xs (λ from to. let at = (b.word xs h from to).1 in absurd (omega (arith, at.word_is))))
+      | inr high ↦ sym (later_word s band f 0 xs high)
+    ])
+
+pub all_pieces : (form : Form) (s : Tiling) (band : Band) (f : List ℕ → ℕ) (n : ℕ) → IsBand s band → band.pieces ≤ n → stored_bytes (Array form) s (after_pieces s band f n) ≡ stored_bytes (Array form) s (first_elements s f (band.start + band.len))
+all_pieces form s band f n b le =
+    stored_same (Array form) s b.tiling (after_pieces s band f n) (first_elements s f (band.start + band.len)) (λ xs h.
+    elim (cases_lt (word_number s xs) (band.word + n * band.stride)) [
+      | inl low ↦ written_word s band f n xs low
+      | inr high ↦
+          later_word s band f n xs high
+          ∙ sym (same_outside s f band.start band.len xs (λ from to.
+          let at = (b.word xs h from to).1 in
+          let last : band.stride * (at.piece + 1) ≤ band.stride * n = mul-le-mul_left band.stride (omega (arith, at.among)) in
+          absurd (omega (arith, at.word_is, at.within, b.apart, last))))
+    ])
+
+-- a file that is written keeps its length
+pub still_stored : (before after : Option Files) (name : List ℕ) (storage : Storage) (s : Tiling) (at : ℕ) (bytes : List ℕ) → after ≡ written name at bytes before
+    → ForSome before (λ fs. HasStored storage s (file fs name)) → at + length bytes ≤ stored_len storage s → ForSome after (λ fs. HasStored storage s (file fs name))
+still_stored None after name storage s at bytes e there room = λ fs told. absurd (none-some fs (sym e ∙ told))
+still_stored (Some files) after name storage s at bytes e there room = λ fs told.
+    let is : Some (with_file files name (overwritten (unwrap_or (file files name) []) at bytes)) ≡ Some fs = sym e ∙ told in
+    let same : with_file files name (overwritten (unwrap_or (file files name) []) at bytes) ≡ fs = cc in
+    let found : file fs name ≡ Some (overwritten (unwrap_or (file files name) []) at bytes) = ap (λ gs. file gs name) (sym same) ∙ file-with_file files name (overwritten (unwrap_or (file files name) []) at bytes) in
+    let len : length (unwrap_or (file files name) []) ≡ stored_len storage s = long (file files name) (there files refl) in
+    subst (HasStored storage s) (sym found) (length-overwritten (unwrap_or (file files name) []) at bytes (omega (arith, len)) ∙ len)
+  where
+    long : (found : Option (List ℕ)) → HasStored storage s found → length (unwrap_or found []) ≡ stored_len storage s
+    long None h = absurd h
+    long (Some bytes) h = h
+
+-- a piece lies among the pieces, and in its file
+pub piece_room : (band : Band) (t : ℕ) → t < band.pieces → t * band.piece_len + band.piece_len ≤ band.pieces * band.piece_len
+piece_room band t lt = let last : band.piece_len * (t + 1) ≤ band.piece_len * band.pieces = mul-le-mul_left band.piece_len (omega (arith, lt)) in omega (arith, last)
+
+pub index_below : (band : Band) (n word index : ℕ) → band.pieces ≤ n → IsAt band word index → index < n * band.piece_len
+index_below band n word index le at =
+    let last : band.piece_len * (at.piece + 1) ≤ band.piece_len * n = mul-le-mul_left band.piece_len (omega (arith, at.among)) in
+    omega (arith, last, at.index_is, at.within)
+
+pub piece_fits : (form : Form) (s : Tiling) (band : Band) (t at n : ℕ) → IsBand s band → t < band.pieces → n ≡ band.piece_len → at ≡ head_len form s + width form * (band.word + t * band.stride) → at + width form * n ≤ stored_len (Array form) s
+piece_fits form s band t at n b lt len is =
+    let room : band.word + t * band.stride + n ≤ padded_words s = omega (arith, b.room t lt) in
+    let all : width form * (band.word + t * band.stride + n) ≤ width form * padded_words s = mul-le-mul_left (width form) room in
+    omega (arith, is, all)
+
+pub piece_bytes_fit : (form : Form) (s : Tiling) (band : Band) (t at : ℕ) (vs : List ℕ) → IsBand s band → t < band.pieces → length vs ≡ band.piece_len → at ≡ head_len form s + width form * (band.word + t * band.stride)
+    → at + length (flat_map (word_bytes (width form)) vs) ≤ stored_len (Array form) s
+piece_bytes_fit form s band t at vs b lt len is = omega (arith, length-words (width form) vs, piece_fits form s band t at (length vs) b lt len is)
+
+-- a band in a flat file
+pub flat_stored : (storage : Storage) (s : Tiling) (band : Band) (f : List ℕ → ℕ) (vs : List ℕ) → storage ≡ Flat → IsBand s band → length vs ≡ band.len → AreElements s f band.start vs
+    → overwritten (stored_bytes storage s (first_elements s f band.start)) (8 * band.start) (flat_map (word_bytes 8) vs) ≡ stored_bytes storage s (first_elements s f (band.start + band.len))
+flat_stored storage s band f vs is b len values =
+    let at : 8 * band.start ≡ 0 + 8 * band.start = omega arith in
+    subst (λ (t : Storage). overwritten (stored_bytes t s (first_elements s f band.start)) (8 * band.start) (flat_map (word_bytes 8) vs) ≡ stored_bytes t s (first_elements s f (band.start + band.len))) (sym is)
+    (ap (λ n. overwritten (stored_bytes Flat s (first_elements s f band.start)) n (flat_map (word_bytes 8) vs)) at
+    ∙ stored_changed Flat s (first_elements s f band.start) (first_elements s f (band.start + band.len)) band.start vs (flat_change s band f vs b len values))

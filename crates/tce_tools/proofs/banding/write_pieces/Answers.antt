@@ -1,0 +1,44 @@
+use Rattle.std.proofs.Common.{◌∙◌, ◌+◌, ◌-◌, ◌*◌, ◌≤◌, List, ℕ, length, take, drop, refl, arith}
+use Rattle.std.specs.List.{flat_map}
+use Rattle.tce_base.specs.Word.{word_bytes}
+use Rattle.tce_space.specs.Tiling.{Tiling}
+use Rattle.tce_array.specs.Forms.{width}
+use Rattle.tce_tools.specs.declared.storage.Storage.TheVariants.{Array}
+use Rattle.tce_tools.specs.Storage.{stored_bytes, first_elements}
+use Rattle.tce_tools.proofs.Shuffles.{copy_of}
+use Rattle.tce_tools.proofs.Told.{held_same, held_written}
+use Rattle.tce_tools.proofs.PieceWrites.{after_pieces, piece_stored, piece_room, piece_bytes_fit, no_pieces, all_pieces, still_stored}
+use Rattle.tce_tools.proofs.banding.write_pieces.Goals as goal
+
+pub loop-piece-init : goal.loop-piece-init
+loop-piece-init g c = record {
+  written = λ before element is values.
+      held_same before _ c.args.name.now (λ fs. stored_bytes (Array c.args.form) c.args.shape.now (first_elements c.args.shape.now (element fs) c.args.band.start)) _ is (λ fs. no_pieces c.args.form c.args.shape.now c.args.band (element fs) c.requires.band);
+  there = c.requires.file;
+  others = refl;
+  later = omega arith;
+}
+
+pub loop-piece-preserved : goal.loop-piece-preserved
+loop-piece-preserved g c =
+    let s : Tiling = c.args.shape.now in
+    let n : ℕ = c.args.band.piece_len in
+    let t : ℕ = c.loop-piece.piece in
+    let room : t * n + n ≤ length c.args.tiled.now = omega (arith, piece_room c.args.band t c.loop-piece-test.true, c.requires.tiled) in
+    let vs : List ℕ = take (t * n + n - t * n) (drop (t * n) c.args.tiled.now) in
+    let copy = copy_of (t * n) n (t * n + n - t * n) c.args.tiled.now vs refl (omega arith) room in
+    record {
+      written = λ before element is values.
+          held_written before _ _ c.args.name.now (λ fs. stored_bytes (Array c.args.form) s (after_pieces s c.args.band (element fs) t)) (λ fs. stored_bytes (Array c.args.form) s (after_pieces s c.args.band (element fs) (t + 1))) c.piece_place.result (flat_map (word_bytes (width c.args.form)) vs)
+          (c.loop-piece.invariant.written before element is values) c.in_ok-write_words.ensures.written
+          (λ fs was. piece_stored c.args.form s c.args.band (element fs) c.args.tiled.now vs t c.piece_place.result c.requires.band c.loop-piece-test.true copy (values fs was) c.requires.padding c.piece_place.ensures);
+      there = still_stored _ _ c.args.name.now (Array c.args.form) s c.piece_place.result (flat_map (word_bytes (width c.args.form)) vs) c.in_ok-write_words.ensures.written c.loop-piece.invariant.there
+          (piece_bytes_fit c.args.form s c.args.band t c.piece_place.result vs c.requires.band c.loop-piece-test.true copy.len c.piece_place.ensures);
+      others = c.in_ok-write_words.ensures.others ∙ c.loop-piece.invariant.others;
+      later = omega (arith, c.in_ok-write_words.ensures.cause.later, c.loop-piece.invariant.later);
+    }
+
+pub returns-clause-written : goal.returns-clause-written
+returns-clause-written g c = λ before element is values.
+    held_same before _ c.args.name.now (λ fs. stored_bytes (Array c.args.form) c.args.shape.now (after_pieces c.args.shape.now c.args.band (element fs) c.loop-piece.piece)) _ (c.loop-piece.invariant.written before element is values)
+    (λ fs. all_pieces c.args.form c.args.shape.now c.args.band (element fs) c.loop-piece.piece c.requires.band (omega (arith, c.loop-piece-test.false)))

@@ -1,0 +1,164 @@
+// Bands of elements between files and memory.
+ghost use Rattle.std.specs.Prelude.{◌≡◌, ℕ, ◌+◌, ◌*◌, ◌<◌, ◌≤◌, List, length, Option, Some, OnOk, IsErr};
+ghost use Rattle.std.specs.Option.{ForSome};
+ghost use Rattle.tce_outside.specs.Files.{Files, file, others};
+ghost use Rattle.tce_outside.specs.Fault.{HasCause};
+ghost use Rattle.tce_array.specs.Forms.{width, head_len};
+ghost use Rattle.tce_tools.specs.Flat.{contents};
+ghost use Rattle.tce_tools.specs.Storage.{element_in, stored_bytes, first_elements, holding_by, HasStored};
+ghost use Rattle.tce_tools.specs.Runs.{AreElements};
+ghost use Rattle.tce_tools.specs.Bands.{IsBand, AreTiled, AreZerosBetween};
+
+use crate::band::Band;
+use crate::shuffle::{flatten, tile};
+use crate::storage::Storage;
+use crate::transfer::{read_words, write_words};
+use tce_array::Form;
+use tce_outside::{Disk, Failed};
+use tce_space::Shape;
+
+// The byte at which a piece of a band begins.
+fn piece_place(form: Form, shape: &Shape, band: Band, piece: u64) -> u64
+    requires band { IsBand shape.now band }
+    requires among { piece < band.pieces }
+    ensures { result ≡ head_len form shape.now + width form * (band.word + piece * band.stride) }
+{
+    form.head_len(shape) + form.width() * (band.word + piece * band.stride)
+}
+
+// Reads the pieces of a band, one after the other.
+fn read_pieces<D: Disk>(
+    disk: &mut D,
+    name: &str,
+    form: Form,
+    shape: &Shape,
+    band: Band,
+    bytes: &mut [u8],
+    tiled: &mut [u64],
+) -> Result<(), Failed>
+    requires band { IsBand shape.now band }
+    requires buffer { 262144 ≤ length bytes.old }
+    requires tiled { length tiled.old ≡ band.pieces * band.piece_len }
+    requires file { ForSome (D.files disk.old) (λ fs. HasStored (Storage.Array form) shape.now (file fs name.now)) }
+    ensures read { OnOk result (ForSome (D.files disk.old) (λ fs. AreTiled shape.now band (element_in (Storage.Array form) shape.now (contents fs name.now)) tiled.new)) }
+    ensures same { D.files disk.new ≡ D.files disk.old }
+    ensures cause { HasCause (D.faults disk.old) (D.faults disk.new) (IsErr result) }
+{
+    for piece in 0..band.pieces {
+        let from = (piece * band.piece_len) as usize;
+        let words = &mut tiled[from..from + band.piece_len as usize];
+        read_words(
+            disk,
+            name,
+            form,
+            piece_place(form, shape, band, piece),
+            bytes,
+            words,
+        )?;
+    }
+    Ok(())
+}
+
+// Writes the pieces of a band, one after the other, to a file that has the elements before the band.
+fn write_pieces<D: Disk>(
+    disk: &mut D,
+    name: &str,
+    form: Form,
+    shape: &Shape,
+    band: Band,
+    bytes: &mut [u8],
+    tiled: &[u64],
+) -> Result<(), Failed>
+    requires band { IsBand shape.now band }
+    requires buffer { 262144 ≤ length bytes.old }
+    requires tiled { length tiled.now ≡ band.pieces * band.piece_len }
+    requires padding { AreZerosBetween shape.now band tiled.now }
+    requires file { ForSome (D.files disk.old) (λ fs. HasStored (Storage.Array form) shape.now (file fs name.now)) }
+    ensures written { OnOk result ((before : Option Files) (element : Files → List ℕ → ℕ)
+        → D.files disk.old ≡ holding_by name.now (λ fs. stored_bytes (Storage.Array form) shape.now (first_elements shape.now (element fs) band.start)) before
+        → ((fs : Files) → before ≡ Some fs → AreTiled shape.now band (element fs) tiled.now)
+        → D.files disk.new ≡ holding_by name.now (λ fs. stored_bytes (Storage.Array form) shape.now (first_elements shape.now (element fs) (band.start + band.len))) before) }
+    ensures others { others name.now (D.files disk.new) ≡ others name.now (D.files disk.old) }
+    ensures cause { HasCause (D.faults disk.old) (D.faults disk.new) (IsErr result) }
+{
+    for piece in 0..band.pieces {
+        let from = (piece * band.piece_len) as usize;
+        let words = &tiled[from..from + band.piece_len as usize];
+        write_words(
+            disk,
+            name,
+            form,
+            piece_place(form, shape, band, piece),
+            bytes,
+            words,
+        )?;
+    }
+    Ok(())
+}
+
+/// Reads the elements of a band into `words`. `tiled` is room for the words of its pieces.
+pub fn read_band<D: Disk>(
+    disk: &mut D,
+    name: &str,
+    storage: Storage,
+    shape: &Shape,
+    band: Band,
+    bytes: &mut [u8],
+    tiled: &mut [u64],
+    words: &mut [u64],
+) -> Result<(), Failed>
+    requires band { IsBand shape.now band }
+    requires buffer { 262144 ≤ length bytes.old }
+    requires tiled { 32768 ≤ length tiled.old }
+    requires words { length words.old ≡ band.len }
+    requires file { ForSome (D.files disk.old) (λ fs. HasStored storage shape.now (file fs name.now)) }
+    ensures read { OnOk result (ForSome (D.files disk.old) (λ fs. AreElements shape.now (element_in storage shape.now (contents fs name.now)) band.start words.new)) }
+    ensures len { length words.new ≡ band.len }
+    ensures same { D.files disk.new ≡ D.files disk.old }
+    ensures cause { HasCause (D.faults disk.old) (D.faults disk.new) (IsErr result) }
+{
+    match storage {
+        Storage::Flat => read_words(disk, name, Form::One, 8 * band.start, bytes, words)?,
+        Storage::Array(form) => {
+            let pieces = &mut tiled[..(band.pieces * band.piece_len) as usize];
+            read_pieces(disk, name, form, shape, band, bytes, pieces)?;
+            flatten(shape, band, pieces, words);
+        }
+    }
+    Ok(())
+}
+
+/// Writes the elements of a band to a file that has the elements before it, and zeros behind them. `tiled` is room for the
+/// words of its pieces.
+pub fn write_band<D: Disk>(
+    disk: &mut D,
+    name: &str,
+    storage: Storage,
+    shape: &Shape,
+    band: Band,
+    bytes: &mut [u8],
+    tiled: &mut [u64],
+    words: &[u64],
+) -> Result<(), Failed>
+    requires band { IsBand shape.now band }
+    requires buffer { 262144 ≤ length bytes.old }
+    requires tiled { 32768 ≤ length tiled.old }
+    requires words { length words.now ≡ band.len }
+    requires file { ForSome (D.files disk.old) (λ fs. HasStored storage shape.now (file fs name.now)) }
+    ensures written { OnOk result ((before : Option Files) (element : Files → List ℕ → ℕ)
+        → D.files disk.old ≡ holding_by name.now (λ fs. stored_bytes storage shape.now (first_elements shape.now (element fs) band.start)) before
+        → ((fs : Files) → before ≡ Some fs → AreElements shape.now (element fs) band.start words.now)
+        → D.files disk.new ≡ holding_by name.now (λ fs. stored_bytes storage shape.now (first_elements shape.now (element fs) (band.start + band.len))) before) }
+    ensures others { others name.now (D.files disk.new) ≡ others name.now (D.files disk.old) }
+    ensures cause { HasCause (D.faults disk.old) (D.faults disk.new) (IsErr result) }
+{
+    match storage {
+        Storage::Flat => write_words(disk, name, Form::One, 8 * band.start, bytes, words)?,
+        Storage::Array(form) => {
+            let pieces = &mut tiled[..(band.pieces * band.piece_len) as usize];
+            tile(shape, band, words, pieces);
+            write_pieces(disk, name, form, shape, band, bytes, pieces)?;
+        }
+    }
+    Ok(())
+}
