@@ -1,0 +1,5 @@
+pub mod Opened
+pub mod Arrays
+pub mod Finished
+pub mod Laws
+pub mod Reading

@@ -1,0 +1,6 @@
+pub mod Folds
+pub mod Places
+pub mod Closed
+pub mod Operands
+pub mod PartLaws
+pub mod Worked

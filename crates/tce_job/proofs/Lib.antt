@@ -1,0 +1,5 @@
+pub mod Causes
+pub mod Plans
+pub mod Begun
+pub mod Made
+pub mod Ended

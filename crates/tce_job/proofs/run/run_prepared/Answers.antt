@@ -1,0 +1,60 @@
+use Rattle.std.proofs.Common.{◌≡◌, ℕ, ◌+◌, ◌≤◌, ◌^◌, sym, subst}
+use Rattle.tce_space.specs.Space.{IndexSpace}
+use Rattle.tce_tree.specs.ContractionTree.{ContractionTree}
+use Rattle.tce_tree.specs.FlatTree.{IsTree}
+use Rattle.tce_code.specs.Program.{program_of}
+use Rattle.tce_tail.specs.Touches.{touch_bound}
+use Rattle.tce_workspace.specs.Prepared.{IsPrepared}
+use Rattle.tce_workspace.specs.Steps.{IsKept}
+use Rattle.tce_exec.specs.Run.{IsZero, IsRun}
+use Rattle.tce_result.specs.TensorFiles.{file_of}
+use Rattle.tce_job.proofs.Begun.{workspace_at, of_parts, is_workspace, is_zero, few_touches}
+use Rattle.tce_job.proofs.Ended.{ended, others_stay, others_kept, written_result}
+use Rattle.tce_job.proofs.run.run_prepared.Goals as goal
+
+pub run_code-requires-clause-prepared : goal.run_code-requires-clause-prepared
+run_code-requires-clause-prepared g c =
+    let is_tree : IsTree c.args.spec.now.tree = subst IsTree c.tree-tree.ensures.tree c.count-nodes.ensures.kept in
+    of_parts (λ space tree t is. IsPrepared (workspace_at c.args.prepared.now c.args.prepared.now.words c.args.prepared.now.cache (g.D.Disk.files c.args.disk.now) space tree t is)) _ _ _ _ _ _ _ _
+    (sym c.space.ensures.space) (sym c.tree-tree.ensures.tree) (sym c.result.ensures.tensor) (sym c.result.ensures.indexes)
+    (is_workspace c.args.spec.now (g.D.Disk.files c.args.disk.now) c.args.prepared.now c.tree-tree.ensures.rules c.requires is_tree)
+
+pub run_code-requires-clause-zero : goal.run_code-requires-clause-zero
+run_code-requires-clause-zero g c =
+    of_parts (λ space tree t is. IsZero (workspace_at c.args.prepared.now c.args.prepared.now.words c.args.prepared.now.cache (g.D.Disk.files c.args.disk.now) space tree t is)) _ _ _ _ _ _ _ _
+    (sym c.space.ensures.space) (sym c.tree-tree.ensures.tree) (sym c.result.ensures.tensor) (sym c.result.ensures.indexes)
+    (is_zero c.args.spec.now (g.D.Disk.files c.args.disk.now) c.args.prepared.now c.tree-tree.ensures.rules c.requires)
+
+pub run_code-requires-clause-few : goal.run_code-requires-clause-few
+run_code-requires-clause-few g c =
+    let is_tree : IsTree c.args.spec.now.tree = subst IsTree c.tree-tree.ensures.tree c.count-nodes.ensures.kept in
+    of_parts (λ space tree t is. c.args.prepared.now.cache.touches + touch_bound space tree (program_of c.args.prepared.now.code) ≤ 2 ^ 100) _ _ _ _ _ _ _ _
+    (sym c.space.ensures.space) (sym c.tree-tree.ensures.tree) (sym c.result.ensures.tensor) (sym c.result.ensures.indexes)
+    (few_touches c.args.spec.now (g.D.Disk.files c.args.disk.now) c.args.prepared.now c.tree-tree.ensures.rules c.requires is_tree)
+
+pub returns-in_err-run_code-clause-others : goal.returns-in_err-run_code-clause-others
+returns-in_err-run_code-clause-others g c =
+    others_stay c.args.prepared.now.cache (file_of c.args.spec.now c.args.spec.now.result) (g.D.Disk.files c.args.disk.now) (g.D.Disk.files c.run_code.new.disk)
+    (written_result c.args.spec.now (g.D.Disk.files c.args.disk.now) c.args.prepared.now c.requires) c.run_code.ensures.kept.files
+
+pub returns-in_err-flush-clause-others : goal.returns-in_err-flush-clause-others
+returns-in_err-flush-clause-others g c =
+    others_kept _ _ (file_of c.args.spec.now c.args.spec.now.result) (g.D.Disk.files c.flush.new.disk)
+    (written_result c.args.spec.now (g.D.Disk.files c.args.disk.now) c.args.prepared.now c.requires) c.run_code.ensures.kept c.flush.ensures.others
+
+pub returns-clause-others : goal.returns-clause-others
+returns-clause-others g c =
+    others_kept _ _ (file_of c.args.spec.now c.args.spec.now.result) (g.D.Disk.files c.flush.new.disk)
+    (written_result c.args.spec.now (g.D.Disk.files c.args.disk.now) c.args.prepared.now c.requires) c.run_code.ensures.kept c.flush.ensures.others
+
+pub returns-clause-told : goal.returns-clause-told
+returns-clause-told g c =
+    ended c.args.spec.now c.args.prepared.now c.run_code.new.words c.run_code.new.cache c.flush.new.self (g.D.Disk.files c.args.disk.now) (g.D.Disk.files c.run_code.new.disk) (g.D.Disk.files c.flush.new.disk)
+    c.tree-tree.ensures.rules c.requires
+    (of_parts (λ space tree t is. IsRun (workspace_at c.args.prepared.now c.args.prepared.now.words c.args.prepared.now.cache (g.D.Disk.files c.args.disk.now) space tree t is)
+    (workspace_at c.args.prepared.now c.run_code.new.words c.run_code.new.cache (g.D.Disk.files c.run_code.new.disk) space tree t is) c.args.prepared.now.code) _ _ _ _ _ _ _ _
+    c.space.ensures.space c.tree-tree.ensures.tree c.result.ensures.tensor c.result.ensures.indexes c.in_ok-run_code.ensures.run)
+    (of_parts (λ space tree t is. IsKept (workspace_at c.args.prepared.now c.args.prepared.now.words c.args.prepared.now.cache (g.D.Disk.files c.args.disk.now) space tree t is)
+    (workspace_at c.args.prepared.now c.run_code.new.words c.run_code.new.cache (g.D.Disk.files c.run_code.new.disk) space tree t is)) _ _ _ _ _ _ _ _
+    c.space.ensures.space c.tree-tree.ensures.tree c.result.ensures.tensor c.result.ensures.indexes c.run_code.ensures.kept)
+    c.in_ok-flush.ensures.written c.in_ok-flush.ensures.arrays c.flush.ensures.others

@@ -1,0 +1,76 @@
+-- What a run has before its result is made.
+use Rattle.std.specs.Prelude.{◌≡◌, ◌⊎◌, ℕ, ◌+◌, ◌≤◌, ◌^◌, List, [], ◌∷◌, ◌++◌, replicate, Option}
+use Rattle.std.specs.Option.{ForSome}
+use Rattle.tce_outside.specs.Files.{Files}
+use Rattle.tce_array.specs.declared.form.Form.{Form}
+use Rattle.tce_array.specs.declared.form.Form.TheVariants.{One}
+use Rattle.tce_array.specs.Forms.{form_len}
+use Rattle.tce_tree.specs.Orders.{lists_of}
+use Rattle.tce_nesting.specs.declared.plan.Plan.{Plan}
+use Rattle.tce_search.specs.LeastPlan.{IsLeastPlan}
+use Rattle.tce_report.specs.NodeLine.{stated}
+use Rattle.tce_report.specs.Report.{run_text}
+use Rattle.tce_code.specs.Plan.{plan_of}
+use Rattle.tce_code.specs.CodeFor.{IsCodeFor}
+use Rattle.tce_layout.specs.Layout.{IsLayout}
+use Rattle.tce_layout.specs.Places.{PlacesFill}
+use Rattle.tce_cache.specs.Cache.{State}
+use Rattle.tce_spec.specs.Specification.{Specification}
+use Rattle.tce_spec.specs.Operands.{largest_tile, shape_of}
+use Rattle.tce_result.specs.TensorFiles.{file_of}
+use Rattle.tce_takings.specs.Takings.{frame_count, tile_take}
+use Rattle.tce_arrays.specs.Arrays.{AreArraysOf}
+use Rattle.tce_arrays.specs.Opened.{operand_count, AreOpened}
+use Rattle.tce_job.specs.declared.fault.JobFault.{JobFault}
+use Rattle.tce_job.specs.declared.fault.JobFault.TheVariants.{Disk, Memory}
+use Rattle.tce_job.specs.declared.report.RunReport.{RunReport}
+use Rattle.tce_job.specs.declared.prepared.Prepared.{Prepared}
+
+-- the report of a run by this plan: its memory, the words for tiles, the length of the result's file, and the text of all these
+pub record IsReport (s : Specification) (budget : ℕ) (plan : Plan) (report : RunReport) : Type 0 where
+  pub memory : report.memory ≡ plan.memory
+  pub tiles : report.tiles ≡ tile_take s budget
+  pub bytes : report.bytes ≡ form_len One (shape_of s s.result)
+  pub text : report.text ≡ run_text s.declarations.space s.tree (stated plan) (tile_take s budget) (file_of s s.result) (form_len One (shape_of s s.result))
+
+-- a cache that holds no tile, of the arrays of the specification, with its frames behind the words of the intermediates
+pub record IsEmptyCache (s : Specification) (budget : ℕ) (forms : List Form) (memory : ℕ) (c : State) : Type 0 where
+  pub arrays : AreArraysOf s forms c.arrays
+  pub at : c.at ≡ memory
+  pub frames : c.frames ≡ frame_count s budget
+  pub frame_words : c.frame_words ≡ largest_tile s
+  pub held : c.held ≡ []
+  pub touches : c.touches ≡ 0
+
+-- a run by a least plan: its code, the slots of its intermediates, words that are all 0, a cache with the forms of the operands' files, and the report
+pub record IsPrepared (s : Specification) (budget : ℕ) (forms : List Form) (p : Prepared) : Type 0 where
+  pub least : IsLeastPlan s.declarations.space s.tree p.plan
+  pub small : p.plan.memory ≤ 2 ^ 40
+  pub code : IsCodeFor s.tree (plan_of p.plan.fusion.0.items (lists_of p.plan.orders.0.items)) p.code
+  pub slots : IsLayout s.declarations.space s.tree p.plan.fusion.0.items p.layout.0.items
+  pub places : PlacesFill s.declarations.space s.tree p.plan.fusion.0.items p.layout.0.items
+  pub words : p.words ≡ replicate (p.plan.memory + tile_take s budget) 0
+  pub cache : IsEmptyCache s budget forms p.plan.memory p.cache
+  pub report : IsReport s budget p.plan p.report
+
+-- the one taking of a run
+abbrev pub taking_of : Specification → ℕ → Plan → ℕ × ℕ
+taking_of s budget plan = (plan.memory, tile_take s budget)
+
+-- there is one taking more: the least memory, and the words for tiles
+pub record HasTaken (s : Specification) (budget : ℕ) (before after : List (ℕ × ℕ)) : Type 0 where
+  pub plan : Plan
+  pub least : IsLeastPlan s.declarations.space s.tree plan
+  pub taken : after ≡ before ++ taking_of s budget plan ∷ []
+
+-- what a refused run leaves of the room: its takings as they were, or, after a failure or want of memory, one more
+abbrev pub IsRoomLeft : JobFault → Specification → ℕ → List (ℕ × ℕ) → List (ℕ × ℕ) → Type 0
+IsRoomLeft Disk s budget before after = (after ≡ before) ⊎ HasTaken s budget before after
+IsRoomLeft Memory s budget before after = (after ≡ before) ⊎ HasTaken s budget before after
+IsRoomLeft fault s budget before after = after ≡ before
+
+-- a run is prepared, and its operands' files have the forms of its arrays, where the disk tells them
+pub record IsReady (s : Specification) (budget : ℕ) (told : Option Files) (p : Prepared) : Type 0 where
+  pub forms : List Form
+  pub prepared : IsPrepared s budget forms p
+  pub opened : ForSome told (λ files. AreOpened files s forms (operand_count s))

@@ -1,0 +1,67 @@
+// What a run tests before it takes its memory: the budget, the memory for intermediates, and the operands.
+ghost use Rattle.std.specs.Prelude.{◌≡◌, ◌≢◌, ◌≤◌, ◌^◌, Err, IfOk, IfErr, OnOk};
+ghost use Rattle.std.specs.Option.{ForSome};
+ghost use Rattle.tce_outside.specs.Fault.{HasCause};
+ghost use Rattle.tce_array.specs.declared.fault.ArrayFault.TheVariants as array_fault;
+ghost use Rattle.tce_search.specs.LeastPlan.{IsLeastPlan};
+ghost use Rattle.tce_arrays.specs.Opened.{AreOpened, operand_count};
+ghost use Rattle.tce_job.specs.Refusals.{IsAffordable, IsCause, IsOpeningFault, IsFaultOf};
+
+use crate::fault::JobFault;
+use std::alloc::Global;
+use tce_array::ArrayFault;
+use tce_arrays::{Forms, Refused, open_operands};
+use tce_nesting::Plan;
+use tce_outside::Disk;
+use tce_search::search;
+use tce_spec::Spec;
+use tce_takings::least_budget;
+
+// The words that the intermediates of a run may take.
+const MOST_MEMORY: u128 = 1 << 40;
+
+/// A plan of a least fusion, where the budget is enough and the plan's memory within the limit.
+pub fn affordable_plan(alloc: Global, spec: &Spec, budget: u64) -> Result<Plan, JobFault>
+    ensures plan { IfOk result (IsLeastPlan spec.now.declarations.space spec.now.tree) }
+    ensures small { IfOk result (λ plan. plan.memory ≤ 2 ^ 40) }
+    ensures affordable { OnOk result (IsAffordable spec.now budget) }
+    ensures refused { IfErr result (IsCause (λ _. ⊥) spec.now budget) }
+    ensures no_fault { result ≢ Err JobFault.Disk }
+{
+    let least = least_budget(spec);
+    if budget < least {
+        return Err(JobFault::BudgetTooSmall(least));
+    }
+    let Ok(plan) = search(alloc, spec.space(), spec.tree()) else {
+        return Err(JobFault::Memory);
+    };
+    if plan.memory > MOST_MEMORY {
+        return Err(JobFault::IntermediatesTooLarge(plan.memory));
+    }
+    Ok(plan)
+}
+
+// The fault of a run for an operand that is refused.
+fn fault_of(refused: Refused) -> JobFault
+    ensures { IsFaultOf refused result }
+{
+    match refused.fault {
+        ArrayFault::Disk => JobFault::Disk,
+        ArrayFault::NoFile => JobFault::Array(refused.tensor, ArrayFault::NoFile),
+        ArrayFault::BadLength(len) => JobFault::Array(refused.tensor, ArrayFault::BadLength(len)),
+        ArrayFault::BadHeader(at) => JobFault::Array(refused.tensor, ArrayFault::BadHeader(at)),
+    }
+}
+
+/// The forms of the operands' files.
+pub fn opened_forms<D: Disk>(spec: &Spec, disk: &mut D) -> Result<Forms, JobFault>
+    ensures opened { IfOk result (λ forms. ForSome (D.files disk.old) (λ files. AreOpened files spec.now forms.0 (operand_count spec.now))) }
+    ensures refused { IfErr result (IsOpeningFault (D.files disk.old) spec.now) }
+    ensures same { D.files disk.new ≡ D.files disk.old }
+    ensures cause { HasCause (D.faults disk.old) (D.faults disk.new) (result ≡ Err JobFault.Disk) }
+{
+    match open_operands(spec, disk) {
+        Ok(forms) => Ok(forms),
+        Err(refused) => Err(fault_of(refused)),
+    }
+}

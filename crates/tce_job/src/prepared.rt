@@ -1,0 +1,21 @@
+// What a run has before its result is made.
+use crate::report::RunReport;
+use tce_cache::Cache;
+use tce_code::Code;
+use tce_layout::Layout;
+use tce_nesting::Plan;
+use tce_words::Words;
+
+/// All that a run needs beside the disk.
+#[derive(Drop)]
+pub struct Prepared {
+    /// A plan of a least fusion, with its standard orders.
+    pub plan: Plan,
+    pub code: Code,
+    /// Where the intermediates stand among the words.
+    pub layout: Layout,
+    /// The words of the intermediates, and behind them those of the frames.
+    pub words: Words,
+    pub cache: Cache,
+    pub report: RunReport,
+}

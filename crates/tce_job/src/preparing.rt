@@ -1,0 +1,207 @@
+// A run up to the file of its result.
+ghost use Rattle.std.specs.Prelude.{◌≡◌, ◌⊎◌, ◌≤◌, ◌^◌, ◌++◌, ◌∷◌, [], Err, IfOk, IfErr, OnOk, OnErr, IsErrOf};
+ghost use Rattle.std.specs.Option.{ForSome, IsSomeAnd};
+ghost use Rattle.tce_outside.specs.Files.{holding, others};
+ghost use Rattle.tce_outside.specs.Fault.{HasCause};
+ghost use Rattle.tce_spec.specs.Operands.{largest_tile};
+ghost use Rattle.tce_search.specs.LeastPlan.{IsLeastPlan};
+ghost use Rattle.tce_result.specs.TensorFiles.{file_of};
+ghost use Rattle.tce_takings.specs.Takings.{least_budget};
+ghost use Rattle.tce_arrays.specs.Opened.{AreOpened, operand_count};
+ghost use Rattle.tce_arrays.specs.Laws.{made_result};
+ghost use Rattle.tce_job.specs.declared.fault.JobFault.{JobFault as Fault};
+ghost use Rattle.tce_job.specs.Refusals.{IsAffordable, IsCause, MayBeRefused, MustBeRefused, CanRun, IsFree, IsRefusedAs, IsGranted};
+ghost use Rattle.tce_job.specs.Prepared.{IsPrepared, IsReady, IsEmptyCache, IsReport, IsRoomLeft, taking_of};
+
+use crate::bytes::Bytes;
+use crate::fault::JobFault;
+use crate::planning::{affordable_plan, opened_forms};
+use crate::prepared::Prepared;
+use crate::report::RunReport;
+use std::alloc::{AllocError, Global};
+use tce_array::{Form, create, form_len};
+use tce_arrays::{Forms, arrays_of};
+use tce_cache::Cache;
+use tce_code::generate;
+use tce_layout::lay_out;
+use tce_nesting::Plan;
+use tce_outside::{Disk, OutFault};
+use tce_report::run_text;
+use tce_result::file_of;
+use tce_spec::Spec;
+use tce_takings::{frame_count, tile_take};
+use tce_words::Room;
+
+// A cache for the arrays of a run, whose frames stand behind the words of its intermediates.
+fn empty_cache(
+    alloc: Global,
+    spec: &Spec,
+    budget: u64,
+    forms: &Forms,
+    memory: u64,
+) -> Result<Cache, AllocError>
+    requires { least_budget spec.now ≤ budget }
+    ensures { IfOk result (IsEmptyCache spec.now budget forms.now.0 memory) }
+{
+    let arrays = arrays_of(alloc, spec, forms)?;
+    Cache::new(
+        alloc,
+        &arrays,
+        memory,
+        frame_count(spec, budget),
+        spec.largest_tile(),
+    )
+}
+
+// The report of a run by this plan.
+fn report_of(alloc: Global, spec: &Spec, budget: u64, plan: &Plan) -> Result<RunReport, AllocError>
+    requires enough { least_budget spec.now ≤ budget }
+    requires plan { IsLeastPlan spec.now.declarations.space spec.now.tree plan.now }
+    ensures { IfOk result (IsReport spec.now budget plan.now) }
+{
+    let result = spec.result().tensor;
+    let tiles = tile_take(spec, budget);
+    let bytes = form_len(Form::One, &spec.tensor(result).shape);
+    let file = file_of(spec, result);
+    let text = run_text(alloc, spec.space(), spec.tree(), plan, tiles, &file, bytes)?;
+    Ok(RunReport {
+        memory: plan.memory,
+        tiles,
+        bytes,
+        text: Bytes::of(text),
+    })
+}
+
+// Takes all memory of a run, the words of the room last.
+fn take_memory<R: Room>(
+    alloc: Global,
+    spec: &Spec,
+    budget: u64,
+    forms: &Forms,
+    plan: Plan,
+    room: &mut R,
+) -> Result<Prepared, AllocError>
+    requires enough { least_budget spec.now ≤ budget }
+    requires limit { budget ≤ 2 ^ 40 }
+    requires plan { IsLeastPlan spec.now.declarations.space spec.now.tree plan }
+    requires small { plan.memory ≤ 2 ^ 40 }
+    ensures prepared { IfOk result (IsPrepared spec.now budget forms.now.0) }
+    ensures taken { IfOk result (λ p. R.takings room.new ≡ R.takings room.old ++ taking_of spec.now budget p.plan ∷ []) }
+    ensures refused { OnErr result (R.takings room.new ≡ R.takings room.old) }
+{
+    let memory = plan.memory as u64;
+    let code = generate(alloc, spec.tree(), &plan.fusion, &plan.orders)?;
+    let layout = lay_out(spec.space(), spec.tree(), &plan.fusion);
+    let cache = empty_cache(alloc, spec, budget, forms, memory)?;
+    let report = report_of(alloc, spec, budget, &plan)?;
+    let words = room.take(memory, tile_take(spec, budget))?;
+    Ok(Prepared {
+        plan,
+        code,
+        layout,
+        words,
+        cache,
+        report,
+    })
+}
+
+// Makes the file of the result.
+fn make_result<D: Disk>(spec: &Spec, disk: &mut D) -> Result<(), JobFault>
+    ensures made { OnOk result (D.files disk.new ≡ holding (file_of spec.now spec.now.result) (made_result spec.now) (D.files disk.old)) }
+    ensures free { IfErr result IsFree }
+    ensures unchanged { IfErr result (λ fault. (fault ≡ Fault.Disk) ⊎ (D.files disk.new ≡ D.files disk.old)) }
+    ensures others { others (file_of spec.now spec.now.result) (D.files disk.new) ≡ others (file_of spec.now spec.now.result) (D.files disk.old) }
+    ensures cause { HasCause (D.faults disk.old) (D.faults disk.new) (result ≡ Err Fault.Disk) }
+{
+    let result = spec.result().tensor;
+    let name = file_of(spec, result);
+    match create(disk, name.as_str(), Form::One, &spec.tensor(result).shape) {
+        Ok(()) => Ok(()),
+        Err(OutFault::Failed) => Err(JobFault::Disk),
+        Err(OutFault::Memory) => Err(JobFault::Memory),
+    }
+}
+
+// Tests all that a run needs, and gives its plan and the forms of its operands.
+fn tested<D: Disk>(
+    alloc: Global,
+    spec: &Spec,
+    budget: u64,
+    disk: &mut D,
+) -> Result<(Plan, Forms), JobFault>
+    ensures plan { IfOk result (λ pair. IsLeastPlan spec.now.declarations.space spec.now.tree pair.0) }
+    ensures small { IfOk result (λ pair. pair.0.memory ≤ 2 ^ 40) }
+    ensures affordable { OnOk result (IsAffordable spec.now budget) }
+    ensures opened { IfOk result (λ pair. ForSome (D.files disk.old) (λ files. AreOpened files spec.now pair.1.0 (operand_count spec.now))) }
+    ensures refused { IfErr result (IsCause (MayBeRefused (D.files disk.old) spec.now) spec.now budget) }
+    ensures same { D.files disk.new ≡ D.files disk.old }
+    ensures cause { HasCause (D.faults disk.old) (D.faults disk.new) (result ≡ Err Fault.Disk) }
+{
+    let plan = affordable_plan(alloc, spec, budget)?;
+    let forms = opened_forms(spec, disk)?;
+    Ok((plan, forms))
+}
+
+// Takes the memory of a run, and makes the file of its result.
+fn begun<D: Disk, R: Room>(
+    alloc: Global,
+    spec: &Spec,
+    budget: u64,
+    forms: &Forms,
+    plan: Plan,
+    disk: &mut D,
+    room: &mut R,
+) -> Result<Prepared, JobFault>
+    requires enough { least_budget spec.now ≤ budget }
+    requires limit { budget ≤ 2 ^ 40 }
+    requires plan { IsLeastPlan spec.now.declarations.space spec.now.tree plan }
+    requires small { plan.memory ≤ 2 ^ 40 }
+    ensures prepared { IfOk result (IsPrepared spec.now budget forms.now.0) }
+    ensures made { OnOk result (D.files disk.new ≡ holding (file_of spec.now spec.now.result) (made_result spec.now) (D.files disk.old)) }
+    ensures taken { IfOk result (λ p. R.takings room.new ≡ R.takings room.old ++ taking_of spec.now budget p.plan ∷ []) }
+    ensures free { IfErr result IsFree }
+    ensures unchanged { IfErr result (λ fault. (fault ≡ Fault.Disk) ⊎ (D.files disk.new ≡ D.files disk.old)) }
+    ensures takings { IfErr result (λ fault. IsRoomLeft fault spec.now budget (R.takings room.old) (R.takings room.new)) }
+    ensures others { others (file_of spec.now spec.now.result) (D.files disk.new) ≡ others (file_of spec.now spec.now.result) (D.files disk.old) }
+    ensures cause { HasCause (D.faults disk.old) (D.faults disk.new) (result ≡ Err Fault.Disk) }
+{
+    let Ok(prepared) = take_memory(alloc, spec, budget, forms, plan, room) else {
+        return Err(JobFault::Memory);
+    };
+    make_result(spec, disk)?;
+    Ok(prepared)
+}
+
+/// Tests and takes all that a run needs, and makes the file of its result, which holds zeros.
+///
+/// The budget, in words, is for tiles; it is at most 2^40. `BudgetTooSmall` comes first, then `IntermediatesTooLarge`,
+/// then the first operand that is refused; `Array` never holds the fault `Disk`. After every refusal but `Disk` all files
+/// are as they were.
+pub fn prepare_run<D: Disk, R: Room>(
+    alloc: Global,
+    spec: &Spec,
+    budget: u64,
+    disk: &mut D,
+    room: &mut R,
+) -> Result<Prepared, JobFault>
+    requires { budget ≤ 2 ^ 40 }
+    ensures ready { IfOk result (IsReady spec.now budget (D.files disk.old)) }
+    ensures made { OnOk result (D.files disk.new ≡ holding (file_of spec.now spec.now.result) (made_result spec.now) (D.files disk.old)) }
+    ensures taken { IfOk result (λ p. R.takings room.new ≡ R.takings room.old ++ taking_of spec.now budget p.plan ∷ []) }
+    ensures able { OnOk result (ForSome (D.files disk.old) (λ files. CanRun files spec.now budget)) }
+
+    // Why a run is refused, and that it is refused so wherever there is a cause.
+    ensures refused { IfErr result (IsCause (MayBeRefused (D.files disk.old) spec.now) spec.now budget) }
+    ensures exactly { (due : Fault) → (IsFree due → ⊥) → IsCause (MustBeRefused (D.files disk.old) spec.now) spec.now budget due → IsRefusedAs due result }
+    ensures granted { ForSome (D.files disk.old) (λ files. CanRun files spec.now budget → IsGranted result) }
+    ensures cause { HasCause (D.faults disk.old) (D.faults disk.new) (result ≡ Err Fault.Disk) }
+
+    // What a refused run leaves.
+    ensures unchanged { IfErr result (λ fault. (fault ≡ Fault.Disk) ⊎ (D.files disk.new ≡ D.files disk.old)) }
+    ensures takings { IfErr result (λ fault. IsRoomLeft fault spec.now budget (R.takings room.old) (R.takings room.new)) }
+    ensures others { others (file_of spec.now spec.now.result) (D.files disk.new) ≡ others (file_of spec.now spec.now.result) (D.files disk.old) }
+{
+    let (plan, forms) = tested(alloc, spec, budget, disk)?;
+    let prepared = begun(alloc, spec, budget, &forms, plan, disk, room)?;
+    Ok(prepared)
+}

@@ -1,0 +1,87 @@
+// A whole run: what it prepares, its code, and the result in its file.
+ghost use Rattle.std.specs.Prelude.{◌≡◌, ◌⊎◌, ◌≤◌, ◌^◌, IfOk, IfErr, OnOk, IsErr, Err};
+ghost use Rattle.std.specs.Option.{ForSome, option_map};
+ghost use Rattle.tce_outside.specs.Files.{others};
+ghost use Rattle.tce_outside.specs.Fault.{HasCause};
+ghost use Rattle.tce_result.specs.TensorFiles.{file_of};
+ghost use Rattle.tce_result.specs.ResultBytes.{with_result};
+ghost use Rattle.tce_job.specs.declared.fault.JobFault.{JobFault as Fault};
+ghost use Rattle.tce_job.specs.Refusals.{IsCause, MayBeRefused, MustBeRefused, CanRun, IsFree, IsRefusedAs, IsGranted};
+ghost use Rattle.tce_job.specs.Prepared.{IsRoomLeft};
+ghost use Rattle.tce_job.specs.Run.{IsBegun, IsReported};
+
+use crate::fault::JobFault;
+use crate::prepared::Prepared;
+use crate::preparing::prepare_run;
+use crate::report::RunReport;
+use std::alloc::Global;
+use tce_exec::run_code;
+use tce_outside::{Disk, Failed};
+use tce_spec::Spec;
+use tce_words::Room;
+
+// Runs the code that was prepared, and writes the tiles of the result to its file.
+fn run_prepared<D: Disk>(spec: &Spec, prepared: &mut Prepared, disk: &mut D) -> Result<(), Failed>
+    requires { IsBegun spec.now (D.files disk.old) prepared.old }
+    ensures told { OnOk result (D.files disk.new ≡ option_map (with_result spec.now) (D.files disk.old)) }
+    ensures report { prepared.new.report ≡ prepared.old.report }
+    ensures others { others (file_of spec.now spec.now.result) (D.files disk.new) ≡ others (file_of spec.now spec.now.result) (D.files disk.old) }
+    ensures cause { HasCause (D.faults disk.old) (D.faults disk.new) (IsErr result) }
+{
+    let tree = spec.tree();
+    let _nodes = tree.count();
+    run_code(
+        spec.space(),
+        tree,
+        &prepared.plan.fusion,
+        &prepared.plan.orders,
+        spec.result(),
+        &prepared.code,
+        &prepared.layout,
+        &mut prepared.words,
+        &mut prepared.cache,
+        disk,
+    )?;
+    prepared.cache.flush(disk, &prepared.words)?;
+    Ok(())
+}
+
+/// Runs a specification: puts the file of its result in place of whatever has that name, from the arrays of its
+/// operands.
+///
+/// The budget, in words, is for tiles; it is at most 2^40. The run takes its memory once, the words of the room last,
+/// and after that makes the file of the result. It is refused for the first cause in this order: `BudgetTooSmall` with
+/// three of the largest tiles in words, `IntermediatesTooLarge` with the least memory in words, `Array` with the first
+/// operand by first use that is refused and its fault, which is never `Disk`. After every refusal but `Disk` all files
+/// are as they were; after `Disk` the result's file may hold anything or be absent.
+pub fn run_job<D: Disk, R: Room>(
+    alloc: Global,
+    spec: &Spec,
+    budget: u64,
+    disk: &mut D,
+    room: &mut R,
+) -> Result<RunReport, JobFault>
+    requires { budget ≤ 2 ^ 40 }
+    ensures told { OnOk result (D.files disk.new ≡ option_map (with_result spec.now) (D.files disk.old)) }
+    ensures reported { IfOk result (IsReported spec.now budget (R.takings room.old) (R.takings room.new)) }
+    ensures able { OnOk result (ForSome (D.files disk.old) (λ files. CanRun files spec.now budget)) }
+
+    // Why a run is refused, and that it is refused so wherever there is a cause.
+    ensures refused { IfErr result (IsCause (MayBeRefused (D.files disk.old) spec.now) spec.now budget) }
+    ensures exactly { (due : Fault) → (IsFree due → ⊥) → IsCause (MustBeRefused (D.files disk.old) spec.now) spec.now budget due → IsRefusedAs due result }
+    ensures granted { ForSome (D.files disk.old) (λ files. CanRun files spec.now budget → IsGranted result) }
+    ensures cause { HasCause (D.faults disk.old) (D.faults disk.new) (result ≡ Err Fault.Disk) }
+
+    // What a refused run leaves.
+    ensures unchanged { IfErr result (λ fault. (fault ≡ Fault.Disk) ⊎ (D.files disk.new ≡ D.files disk.old)) }
+    ensures takings { IfErr result (λ fault. IsRoomLeft fault spec.now budget (R.takings room.old) (R.takings room.new)) }
+    ensures others { others (file_of spec.now spec.now.result) (D.files disk.new) ≡ others (file_of spec.now spec.now.result) (D.files disk.old) }
+{
+    // Specifications keep their rules.
+    let _space = spec.space();
+    let mut prepared = prepare_run(alloc, spec, budget, disk, room)?;
+    match run_prepared(spec, &mut prepared, disk) {
+        Ok(()) => Ok(prepared.report),
+        Err(Failed) => Err(JobFault::Disk),
+    }
+}

@@ -1,0 +1,287 @@
+//! Formulas over four indexes, each with its value at every assignment of numbers to all four.
+//!
+//! An assignment is a number below 72, the row-major place of the numbers of i, j, k and l.
+use crate::tests::tiled::Range;
+use std::alloc::{AllocError, Global};
+
+/// How many assignments there are.
+pub const ASSIGNMENTS: u64 = 72;
+
+/// The declarations of the ranges, the indexes and the operands.
+pub const DECLARED: &str =
+    "range N 3 tile 2\nrange M 2\nrange K 4 tile 3\nindex N i j\nindex M k\nindex K l\ntensor A[N,M]\ntensor B[N,K]\ntensor D[K]\ntensor E[N,N]\n";
+
+/// An index: its name, its range, that range's name, and how far apart two assignments are that differ by one in it.
+#[derive(Clone, Copy, Debug)]
+pub struct Index {
+    pub name: &'static str,
+    pub range_name: &'static str,
+    pub range: Range,
+    pub step: u64,
+}
+
+const N: Range = Range {
+    extent: 3,
+    edge: 2,
+    tiles: 2,
+};
+
+const M: Range = Range {
+    extent: 2,
+    edge: 1,
+    tiles: 2,
+};
+
+const K: Range = Range {
+    extent: 4,
+    edge: 3,
+    tiles: 2,
+};
+
+/// The four indexes.
+pub const INDEXES: [Index; 4] = [
+    Index {
+        name: "i",
+        range_name: "N",
+        range: N,
+        step: 24,
+    },
+    Index {
+        name: "j",
+        range_name: "N",
+        range: N,
+        step: 8,
+    },
+    Index {
+        name: "k",
+        range_name: "M",
+        range: M,
+        step: 4,
+    },
+    Index {
+        name: "l",
+        range_name: "K",
+        range: K,
+        step: 1,
+    },
+];
+
+/// The operands: the names of their files, and their ranges.
+pub const OPERANDS: [(&str, &[Range]); 4] = [
+    ("A.tca", &[N, M]),
+    ("B.tca", &[N, K]),
+    ("D.tca", &[K]),
+    ("E.tca", &[N, N]),
+];
+
+// The references to the operands: the text, the operand's number, and which of the four indexes stand in it, in order.
+const REFERENCES: [(&str, usize, &[usize]); 8] = [
+    ("A[i,k]", 0, &[0, 2]),
+    ("A[j,k]", 0, &[1, 2]),
+    ("B[i,l]", 1, &[0, 3]),
+    ("B[j,l]", 1, &[1, 3]),
+    ("D[l]", 2, &[3]),
+    ("E[i,j]", 3, &[0, 1]),
+    ("E[j,i]", 3, &[1, 0]),
+    ("E[i,i]", 3, &[0, 0]),
+];
+
+// The constants.
+const CONSTANTS: [(&str, u64); 2] = [("3", 3), ("18446744073709551615", u64::MAX)];
+
+/// A formula: its text, which of the four indexes it has, how many operations, and its value at each assignment.
+#[derive(Drop)]
+pub struct Term {
+    pub text: String,
+    pub dims: [bool; 4],
+    pub operations: u64,
+    pub values: Vec<u64>,
+}
+
+impl Term {
+    /// The value at an assignment.
+    pub fn value(&self, assignment: u64) -> u64 {
+        self.values.get(assignment as usize).copied().unwrap_or(0)
+    }
+}
+
+/// The number of an index at an assignment.
+pub fn number_at(assignment: u64, index: &Index) -> u64 {
+    if index.step == 0 || index.range.extent == 0 {
+        return 0;
+    }
+    assignment / index.step % index.range.extent
+}
+
+// The assignment with this number of an index in place of its own.
+fn with_number(assignment: u64, index: &Index, number: u64) -> u64 {
+    let own = number_at(assignment, index);
+    assignment
+        .wrapping_sub(own.wrapping_mul(index.step))
+        .wrapping_add(number.wrapping_mul(index.step))
+}
+
+// The row-major place of the element that the indexes name at an assignment.
+fn element_named(indexes: &[usize], assignment: u64) -> u64 {
+    let mut element = 0u64;
+    for at in indexes {
+        if let Some(index) = INDEXES.get(*at) {
+            element = element
+                .wrapping_mul(index.range.extent)
+                .wrapping_add(number_at(assignment, index));
+        }
+    }
+    element
+}
+
+// Whether each of the four indexes is in a list.
+fn dims_of(indexes: &[usize]) -> [bool; 4] {
+    let mut dims = [false; 4];
+    for at in indexes {
+        if *at < 4 {
+            dims[*at] = true;
+        }
+    }
+    dims
+}
+
+// A reference to an operand with these elements.
+fn reference(
+    alloc: Global,
+    text: &str,
+    indexes: &[usize],
+    elements: &[u64],
+) -> Result<Term, AllocError> {
+    let mut values = Vec::new(alloc);
+    for assignment in 0..ASSIGNMENTS {
+        let element = element_named(indexes, assignment);
+        values.push(elements.get(element as usize).copied().unwrap_or(0))?;
+    }
+    Ok(Term {
+        text: String::from_str(alloc, text)?,
+        dims: dims_of(indexes),
+        operations: 0,
+        values,
+    })
+}
+
+fn constant(alloc: Global, text: &str, number: u64) -> Result<Term, AllocError> {
+    let mut values = Vec::new(alloc);
+    for _ in 0..ASSIGNMENTS {
+        values.push(number)?;
+    }
+    Ok(Term {
+        text: String::from_str(alloc, text)?,
+        dims: [false; 4],
+        operations: 0,
+        values,
+    })
+}
+
+/// All references to the operands with these elements, and the constants.
+pub fn leaves(alloc: Global, operands: &[Vec<u64>]) -> Result<Vec<Term>, AllocError> {
+    let mut terms = Vec::new(alloc);
+    for (text, operand, indexes) in REFERENCES {
+        let elements = match operands.get(operand) {
+            Some(elements) => elements.as_slice(),
+            None => &[],
+        };
+        terms.push(reference(alloc, text, indexes, elements)?)?;
+    }
+    for (text, number) in CONSTANTS {
+        terms.push(constant(alloc, text, number)?)?;
+    }
+    Ok(terms)
+}
+
+/// What joins two formulas.
+#[derive(Clone, Copy, Debug)]
+pub enum Join {
+    Times,
+    Plus,
+    Minus,
+}
+
+impl Join {
+    fn symbol(self) -> &'static str {
+        match self {
+            Join::Times => "*",
+            Join::Plus => "+",
+            Join::Minus => "-",
+        }
+    }
+
+    fn of(self, left: u64, right: u64) -> u64 {
+        match self {
+            Join::Times => left.wrapping_mul(right),
+            Join::Plus => left.wrapping_add(right),
+            Join::Minus => left.wrapping_sub(right),
+        }
+    }
+}
+
+/// Two formulas, joined.
+pub fn joined(alloc: Global, join: Join, left: &Term, right: &Term) -> Result<Term, AllocError> {
+    let mut values = Vec::new(alloc);
+    for assignment in 0..ASSIGNMENTS {
+        values.push(join.of(left.value(assignment), right.value(assignment)))?;
+    }
+    let mut dims = left.dims;
+    for at in 0..4 {
+        dims[at] = left.dims[at] || right.dims[at];
+    }
+    let symbol = join.symbol();
+    let (first, second) = (left.text.as_str(), right.text.as_str());
+    Ok(Term {
+        text: format!(in alloc; "({first} {symbol} {second})")?,
+        dims,
+        operations: left
+            .operations
+            .wrapping_add(right.operations)
+            .wrapping_add(1),
+        values,
+    })
+}
+
+// The values of a sum over one index.
+fn summed_values(alloc: Global, values: &[u64], index: &Index) -> Result<Vec<u64>, AllocError> {
+    let mut sums = Vec::new(alloc);
+    for assignment in 0..ASSIGNMENTS {
+        let mut sum = 0u64;
+        for number in 0..index.range.extent {
+            let other = with_number(assignment, index, number);
+            sum = sum.wrapping_add(values.get(other as usize).copied().unwrap_or(0));
+        }
+        sums.push(sum)?;
+    }
+    Ok(sums)
+}
+
+/// The sum of a formula over these indexes, which it has.
+pub fn summed(alloc: Global, summed: [bool; 4], term: &Term) -> Result<Term, AllocError> {
+    let mut values = term.values.clone()?;
+    let mut dims = term.dims;
+    let mut list = String::new(alloc);
+    for at in 0..4 {
+        if summed[at] {
+            values = summed_values(alloc, values.as_slice(), &INDEXES[at])?;
+            dims[at] = false;
+            push_name(&mut list, INDEXES[at].name)?;
+        }
+    }
+    let text = term.text.as_str();
+    Ok(Term {
+        text: format!(in alloc; "sum{{{list}}}({text})")?,
+        dims,
+        operations: term.operations.wrapping_add(1),
+        values,
+    })
+}
+
+/// Puts a name behind a list of names.
+pub fn push_name(list: &mut String, name: &str) -> Result<(), AllocError> {
+    if !list.is_empty() {
+        list.push_str(",")?;
+    }
+    list.push_str(name)
+}

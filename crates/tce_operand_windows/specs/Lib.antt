@@ -1,0 +1,4 @@
+pub mod Windows
+pub mod Blocks
+pub mod Laws
+pub mod Touches

@@ -1,0 +1,5 @@
+pub mod Shapes
+pub mod Names
+pub mod Agreement
+pub mod Results
+pub mod Worked

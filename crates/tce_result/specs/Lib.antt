@@ -1,0 +1,4 @@
+pub mod TensorFiles
+pub mod ResultBytes
+pub mod Laws
+pub mod Examples

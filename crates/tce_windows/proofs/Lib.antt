@@ -1,0 +1,9 @@
+pub mod Places
+pub mod Sums
+pub mod Falling
+pub mod Making
+pub mod Nests
+pub mod Calls
+pub mod Leaving
+pub mod Stills
+pub mod Kept

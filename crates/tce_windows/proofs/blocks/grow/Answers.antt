@@ -1,0 +1,48 @@
+use Rattle.std.proofs.Common.{List, length, take}
+use Rattle.tce_strides.specs.Steps.{sum_lens, sum_out_steps, operand_steps}
+use Rattle.tce_strides.specs.Turns.{grown}
+use Rattle.tce_strides.specs.declared.loops.SumLoop.{SumLoop}
+use Rattle.tce_windows.specs.Nests.{sum_loop}
+use Rattle.tce_windows.proofs.Calls.{AreSumLoops, sum_loops_are, positive_nest, within_nest, apart_nest, made_by_one}
+use Rattle.tce_windows.proofs.Nests.{loops_in_front}
+use Rattle.tce_windows.proofs.blocks.grow.Goals as goal
+
+pub grow-requires-clause-positive : goal.grow-requires-clause-positive
+grow-requires-clause-positive c =
+    let loops : List SumLoop = take c.len.result c.sum_loops-inner.result in
+    let are : AreSumLoops c.args.loops.now c.args.lens.now c.args.out.now c.args.operand.now loops =
+    sum_loops_are c.args.loops.now c.args.lens.now c.args.out.now c.args.operand.now c.nest-axes.result.items loops c.nest-axes.ensures
+    (loops_in_front (sum_loop c.args.out.now c.args.operand.now) c.nest-axes.result.items c.deref.result.now c.sum_loops-inner.result c.len.result c.deref.ensures.0 c.len.ensures.value c.sum_loops-inner.ensures) in
+    positive_nest c.args.loops.now c.args.lens.now are.inner (sum_lens loops) c.requires.loops are.same are.numbers
+
+pub grow-requires-clause-out : goal.grow-requires-clause-out
+grow-requires-clause-out c =
+    let loops : List SumLoop = take c.len.result c.sum_loops-inner.result in
+    let are : AreSumLoops c.args.loops.now c.args.lens.now c.args.out.now c.args.operand.now loops =
+    sum_loops_are c.args.loops.now c.args.lens.now c.args.out.now c.args.operand.now c.nest-axes.result.items loops c.nest-axes.ensures
+    (loops_in_front (sum_loop c.args.out.now c.args.operand.now) c.nest-axes.result.items c.deref.result.now c.sum_loops-inner.result c.len.result c.deref.ensures.0 c.len.ensures.value c.sum_loops-inner.ensures) in
+    within_nest c.args.loops.now c.args.lens.now are.inner (sum_lens loops) (sum_out_steps loops) c.args.out.now (length c.args.words.now) c.requires.loops are.same are.numbers are.outs c.requires.out
+
+pub grow-requires-clause-operand : goal.grow-requires-clause-operand
+grow-requires-clause-operand c =
+    let loops : List SumLoop = take c.len.result c.sum_loops-inner.result in
+    let are : AreSumLoops c.args.loops.now c.args.lens.now c.args.out.now c.args.operand.now loops =
+    sum_loops_are c.args.loops.now c.args.lens.now c.args.out.now c.args.operand.now c.nest-axes.result.items loops c.nest-axes.ensures
+    (loops_in_front (sum_loop c.args.out.now c.args.operand.now) c.nest-axes.result.items c.deref.result.now c.sum_loops-inner.result c.len.result c.deref.ensures.0 c.len.ensures.value c.sum_loops-inner.ensures) in
+    within_nest c.args.loops.now c.args.lens.now are.inner (sum_lens loops) (operand_steps loops) c.args.operand.now (length c.args.words.now) c.requires.loops are.same are.numbers are.operands c.requires.operand
+
+pub grow-requires-clause-apart : goal.grow-requires-clause-apart
+grow-requires-clause-apart c =
+    let loops : List SumLoop = take c.len.result c.sum_loops-inner.result in
+    let are : AreSumLoops c.args.loops.now c.args.lens.now c.args.out.now c.args.operand.now loops =
+    sum_loops_are c.args.loops.now c.args.lens.now c.args.out.now c.args.operand.now c.nest-axes.result.items loops c.nest-axes.ensures
+    (loops_in_front (sum_loop c.args.out.now c.args.operand.now) c.nest-axes.result.items c.deref.result.now c.sum_loops-inner.result c.len.result c.deref.ensures.0 c.len.ensures.value c.sum_loops-inner.ensures) in
+    apart_nest c.args.loops.now c.args.lens.now are.inner (sum_lens loops) (sum_out_steps loops) (operand_steps loops) c.args.out.now c.args.operand.now c.requires.loops are.same are.numbers are.outs are.operands c.requires.apart
+
+pub returns : goal.returns
+returns c =
+    let loops : List SumLoop = take c.len.result c.sum_loops-inner.result in
+    let are : AreSumLoops c.args.loops.now c.args.lens.now c.args.out.now c.args.operand.now loops =
+    sum_loops_are c.args.loops.now c.args.lens.now c.args.out.now c.args.operand.now c.nest-axes.result.items loops c.nest-axes.ensures
+    (loops_in_front (sum_loop c.args.out.now c.args.operand.now) c.nest-axes.result.items c.deref.result.now c.sum_loops-inner.result c.len.result c.deref.ensures.0 c.len.ensures.value c.sum_loops-inner.ensures) in
+    made_by_one (grown c.args.words.now) c.args.loops.now c.args.lens.now c.args.out.now c.args.operand.now loops c.args.words.now c.grow.new.words are c.grow.ensures

@@ -1,0 +1,6 @@
+pub mod Turns
+pub mod Windows
+pub mod Loops
+pub mod Laws
+pub mod Nests
+pub mod Leaving

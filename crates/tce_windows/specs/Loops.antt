@@ -1,0 +1,32 @@
+-- Loops of a block, as the calls take them, and what the calls leave.
+use Rattle.std.specs.Prelude.{◌≡◌, ℕ, ◌<◌, IsTrue, List, map, length}
+use Rattle.std.specs.List.Sorted.{IsPermutation}
+use Rattle.tce_space.specs.Box.{places}
+use Rattle.tce_space.specs.Tiling.{ArePositive}
+use Rattle.tce_tree.specs.Value.{assignment}
+use Rattle.tce_tree.specs.WellFormed.{among, is_distinct}
+use Rattle.tce_strides.specs.Places.{word_place}
+use Rattle.tce_strides.specs.Turns.{IsMade}
+use Rattle.tce_windows.specs.Windows.{steps_along}
+use Rattle.tce_windows.specs.declared.window.Window.{Window}
+
+-- loops, each with an index of its own and some numbers
+pub record AreLoops (order lens : List ℕ) : Type 0 where
+  pub distinct : IsTrue (is_distinct order)
+  pub below : (i : ℕ) → IsTrue (among order i) → i < 24
+  pub as_many : length lens ≡ length order
+  pub some : ArePositive lens
+
+-- how many numbers the loops have, in a sequence of them
+abbrev pub numbers_along : List ℕ → List ℕ → List ℕ → List ℕ
+numbers_along order lens inner = map (assignment order lens) inner
+
+-- the place of a window's word at the coordinates of the loops in a sequence
+abbrev pub place_along : Window → List ℕ → List ℕ → ℕ
+place_along w inner xs = word_place w.first (steps_along w inner) xs
+
+-- the words are those that the turns of the loops make, in some sequence of the loops; `word` gives the word of a turn in each sequence
+pub record AreMade (order lens : List ℕ) (word : List ℕ → ℕ → List ℕ → ℕ) (out : Window) (old new : List ℕ) : Type 0 where
+  pub inner : List ℕ
+  pub same : IsPermutation order inner
+  pub made : IsMade (word inner) (place_along out inner) (places (numbers_along order lens inner)) old new

@@ -1,0 +1,36 @@
+-- Loops in the sequence in which they run.
+use Rattle.std.specs.Prelude.{◌≡◌, ℕ, ◌-◌, ◌*◌, ◌<◌, ◌==◌, Bool, not, if◌then◌else◌, List, map, slice_index}
+use Rattle.std.specs.List.{All}
+use Rattle.std.specs.List.Sorted.{IsPermutation}
+use Rattle.tce_tree.specs.Value.{assignment}
+use Rattle.tce_strides.specs.declared.loops.Loop.{Loop}
+use Rattle.tce_strides.specs.declared.loops.SumLoop.{SumLoop}
+use Rattle.tce_windows.specs.declared.nest.Axis.{Axis}
+use Rattle.tce_windows.specs.declared.window.Window.{Window}
+
+abbrev pub indexes_of : List Axis → List ℕ
+indexes_of axes = map (λ (x : Axis). x.index) axes
+
+abbrev pub lens_of : List Axis → List ℕ
+lens_of axes = map (λ (x : Axis). x.len) axes
+
+-- the loops in some sequence, each with as many numbers as it has
+pub record IsNest (order lens : List ℕ) (axes : List Axis) : Type 0 where
+  pub same : IsPermutation order (indexes_of axes)
+  pub numbers : All (λ (x : Axis). x.len ≡ assignment order lens x.index) axes
+  pub below : All (λ (x : Axis). x.index < 24) axes
+
+-- a loop over one operand, and one over two
+abbrev pub sum_loop : Window → Window → Axis → SumLoop
+sum_loop out operand x = record { len = x.len; out = slice_index out.steps x.index; operand = slice_index operand.steps x.index }
+
+abbrev pub pair_loop : Window → Window → Window → Axis → Loop
+pair_loop out left right x = record { len = x.len; out = slice_index out.steps x.index; left = slice_index left.steps x.index; right = slice_index right.steps x.index }
+
+-- whether the window's place moves along the loop
+abbrev pub moves : Window → Axis → Bool
+moves out x = not (slice_index out.steps x.index == 0)
+
+-- how far a window's place is moved by the last number of a loop along which that of `out` stays
+abbrev pub advanced : Window → Window → Axis → ℕ
+advanced out w x = if moves out x then 0 else (x.len - 1) * slice_index w.steps x.index

@@ -1,0 +1,6 @@
+pub mod Workspace
+pub mod Prepared
+pub mod Steps
+pub mod Elements
+pub mod Operands
+pub mod Laws
