@@ -8,7 +8,7 @@ use Rattle.std.proofs.lemmas.Fmt.{decimal_injective, decimal_digit}
 use Rattle.tce_array.specs.declared.form.Form.{Form}
 use Rattle.tce_array.specs.declared.form.Form.TheVariants.{One, Narrow, Wide}
 use Rattle.tce_array.specs.Forms.{width}
-use Rattle.tce_command.specs.Command.{Command, run, plan, pack, unpack, convert, IsCommand, IsNoCommand, NamesSpec, NamesTensor, NamesFlat}
+use Rattle.tce_command.specs.Command.{Command, run, plan, cert, check, pack, unpack, convert, demo, IsBetween, IsCommand, IsNoCommand, NamesSpec, NamesCertificate, NamesTensor, NamesFlat, verb_of, arguments_of}
 
 -- the words of a list, where it has two, three or four
 pub two_words : (ws : List (String Global)) (a b : String Global) → 2 ≤ length ws → length ws < 3 → a ≡ get_or ws 0 a → b ≡ get_or ws 1 b
@@ -39,9 +39,27 @@ four_words (x ∷ y ∷ z ∷ w ∷ v ∷ ws) a b c d l u ea eb ec ed = absurd (
 pub command_length : (words : List (List ℕ)) (command : Command) → IsCommand words command → (2 ≤ length words) × (length words ≤ 4)
 command_length words (run spec budget) h = let e : length words ≡ 3 = ap length h.words_are in (omega arith, omega arith)
 command_length words (plan spec) h = let e : length words ≡ 2 = ap length h.words_are in (omega arith, omega arith)
+command_length words (cert spec file) h = let e : length words ≡ 3 = ap length h.words_are in (omega arith, omega arith)
+command_length words (check spec file) h = let e : length words ≡ 3 = ap length h.words_are in (omega arith, omega arith)
 command_length words (pack spec tensor flat) h = let e : length words ≡ 4 = ap length h.words_are in (omega arith, omega arith)
 command_length words (unpack spec tensor flat) h = let e : length words ≡ 4 = ap length h.words_are in (omega arith, omega arith)
 command_length words (convert spec tensor form) h = let e : length words ≡ 4 = ap length h.words_are in (omega arith, omega arith)
+command_length words (demo seed v o) h = let e : length words ≡ 4 = ap length h.words_are in (omega arith, omega arith)
+
+-- so that other numbers of words are those of no command
+pub too_few : (ws : List (String Global)) → length ws < 2 → IsNoCommand (map string_bytes ws)
+too_few [] l command is = omega (arith, (command_length [] command is).0)
+too_few (x ∷ []) l command is = omega (arith, (command_length (string_bytes x ∷ []) command is).0)
+too_few (x ∷ y ∷ ws) l command is = omega arith
+
+pub too_many : (ws : List (String Global)) → 5 ≤ length ws → IsNoCommand (map string_bytes ws)
+too_many [] l command is = omega arith
+too_many (a ∷ []) l command is = omega arith
+too_many (a ∷ b ∷ []) l command is = omega arith
+too_many (a ∷ b ∷ c ∷ []) l command is = omega arith
+too_many (a ∷ b ∷ c ∷ d ∷ []) l command is = omega arith
+too_many (a ∷ b ∷ c ∷ d ∷ e ∷ ws) l command is =
+    omega (arith, (command_length (string_bytes a ∷ string_bytes b ∷ string_bytes c ∷ string_bytes d ∷ string_bytes e ∷ map string_bytes ws) command is).1)
 
 -- the words of a list are equal in each place
 word_at : (k : ℕ) (xs ys : List (List ℕ)) → xs ≡ ys → get_or xs k [] ≡ get_or ys k []
@@ -51,26 +69,43 @@ word_at k xs ys e = ap (λ ws. get_or ws k []) e
 pub none_of_two : (verb spec : List ℕ) → (verb ≡ codes "plan" → NamesSpec spec → ⊥) → IsNoCommand (verb ∷ spec ∷ [])
 none_of_two verb spec refused (run s b) h = let e : 2 ≡ 3 = ap length h.words_are in absurd (omega (arith, e))
 none_of_two verb spec refused (plan s) h = refused (word_at 0 _ _ h.words_are) (subst NamesSpec (sym (word_at 1 _ _ h.words_are)) h.rules)
+none_of_two verb spec refused (cert s f) h = let e : 2 ≡ 3 = ap length h.words_are in absurd (omega (arith, e))
+none_of_two verb spec refused (check s f) h = let e : 2 ≡ 3 = ap length h.words_are in absurd (omega (arith, e))
 none_of_two verb spec refused (pack s t f) h = let e : 2 ≡ 4 = ap length h.words_are in absurd (omega (arith, e))
 none_of_two verb spec refused (unpack s t f) h = let e : 2 ≡ 4 = ap length h.words_are in absurd (omega (arith, e))
 none_of_two verb spec refused (convert s t f) h = let e : 2 ≡ 4 = ap length h.words_are in absurd (omega (arith, e))
+none_of_two verb spec refused (demo x v o) h = let e : 2 ≡ 4 = ap length h.words_are in absurd (omega (arith, e))
 
-pub none_of_three : (verb spec budget : List ℕ) → (verb ≡ codes "run" → NamesSpec spec → (n : ℕ) → n ≤ 2 ^ 40 → budget ≡ decimal n → ⊥) → IsNoCommand (verb ∷ spec ∷ budget ∷ [])
-none_of_three verb spec budget refused (run s b) h =
-    refused (word_at 0 _ _ h.words_are) (subst NamesSpec (sym (word_at 1 _ _ h.words_are)) h.rules.0) b h.rules.1 (word_at 2 _ _ h.words_are)
-none_of_three verb spec budget refused (plan s) h = let e : 3 ≡ 2 = ap length h.words_are in absurd (omega (arith, e))
-none_of_three verb spec budget refused (pack s t f) h = let e : 3 ≡ 4 = ap length h.words_are in absurd (omega (arith, e))
-none_of_three verb spec budget refused (unpack s t f) h = let e : 3 ≡ 4 = ap length h.words_are in absurd (omega (arith, e))
-none_of_three verb spec budget refused (convert s t f) h = let e : 3 ≡ 4 = ap length h.words_are in absurd (omega (arith, e))
+-- what the rules say of three words, by their verb
+pub record NoneOfThree (verb spec last : List ℕ) : Type 0 where
+  pub run : verb ≡ codes "run" → NamesSpec spec → (n : ℕ) → n ≤ 2 ^ 40 → last ≡ decimal n → ⊥
+  pub cert : verb ≡ codes "cert" → NamesSpec spec → NamesCertificate last → ⊥
+  pub check : verb ≡ codes "check" → NamesSpec spec → NamesCertificate last → ⊥
+
+pub none_of_three : (verb spec last : List ℕ) → NoneOfThree verb spec last → IsNoCommand (verb ∷ spec ∷ last ∷ [])
+none_of_three verb spec last refused (run s b) h =
+    refused.run (word_at 0 _ _ h.words_are) (subst NamesSpec (sym (word_at 1 _ _ h.words_are)) h.rules.0) b h.rules.1 (word_at 2 _ _ h.words_are)
+none_of_three verb spec last refused (cert s f) h =
+    refused.cert (word_at 0 _ _ h.words_are) (subst NamesSpec (sym (word_at 1 _ _ h.words_are)) h.rules.0) (subst NamesCertificate (sym (word_at 2 _ _ h.words_are)) h.rules.1)
+none_of_three verb spec last refused (check s f) h =
+    refused.check (word_at 0 _ _ h.words_are) (subst NamesSpec (sym (word_at 1 _ _ h.words_are)) h.rules.0) (subst NamesCertificate (sym (word_at 2 _ _ h.words_are)) h.rules.1)
+none_of_three verb spec last refused (plan s) h = let e : 3 ≡ 2 = ap length h.words_are in absurd (omega (arith, e))
+none_of_three verb spec last refused (pack s t f) h = let e : 3 ≡ 4 = ap length h.words_are in absurd (omega (arith, e))
+none_of_three verb spec last refused (unpack s t f) h = let e : 3 ≡ 4 = ap length h.words_are in absurd (omega (arith, e))
+none_of_three verb spec last refused (convert s t f) h = let e : 3 ≡ 4 = ap length h.words_are in absurd (omega (arith, e))
+none_of_three verb spec last refused (demo x v o) h = let e : 3 ≡ 4 = ap length h.words_are in absurd (omega (arith, e))
 
 -- what the rules say of four words, by their verb
 pub record NoneOfFour (verb spec tensor last : List ℕ) : Type 0 where
   pub pack : verb ≡ codes "pack" → NamesSpec spec → NamesTensor tensor → NamesFlat last → ⊥
   pub unpack : verb ≡ codes "unpack" → NamesSpec spec → NamesTensor tensor → NamesFlat last → ⊥
   pub convert : verb ≡ codes "convert" → NamesSpec spec → NamesTensor tensor → (form : Form) → form ≢ One → last ≡ decimal (width form) → ⊥
+  pub demo : verb ≡ codes "demo" → (seed v o : ℕ) → IsBetween 1 2147483646 seed → IsBetween 1 32 v → IsBetween 1 32 o → spec ≡ decimal seed → tensor ≡ decimal v → last ≡ decimal o → ⊥
 
 pub none_of_four : (verb spec tensor last : List ℕ) → NoneOfFour verb spec tensor last → IsNoCommand (verb ∷ spec ∷ tensor ∷ last ∷ [])
 none_of_four verb spec tensor last refused (run s b) h = let e : 4 ≡ 3 = ap length h.words_are in absurd (omega (arith, e))
+none_of_four verb spec tensor last refused (cert s f) h = let e : 4 ≡ 3 = ap length h.words_are in absurd (omega (arith, e))
+none_of_four verb spec tensor last refused (check s f) h = let e : 4 ≡ 3 = ap length h.words_are in absurd (omega (arith, e))
 none_of_four verb spec tensor last refused (plan s) h = let e : 4 ≡ 2 = ap length h.words_are in absurd (omega (arith, e))
 none_of_four verb spec tensor last refused (pack s t f) h =
     refused.pack (word_at 0 _ _ h.words_are) (subst NamesSpec (sym (word_at 1 _ _ h.words_are)) h.rules.0)
@@ -81,11 +116,27 @@ none_of_four verb spec tensor last refused (unpack s t f) h =
 none_of_four verb spec tensor last refused (convert s t f) h =
     refused.convert (word_at 0 _ _ h.words_are) (subst NamesSpec (sym (word_at 1 _ _ h.words_are)) h.rules.0)
     (subst NamesTensor (sym (word_at 2 _ _ h.words_are)) h.rules.1) f h.rules.2 (word_at 3 _ _ h.words_are)
+none_of_four verb spec tensor last refused (demo seed v o) h =
+    refused.demo (word_at 0 _ _ h.words_are) seed v o h.rules.0 h.rules.1 h.rules.2 (word_at 1 _ _ h.words_are) (word_at 2 _ _ h.words_are) (word_at 3 _ _ h.words_are)
+
+-- no demonstration has these numbers, where one of them is out of its bounds
+pub no_demo : (seed v o : List ℕ)
+    → ((x y z : ℕ) → IsBetween 1 2147483646 x → IsBetween 1 32 y → IsBetween 1 32 z → seed ≡ decimal x → v ≡ decimal y → o ≡ decimal z → ⊥)
+    → IsNoCommand (codes "demo" ∷ seed ∷ v ∷ o ∷ [])
+no_demo seed v o refused = none_of_four (codes "demo") seed v o (record {
+  pack = λ e. let k : 100 ≡ 112 = ap (λ w. get_or w 0 0) e in absurd (omega (arith, k));
+  unpack = λ e. let k : 100 ≡ 117 = ap (λ w. get_or w 0 0) e in absurd (omega (arith, k));
+  convert = λ e. let k : 100 ≡ 99 = ap (λ w. get_or w 0 0) e in absurd (omega (arith, k));
+  demo = λ e. refused;
+})
 
 -- Words are those of one command.
 
 same_budget : (b c : ℕ) → b ≤ 2 ^ 40 → c ≤ 2 ^ 40 → decimal b ≡ decimal c → b ≡ c
 same_budget b c h k e = decimal_injective b c (omega arith) (omega arith) e
+
+same_small : (m n most : ℕ) → most < 2 ^ 64 → IsBetween 1 most m → IsBetween 1 most n → decimal m ≡ decimal n → m ≡ n
+same_small m n most small h k e = decimal_injective m n (omega (arith, h.1)) (omega (arith, k.1)) e
 
 -- the widths of the second version differ
 same_form : (f g : Form) → f ≢ One → g ≢ One → decimal (width f) ≡ decimal (width g) → f ≡ g
@@ -107,6 +158,16 @@ one_command words (run s b) (run t c) h k =
     let budgets : b ≡ c = same_budget b c h.rules.1 k.rules.1 (word_at 2 _ _ e) in
     cc
 one_command words (plan s) (plan t) h k = let specs : s ≡ t = word_at 1 _ _ (sym h.words_are ∙ k.words_are) in cc
+one_command words (cert s f) (cert u g) h k =
+    let e = sym h.words_are ∙ k.words_are in
+    let specs : s ≡ u = word_at 1 _ _ e in
+    let files : f ≡ g = word_at 2 _ _ e in
+    cc
+one_command words (check s f) (check u g) h k =
+    let e = sym h.words_are ∙ k.words_are in
+    let specs : s ≡ u = word_at 1 _ _ e in
+    let files : f ≡ g = word_at 2 _ _ e in
+    cc
 one_command words (pack s t f) (pack u v g) h k =
     let e = sym h.words_are ∙ k.words_are in
     let specs : s ≡ u = word_at 1 _ _ e in
@@ -125,26 +186,32 @@ one_command words (convert s t f) (convert u v g) h k =
     let tensors : t ≡ v = word_at 2 _ _ e in
     let forms : f ≡ g = same_form f g h.rules.2 k.rules.2 (word_at 3 _ _ e) in
     cc
+one_command words (demo x v o) (demo y w p) h k =
+    let e = sym h.words_are ∙ k.words_are in
+    let seeds : x ≡ y = same_small x y 2147483646 (omega arith) h.rules.0 k.rules.0 (word_at 1 _ _ e) in
+    let first : v ≡ w = same_small v w 32 (omega arith) h.rules.1 k.rules.1 (word_at 2 _ _ e) in
+    let second : o ≡ p = same_small o p 32 (omega arith) h.rules.2 k.rules.2 (word_at 3 _ _ e) in
+    cc
+one_command words (run s b) (cert u g) h k = let e : 114 ≡ 99 = verb_byte 0 _ _ (sym h.words_are ∙ k.words_are) in absurd (omega (arith, e))
+one_command words (run s b) (check u g) h k = let e : 114 ≡ 99 = verb_byte 0 _ _ (sym h.words_are ∙ k.words_are) in absurd (omega (arith, e))
+one_command words (cert s f) (run u b) h k = let e : 99 ≡ 114 = verb_byte 0 _ _ (sym h.words_are ∙ k.words_are) in absurd (omega (arith, e))
+one_command words (check s f) (run u b) h k = let e : 99 ≡ 114 = verb_byte 0 _ _ (sym h.words_are ∙ k.words_are) in absurd (omega (arith, e))
+one_command words (cert s f) (check u g) h k = let e : 101 ≡ 104 = verb_byte 1 _ _ (sym h.words_are ∙ k.words_are) in absurd (omega (arith, e))
+one_command words (check s f) (cert u g) h k = let e : 104 ≡ 101 = verb_byte 1 _ _ (sym h.words_are ∙ k.words_are) in absurd (omega (arith, e))
 one_command words (pack s t f) (unpack u v g) h k = let e : 112 ≡ 117 = verb_byte 0 _ _ (sym h.words_are ∙ k.words_are) in absurd (omega (arith, e))
 one_command words (unpack s t f) (pack u v g) h k = let e : 117 ≡ 112 = verb_byte 0 _ _ (sym h.words_are ∙ k.words_are) in absurd (omega (arith, e))
 one_command words (pack s t f) (convert u v g) h k = let e : 112 ≡ 99 = verb_byte 0 _ _ (sym h.words_are ∙ k.words_are) in absurd (omega (arith, e))
 one_command words (convert s t f) (pack u v g) h k = let e : 99 ≡ 112 = verb_byte 0 _ _ (sym h.words_are ∙ k.words_are) in absurd (omega (arith, e))
 one_command words (unpack s t f) (convert u v g) h k = let e : 117 ≡ 99 = verb_byte 0 _ _ (sym h.words_are ∙ k.words_are) in absurd (omega (arith, e))
 one_command words (convert s t f) (unpack u v g) h k = let e : 99 ≡ 117 = verb_byte 0 _ _ (sym h.words_are ∙ k.words_are) in absurd (omega (arith, e))
-one_command words (run s b) (plan t) h k = let e : 3 ≡ 2 = ap length (sym h.words_are ∙ k.words_are) in absurd (omega (arith, e))
-one_command words (run s b) (pack u v g) h k = let e : 3 ≡ 4 = ap length (sym h.words_are ∙ k.words_are) in absurd (omega (arith, e))
-one_command words (run s b) (unpack u v g) h k = let e : 3 ≡ 4 = ap length (sym h.words_are ∙ k.words_are) in absurd (omega (arith, e))
-one_command words (run s b) (convert u v g) h k = let e : 3 ≡ 4 = ap length (sym h.words_are ∙ k.words_are) in absurd (omega (arith, e))
-one_command words (plan s) (run u c) h k = let e : 2 ≡ 3 = ap length (sym h.words_are ∙ k.words_are) in absurd (omega (arith, e))
-one_command words (plan s) (pack u v g) h k = let e : 2 ≡ 4 = ap length (sym h.words_are ∙ k.words_are) in absurd (omega (arith, e))
-one_command words (plan s) (unpack u v g) h k = let e : 2 ≡ 4 = ap length (sym h.words_are ∙ k.words_are) in absurd (omega (arith, e))
-one_command words (plan s) (convert u v g) h k = let e : 2 ≡ 4 = ap length (sym h.words_are ∙ k.words_are) in absurd (omega (arith, e))
-one_command words (pack s t f) (run u c) h k = let e : 4 ≡ 3 = ap length (sym h.words_are ∙ k.words_are) in absurd (omega (arith, e))
-one_command words (unpack s t f) (run u c) h k = let e : 4 ≡ 3 = ap length (sym h.words_are ∙ k.words_are) in absurd (omega (arith, e))
-one_command words (convert s t f) (run u c) h k = let e : 4 ≡ 3 = ap length (sym h.words_are ∙ k.words_are) in absurd (omega (arith, e))
-one_command words (pack s t f) (plan u) h k = let e : 4 ≡ 2 = ap length (sym h.words_are ∙ k.words_are) in absurd (omega (arith, e))
-one_command words (unpack s t f) (plan u) h k = let e : 4 ≡ 2 = ap length (sym h.words_are ∙ k.words_are) in absurd (omega (arith, e))
-one_command words (convert s t f) (plan u) h k = let e : 4 ≡ 2 = ap length (sym h.words_are ∙ k.words_are) in absurd (omega (arith, e))
+one_command words (demo x v o) (pack u w g) h k = let e : 100 ≡ 112 = verb_byte 0 _ _ (sym h.words_are ∙ k.words_are) in absurd (omega (arith, e))
+one_command words (demo x v o) (unpack u w g) h k = let e : 100 ≡ 117 = verb_byte 0 _ _ (sym h.words_are ∙ k.words_are) in absurd (omega (arith, e))
+one_command words (demo x v o) (convert u w g) h k = let e : 100 ≡ 99 = verb_byte 0 _ _ (sym h.words_are ∙ k.words_are) in absurd (omega (arith, e))
+one_command words (pack s t f) (demo x v o) h k = let e : 112 ≡ 100 = verb_byte 0 _ _ (sym h.words_are ∙ k.words_are) in absurd (omega (arith, e))
+one_command words (unpack s t f) (demo x v o) h k = let e : 117 ≡ 100 = verb_byte 0 _ _ (sym h.words_are ∙ k.words_are) in absurd (omega (arith, e))
+one_command words (convert s t f) (demo x v o) h k = let e : 99 ≡ 100 = verb_byte 0 _ _ (sym h.words_are ∙ k.words_are) in absurd (omega (arith, e))
+one_command words a b h k =
+    let e : length (verb_of a ∷ arguments_of a) ≡ length (verb_of b ∷ arguments_of b) = ap length (sym h.words_are ∙ k.words_are) in absurd (omega (arith, e))
 
 -- a condition that was tested and does not hold is not
 pub is_true : (b : Bool) → false ≡ not b → b ≡ true

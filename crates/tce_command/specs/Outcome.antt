@@ -1,8 +1,9 @@
 -- What a command leaves on the sink.
 use Rattle.std.specs.Prelude.{◌≡◌, ◌⊎◌, ⊤, ℕ, List, ◌++◌, take, Option}
+use Rattle.tce_space.specs.Space.{IndexSpace}
 use Rattle.std.specs.Option.{option_map}
 use Rattle.tce_outside.specs.Fault.{Rose}
-use Rattle.tce_command.specs.Report.{code_of, error_text}
+use Rattle.tce_command.specs.Report.{code_of, line_over}
 use Rattle.tce_command.specs.declared.status.Status.{Status}
 use Rattle.tce_command.specs.declared.status.Status.TheVariants.{Done, DiskFault, SinkFault, WantOfMemory}
 
@@ -29,7 +30,11 @@ HasLine status = ⊤
 
 -- the status is the one that is due, or a fault
 abbrev pub Answers : Status → Status → Type 0
-Answers status due = IsFault status ⊎ ((code_of status ≡ code_of due) × (error_text status ≡ error_text due))
+Answers status due = IsFault status ⊎ ((code_of status ≡ code_of due) × ((space : IndexSpace) → line_over space status ≡ line_over space due))
+
+-- a status is kept, or there was no memory for its line; a failing disk is always told
+abbrev pub IsKept : Status → Status → Type 0
+IsKept status result = (result ≡ status) ⊎ ((result ≡ WantOfMemory) × (status ≡ DiskFault → ⊥))
 
 -- a sink that tells its bytes grew by the text, or by a part of it from the front
 abbrev pub Grew : List ℕ → Option (List ℕ) → Option (List ℕ) → Type 0
@@ -39,6 +44,6 @@ abbrev pub GrewWithin : List ℕ → Option (List ℕ) → Option (List ℕ) →
 GrewWithin text before after = (k : ℕ) × Grew (take k text) before after
 
 -- the sink grew by a part of the error line from the front, and by the whole of it where the status is no fault and the count of faults did not rise
-pub record HasErrorLine (status : Status) (before after : Option (List ℕ)) (faults faults_after : ℕ) : Type 0 where
-  pub part : GrewWithin (error_text status) before after
-  pub whole : IsRefusal status → Grew (error_text status) before after ⊎ Rose faults faults_after
+pub record HasErrorLine (space : IndexSpace) (status : Status) (before after : Option (List ℕ)) (faults faults_after : ℕ) : Type 0 where
+  pub part : GrewWithin (line_over space status) before after
+  pub whole : IsRefusal status → Grew (line_over space status) before after ⊎ Rose faults faults_after

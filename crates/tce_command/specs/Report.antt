@@ -1,6 +1,14 @@
 -- The exit status of each status, and the line of each refusal.
-use Rattle.std.specs.Prelude.{ℕ, Bool, true, false, if◌then◌else◌, List, [], ◌++◌, codes}
+use Rattle.std.specs.Prelude.{⊤, ℕ, Bool, true, false, if◌then◌else◌, List, [], ◌++◌, codes}
 use Rattle.std.specs.Fmt.{decimal}
+use Rattle.std.specs.List.{All}
+use Rattle.tce_space.specs.Space.{IndexSpace, IsDeclared}
+use Rattle.tce_report.specs.NodeLine.{set_text}
+use Rattle.tce_cert_lines.specs.Lines.{classes_text}
+use Rattle.tce_cert.specs.declared.fault.CertFault.{CertFault}
+use Rattle.tce_cert.specs.declared.fault.CertFault.TheVariants as certs
+use Rattle.tce_check.specs.declared.verdict.Verdict.{Verdict}
+use Rattle.tce_check.specs.declared.verdict.Verdict.TheVariants as verdicts
 use Rattle.tce_tree.specs.declared.fault.TreeFault.{TreeFault}
 use Rattle.tce_tree.specs.declared.fault.TreeFault.TheVariants as trees
 use Rattle.tce_declarations.specs.declared.fault.Limit.{Limit}
@@ -10,20 +18,24 @@ use Rattle.tce_declarations.specs.declared.fault.SpecFault.TheVariants.{TooLong,
 use Rattle.tce_array.specs.declared.fault.ArrayFault.{ArrayFault}
 use Rattle.tce_array.specs.declared.fault.ArrayFault.TheVariants as arrays
 use Rattle.tce_command.specs.declared.status.Status.{Status}
-use Rattle.tce_command.specs.declared.status.Status.TheVariants.{Done, BadWords, SpecRefused, NotBuilt, NoFile, ArrayRefused, BudgetTooSmall, IntermediatesTooLarge, DiskFault, SinkFault, WantOfMemory, FlatRefused, UnknownTensor, DoesNotFit}
+use Rattle.tce_command.specs.declared.status.Status.TheVariants.{Done, BadWords, SpecRefused, NoFile, ArrayRefused, BudgetTooSmall, IntermediatesTooLarge, CertRefused, DiskFault, SinkFault, WantOfMemory, FlatRefused, UnknownTensor, DoesNotFit}
+use Rattle.tce_command.specs.declared.trouble.CertTrouble.{CertTrouble}
+use Rattle.tce_command.specs.declared.trouble.CertTrouble.TheVariants as troubles
 use Rattle.tce_command.specs.declared.refusal.Refusal.{Refusal}
 use Rattle.tce_command.specs.declared.refusal.Refusal.TheVariants as refusals
+use Rattle.tce_command.specs.declared.command_refusal.CommandRefusal.{CommandRefusal}
+use Rattle.tce_command.specs.declared.command_refusal.CommandRefusal.TheVariants as commands
 
 -- the exit status of the process
 abbrev pub code_of : Status → ℕ
 code_of Done = 0
 code_of BadWords = 1
 code_of (SpecRefused fault) = 2
-code_of NotBuilt = 2
 code_of (NoFile name) = 3
 code_of (ArrayRefused tensor fault) = 4
 code_of (BudgetTooSmall least) = 5
 code_of (IntermediatesTooLarge memory) = 6
+code_of (CertRefused trouble) = 7
 code_of DiskFault = 8
 code_of SinkFault = 9
 code_of WantOfMemory = 10
@@ -90,22 +102,63 @@ array_text (arrays.BadLength len) = codes "length " ++ decimal len ++ []
 array_text (arrays.BadHeader place) = codes "head byte " ++ decimal place ++ []
 array_text arrays.Disk = codes "disk fault"
 
--- the line of a refusal
+-- the line of a refusal, but for that of a certificate
 abbrev pub error_text : Status → List ℕ
 error_text Done = []
 error_text BadWords = codes "error 1: bad words\n"
 error_text (SpecRefused fault) = codes "error 2: " ++ place_text fault ++ fault_text fault ++ codes "\n"
-error_text NotBuilt = codes "error 2: not built yet\n"
 error_text (NoFile name) = codes "error 3: no file " ++ name.bytes ++ codes "\n"
 error_text (ArrayRefused tensor fault) = codes "error 4: " ++ tensor.bytes ++ codes ".tca: " ++ array_text fault ++ codes "\n"
 error_text (BudgetTooSmall least) = codes "error 5: budget needs " ++ decimal least ++ codes "\n"
 error_text (IntermediatesTooLarge memory) = codes "error 6: intermediates " ++ decimal memory ++ codes "\n"
+error_text (CertRefused trouble) = []
 error_text DiskFault = codes "error 8: disk fault\n"
 error_text SinkFault = []
 error_text WantOfMemory = codes "error 10: want of memory\n"
 error_text (FlatRefused len) = codes "error 11: flat length " ++ decimal len ++ codes "\n"
 error_text (UnknownTensor name) = codes "error 12: no tensor " ++ name.bytes ++ codes "\n"
 error_text (DoesNotFit place) = codes "error 13: element " ++ decimal place ++ codes " does not fit\n"
+
+-- what is wrong with the text of a certificate
+abbrev pub cert_text : CertFault → List ℕ
+cert_text (certs.BadText line) = codes "line " ++ decimal line ++ codes ": bad text"
+cert_text (certs.WrongTree line) = codes "line " ++ decimal line ++ codes ": does not fit the tree"
+cert_text certs.Memory = codes "want of memory" ++ [] ++ []
+
+-- a step for which no row stands: its node, the fused set, and the state to which it leads
+abbrev pub step_text : IndexSpace → ℕ → ℕ → List ℕ → ℕ → List ℕ
+step_text space v fused classes cost =
+    codes "node " ++ decimal v ++ codes ": fused " ++ set_text space fused ++ codes " classes " ++ classes_text space classes ++ codes " cost " ++ decimal cost ++ codes " not covered"
+
+-- which rule a plan breaks, and where
+abbrev pub verdict_text : IndexSpace → Verdict → List ℕ
+verdict_text space verdicts.Accepted = codes "accepted"
+verdict_text space (verdicts.NotLegal v) = codes "node " ++ decimal v ++ codes ": fusion not legal"
+verdict_text space (verdicts.OrderWrong v) = codes "node " ++ decimal v ++ codes ": loop order"
+verdict_text space (verdicts.SizeWrong v size) = codes "node " ++ decimal v ++ codes ": size " ++ decimal size
+verdict_text space (verdicts.TotalWrong total) = codes "memory " ++ decimal total ++ []
+verdict_text space (verdicts.NotCovered v fused classes cost) = step_text space v fused classes cost
+verdict_text space (verdicts.BelowTotal sum) = codes "below total " ++ decimal sum ++ []
+
+-- what is wrong with a certificate
+abbrev pub trouble_text : IndexSpace → CertTrouble → List ℕ
+trouble_text space (troubles.Text fault) = cert_text fault
+trouble_text space (troubles.Verdict verdict) = verdict_text space verdict
+
+-- the indexes that are named are declared
+abbrev pub NamesDeclared : IndexSpace → CertTrouble → Type 0
+NamesDeclared space (troubles.Verdict (verdicts.NotCovered v fused classes cost)) = IsDeclared space fused × All (IsDeclared space) classes
+NamesDeclared space trouble = ⊤
+
+-- the line of each refusal; that of a certificate names indexes by the space of the specification
+abbrev pub line_over : IndexSpace → Status → List ℕ
+line_over space (CertRefused trouble) = codes "error 7: " ++ trouble_text space trouble ++ codes "\n"
+line_over space status = error_text status
+
+-- the line of the status names no index
+abbrev pub NamesNoIndex : Status → Type 0
+NamesNoIndex (CertRefused trouble) = ⊥
+NamesNoIndex status = ⊤
 
 -- whether a fault is want of memory
 abbrev pub wants_memory : SpecFault → Bool
@@ -116,7 +169,6 @@ wants_memory fault = false
 -- the status of a command that is refused so
 abbrev pub status_of : Refusal → Status
 status_of (refusals.Specification fault) = if wants_memory fault then WantOfMemory else SpecRefused fault
-status_of refusals.NotBuilt = NotBuilt
 status_of (refusals.Missing name) = NoFile name
 status_of (refusals.Array tensor fault) = ArrayRefused tensor fault
 status_of (refusals.Budget least) = BudgetTooSmall least
@@ -126,3 +178,7 @@ status_of (refusals.Tensor name) = UnknownTensor name
 status_of (refusals.Misfit place) = DoesNotFit place
 status_of refusals.Disk = DiskFault
 status_of refusals.Memory = WantOfMemory
+
+abbrev pub ending_of : CommandRefusal → Status
+ending_of (commands.Common refusal) = status_of refusal
+ending_of (commands.Certificate trouble line) = CertRefused trouble

@@ -13,6 +13,16 @@ pub enum Command<'a> {
     Plan {
         spec: &'a str,
     },
+    /// Writes a certificate of a plan with the least memory.
+    Cert {
+        spec: &'a str,
+        cert: &'a str,
+    },
+    /// Checks a certificate, whoever wrote it.
+    Check {
+        spec: &'a str,
+        cert: &'a str,
+    },
     /// Makes the array file of a tensor from a flat file.
     Pack {
         spec: &'a str,
@@ -30,5 +40,11 @@ pub enum Command<'a> {
         spec: &'a str,
         tensor: &'a str,
         form: Form,
+    },
+    /// Makes an example, whose elements come from the number `seed`, and runs it. Its ranges have the extents `v` and `o`.
+    Demo {
+        seed: u64,
+        v: u64,
+        o: u64,
     },
 }

@@ -5,6 +5,7 @@
 #![tactic(auto)]
 
 mod command;
+mod command_refusal;
 mod laws;
 mod line;
 mod number;
@@ -12,14 +13,19 @@ mod reading;
 mod refusal;
 mod report;
 mod status;
+mod trouble;
+mod trouble_line;
 
 pub use command::Command;
+pub use command_refusal::CommandRefusal;
 pub use laws::words_are_one_command;
 pub use number::read_number;
 pub use reading::read_command;
 pub use refusal::Refusal;
-pub use report::{finish, refuse};
+pub use report::{finish, refuse, refuse_words};
 pub use status::Status;
+pub use trouble::CertTrouble;
+pub use trouble_line::TroubleLine;
 
 #[cfg(test)]
 mod tests;

@@ -13,19 +13,20 @@ use tce_tree::TreeFault;
 
 pub(crate) type Line = ArrayString<256>;
 
-// The line of a status; `Done` and `SinkFault` have none.
+// The line of a status that names no index; `Done` and `SinkFault` have none.
 pub(crate) fn error_line(status: &Status) -> Line
+    requires { reports.NamesNoIndex status.now }
     ensures { result.bytes ≡ reports.error_text status.now }
 {
     match status {
         Status::Done | Status::SinkFault => Line::new(),
         Status::BadWords => fixed("error 1: bad words\n"),
         Status::SpecRefused(fault) => spec_line(fault),
-        Status::NotBuilt => fixed("error 2: not built yet\n"),
         Status::NoFile(name) => joined("error 3: no file ", name.as_str(), "\n"),
         Status::ArrayRefused(tensor, fault) => array_line(tensor, *fault),
         Status::BudgetTooSmall(least) => numbered("error 5: budget needs ", *least as u128, "\n"),
         Status::IntermediatesTooLarge(memory) => numbered("error 6: intermediates ", *memory, "\n"),
+        Status::CertRefused(_) => unreachable!(),
         Status::DiskFault => fixed("error 8: disk fault\n"),
         Status::WantOfMemory => fixed("error 10: want of memory\n"),
         Status::FlatRefused(len) => numbered("error 11: flat length ", *len as u128, "\n"),
@@ -46,7 +47,7 @@ fn fixed(text: &str) -> Line
     line
 }
 
-fn joined(before: &str, text: &str, after: &str) -> Line
+pub(crate) fn joined(before: &str, text: &str, after: &str) -> Line
     requires { length before.now + length text.now + length after.now ≤ 256 }
     ensures bytes { result.bytes ≡ before.now ++ text.now ++ after.now }
     ensures len { length result.bytes ≤ length before.now + length text.now + length after.now }
@@ -57,7 +58,7 @@ fn joined(before: &str, text: &str, after: &str) -> Line
     line
 }
 
-fn numbered(before: &str, number: u128, after: &str) -> Line
+pub(crate) fn numbered(before: &str, number: u128, after: &str) -> Line
     requires { length before.now + length after.now ≤ 216 }
     ensures bytes { result.bytes ≡ before.now ++ decimal number ++ after.now }
     ensures len { length result.bytes ≤ length before.now + 40 + length after.now }

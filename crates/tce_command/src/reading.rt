@@ -1,11 +1,11 @@
 // Commands from their words.
-ghost use Rattle.std.specs.Prelude.{◌≡◌, ◌≤◌, ◌≢◌, ℕ, List, [], ◌∷◌, length, map, IsTrue, MatchOption};
+ghost use Rattle.std.specs.Prelude.{◌≡◌, ◌≤◌, ◌≢◌, ℕ, List, [], ◌∷◌, length, map, codes, IsTrue, MatchOption};
 ghost use Rattle.std.specs.String.{string_bytes};
 ghost use Rattle.std.specs.List.{list_all};
 ghost use Rattle.std.specs.Fmt.{decimal};
 ghost use Rattle.tce_array.specs.declared.form.Form.{Form as FormOfFile};
 ghost use Rattle.tce_array.specs.Forms.{width};
-ghost use Rattle.tce_command.specs.Command.{is_file_byte, is_file_word, IsCommand, IsNoCommand};
+ghost use Rattle.tce_command.specs.Command.{is_file_byte, is_file_word, IsBetween, IsCommand, IsNoCommand};
 ghost use Rattle.tce_command.specs.CommandCode.{command_of};
 
 use crate::command::Command;
@@ -15,15 +15,25 @@ use tce_space::is_name;
 
 const MAX_BUDGET: u64 = 1 << 40;
 
+// The largest number that a demonstration comes from, and its largest extent.
+const MAX_SEED: u64 = 2_147_483_646;
+
+const MAX_EXTENT: u64 = 32;
+
 /// Reads the words of a command. `None` exactly where they are those of no command.
 pub fn read_command(words: &[String]) -> Option<Command<'_>>
     ensures { MatchOption result (IsNoCommand (map string_bytes words.now)) (λ command. IsCommand (map string_bytes words.now) (command_of command)) }
 {
     match words {
         [verb, spec] => read_plan(verb.as_str(), spec.as_str()),
-        [verb, spec, budget] => read_run(verb.as_str(), spec.as_str(), budget.as_bytes()),
-        [verb, spec, tensor, last] => {
-            read_on_tensor(verb.as_str(), spec.as_str(), tensor.as_str(), last.as_str())
+        [verb, spec, last] => read_with_one(verb.as_str(), spec.as_str(), last.as_str()),
+        [verb, first, second, last] => {
+            read_with_three(
+                verb.as_str(),
+                first.as_str(),
+                second.as_str(),
+                last.as_str(),
+            )
         }
         _ => None,
     }
@@ -38,17 +48,62 @@ fn read_plan<'a>(verb: &str, spec: &'a str) -> Option<Command<'a>>
     Some(Command::Plan { spec })
 }
 
-fn read_run<'a>(verb: &str, spec: &'a str, budget: &[u8]) -> Option<Command<'a>>
-    ensures { MatchOption result (IsNoCommand (verb.now ∷ spec.now ∷ budget.now ∷ [])) (λ command. IsCommand (verb.now ∷ spec.now ∷ budget.now ∷ []) (command_of command)) }
+fn read_with_one<'a>(verb: &str, spec: &'a str, last: &'a str) -> Option<Command<'a>>
+    ensures { MatchOption result (IsNoCommand (verb.now ∷ spec.now ∷ last.now ∷ [])) (λ command. IsCommand (verb.now ∷ spec.now ∷ last.now ∷ []) (command_of command)) }
 {
-    if verb != "run" || !may_name_file(".tce", spec) {
+    if !may_name_file(".tce", spec) {
         return None;
     }
-    let budget = read_number(budget)?;
-    if budget > MAX_BUDGET {
+    if verb == "run" {
+        let budget = read_between(last.as_bytes(), 0, MAX_BUDGET)?;
+        return Some(Command::Run { spec, budget });
+    }
+    if !may_name_file(".cert", last) {
         return None;
     }
-    Some(Command::Run { spec, budget })
+    let cert = last;
+    if verb == "cert" {
+        Some(Command::Cert { spec, cert })
+    } else if verb == "check" {
+        Some(Command::Check { spec, cert })
+    } else {
+        None
+    }
+}
+
+// A number from the least to the most.
+fn read_between(digits: &[u8], least: u64, most: u64) -> Option<u64>
+    ensures { MatchOption result ((n : ℕ) → IsBetween least most n → digits.now ≢ decimal n) (λ n. IsBetween least most n × (digits.now ≡ decimal n)) }
+{
+    let number = read_number(digits)?;
+    if number < least || number > most {
+        return None;
+    }
+    Some(number)
+}
+
+fn read_with_three<'a>(
+    verb: &str,
+    first: &'a str,
+    second: &'a str,
+    last: &'a str,
+) -> Option<Command<'a>>
+    ensures { MatchOption result (IsNoCommand (verb.now ∷ first.now ∷ second.now ∷ last.now ∷ [])) (λ command. IsCommand (verb.now ∷ first.now ∷ second.now ∷ last.now ∷ []) (command_of command)) }
+{
+    if verb == "demo" {
+        read_demo(first.as_bytes(), second.as_bytes(), last.as_bytes())
+    } else {
+        read_on_tensor(verb, first, second, last)
+    }
+}
+
+fn read_demo<'a>(seed: &[u8], v: &[u8], o: &[u8]) -> Option<Command<'a>>
+    ensures { MatchOption result (IsNoCommand (codes "demo" ∷ seed.now ∷ v.now ∷ o.now ∷ [])) (λ command. IsCommand (codes "demo" ∷ seed.now ∷ v.now ∷ o.now ∷ []) (command_of command)) }
+{
+    let seed = read_between(seed, 1, MAX_SEED)?;
+    let v = read_between(v, 1, MAX_EXTENT)?;
+    let o = read_between(o, 1, MAX_EXTENT)?;
+    Some(Command::Demo { seed, v, o })
 }
 
 fn read_on_tensor<'a>(
@@ -57,6 +112,7 @@ fn read_on_tensor<'a>(
     tensor: &'a str,
     last: &'a str,
 ) -> Option<Command<'a>>
+    requires { verb.now ≢ codes "demo" }
     ensures { MatchOption result (IsNoCommand (verb.now ∷ spec.now ∷ tensor.now ∷ last.now ∷ [])) (λ command. IsCommand (verb.now ∷ spec.now ∷ tensor.now ∷ last.now ∷ []) (command_of command)) }
 {
     if !may_name_file(".tce", spec) || !is_name(tensor.as_bytes()) {

@@ -14,8 +14,6 @@ use tce_tree::TreeFault;
 pub enum Refusal {
     /// The text is no specification.
     Specification(SpecFault),
-    /// The program cannot do this yet.
-    NotBuilt,
     /// This file is not there.
     Missing(FileName),
     /// The file of this tensor is no array of the tensor's shape.
@@ -64,7 +62,6 @@ impl Refusal {
         match self {
             Refusal::Specification(fault) if wants_memory(fault) => Status::WantOfMemory,
             Refusal::Specification(fault) => Status::SpecRefused(*fault),
-            Refusal::NotBuilt => Status::NotBuilt,
             Refusal::Missing(file) => Status::NoFile(*file),
             Refusal::Array(tensor, fault) => Status::ArrayRefused(*tensor, *fault),
             Refusal::Budget(least) => Status::BudgetTooSmall(*least),

@@ -2,12 +2,13 @@
 ghost use Rattle.std.specs.Prelude.{◌≡◌};
 ghost use Rattle.tce_command.specs.Report.{code_of};
 
+use crate::trouble::CertTrouble;
 use tce_array::ArrayFault;
 use tce_declarations::SpecFault;
 use tce_space::{FileName, Name};
 
 /// What a command ends with.
-#[derive(Clone, Copy, Debug)]
+#[derive(Debug, Drop)]
 pub enum Status {
     /// The command is done and reported.
     Done,
@@ -15,8 +16,6 @@ pub enum Status {
     BadWords,
     /// The text is no specification.
     SpecRefused(SpecFault),
-    /// The program cannot do this yet.
-    NotBuilt,
     /// This file is not there.
     NoFile(FileName),
     /// The file of this tensor is no array of the tensor's shape: its length or its head differs.
@@ -25,6 +24,8 @@ pub enum Status {
     BudgetTooSmall(u64),
     /// The intermediates need this number of words, which is too many.
     IntermediatesTooLarge(u128),
+    /// The certificate is refused.
+    CertRefused(CertTrouble),
     /// The disk failed.
     DiskFault,
     /// The sink failed at the report of a finished command.
@@ -48,11 +49,11 @@ impl Status {
             Status::Done => 0,
             Status::BadWords => 1,
             Status::SpecRefused(_) => 2,
-            Status::NotBuilt => 2,
             Status::NoFile(_) => 3,
             Status::ArrayRefused(_, _) => 4,
             Status::BudgetTooSmall(_) => 5,
             Status::IntermediatesTooLarge(_) => 6,
+            Status::CertRefused(_) => 7,
             Status::DiskFault => 8,
             Status::SinkFault => 9,
             Status::WantOfMemory => 10,

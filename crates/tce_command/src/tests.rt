@@ -1,13 +1,16 @@
 //! Words that are read, and lines that were written by hand.
 
-use crate::{Refusal, Status, finish, refuse};
+use crate::{CertTrouble, CommandRefusal, Refusal, finish, refuse, refuse_words};
 use std::alloc::Global;
 use std::process::Abort;
 use std::test::Fail;
 use tce_array::ArrayFault;
+use tce_cert::CertFault;
+use tce_check::Verdict;
 use tce_declarations::{Limit, SpecFault};
+use tce_nesting::Nesting;
 use tce_outside::MemSink;
-use tce_space::Name;
+use tce_space::{IndexSet, Name, Space};
 use tce_tree::TreeFault;
 
 fn name(text: &str) -> Result<Name, Fail> {
@@ -18,17 +21,12 @@ fn name(text: &str) -> Result<Name, Fail> {
 fn check_line(
     rt: &impl Abort,
     alloc: Global,
-    refusal: Refusal,
+    refusal: CommandRefusal,
     code: u8,
     line: &[u8],
 ) -> Result<(), Fail> {
     let mut out = MemSink::new(alloc);
-    let status = refusal.status();
-    match status {
-        Status::Done | Status::SinkFault => return Err(Fail::new("no refusal")),
-        _ => {}
-    }
-    let status = refuse(status, &mut out);
+    let status = refuse(refusal, &mut out);
     assert_eq!(rt; status.code(), code);
     assert_eq!(rt; out.bytes(), line);
     Ok(())
@@ -97,8 +95,63 @@ fn refusals_have_their_lines(rt: HostRuntime) -> Result<(), Fail> {
             b"error 13: element 0 does not fit\n",
         ),
     ] {
-        check_line(&rt, alloc, refusal, code, line)?;
+        check_line(&rt, alloc, CommandRefusal::from(refusal), code, line)?;
     }
+    Ok(())
+}
+
+#[test]
+fn words_of_no_command_have_their_line(rt: HostRuntime) -> Result<(), Fail> {
+    let mut out = MemSink::new(rt.alloc());
+    assert_eq!(rt; refuse_words(&mut out).code(), 1);
+    assert_eq!(rt; out.bytes(), b"error 1: bad words\n".as_slice());
+    Ok(())
+}
+
+// A space of the indexes i and j.
+fn two_indexes(rt: &impl Abort, alloc: Global) -> Result<Space, Fail> {
+    let mut space = Space::new(alloc)?;
+    for text in ["i", "j"] {
+        let index = name(text)?;
+        assert!(rt; tce_space::is_name(index.as_str().as_bytes()));
+        let range = space.add_range(&index, 2, 1)?;
+        space.add_index(&index, range)?;
+    }
+    Ok(space)
+}
+
+#[test]
+fn certificates_are_refused_with_their_line(rt: HostRuntime) -> Result<(), Fail> {
+    let alloc = rt.alloc();
+    let space = two_indexes(&rt, alloc)?;
+    assert_eq!(rt; space.index_count(), 2);
+    let text = CertTrouble::Text(CertFault::WrongTree(9));
+    check_line(
+        &rt,
+        alloc,
+        CommandRefusal::certificate(&space, text),
+        7,
+        b"error 7: line 9: does not fit the tree\n",
+    )?;
+    let order = CertTrouble::Verdict(Verdict::OrderWrong(1));
+    check_line(
+        &rt,
+        alloc,
+        CommandRefusal::certificate(&space, order),
+        7,
+        b"error 7: node 1: loop order\n",
+    )?;
+    let i = IndexSet::empty().with(0);
+    let j = IndexSet::empty().with(1);
+    let classes = Nesting::none().with_class(j).with_class(i);
+    let step = CertTrouble::Verdict(Verdict::NotCovered(3, i.union(j), classes, 12));
+    check_line(
+        &rt,
+        alloc,
+        CommandRefusal::certificate(&space, step),
+        7,
+        b"error 7: node 3: fused i,j classes j/i cost 12 not covered\n",
+    )?;
     Ok(())
 }
 

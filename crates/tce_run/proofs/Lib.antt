@@ -1,8 +1,3 @@
-pub mod Files
-pub mod State
-pub mod StoredWords
-pub mod Elements
-pub mod Rows
-pub mod Refused
-pub mod Both
-pub mod Accepted
+pub mod Told
+pub mod Reasons
+pub mod Ran

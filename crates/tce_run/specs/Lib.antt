@@ -1,4 +1,4 @@
-pub mod OuterProduct
-pub mod ResultBytes
-pub mod Cause
-pub mod Outcome
+pub mod Refusals
+pub mod Done
+pub mod Laws
+pub mod Told

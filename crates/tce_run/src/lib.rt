@@ -1,15 +1,14 @@
-//! The run of a specification: the bytes of its result from those of its operands.
+//! The command that runs a specification: it is read from its file, and the file of its result is written from those of its operands.
 //!
-//! The outer product of two vectors is the one form that runs today. `specs/Cause.antt` says why a run is refused, and
-//! `specs/Outcome.antt` what it leaves.
+//! [`run`] writes the result and gives the report. What it leaves and reports is `specs/Done.antt`, and why it is refused `specs/Refusals.antt`.
 #![tactic(auto)]
 
-mod element;
-mod form;
-mod operands;
-mod product;
-mod report;
-mod result;
-mod running;
+mod command;
+mod laws;
+mod refusals;
 
-pub use running::run;
+pub use command::run;
+pub use laws::runs_have_one_answer;
+
+#[cfg(test)]
+mod tests;

@@ -3,17 +3,17 @@ use Rattle.std.specs.Prelude.{◌≡◌, ⊤, ℕ, List, Option}
 use Rattle.std.specs.Option.{ForSome}
 use Rattle.tce_outside.specs.Files.{Files}
 use Rattle.tce_command.specs.Command.{Command, IsCommand}
-use Rattle.tce_command.specs.Report.{status_of}
-use Rattle.tce_command.specs.declared.refusal.Refusal.{Refusal}
+use Rattle.tce_command.specs.Report.{ending_of}
+use Rattle.tce_command.specs.declared.command_refusal.CommandRefusal.{CommandRefusal}
 use Rattle.tce_command.specs.declared.status.Status.{Status}
 use Rattle.tce_command.specs.declared.status.Status.TheVariants.{Done, DiskFault, SinkFault, WantOfMemory}
 use Rattle.tce_top.specs.Performed.{CanDo, IsCommandRefusal}
 
 -- the command is refused, and this is the status of its refusal
 pub record HasRefusal (files : Files) (command : Command) (status : Status) : Type 0 where
-  pub refusal : Refusal
+  pub refusal : CommandRefusal
   pub cause : IsCommandRefusal files command refusal
-  pub same : status ≡ status_of refusal
+  pub same : status ≡ ending_of refusal
 
 -- the table of causes. Faults of the devices have theirs in the counts of faults, and want of memory has none
 abbrev pub IsCause : Files → Command → Status → Type 0

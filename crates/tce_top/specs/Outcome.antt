@@ -1,11 +1,45 @@
--- What the program leaves when a command is done.
-use Rattle.std.specs.Prelude.{ℕ, List, Option}
-use Rattle.tce_outside.specs.Files.{Files}
-use Rattle.tce_command.specs.Command.{Command, IsCommand}
-use Rattle.tce_top.specs.Performed.{IsDone}
+-- What the program leaves.
+use Rattle.std.specs.Prelude.{◌≡◌, ◌≤◌, ℕ, List, [], ◌∷◌, ◌++◌, Option}
+use Rattle.tce_outside.specs.Files.{Files, with_file}
+use Rattle.tce_space.specs.Space.{IndexSpace}
+use Rattle.tce_array.specs.declared.form.Form.TheVariants.{One}
+use Rattle.tce_array.specs.Forms.{form_len}
+use Rattle.tce_nesting.specs.declared.plan.Plan.{Plan}
+use Rattle.tce_search.specs.LeastPlan.{IsLeastPlan}
+use Rattle.tce_report.specs.NodeLine.{stated}
+use Rattle.tce_report.specs.Report.{run_text}
+use Rattle.tce_spec.specs.Specification.{Specification}
+use Rattle.tce_spec.specs.Operands.{shape_of}
+use Rattle.tce_result.specs.TensorFiles.{file_of}
+use Rattle.tce_result.specs.ResultBytes.{result_bytes}
+use Rattle.tce_takings.specs.Takings.{tile_take}
+use Rattle.tce_source.specs.Source.{HasSpecification}
+use Rattle.tce_command.specs.Command.{Command, demo, IsCommand}
+use Rattle.tce_top.specs.Performed.{IsDone, HasIndexes}
+use Rattle.tce_top.specs.Cause.{Told}
 
 -- the words are those of a command, which is done and has this report
 pub record IsFinished (words : List (List ℕ)) (before after : Option Files) (taken taken_after : List (ℕ × ℕ)) (report : List ℕ) : Type 0 where
   pub command : Command
   pub words_are : IsCommand words command
   pub done : IsDone command before after taken taken_after report
+
+-- a run whose disk and sink tell: the file specifies what was run; the files are the old ones with the bytes of the formula in the result's file; the sink grew by the report of a plan; its fusion is legal and no legal fusion takes less memory; and the room gave once, that memory and the words for tiles, which are within the budget
+pub record IsWholeRun (spec : List ℕ) (budget : ℕ) (files after : Files) (taken taken_after : List (ℕ × ℕ)) (put put_after : List ℕ) : Type 0 where
+  pub specification : Specification
+  pub specified : HasSpecification files spec specification
+  pub written : after ≡ with_file files (file_of specification specification.result) (result_bytes specification files)
+  pub plan : Plan
+  pub least : IsLeastPlan specification.declarations.space specification.tree plan
+  pub reported : put_after
+      ≡ put ++ run_text specification.declarations.space specification.tree (stated plan) (tile_take specification budget) (file_of specification specification.result) (form_len One (shape_of specification specification.result))
+  pub taken_is : taken_after ≡ taken ++ (plan.memory, tile_take specification budget) ∷ []
+  pub within : tile_take specification budget ≤ budget
+
+-- the words are those of a demonstration
+abbrev pub IsDemonstration : List (List ℕ) → Type 0
+IsDemonstration words = (seed : ℕ) × (v : ℕ) × (o : ℕ) × IsCommand words (demo seed v o)
+
+-- the indexes are those of the specification that the words name, where the disk tells its files
+abbrev pub AreNamed : List (List ℕ) → Option Files → IndexSpace → Type 0
+AreNamed words told space = Told words told (λ files command. HasIndexes files command space)

@@ -1,55 +1,97 @@
 -- What each command needs, why it is refused, and what it leaves, by cases over the commands.
-use Rattle.std.specs.Prelude.{◌≡◌, ◌⊎◌, ℕ, List, Option, Some, None}
+use Rattle.std.specs.Prelude.{◌≡◌, ◌⊎◌, ⊤, ℕ, List, Option}
 use Rattle.std.specs.Option.{ForSome}
 use Rattle.tce_outside.specs.Files.{Files, others}
-use Rattle.tce_command.specs.Command.{Command, run, plan, pack, unpack, convert}
-use Rattle.tce_command.specs.declared.refusal.Refusal.{Refusal}
+use Rattle.tce_space.specs.Space.{IndexSpace}
+use Rattle.tce_spec.specs.Specification.{Specification}
+use Rattle.tce_source.specs.Source.{HasSpecification}
+use Rattle.tce_command.specs.Command.{Command, run, plan, cert, check, pack, unpack, convert, demo}
+use Rattle.tce_command.specs.Report.{line_over}
+use Rattle.tce_command.specs.Refusals.{IsFree}
+use Rattle.tce_command.specs.CommandRefusals.{MayReplace, OnCommon}
+use Rattle.tce_command.specs.declared.status.Status.TheVariants.{CertRefused}
+use Rattle.tce_command.specs.declared.refusal.Refusal.TheVariants.{Disk}
+use Rattle.tce_command.specs.declared.command_refusal.CommandRefusal.{CommandRefusal}
+use Rattle.tce_command.specs.declared.command_refusal.CommandRefusal.TheVariants.{Common, Certificate}
+use Rattle.tce_run.specs.Done.{IsRun, IsTaking, OnlyResultDiffers}
+use Rattle.tce_run.specs.Refusals.{CanRunFile, IsRunRefusal}
 use Rattle.tce_plan.specs.Done.{IsPlanned}
 use Rattle.tce_plan.specs.Refusals.{CanPlan, IsPlanRefusal}
-use Rattle.tce_run.specs.Cause.{IsReady, IsRunRefusal}
-use Rattle.tce_run.specs.Outcome.{IsRun, IsTaking, result_file}
+use Rattle.tce_certify.specs.Done.{IsCertified}
+use Rattle.tce_certify.specs.Refusals.{CanCertify, IsCertifyRefusal}
+use Rattle.tce_verify.specs.Done.{CanVerify, IsVerified}
+use Rattle.tce_verify.specs.Refusals.{IsVerifyRefusal}
 use Rattle.tce_flat.specs.Tensors.{array_file, converted_file}
 use Rattle.tce_flat.specs.Refusals.{CanPack, CanUnpack, CanConvert, IsPackRefusal, IsUnpackRefusal, IsConvertRefusal}
 use Rattle.tce_flat.specs.Done.{IsPacked, IsUnpacked, IsConverted}
+use Rattle.tce_example.specs.Files.{DemoOthersStay}
+use Rattle.tce_demo.specs.Done.{IsDemonstrated, IsDemoTaking}
 
--- the disk has all that the command needs
+-- the disk has all that the command needs; a demonstration needs nothing
 abbrev pub CanDo : Files → Command → Type 0
-CanDo files (run spec budget) = (n : ℕ) × IsReady files spec budget n
+CanDo files (run spec budget) = CanRunFile files spec budget
 CanDo files (plan spec) = CanPlan files spec
+CanDo files (cert spec file) = CanCertify files spec
+CanDo files (check spec file) = CanVerify files spec file
 CanDo files (pack spec tensor flat) = CanPack files spec tensor flat
 CanDo files (unpack spec tensor flat) = CanUnpack files spec tensor
 CanDo files (convert spec tensor form) = CanConvert files spec tensor form
+CanDo files (demo seed v o) = ⊤
 
--- why the command is refused
-abbrev pub IsCommandRefusal : Files → Command → Refusal → Type 0
-IsCommandRefusal files (run spec budget) refusal = IsRunRefusal files spec budget refusal
-IsCommandRefusal files (plan spec) refusal = IsPlanRefusal files spec refusal
-IsCommandRefusal files (pack spec tensor flat) refusal = IsPackRefusal files spec tensor flat refusal
-IsCommandRefusal files (unpack spec tensor flat) refusal = IsUnpackRefusal files spec tensor refusal
-IsCommandRefusal files (convert spec tensor form) refusal = IsConvertRefusal files spec tensor form refusal
+-- why the command is refused; a demonstration is refused where the disk fails or memory is wanting alone
+abbrev pub IsCommandRefusal : Files → Command → CommandRefusal → Type 0
+IsCommandRefusal files (run spec budget) refusal = OnCommon (IsRunRefusal files spec budget) refusal
+IsCommandRefusal files (plan spec) refusal = OnCommon (IsPlanRefusal files spec) refusal
+IsCommandRefusal files (cert spec file) refusal = OnCommon (IsCertifyRefusal files spec) refusal
+IsCommandRefusal files (check spec file) refusal = IsVerifyRefusal files spec file refusal
+IsCommandRefusal files (pack spec tensor flat) refusal = OnCommon (IsPackRefusal files spec tensor flat) refusal
+IsCommandRefusal files (unpack spec tensor flat) refusal = OnCommon (IsUnpackRefusal files spec tensor) refusal
+IsCommandRefusal files (convert spec tensor form) refusal = OnCommon (IsConvertRefusal files spec tensor form) refusal
+IsCommandRefusal files (demo seed v o) refusal = OnCommon IsFree refusal
 
 -- the command is done, with this report
 abbrev pub IsDone : Command → Option Files → Option Files → List (ℕ × ℕ) → List (ℕ × ℕ) → List ℕ → Type 0
 IsDone (run spec budget) before after taken taken_after report = IsRun before after taken taken_after spec budget report
 IsDone (plan spec) before after taken taken_after report = ForSome before (λ files. IsPlanned files spec report) × (after ≡ before) × (taken_after ≡ taken)
+IsDone (cert spec file) before after taken taken_after report = IsCertified before after spec file report × (taken_after ≡ taken)
+IsDone (check spec file) before after taken taken_after report = ForSome before (λ files. IsVerified files spec file report) × (after ≡ before) × (taken_after ≡ taken)
 IsDone (pack spec tensor flat) before after taken taken_after report = IsPacked before after spec tensor flat report × (taken_after ≡ taken)
 IsDone (unpack spec tensor flat) before after taken taken_after report = IsUnpacked before after spec tensor flat report × (taken_after ≡ taken)
 IsDone (convert spec tensor form) before after taken taken_after report = IsConverted before after spec tensor form report × (taken_after ≡ taken)
-
--- the one file that the command writes
-abbrev pub output_file : Command → Option (List ℕ)
-output_file (run spec budget) = Some result_file
-output_file (plan spec) = None
-output_file (pack spec tensor flat) = Some (array_file tensor)
-output_file (unpack spec tensor flat) = Some flat
-output_file (convert spec tensor form) = Some (converted_file tensor)
+IsDone (demo seed v o) before after taken taken_after report = IsDemonstrated before after taken taken_after seed v o report
 
 -- all files stay but this one
-abbrev pub OthersStay : Option (List ℕ) → Option Files → Option Files → Type 0
-OthersStay (Some name) before after = others name after ≡ others name before
-OthersStay None before after = after ≡ before
+abbrev pub StayBut : List ℕ → Option Files → Option Files → Type 0
+StayBut name before after = others name after ≡ others name before
 
--- the takings are as they were, or a run that has all that it needs took once
+-- all files stay but those that the command writes
+abbrev pub OthersStay : Command → Option Files → Option Files → Type 0
+OthersStay (run spec budget) before after = OnlyResultDiffers spec before after
+OthersStay (plan spec) before after = after ≡ before
+OthersStay (cert spec file) before after = StayBut file before after
+OthersStay (check spec file) before after = after ≡ before
+OthersStay (pack spec tensor flat) before after = StayBut (array_file tensor) before after
+OthersStay (unpack spec tensor flat) before after = StayBut flat before after
+OthersStay (convert spec tensor form) before after = StayBut (converted_file tensor) before after
+OthersStay (demo seed v o) before after = DemoOthersStay before after
+
+-- the takings are as they were, or a run or a demonstration took once
 abbrev pub MayTake : Command → Option Files → List (ℕ × ℕ) → List (ℕ × ℕ) → Type 0
 MayTake (run spec budget) before taken taken_after = (taken_after ≡ taken) ⊎ IsTaking before taken taken_after spec budget
+MayTake (demo seed v o) before taken taken_after = (taken_after ≡ taken) ⊎ IsDemoTaking v o taken taken_after
 MayTake command before taken taken_after = taken_after ≡ taken
+
+-- the refusal may leave other files than there were: the disk failed, or memory was wanting in a demonstration
+abbrev pub MayLeaveOther : Command → CommandRefusal → Type 0
+MayLeaveOther (demo seed v o) refusal = MayReplace refusal
+MayLeaveOther command refusal = refusal ≡ Common Disk
+
+-- the indexes of the specification that the command checks a certificate against
+abbrev pub HasIndexes : Files → Command → IndexSpace → Type 0
+HasIndexes files (check spec file) space = (s : Specification) × HasSpecification files spec s × (space ≡ s.declarations.space)
+HasIndexes files command space = ⊥
+
+-- the line of a refused certificate names the indexes of that specification
+abbrev pub NamesItsIndexes : Command → Option Files → CommandRefusal → Type 0
+NamesItsIndexes command told (Certificate trouble line) = (space : IndexSpace) × ForSome told (λ files. HasIndexes files command space) × (line.text.bytes ≡ line_over space (CertRefused trouble))
+NamesItsIndexes command told (Common refusal) = ⊤

@@ -1,16 +1,20 @@
 // The top call.
-ghost use Rattle.std.specs.Prelude.{◌≡◌, ◌⊎◌, ℕ, List, map};
+ghost use Rattle.std.specs.Prelude.{◌≡◌, ◌⊎◌, ℕ, List, Some, map};
 ghost use Rattle.std.specs.String.{string_bytes};
+ghost use Rattle.tce_space.specs.Space.{IndexSpace};
 ghost use Rattle.tce_outside.specs.Fault.{HasCause};
-ghost use Rattle.tce_command.specs.Command.{IsNoCommand};
+ghost use Rattle.tce_outside.specs.Files.{Files};
+ghost use Rattle.tce_command.specs.Command.{run, IsCommand, IsNoCommand};
+ghost use Rattle.tce_command.specs.Report.{NamesNoIndex};
+ghost use Rattle.tce_command.specs.declared.trouble.CertTrouble.{CertTrouble};
 ghost use Rattle.tce_command.specs.Outcome.{Answers, Grew, GrewWithin, HasErrorLine, HasLine, IsFault, IsRefusal};
-ghost use Rattle.tce_top.specs.Performed.{MayTake, OthersStay, output_file};
+ghost use Rattle.tce_top.specs.Performed.{MayTake, OthersStay};
 ghost use Rattle.tce_top.specs.Cause.{IsCause, OfCommand, Told};
-ghost use Rattle.tce_top.specs.Outcome.{IsFinished};
+ghost use Rattle.tce_top.specs.Outcome.{AreNamed, IsDemonstration, IsFinished, IsWholeRun};
 
 use crate::perform::perform;
 use std::alloc::Global;
-use tce_command::{Status, finish, read_command, refuse};
+use tce_command::{Status, finish, read_command, refuse, refuse_words};
 use tce_outside::{Disk, Sink};
 use tce_words::Room;
 
@@ -28,6 +32,12 @@ pub fn tce<D: Disk, K: Sink, R: Room>(
         × IsFinished (map string_bytes words.now) (D.files disk.old) (D.files disk.new) (R.takings room.old) (R.takings room.new) report
         × Grew report (K.bytes out.old) (K.bytes out.new) }
 
+    // A run that is done, where the disk and the sink tell.
+    ensures run { result ≡ Status.Done → (spec : List ℕ) (budget : ℕ) → IsCommand (map string_bytes words.now) (run spec budget)
+        → (files : Files) (put : List ℕ) → D.files disk.old ≡ Some files → K.bytes out.old ≡ Some put
+        → (after : Files) × (put_after : List ℕ) × (D.files disk.new ≡ Some after) × (K.bytes out.new ≡ Some put_after)
+        × IsWholeRun spec budget files after (R.takings room.old) (R.takings room.new) put put_after }
+
     // When each status comes: only where its cause stands, and where a cause stands no other status but a fault.
     ensures bad_words { result ≡ Status.BadWords → IsNoCommand (map string_bytes words.now) }
     ensures no_command { IsNoCommand (map string_bytes words.now) → (result ≡ Status.BadWords) ⊎ (result ≡ Status.WantOfMemory) }
@@ -40,20 +50,23 @@ pub fn tce<D: Disk, K: Sink, R: Room>(
     // What each outcome leaves.
     ensures unchanged { IsRefusal result → (D.files disk.new ≡ D.files disk.old) × (R.takings room.new ≡ R.takings room.old) }
     ensures untouched { IsNoCommand (map string_bytes words.now) → (D.files disk.new ≡ D.files disk.old) × (R.takings room.new ≡ R.takings room.old) }
-    ensures line { HasLine result → HasErrorLine result (K.bytes out.old) (K.bytes out.new) (K.faults out.old) (K.faults out.new) }
+    ensures line { HasLine result → NamesNoIndex result → (space : IndexSpace) → HasErrorLine space result (K.bytes out.old) (K.bytes out.new) (K.faults out.old) (K.faults out.new) }
+    ensures cert_line { (trouble : CertTrouble) → result ≡ Status.CertRefused trouble
+        → (space : IndexSpace) × AreNamed (map string_bytes words.now) (D.files disk.old) space × HasErrorLine space result (K.bytes out.old) (K.bytes out.new) (K.faults out.old) (K.faults out.new) }
     ensures cut_short { result ≡ Status.SinkFault → (report : List ℕ)
         × IsFinished (map string_bytes words.now) (D.files disk.old) (D.files disk.new) (R.takings room.old) (R.takings room.new) report
         × GrewWithin report (K.bytes out.old) (K.bytes out.new) }
     ensures no_memory { result ≡ Status.WantOfMemory → (D.files disk.new ≡ D.files disk.old)
-        ⊎ ((report : List ℕ) × IsFinished (map string_bytes words.now) (D.files disk.old) (D.files disk.new) (R.takings room.old) (R.takings room.new) report) }
+        ⊎ ((report : List ℕ) × IsFinished (map string_bytes words.now) (D.files disk.old) (D.files disk.new) (R.takings room.old) (R.takings room.new) report)
+        ⊎ IsDemonstration (map string_bytes words.now) }
     ensures takings { OfCommand (map string_bytes words.now) (λ command. MayTake command (D.files disk.old) (R.takings room.old) (R.takings room.new)) }
-    ensures others { OfCommand (map string_bytes words.now) (λ command. OthersStay (output_file command) (D.files disk.old) (D.files disk.new)) }
+    ensures others { OfCommand (map string_bytes words.now) (λ command. OthersStay command (D.files disk.old) (D.files disk.new)) }
 {
     let Some(command) = read_command(words) else {
-        return refuse(Status::BadWords, out);
+        return refuse_words(out);
     };
     match perform(alloc, command, disk, room) {
         Ok(report) => finish(&report, out),
-        Err(refusal) => refuse(refusal.status(), out),
+        Err(refusal) => refuse(refusal, out),
     }
 }

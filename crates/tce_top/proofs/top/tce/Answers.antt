@@ -1,10 +1,21 @@
-use Rattle.std.proofs.Common.{◌≡◌, ◌∙◌, sym, subst, map}
-use Rattle.std.specs.String.{string_bytes}
-use Rattle.tce_command.specs.CommandCode.{command_of}
+use Rattle.std.proofs.Common.{sym, subst, rules}
+use Rattle.tce_command.specs.Command.{run}
+use Rattle.tce_command.specs.Outcome.{Grew}
 use Rattle.tce_command.proofs.Commands.{one_command}
-use Rattle.tce_top.specs.Performed.{CanDo, IsCommandRefusal, MayTake}
-use Rattle.tce_top.proofs.Joined.{kept_as, done_can, done_takes, done_cause, done_answers, refused_cause, refused_answers}
+use Rattle.tce_top.specs.Performed.{CanDo, IsCommandRefusal, IsDone, MayTake, OthersStay}
+use Rattle.tce_top.proofs.Joined.{done_can, done_takes, done_cause, done_answers, refused_cause, refused_answers}
+use Rattle.tce_top.proofs.Left as left
 use Rattle.tce_top.proofs.top.tce.Goals as goal
+
+pub returns-in-Ok-clause-run : goal.returns-in-Ok-clause-run
+returns-in-Ok-clause-run g c = λ done spec budget is files put told sink.
+    let same = one_command _ _ (run spec budget) c.in-Some.ensures is in
+    let grew : Grew c.in-Ok.report.items (g.K.Sink.bytes c.args.out.now) (g.K.Sink.bytes c.finish.new.out) = search (rules, c.finish.ensures.done done) in
+    left.whole_run spec budget files put _ _ _ _ _ _ _
+    (subst
+    (λ k. IsDone k (g.D.Disk.files c.args.disk.now) (g.D.Disk.files c.perform.new.disk) (g.R.Room.takings c.args.room.now) (g.R.Room.takings c.perform.new.room) c.in-Ok.report.items)
+    (sym same) c.in-Ok.ensures.done)
+    grew told sink
 
 pub returns-in-Ok-clause-cause : goal.returns-in-Ok-clause-cause
 returns-in-Ok-clause-cause g c = λ command is files told.
@@ -26,16 +37,39 @@ returns-in-Ok-clause-takings g c = λ command is.
 pub returns-in-Err-clause-cause : goal.returns-in-Err-clause-cause
 returns-in-Err-clause-cause g c = λ command is files told.
     let same = one_command _ _ command c.in-Some.ensures is in
-    let kept = kept_as c.status.result c.in-Err.refusal c.refuse-in-Err.result c.status.ensures c.refuse-in-Err.ensures.kept in
-    refused_cause files command c.in-Err.refusal c.refuse-in-Err.result kept (subst (λ k. IsCommandRefusal files k c.in-Err.refusal) (sym same) (c.in-Err.ensures.refused files told))
+    refused_cause files command c.in-Err.refusal c.refuse.result c.refuse.ensures.kept
+    (subst (λ k. IsCommandRefusal files k c.in-Err.refusal) (sym same) (c.in-Err.ensures.refused files told))
 
 pub returns-in-Err-clause-exactly : goal.returns-in-Err-clause-exactly
 returns-in-Err-clause-exactly g c = λ command is files told due free cause.
     let same = one_command _ _ command c.in-Some.ensures is in
-    let kept = kept_as c.status.result c.in-Err.refusal c.refuse-in-Err.result c.status.ensures c.refuse-in-Err.ensures.kept in
-    refused_answers files command c.in-Err.refusal c.refuse-in-Err.result due kept (subst (λ k. IsCommandRefusal files k c.in-Err.refusal) (sym same) (c.in-Err.ensures.refused files told)) free cause
+    refused_answers files command c.in-Err.refusal c.refuse.result due c.refuse.ensures.kept
+    (subst (λ k. IsCommandRefusal files k c.in-Err.refusal) (sym same) (c.in-Err.ensures.refused files told)) free cause
+
+pub returns-in-Err-clause-unchanged : goal.returns-in-Err-clause-unchanged
+returns-in-Err-clause-unchanged g c = λ refused. (
+  left.unchanged _ c.in-Err.refusal c.refuse.result _ c.refuse.ensures.kept refused c.in-Err.ensures.unchanged,
+  left.untaken c.in-Err.refusal c.refuse.result _ c.refuse.ensures.kept refused c.in-Err.ensures.untaken,
+)
+
+pub returns-in-Err-clause-no_memory : goal.returns-in-Err-clause-no_memory
+returns-in-Err-clause-no_memory g c = λ memory.
+    left.or_demonstration _ _ _ (left.without_memory _ _ c.in-Err.refusal c.refuse.result _ c.in-Some.ensures c.refuse.ensures.kept memory c.in-Err.ensures.unchanged)
 
 pub returns-in-Err-clause-takings : goal.returns-in-Err-clause-takings
 returns-in-Err-clause-takings g c = λ command is.
     let same = one_command _ _ command c.in-Some.ensures is in
     subst (λ k. MayTake k (g.D.Disk.files c.args.disk.now) (g.R.Room.takings c.args.room.now) (g.R.Room.takings c.perform.new.room)) (sym same) c.in-Err.ensures.takings
+
+pub returns-in-Err-clause-others : goal.returns-in-Err-clause-others
+returns-in-Err-clause-others g c = λ command is.
+    let same = one_command _ _ command c.in-Some.ensures is in
+    subst (λ k. OthersStay k (g.D.Disk.files c.args.disk.now) (g.D.Disk.files c.perform.new.disk)) (sym same) c.perform.ensures.others
+
+pub returns-in-Err-clause-line : goal.returns-in-Err-clause-line
+returns-in-Err-clause-line g c = λ has plain. left.plain_line _ _ c.in-Err.refusal c.refuse.result _ _ _ _ c.in-Err.ensures.line c.refuse.ensures.line plain
+
+pub returns-in-Err-clause-cert_line : goal.returns-in-Err-clause-cert_line
+returns-in-Err-clause-cert_line g c = λ trouble e.
+    left.named_line _ _ _ _ _ _ _ _ c.in-Some.ensures
+    (left.cert_line _ _ c.in-Err.refusal c.refuse.result trouble _ _ _ _ c.in-Err.ensures.line c.refuse.ensures.line c.refuse.ensures.kept e)

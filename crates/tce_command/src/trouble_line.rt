@@ -1,0 +1,132 @@
+// The lines of refused certificates. They take no memory.
+ghost use Rattle.std.specs.Prelude.{◌≡◌, ◌+◌, ◌*◌, ◌≤◌, ◌++◌, length, codes, All};
+ghost use Rattle.tce_space.specs.Space.{IsDeclared};
+ghost use Rattle.tce_report.specs.NodeLine.{set_text};
+ghost use Rattle.tce_cert_lines.specs.Lines.{classes_text};
+ghost use Rattle.tce_command.specs.Report as reports;
+
+use crate::line::{joined, numbered};
+use crate::trouble::CertTrouble;
+use arrayvec::ArrayString;
+use tce_cert::CertFault;
+use tce_check::Verdict;
+use tce_fields::{decimal_text, members_of};
+use tce_nesting::Nesting;
+use tce_report::push_names;
+use tce_space::{IndexSet, Space};
+
+/// The line of a refused certificate: a set and at most ten classes of at most 24 names each, and less than 100 bytes beside them.
+#[derive(Debug, Drop)]
+pub struct TroubleLine {
+    pub text: LongText,
+}
+
+type LongText = ArrayString<4700>;
+
+pub(crate) fn trouble_line(space: &Space, trouble: &CertTrouble) -> TroubleLine
+    requires { reports.NamesDeclared space.now trouble.now }
+    ensures { result.text.bytes ≡ codes "error 7: " ++ reports.trouble_text space.now trouble.now ++ codes "\n" }
+{
+    let mut line = LongText::new();
+    line.push_str("error 7: ");
+    match trouble {
+        CertTrouble::Text(fault) => push_fault(&mut line, *fault),
+        CertTrouble::Verdict(verdict) => push_verdict(&mut line, space, verdict),
+    }
+    line.push_str("\n");
+    TroubleLine { text: line }
+}
+
+// What is wrong in the text.
+fn push_fault(line: &mut LongText, fault: CertFault)
+    requires { length line.old.bytes ≤ 9 }
+    ensures text { line.new.bytes ≡ line.old.bytes ++ reports.cert_text fault }
+    ensures room { length line.new.bytes ≤ 100 }
+{
+    let text = match fault {
+        CertFault::BadText(at) => numbered("line ", at as u128, ": bad text"),
+        CertFault::WrongTree(at) => numbered("line ", at as u128, ": does not fit the tree"),
+        CertFault::Memory => joined("want of memory", "", ""),
+    };
+    line.push_str(text.as_str());
+}
+
+// Which rule the plan breaks, and where.
+fn push_verdict(line: &mut LongText, space: &Space, verdict: &Verdict)
+    requires declared { reports.NamesDeclared space.now (CertTrouble.Verdict verdict.now) }
+    requires room { length line.old.bytes ≤ 9 }
+    ensures text { line.new.bytes ≡ line.old.bytes ++ reports.verdict_text space.now verdict.now }
+    ensures room { length line.new.bytes ≤ 4690 }
+{
+    match verdict {
+        Verdict::Accepted => line.push_str("accepted"),
+        Verdict::NotLegal(v) => {
+            line.push_str(numbered("node ", *v as u128, ": fusion not legal").as_str())
+        }
+        Verdict::OrderWrong(v) => {
+            line.push_str(numbered("node ", *v as u128, ": loop order").as_str())
+        }
+        Verdict::SizeWrong(v, size) => {
+            line.push_str(numbered("node ", *v as u128, ": size ").as_str());
+            line.push_str(decimal_text(*size).as_str())
+        }
+        Verdict::TotalWrong(total) => line.push_str(numbered("memory ", *total, "").as_str()),
+        Verdict::NotCovered(v, fused, classes, cost) => {
+            push_step(line, space, *v, *fused, classes, *cost)
+        }
+        Verdict::BelowTotal(sum) => line.push_str(numbered("below total ", *sum, "").as_str()),
+    }
+}
+
+// The step for which no row stands.
+fn push_step(
+    line: &mut LongText,
+    space: &Space,
+    v: u8,
+    fused: IndexSet,
+    classes: &Nesting,
+    cost: u128,
+)
+    requires fused { IsDeclared space.now fused }
+    requires classes { All (IsDeclared space.now) classes.now }
+    requires room { length line.old.bytes ≤ 9 }
+    ensures text { line.new.bytes ≡ line.old.bytes ++ reports.step_text space.now v fused classes.now cost }
+    ensures room { length line.new.bytes ≤ 4690 }
+{
+    line.push_str(numbered("node ", v as u128, ": fused ").as_str());
+    push_set(line, space, fused);
+    line.push_str(" classes ");
+    push_classes(line, space, classes.classes());
+    line.push_str(numbered(" cost ", cost, " not covered").as_str());
+}
+
+// Appends the classes with `/` between them, or `-` where there are none.
+fn push_classes(line: &mut LongText, space: &Space, classes: &[IndexSet])
+    requires declared { All (IsDeclared space.now) classes.now }
+    requires few { length classes.now ≤ 10 }
+    requires room { length line.old.bytes ≤ 480 }
+    ensures text { line.new.bytes ≡ line.old.bytes ++ classes_text space.now classes.now }
+    ensures length { length line.new.bytes ≤ length line.old.bytes + 4100 }
+{
+    let Some((first, rest)) = classes.split_first() else {
+        line.push('-');
+        return;
+    };
+    push_set(line, space, *first);
+    for class in rest {
+        line.push('/');
+        push_set(line, space, *class);
+    }
+}
+
+// Appends the names of a set's members in order of declaration, or `-` where it has none.
+fn push_set(line: &mut LongText, space: &Space, set: IndexSet)
+    requires declared { IsDeclared space.now set }
+    requires room { length line.old.bytes + 409 ≤ 4700 }
+    ensures text { line.new.bytes ≡ line.old.bytes ++ set_text space.now set }
+    ensures length { length line.new.bytes ≤ length line.old.bytes + 409 }
+{
+    let mut names = ArrayString::new();
+    push_names(&mut names, space, members_of(set).as_slice());
+    line.push_str(names.as_str());
+}

@@ -1,0 +1,4 @@
+pub mod Unfused
+pub mod Affordable
+pub mod Operands
+pub mod Ran

@@ -1,0 +1,12 @@
+use Rattle.std.specs.String.{string_bytes}
+use Rattle.tce_demo.proofs.Ran.{all_done, demo_takings}
+use Rattle.tce_demo.proofs.command.demo.Goals as goal
+
+pub returns-clause-done : goal.returns-clause-done
+returns-clause-done g c =
+    all_done string_bytes c.demonstrate.result c.in-Ok.made.spec c.in-Ok.made.text.items c.args.seed c.args.v c.args.o (g.D.Disk.files c.args.disk.now) (g.D.Disk.files c.demonstrate.new.disk) (g.R.Room.takings c.args.room.now)
+    (g.R.Room.takings c.demonstrate.new.room) c.in-Ok.ensures.spec c.in-Ok.ensures.text c.requires.v c.requires.o c.demonstrate.ensures.done
+
+pub returns-clause-takings : goal.returns-clause-takings
+returns-clause-takings g c =
+    demo_takings c.demonstrate.result c.in-Ok.made.spec c.args.v c.args.o (g.R.Room.takings c.args.room.now) (g.R.Room.takings c.demonstrate.new.room) c.in-Ok.ensures.spec c.requires.v c.requires.o c.demonstrate.ensures.takings

@@ -1,0 +1,9 @@
+use Rattle.tce_demo.proofs.Affordable.{affordable}
+use Rattle.tce_demo.proofs.Ran.{room_left}
+use Rattle.tce_demo.proofs.running.run_example.Goals as goal
+
+pub returns-in-Err-clause-refused : goal.returns-in-Err-clause-refused
+returns-in-Err-clause-refused g c = λ files told. c.refusal_of.ensures.free (c.in-Err.ensures.granted files told (record { affordable = affordable c.args.spec.now c.requires.spec; operands = c.requires.operands files told }))
+
+pub returns-in-Err-clause-takings : goal.returns-in-Err-clause-takings
+returns-in-Err-clause-takings g c = room_left c.in-Err.fault c.refusal_of.result c.args.spec.now 16384 _ _ c.refusal_of.ensures.free c.in-Err.ensures.takings

@@ -1,0 +1,54 @@
+-- What the command leaves and reports.
+use Rattle.std.specs.Prelude.{◌≡◌, ℕ, ◌≤◌, List, [], ◌∷◌, ◌++◌, codes, Option}
+use Rattle.std.specs.Option.{ForSome, option_map}
+use Rattle.std.specs.Fmt.{decimal}
+use Rattle.tce_base.specs.Word.{wrapping_sum}
+use Rattle.tce_outside.specs.Files.{Files}
+use Rattle.tce_array.specs.declared.form.Form.TheVariants.{One}
+use Rattle.tce_array.specs.Forms.{cell}
+use Rattle.tce_tools.specs.Flat.{in_order, contents}
+use Rattle.tce_tools.specs.Demo.{demo_text}
+use Rattle.tce_nesting.specs.declared.plan.Plan.{Plan}
+use Rattle.tce_search.specs.LeastPlan.{IsLeastPlan}
+use Rattle.tce_spec.specs.Specification.{Specification}
+use Rattle.tce_spec.specs.Operands.{shape_of}
+use Rattle.tce_result.specs.TensorFiles.{file_of}
+use Rattle.tce_takings.specs.Takings.{tile_take}
+use Rattle.tce_job.specs.Prepared.{taking_of, HasTaken}
+use Rattle.tce_example.specs.Specification.{IsDemoOf}
+use Rattle.tce_example.specs.Files.{with_demo}
+
+-- the words that the tiles of a run may take
+abbrev pub demo_budget : ℕ
+demo_budget = 16384
+
+-- the report: the words of the intermediates and of the tiles, and the sum of the result's elements
+abbrev pub report_text : ℕ → ℕ → ℕ → List ℕ
+report_text memory tiles sum = codes "tce demo 1\nmemory " ++ (decimal memory ++ (codes "\ntiles " ++ (decimal tiles ++ (codes "\nsum " ++ (decimal sum ++ codes "\n")))))
+
+-- the sum of the result's elements, modulo 2 ^ 64
+abbrev pub result_sum : Specification → Files → ℕ
+result_sum s files = wrapping_sum (in_order (shape_of s s.result) (cell One (shape_of s s.result) (contents files (file_of s s.result))))
+
+-- the six files are there, one taking was made, that of a least plan and of tiles within the budget, and the report tells both and the sum
+pub record IsRunOf (s : Specification) (seed : ℕ) (text : List ℕ) (before after : Option Files) (takings takings_after : List (ℕ × ℕ)) (report : List ℕ) : Type 0 where
+  pub written : after ≡ option_map (with_demo s seed text) before
+  pub plan : Plan
+  pub least : IsLeastPlan s.declarations.space s.tree plan
+  pub taken : takings_after ≡ takings ++ taking_of s demo_budget plan ∷ []
+  pub within : tile_take s demo_budget ≤ demo_budget
+  pub sum : ℕ
+  pub summed : ForSome after (λ files. sum ≡ result_sum s files)
+  pub reported : report ≡ report_text plan.memory (tile_take s demo_budget) sum
+
+-- that is so of what the text specifies
+pub record IsDemonstrated (before after : Option Files) (takings takings_after : List (ℕ × ℕ)) (seed v o : ℕ) (report : List ℕ) : Type 0 where
+  pub specification : Specification
+  pub specified : IsDemoOf v o specification
+  pub run : IsRunOf specification seed (demo_text v o) before after takings takings_after report
+
+-- there is one taking more, that of a run of the demonstration
+pub record IsDemoTaking (v o : ℕ) (takings takings_after : List (ℕ × ℕ)) : Type 0 where
+  pub specification : Specification
+  pub specified : IsDemoOf v o specification
+  pub taking : HasTaken specification demo_budget takings takings_after

@@ -1,0 +1,71 @@
+// The run of an example.
+ghost use Rattle.std.specs.Prelude.{◌≡◌, ◌⊎◌, OnOk, IfOk, IfErr, Err};
+ghost use Rattle.std.specs.Option.{ForSome, option_map};
+ghost use Rattle.tce_outside.specs.Files.{others};
+ghost use Rattle.tce_outside.specs.Fault.{HasCause};
+ghost use Rattle.tce_command.specs.Refusals.{IsFree};
+ghost use Rattle.tce_result.specs.TensorFiles.{file_of};
+ghost use Rattle.tce_result.specs.ResultBytes.{with_result};
+ghost use Rattle.tce_arrays.specs.Opened.{HasOperands, operand_count};
+ghost use Rattle.tce_job.specs.Prepared.{HasTaken};
+ghost use Rattle.tce_job.specs.Run.{IsReported};
+ghost use Rattle.tce_job.specs.Refusals.{IsFree as IsFreeFault};
+ghost use Rattle.tce_example.specs.Specification.{IsDemo};
+ghost use Rattle.tce_demo.specs.Done.{demo_budget};
+
+use std::alloc::Global;
+use tce_command::Refusal;
+use tce_job::{JobFault, RunReport, run_job};
+use tce_outside::Disk;
+use tce_space::Name;
+use tce_spec::Spec;
+use tce_words::Room;
+
+// The words that tiles may take.
+const BUDGET: u64 = 16384;
+
+// The name of a tensor; no name where there is no such tensor.
+fn name_of(spec: &Spec, t: u8) -> Name {
+    if t < spec.tensor_count() {
+        spec.tensor(t).name
+    } else {
+        Name::new()
+    }
+}
+
+// The refusal of a command whose run is refused.
+fn refusal_of(spec: &Spec, fault: JobFault) -> Refusal
+    ensures free { IsFreeFault fault → IsFree result }
+    ensures disk { result ≡ Refusal.Disk → fault ≡ JobFault.Disk }
+{
+    match fault {
+        JobFault::BudgetTooSmall(least) => Refusal::Budget(least),
+        JobFault::IntermediatesTooLarge(memory) => Refusal::Intermediates(memory),
+        JobFault::Array(t, fault) => Refusal::Array(name_of(spec, t), fault),
+        JobFault::Disk => Refusal::Disk,
+        JobFault::Memory => Refusal::Memory,
+    }
+}
+
+/// Runs an example whose operands have their arrays. Where the disk tells that they have them, only the disk and memory
+/// can fail.
+pub fn run_example<D: Disk, R: Room>(
+    alloc: Global,
+    spec: &Spec,
+    disk: &mut D,
+    room: &mut R,
+) -> Result<RunReport, Refusal>
+    requires spec { IsDemo spec.now }
+    requires operands { ForSome (D.files disk.old) (λ files. HasOperands files spec.now (operand_count spec.now)) }
+    ensures told { OnOk result (D.files disk.new ≡ option_map (with_result spec.now) (D.files disk.old)) }
+    ensures reported { IfOk result (IsReported spec.now demo_budget (R.takings room.old) (R.takings room.new)) }
+    ensures refused { IfErr result (λ refusal. ForSome (D.files disk.old) (λ _. IsFree refusal)) }
+    ensures takings { IfErr result (λ refusal. (IsFree refusal × HasTaken spec.now demo_budget (R.takings room.old) (R.takings room.new)) ⊎ (R.takings room.new ≡ R.takings room.old)) }
+    ensures others { others (file_of spec.now spec.now.result) (D.files disk.new) ≡ others (file_of spec.now spec.now.result) (D.files disk.old) }
+    ensures cause { HasCause (D.faults disk.old) (D.faults disk.new) (result ≡ Err Refusal.Disk) }
+{
+    match run_job(alloc, spec, BUDGET, disk, room) {
+        Ok(report) => Ok(report),
+        Err(fault) => Err(refusal_of(spec, fault)),
+    }
+}

@@ -1,0 +1,51 @@
+-- The six files of the demonstration.
+use Rattle.std.specs.Prelude.{◌≡◌, ◌≢◌, ℕ, ◌≤◌, List, [], ◌∷◌, codes, Option}
+use Rattle.std.specs.List.{AllByRecursion}
+use Rattle.std.specs.Option.{option_map}
+use Rattle.tce_outside.specs.Files.{Files, file, with_file}
+use Rattle.tce_space.specs.Tiling.{elements}
+use Rattle.tce_array.specs.Forms.{array_bytes}
+use Rattle.tce_tools.specs.Demo.{drawn, demo_element}
+use Rattle.tce_spec.specs.Specification.{Specification}
+use Rattle.tce_spec.specs.Operands.{shape_of}
+use Rattle.tce_result.specs.TensorFiles.{file_of}
+use Rattle.tce_result.specs.ResultBytes.{with_result}
+
+abbrev pub demo_names : List (List ℕ)
+demo_names = codes "demo.tce" ∷ codes "demoA.tca" ∷ codes "demoB.tca" ∷ codes "demoC.tca" ∷ codes "demoD.tca" ∷ codes "demoS.tca" ∷ []
+
+-- the contents of a file, where the disk tells them
+abbrev pub found : List ℕ → Option Files → Option (Option (List ℕ))
+found name told = option_map (λ files. file files name) told
+
+-- each file that is none of the six is as it was
+abbrev pub DemoOthersStay : Option Files → Option Files → Type 0
+DemoOthersStay before after = (name : List ℕ) → AllByRecursion (λ other. name ≢ other) demo_names → found name after ≡ found name before
+
+-- a number that the generator goes on from
+abbrev pub IsSeed : ℕ → Type 0
+IsSeed x = (1 ≤ x) × (x ≤ 2147483646)
+
+-- the array of a tensor, of the numbers that are drawn after x
+abbrev pub with_array : Specification → ℕ → ℕ → Files → Files
+with_array s t x files = with_file files (file_of s t) (array_bytes (shape_of s t) (demo_element (shape_of s t) x))
+
+-- the number that was drawn last for it
+abbrev pub number_after : Specification → ℕ → ℕ → ℕ
+number_after s t x = drawn x (elements (shape_of s t))
+
+-- arrays of tensors, in which the numbers go on from array to array
+abbrev pub with_arrays : Specification → List ℕ → ℕ → Files → Files
+with_arrays s [] x files = files
+with_arrays s (t ∷ ts) x files = with_arrays s ts (number_after s t x) (with_array s t x files)
+
+-- the arrays of the first four tensors
+abbrev pub with_operands : Specification → ℕ → Files → Files
+with_operands s seed files = with_arrays s (0 ∷ 1 ∷ 2 ∷ 3 ∷ []) seed files
+
+-- the text, the arrays of the operands, and the result
+abbrev pub with_input : Specification → ℕ → List ℕ → Files → Files
+with_input s seed text files = with_operands s seed (with_file files (codes "demo.tce") text)
+
+abbrev pub with_demo : Specification → ℕ → List ℕ → Files → Files
+with_demo s seed text files = with_result s (with_input s seed text files)

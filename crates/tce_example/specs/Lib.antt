@@ -1,0 +1,3 @@
+pub mod Specification
+pub mod Files
+pub mod Laws

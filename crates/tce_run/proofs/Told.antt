@@ -1,0 +1,94 @@
+-- What the refusal that tells a fault of a run says of the command.
+use Rattle.std.proofs.Common.{◌≡◌, ◌≢◌, ℕ, ◌<◌, ◌⊎◌, List, Option, Result, Ok, Err, inl, inr, refl, sym, ap, ◌∙◌, subst, length, arith}
+use Rattle.std.specs.Option.{ForSome}
+use Rattle.tce_outside.specs.Files.{Files}
+use Rattle.tce_array.specs.declared.fault.ArrayFault.{ArrayFault}
+use Rattle.tce_array.specs.declared.fault.ArrayFault.TheVariants as array_fault
+use Rattle.tce_spec.specs.Specification.{Specification}
+use Rattle.tce_arrays.specs.Opened.{IsRefused}
+use Rattle.tce_job.specs.declared.fault.JobFault.{JobFault}
+use Rattle.tce_job.specs.declared.fault.JobFault.TheVariants as faults
+use Rattle.tce_job.specs.Refusals.{IsCause, MayBeRefused}
+use Rattle.tce_job.specs.Prepared.{IsRoomLeft as JobRoomLeft, HasTaken}
+use Rattle.tce_command.specs.declared.refusal.Refusal.{Refusal}
+use Rattle.tce_command.specs.declared.refusal.Refusal.TheVariants.{Missing, Array, Disk, Memory}
+use Rattle.tce_source.specs.Source.{HasSpecification}
+use Rattle.tce_run.specs.Refusals.{IsFirstRefused, IsJobRefusal}
+use Rattle.tce_run.specs.Done.{IsTaking, IsRoomLeft}
+use Rattle.tce_run.specs.Told.{TellsOperand, NamesDeclared, IsToldAs}
+
+-- what a run tells names declared tensors alone
+pub names_declared : (told : Option Files) (s : Specification) (budget : ℕ) (f : JobFault) → IsCause (MayBeRefused told s) s budget f → NamesDeclared s f
+names_declared told s budget (faults.BudgetTooSmall n) p = tt
+names_declared told s budget (faults.IntermediatesTooLarge n) p = tt
+names_declared told s budget (faults.Array t fault) p = p.1.0
+names_declared told s budget faults.Disk p = tt
+names_declared told s budget faults.Memory p = tt
+
+told_operand : (files : Files) (s : Specification) (budget t : ℕ) (fault : ArrayFault) (a : Refusal) → TellsOperand s t fault a → IsFirstRefused files s budget t fault → fault ≢ array_fault.Disk → IsJobRefusal files s budget a
+told_operand files s budget t array_fault.NoFile (Missing name) told first real = (t, first, told)
+told_operand files s budget t (array_fault.BadLength n) (Array name fault) told first real =
+    subst (λ f. IsJobRefusal files s budget (Array name f)) (sym told.1) (t, first, tt, told.0)
+told_operand files s budget t (array_fault.BadHeader n) (Array name fault) told first real =
+    subst (λ f. IsJobRefusal files s budget (Array name f)) (sym told.1) (t, first, tt, told.0)
+told_operand files s budget t array_fault.Disk a told first real = absurd (real refl)
+told_operand files s budget t fault a told first real = absurd told
+
+-- it is due where the fault has a cause
+pub told_cause : (files : Files) (s : Specification) (budget : ℕ) (f : JobFault) (a : Refusal) → IsToldAs s f a → IsCause (IsRefused files s) s budget f → IsJobRefusal files s budget a
+told_cause files s budget (faults.BudgetTooSmall n) a told p = subst (IsJobRefusal files s budget) (sym told) p
+told_cause files s budget (faults.IntermediatesTooLarge n) a told p = subst (IsJobRefusal files s budget) (sym told) p
+told_cause files s budget (faults.Array t fault) a told p = told_operand files s budget t fault a told (record { affordable = p.0; refused = p.1 }) p.2
+told_cause files s budget faults.Disk a told p = subst (IsJobRefusal files s budget) (sym told) tt
+told_cause files s budget faults.Memory a told p = subst (IsJobRefusal files s budget) (sym told) tt
+
+-- it is that of a failure only where the disk failed
+operand_not_disk : (s : Specification) (t : ℕ) (fault : ArrayFault) → TellsOperand s t fault Disk → ⊥
+operand_not_disk s t array_fault.NoFile told = told
+operand_not_disk s t fault told = told
+
+pub told_disk : (s : Specification) (f : JobFault) (a : Refusal) → IsToldAs s f a → a ≡ Disk → f ≡ faults.Disk
+told_disk s (faults.BudgetTooSmall n) a told failed = absurd (cc)
+told_disk s (faults.IntermediatesTooLarge n) a told failed = absurd (cc)
+told_disk s (faults.Array t fault) a told failed = absurd (operand_not_disk s t fault (subst (TellsOperand s t fault) failed told))
+told_disk s faults.Disk a told failed = refl
+told_disk s faults.Memory a told failed = absurd (cc)
+
+-- the refusal of an answer
+abbrev refusal_in : {A : Type 0} → Result A Refusal → Refusal
+refusal_in (Ok answer) = Memory
+refusal_in (Err refusal) = refusal
+
+pub told_failure : {A B : Type 0} (s : Specification) (f : JobFault) (a : Refusal) (given : Result A JobFault) (told : Result B Refusal) → given ≡ Err f → told ≡ Err a → IsToldAs s f a → told ≡ Err Disk → given ≡ Err faults.Disk
+told_failure s f a given told is was says failed = is ∙ ap Err (told_disk s f a says (sym (ap refusal_in was) ∙ ap refusal_in failed))
+
+-- an answer is no failure
+pub answered : {A Q : Type 0} (answer : A) (told : Result A Refusal) → told ≡ Ok answer → told ≡ Err Disk → Q
+answered answer told is failed = absurd (cc)
+
+-- and where it failed the refusal is that of a failure
+pub unchanged : (before middle after : Option Files) (s : Specification) (f : JobFault) (a : Refusal) → middle ≡ before → IsToldAs s f a → (f ≡ faults.Disk) ⊎ (after ≡ middle) → (a ≡ Disk) ⊎ (after ≡ before)
+unchanged before middle after s f a same told (inl failed) = inl (subst (λ g. IsToldAs s g a) failed told)
+unchanged before middle after s f a same told (inr stay) = inr (stay ∙ same)
+
+-- what the run leaves of the room, the command leaves
+one_taking : (before : Option Files) (s : Specification) (spec : List ℕ) (budget : ℕ) (taken after : List (ℕ × ℕ)) → ForSome before (λ files. HasSpecification files spec s)
+    → (after ≡ taken) ⊎ HasTaken s budget taken after → (after ≡ taken) ⊎ IsTaking before taken after spec budget
+one_taking before s spec budget taken after specified (inl same) = inl same
+one_taking before s spec budget taken after specified (inr more) = inr (record { specification = s; specified = specified; plan = more.plan; least = more.least; taking = more.taken })
+
+operand_room : (before : Option Files) (s : Specification) (spec : List ℕ) (budget t : ℕ) (fault : ArrayFault) (a : Refusal) (taken after : List (ℕ × ℕ)) → TellsOperand s t fault a → after ≡ taken
+    → IsRoomLeft a before taken after spec budget
+operand_room before s spec budget t array_fault.NoFile (Missing name) taken after told same = same
+operand_room before s spec budget t (array_fault.BadLength n) (Array name fault) taken after told same = same
+operand_room before s spec budget t (array_fault.BadHeader n) (Array name fault) taken after told same = same
+operand_room before s spec budget t array_fault.Disk (Array name fault) taken after told same = same
+operand_room before s spec budget t fault a taken after told same = absurd told
+
+pub told_room : (before : Option Files) (s : Specification) (spec : List ℕ) (budget : ℕ) (f : JobFault) (a : Refusal) (taken after : List (ℕ × ℕ)) → ForSome before (λ files. HasSpecification files spec s)
+    → IsToldAs s f a → JobRoomLeft f s budget taken after → IsRoomLeft a before taken after spec budget
+told_room before s spec budget (faults.BudgetTooSmall n) a taken after specified told p = subst (λ b. IsRoomLeft b before taken after spec budget) (sym told) p
+told_room before s spec budget (faults.IntermediatesTooLarge n) a taken after specified told p = subst (λ b. IsRoomLeft b before taken after spec budget) (sym told) p
+told_room before s spec budget (faults.Array t fault) a taken after specified told p = operand_room before s spec budget t fault a taken after told p
+told_room before s spec budget faults.Disk a taken after specified told p = subst (λ b. IsRoomLeft b before taken after spec budget) (sym told) (one_taking before s spec budget taken after specified p)
+told_room before s spec budget faults.Memory a taken after specified told p = subst (λ b. IsRoomLeft b before taken after spec budget) (sym told) (one_taking before s spec budget taken after specified p)

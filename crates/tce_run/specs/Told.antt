@@ -1,0 +1,37 @@
+-- How a fault of a run is told to a user.
+use Rattle.std.specs.Prelude.{◌≡◌, ⊤, ℕ, ◌<◌, List, length}
+use Rattle.tce_array.specs.declared.fault.ArrayFault.{ArrayFault}
+use Rattle.tce_array.specs.declared.fault.ArrayFault.TheVariants.{NoFile}
+use Rattle.tce_spec.specs.Specification.{Specification}
+use Rattle.tce_result.specs.TensorFiles.{name_of, file_of}
+use Rattle.tce_job.specs.declared.fault.JobFault.{JobFault}
+use Rattle.tce_job.specs.declared.fault.JobFault.TheVariants as faults
+use Rattle.tce_command.specs.Refusals.{NamesFile}
+use Rattle.tce_command.specs.declared.refusal.Refusal.{Refusal}
+use Rattle.tce_command.specs.declared.refusal.Refusal.TheVariants.{Array, Budget, Intermediates, Disk, Memory}
+
+-- the refusal names this tensor, and tells this fault of its file
+abbrev pub NamesTensor : List ℕ → ArrayFault → Refusal → Type 0
+NamesTensor name fault (Array tensor told) = (tensor.bytes ≡ name) × (told ≡ fault)
+NamesTensor name fault refusal = ⊥
+
+-- an operand that is not there is told by its file, one that is no array of its shape by its name
+abbrev pub TellsOperand : Specification → ℕ → ArrayFault → Refusal → Type 0
+TellsOperand s t NoFile refusal = NamesFile (file_of s t) refusal
+TellsOperand s t fault refusal = NamesTensor (name_of s t) fault refusal
+
+-- a tensor that the fault names is declared
+abbrev pub NamesDeclared : Specification → JobFault → Type 0
+NamesDeclared s (faults.BudgetTooSmall least) = ⊤
+NamesDeclared s (faults.IntermediatesTooLarge memory) = ⊤
+NamesDeclared s (faults.Array t fault) = t < length s.declarations.tensors
+NamesDeclared s faults.Disk = ⊤
+NamesDeclared s faults.Memory = ⊤
+
+-- the refusal tells the fault
+abbrev pub IsToldAs : Specification → JobFault → Refusal → Type 0
+IsToldAs s (faults.BudgetTooSmall least) refusal = refusal ≡ Budget least
+IsToldAs s (faults.IntermediatesTooLarge memory) refusal = refusal ≡ Intermediates memory
+IsToldAs s (faults.Array t fault) refusal = TellsOperand s t fault refusal
+IsToldAs s faults.Disk refusal = refusal ≡ Disk
+IsToldAs s faults.Memory refusal = refusal ≡ Memory

@@ -1,0 +1,46 @@
+// The command.
+ghost use Rattle.std.specs.Prelude.{◌≡◌, ◌⊎◌, ◌≤◌, ◌^◌, Err, IfOk, IfErr};
+ghost use Rattle.std.specs.Option.{ForSome};
+ghost use Rattle.tce_outside.specs.Fault.{HasCause};
+ghost use Rattle.tce_command.specs.Command.{NamesSpec};
+ghost use Rattle.tce_run.specs.Done.{IsRun, IsRoomLeft, OnlyResultDiffers};
+ghost use Rattle.tce_run.specs.Refusals.{IsRunRefusal};
+
+use crate::refusals::refusal_of;
+use std::alloc::Global;
+use tce_command::Refusal;
+use tce_job::run_job;
+use tce_outside::Disk;
+use tce_source::read_source;
+use tce_words::Room;
+
+/// Runs the specification in a file: puts the file of its result in place of whatever has that name, and gives the report.
+///
+/// The budget, in words, is for tiles; it is at most 2^40. The specification is refused first; then `Budget` comes with
+/// three of the largest tiles in words, `Intermediates` with the least memory in words where it is above 2^40, and
+/// `Missing` with the file, or `Array` with the name, of the first operand by first use that is refused. After every
+/// refusal but `Disk` all files are as they were; after `Disk` the result's file may hold anything or be absent.
+pub fn run<D: Disk, R: Room>(
+    alloc: Global,
+    spec: &str,
+    budget: u64,
+    disk: &mut D,
+    room: &mut R,
+) -> Result<Vec<u8>, Refusal>
+    requires spec { NamesSpec spec.now }
+    requires budget { budget ≤ 2 ^ 40 }
+    ensures done { IfOk result (λ report. IsRun (D.files disk.old) (D.files disk.new) (R.takings room.old) (R.takings room.new) spec.now budget report.items) }
+    ensures refused { IfErr result (λ refusal. ForSome (D.files disk.old) (λ files. IsRunRefusal files spec.now budget refusal)) }
+    ensures unchanged { IfErr result (λ refusal. (refusal ≡ Refusal.Disk) ⊎ (D.files disk.new ≡ D.files disk.old)) }
+    ensures takings { IfErr result (λ refusal. IsRoomLeft refusal (D.files disk.old) (R.takings room.old) (R.takings room.new) spec.now budget) }
+    ensures others { OnlyResultDiffers spec.now (D.files disk.old) (D.files disk.new) }
+    ensures cause { HasCause (D.faults disk.old) (D.faults disk.new) (result ≡ Err Refusal.Disk) }
+{
+    let source = read_source(alloc, disk, spec)?;
+    // A specification keeps its rules.
+    let _space = source.space();
+    match run_job(alloc, &source, budget, disk, room) {
+        Ok(report) => Ok(report.text.into_vec()),
+        Err(fault) => Err(refusal_of(&source, fault)),
+    }
+}

@@ -1,0 +1,34 @@
+// Refusals for the faults of a run.
+ghost use Rattle.std.specs.Prelude.{◌≡◌, ◌≢◌, ◌<◌, length};
+ghost use Rattle.tce_run.specs.Told.{TellsOperand, NamesDeclared, IsToldAs};
+
+use tce_array::ArrayFault;
+use tce_command::Refusal;
+use tce_job::JobFault;
+use tce_result::file_of;
+use tce_spec::Spec;
+
+// The refusal of an operand, by the number of its tensor: by its file where that is not there, else by its name.
+fn operand_refusal(spec: &Spec, t: u8, fault: ArrayFault) -> Refusal
+    requires { t < length spec.now.declarations.tensors }
+    ensures { TellsOperand spec.now t fault result }
+{
+    match fault {
+        ArrayFault::NoFile => Refusal::missing(file_of(spec, t).as_str()),
+        fault => Refusal::Array(spec.tensor(t).name, fault),
+    }
+}
+
+/// The refusal that tells a fault of a run.
+pub fn refusal_of(spec: &Spec, fault: JobFault) -> Refusal
+    requires { NamesDeclared spec.now fault }
+    ensures { IsToldAs spec.now fault result }
+{
+    match fault {
+        JobFault::BudgetTooSmall(least) => Refusal::Budget(least),
+        JobFault::IntermediatesTooLarge(memory) => Refusal::Intermediates(memory),
+        JobFault::Array(t, fault) => operand_refusal(spec, t, fault),
+        JobFault::Disk => Refusal::Disk,
+        JobFault::Memory => Refusal::Memory,
+    }
+}

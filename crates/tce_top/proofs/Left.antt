@@ -1,0 +1,150 @@
+-- What commands leave, by how they end.
+use Rattle.std.proofs.Common.{◌≡◌, refl, sym, ap, subst, ◌∙◌, ◌⊎◌, inl, inr, ℕ, List, ◌++◌, Option, Some}
+use Rattle.std.specs.Option.{ForSome, option_map}
+use Rattle.tce_outside.specs.Files.{Files}
+use Rattle.tce_outside.specs.Fault.{Rose}
+use Rattle.tce_space.specs.Space.{IndexSpace}
+use Rattle.tce_command.specs.Command.{Command, run, plan, cert, check, pack, unpack, convert, demo, IsCommand}
+use Rattle.tce_command.specs.Report.{NamesNoIndex, ending_of, line_over}
+use Rattle.tce_command.specs.CommandRefusals.{IsWrittenOver, MayReplace}
+use Rattle.tce_command.proofs.Statuses.{is_plain, over}
+use Rattle.tce_command.specs.Outcome.{Grew, GrewWithin, HasErrorLine, IsFault, IsRefusal}
+use Rattle.tce_command.specs.declared.trouble.CertTrouble.{CertTrouble}
+use Rattle.tce_command.specs.declared.refusal.Refusal.TheVariants.{Disk}
+use Rattle.tce_command.specs.declared.command_refusal.CommandRefusal.{CommandRefusal}
+use Rattle.tce_command.specs.declared.command_refusal.CommandRefusal.TheVariants.{Common, Certificate}
+use Rattle.tce_command.specs.declared.status.Status.{Status}
+use Rattle.tce_command.specs.declared.status.Status.TheVariants.{Done, BadWords, SpecRefused, NoFile, ArrayRefused, BudgetTooSmall, IntermediatesTooLarge, CertRefused, DiskFault, SinkFault, WantOfMemory, FlatRefused, UnknownTensor, DoesNotFit}
+use Rattle.tce_top.specs.Performed.{HasIndexes, IsDone, MayLeaveOther, NamesItsIndexes}
+use Rattle.tce_command.proofs.Commands.{one_command}
+use Rattle.tce_top.specs.Outcome.{AreNamed, IsDemonstration, IsWholeRun}
+use Rattle.tce_top.proofs.Joined.{Kept, free_fault}
+
+-- Files and takings.
+
+-- a status that is a fault is no refusal
+no_refusal : (status : Status) → IsFault status → IsRefusal status → ⊥
+no_refusal Done f r = f
+no_refusal DiskFault f r = r
+no_refusal SinkFault f r = r
+no_refusal WantOfMemory f r = r
+no_refusal BadWords f r = f
+no_refusal (SpecRefused x) f r = f
+no_refusal (NoFile x) f r = f
+no_refusal (ArrayRefused x y) f r = f
+no_refusal (BudgetTooSmall x) f r = f
+no_refusal (IntermediatesTooLarge x) f r = f
+no_refusal (CertRefused x) f r = f
+no_refusal (FlatRefused x) f r = f
+no_refusal (UnknownTensor x) f r = f
+no_refusal (DoesNotFit x) f r = f
+
+-- a refusal that may come in the place of others does not end with a refusal's status
+pub not_free : (r : CommandRefusal) (status : Status) → Kept r status → IsRefusal status → MayReplace r → ⊥
+not_free r status (inl kept) refused free = no_refusal (ending_of r) (free_fault r free) (subst IsRefusal kept refused)
+not_free r status (inr memory) refused free = no_refusal WantOfMemory tt (subst IsRefusal memory.0 refused)
+
+-- what may leave other files is a failing disk, but in a demonstration
+leaves : (command : Command) (r : CommandRefusal) → MayLeaveOther command r → MayReplace r
+leaves (run spec budget) r e = subst MayReplace (sym e) tt
+leaves (plan spec) r e = subst MayReplace (sym e) tt
+leaves (cert spec file) r e = subst MayReplace (sym e) tt
+leaves (check spec file) r e = subst MayReplace (sym e) tt
+leaves (pack spec tensor flat) r e = subst MayReplace (sym e) tt
+leaves (unpack spec tensor flat) r e = subst MayReplace (sym e) tt
+leaves (convert spec tensor form) r e = subst MayReplace (sym e) tt
+leaves (demo seed v o) r free = free
+
+pub unchanged : (command : Command) (r : CommandRefusal) (status : Status) (A : Type 0) → Kept r status → IsRefusal status → MayLeaveOther command r ⊎ A → A
+unchanged command r status A kept refused (inl other) = absurd (not_free r status kept refused (leaves command r other))
+unchanged command r status A kept refused (inr same) = same
+
+pub untaken : (r : CommandRefusal) (status : Status) (A : Type 0) → Kept r status → IsRefusal status → MayReplace r ⊎ A → A
+untaken r status A kept refused (inl free) = absurd (not_free r status kept refused free)
+untaken r status A kept refused (inr same) = same
+
+-- a refusal that ends with want of memory is no failure of the disk
+no_disk : (r : CommandRefusal) (status : Status) → Kept r status → status ≡ WantOfMemory → r ≡ Common Disk → ⊥
+no_disk r status (inl kept) memory disk = let e : WantOfMemory ≡ DiskFault = sym memory ∙ kept ∙ ap ending_of disk in absurd (cc)
+no_disk r status (inr other) memory disk = other.1 (ap ending_of disk)
+
+pub without_memory : (words : List (List ℕ)) (command : Command) (r : CommandRefusal) (status : Status) (A : Type 0) → IsCommand words command → Kept r status → status ≡ WantOfMemory
+    → MayLeaveOther command r ⊎ A → A ⊎ IsDemonstration words
+without_memory words command r status A is kept memory (inr same) = inl same
+without_memory words (run spec budget) r status A is kept memory (inl disk) = absurd (no_disk r status kept memory disk)
+without_memory words (plan spec) r status A is kept memory (inl disk) = absurd (no_disk r status kept memory disk)
+without_memory words (cert spec file) r status A is kept memory (inl disk) = absurd (no_disk r status kept memory disk)
+without_memory words (check spec file) r status A is kept memory (inl disk) = absurd (no_disk r status kept memory disk)
+without_memory words (pack spec tensor flat) r status A is kept memory (inl disk) = absurd (no_disk r status kept memory disk)
+without_memory words (unpack spec tensor flat) r status A is kept memory (inl disk) = absurd (no_disk r status kept memory disk)
+without_memory words (convert spec tensor form) r status A is kept memory (inl disk) = absurd (no_disk r status kept memory disk)
+without_memory words (demo seed v o) r status A is kept memory (inl free) = inr (seed, v, o, is)
+
+pub or_demonstration : (A B C : Type 0) → A ⊎ C → A ⊎ (B ⊎ C)
+or_demonstration A B C (inl a) = inl a
+or_demonstration A B C (inr c) = inr (inr c)
+
+-- Lines.
+
+-- a line that names no index is the same whatever the names of indexes
+any_space : (a b : IndexSpace) (status : Status) (before after : Option (List ℕ)) (faults faults_after : ℕ) → NamesNoIndex status → HasErrorLine a status before after faults faults_after
+    → HasErrorLine b status before after faults faults_after
+any_space a b status before after faults faults_after plain h =
+    let e : line_over a status ≡ line_over b status = sym (over a status plain) ∙ over b status plain in
+    record {
+      part = subst (λ t. GrewWithin t before after) e h.part;
+      whole = λ refused. subst (λ t. Grew t before after ⊎ Rose faults faults_after) e (h.whole refused);
+    }
+
+pub plain_line : (command : Command) (told : Option Files) (r : CommandRefusal) (status : Status) (before after : Option (List ℕ)) (faults faults_after : ℕ) → NamesItsIndexes command told r
+    → ((space : IndexSpace) → IsWrittenOver space r → HasErrorLine space status before after faults faults_after) → NamesNoIndex status → (space : IndexSpace)
+    → HasErrorLine space status before after faults faults_after
+plain_line command told (Common r) status before after faults faults_after names line plain space = line space tt
+plain_line command told (Certificate trouble text) status before after faults faults_after names line plain space =
+    any_space names.0 space status before after faults faults_after plain (line names.0 names.2)
+
+-- the line of a refused certificate
+abbrev CertLine : Command → Option Files → Status → Option (List ℕ) → Option (List ℕ) → ℕ → ℕ → Type 0
+CertLine command told status before after faults faults_after =
+    (space : IndexSpace) × ForSome told (λ files. HasIndexes files command space) × HasErrorLine space status before after faults faults_after
+
+no_cert : (r : CommandRefusal) (trouble : CertTrouble) → NamesNoIndex (ending_of r) → ending_of r ≡ CertRefused trouble → ⊥
+no_cert r trouble plain e = subst NamesNoIndex e plain
+
+kept_cert : (r : CommandRefusal) (status : Status) (trouble : CertTrouble) → Kept r status → status ≡ CertRefused trouble → ending_of r ≡ CertRefused trouble
+kept_cert r status trouble (inl kept) e = sym kept ∙ e
+kept_cert r status trouble (inr memory) e = let f : WantOfMemory ≡ CertRefused trouble = sym memory.0 ∙ e in absurd (cc)
+
+pub cert_line : (command : Command) (told : Option Files) (r : CommandRefusal) (status : Status) (trouble : CertTrouble) (before after : Option (List ℕ)) (faults faults_after : ℕ) → NamesItsIndexes command told r
+    → ((space : IndexSpace) → IsWrittenOver space r → HasErrorLine space status before after faults faults_after) → Kept r status → status ≡ CertRefused trouble
+    → CertLine command told status before after faults faults_after
+cert_line command told (Common r) status trouble before after faults faults_after names line kept e =
+    absurd (no_cert (Common r) trouble (is_plain r).plain (kept_cert (Common r) status trouble kept e))
+cert_line command told (Certificate own text) status trouble before after faults faults_after names line kept e = (names.0, names.1, line names.0 names.2)
+
+pub named_line : (words : List (List ℕ)) (command : Command) (told : Option Files) (status : Status) (before after : Option (List ℕ)) (faults faults_after : ℕ) → IsCommand words command
+    → CertLine command told status before after faults faults_after → (space : IndexSpace) × AreNamed words told space × HasErrorLine space status before after faults faults_after
+named_line words command told status before after faults faults_after is line =
+    (line.0, (λ other words_are files tells. subst (λ k. HasIndexes files k line.0) (sym (one_command words command other is words_are)) (line.1 files tells)), line.2)
+
+-- A run, whole.
+
+pub whole_run : (spec : List ℕ) (budget : ℕ) (files : Files) (put : List ℕ) (before after : Option Files) (taken taken_after : List (ℕ × ℕ)) (report : List ℕ) (out out_after : Option (List ℕ))
+    → IsDone (run spec budget) before after taken taken_after report → Grew report out out_after → before ≡ Some files → out ≡ Some put
+    → (left : Files) × (put_after : List ℕ) × (after ≡ Some left) × (out_after ≡ Some put_after) × IsWholeRun spec budget files left taken taken_after put put_after
+whole_run spec budget files put before after taken taken_after report out out_after done grew told sink = (
+  _,
+  put ++ report,
+  done.written ∙ ap (option_map _) told,
+  grew ∙ ap (option_map (λ bytes. bytes ++ report)) sink,
+  record {
+    specification = done.specification;
+    specified = done.specified files told;
+    written = refl;
+    plan = done.plan;
+    least = done.least;
+    reported = ap (λ text. put ++ text) done.reported;
+    taken_is = done.taking;
+    within = done.within;
+  },
+)

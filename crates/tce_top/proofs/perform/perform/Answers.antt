@@ -1,0 +1,9 @@
+use Rattle.std.proofs.Common.{ap}
+use Rattle.tce_command.specs.CommandCode.{command_of}
+use Rattle.tce_top.proofs.Demonstrations.{demo_leaves}
+use Rattle.tce_top.proofs.perform.perform.Goals as goal
+
+pub returns-in_err-demo-in-Demo-clause-unchanged : goal.returns-in_err-demo-in-Demo-clause-unchanged
+returns-in_err-demo-in-Demo-clause-unchanged g c =
+    demo_leaves c.from_residual-in_err-demo-in-Demo.result _ _ c.in_err-demo-in-Demo.field-0.0 (command_of c.args.command) _ _ _ (ap command_of c.in-Demo.is)
+    c.from_residual-in_err-demo-in-Demo.ensures.1 c.in_err-demo-in-Demo.ensures.refused c.in_err-demo-in-Demo.ensures.others

@@ -1,0 +1,30 @@
+-- What the command accepts and reports.
+use Rattle.std.specs.Prelude.{◌≡◌, ℕ, List, ◌++◌, codes, Some}
+use Rattle.std.specs.Fmt.{decimal}
+use Rattle.tce_outside.specs.Files.{Files, file}
+use Rattle.tce_fusion.specs.Least.{IsLeast}
+use Rattle.tce_nesting.specs.declared.plan.Plan.{Plan}
+use Rattle.tce_check.specs.Verdict.{IsAccepted}
+use Rattle.tce_spec.specs.Specification.{Specification}
+use Rattle.tce_source.specs.Source.{HasSpecification}
+use Rattle.tce_verify.specs.Certificates.{IsCertificateOf}
+
+-- the report: the memory of the plan
+abbrev pub report_text : ℕ → List ℕ
+report_text memory = codes "tce check 1\naccepted memory " ++ (decimal memory ++ codes "\n")
+
+-- the one file specifies something, and the other holds the certificate of a plan for it that is accepted: its fusion is legal, its orders carry it, its sizes and its memory are those of the fusion, and its tables cover all fusions
+pub record CanVerify (files : Files) (spec cert : List ℕ) : Type 0 where
+  pub specification : Specification
+  pub specified : HasSpecification files spec specification
+  pub text : List ℕ
+  pub held : file files cert ≡ Some text
+  pub plan : Plan
+  pub certifies : IsCertificateOf specification plan text
+  pub accepted : IsAccepted specification.declarations.space specification.tree plan
+
+-- no legal fusion takes less memory than that of the plan, which is reported
+pub record IsVerified (files : Files) (spec cert report : List ℕ) : Type 0 where
+  pub can : CanVerify files spec cert
+  pub least : IsLeast can.specification.declarations.space can.specification.tree can.plan.fusion.0.items
+  pub reported : report ≡ report_text can.plan.memory

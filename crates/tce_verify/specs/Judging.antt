@@ -1,0 +1,32 @@
+-- What is answered to a text.
+use Rattle.std.specs.Prelude.{◌≡◌, ◌≢◌, ℕ, List}
+use Rattle.tce_fusion.specs.Least.{IsLeast}
+use Rattle.tce_nesting.specs.declared.plan.Plan.{Plan}
+use Rattle.tce_check.specs.Verdict.{IsAccepted, IsVerdict}
+use Rattle.tce_check.specs.declared.verdict.Verdict.TheVariants.{Accepted}
+use Rattle.tce_spec.specs.Specification.{Specification}
+use Rattle.tce_command.specs.CommandRefusals.{IsWrittenOver}
+use Rattle.tce_command.specs.declared.trouble.CertTrouble.TheVariants as troubles
+use Rattle.tce_command.specs.declared.refusal.Refusal.TheVariants.{Memory}
+use Rattle.tce_command.specs.declared.command_refusal.CommandRefusal.{CommandRefusal}
+use Rattle.tce_command.specs.declared.command_refusal.CommandRefusal.TheVariants.{Common, Certificate}
+use Rattle.tce_verify.specs.Certificates.{IsCertificateOf, IsTrouble}
+
+-- the text is the certificate of an accepted plan of this memory
+pub record IsAcceptedText (s : Specification) (text : List ℕ) (memory : ℕ) : Type 0 where
+  pub plan : Plan
+  pub certifies : IsCertificateOf s plan text
+  pub accepted : IsAccepted s.declarations.space s.tree plan
+  pub least : IsLeast s.declarations.space s.tree plan.fusion.0.items
+  pub memory_is : memory ≡ plan.memory
+
+-- memory is wanting, or this is wrong with the text, in a line over the specification's space
+abbrev pub IsJudgement : Specification → List ℕ → CommandRefusal → Type 0
+IsJudgement s text (Common refusal) = refusal ≡ Memory
+IsJudgement s text (Certificate trouble line) = IsTrouble s text trouble × IsWrittenOver s.declarations.space (Certificate trouble line)
+
+-- a plan is refused with this verdict, in such a line
+abbrev pub IsPlanRefusal : Specification → Plan → CommandRefusal → Type 0
+IsPlanRefusal s plan (Certificate (troubles.Verdict verdict) line) =
+    (verdict ≢ Accepted) × (IsVerdict s.declarations.space s.tree plan verdict × IsWrittenOver s.declarations.space (Certificate (troubles.Verdict verdict) line))
+IsPlanRefusal s plan refusal = ⊥

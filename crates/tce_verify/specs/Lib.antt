@@ -1,0 +1,5 @@
+pub mod Certificates
+pub mod Judging
+pub mod Done
+pub mod Refusals
+pub mod Laws

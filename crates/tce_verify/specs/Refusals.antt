@@ -1,0 +1,44 @@
+-- Why the command is refused.
+use Rattle.std.specs.Prelude.{◌≡◌, ◌⊎◌, ⊤, ℕ, List, Option, Some, None}
+use Rattle.std.specs.Option.{ForSome}
+use Rattle.tce_outside.specs.Files.{Files, file}
+use Rattle.tce_spec.specs.Specification.{Specification}
+use Rattle.tce_command.specs.CommandRefusals.{IsWrittenOver}
+use Rattle.tce_command.specs.declared.trouble.CertTrouble.{CertTrouble}
+use Rattle.tce_command.specs.declared.refusal.Refusal.{Refusal}
+use Rattle.tce_command.specs.declared.refusal.Refusal.TheVariants.{Missing, Disk, Memory}
+use Rattle.tce_command.specs.declared.command_refusal.CommandRefusal.{CommandRefusal}
+use Rattle.tce_command.specs.declared.command_refusal.CommandRefusal.TheVariants.{Common, Certificate}
+use Rattle.tce_source.specs.Source.{HasSpecification, IsSourceRefusal}
+use Rattle.tce_verify.specs.Certificates.{IsTrouble}
+
+-- why a file with these contents, or one that is not there, is not read. The disk may fail and memory be wanting at any place
+abbrev pub IsUnread : List ℕ → Option (List ℕ) → Refusal → Type 0
+IsUnread name found (Missing file) = (file.bytes ≡ name) × (found ≡ None)
+IsUnread name found Disk = ⊤
+IsUnread name found Memory = ⊤
+IsUnread name found refusal = ⊥
+
+-- the specification is refused; or it is there, and the certificate is not read
+abbrev pub IsFileRefusal : Files → List ℕ → List ℕ → Refusal → Type 0
+IsFileRefusal files spec cert refusal =
+    IsSourceRefusal spec (file files spec) refusal
+    ⊎ (((s : Specification) × HasSpecification files spec s) × IsUnread cert (file files cert) refusal)
+
+-- both files are there, and this is wrong with the certificate
+pub record HasTrouble (files : Files) (spec cert : List ℕ) (trouble : CertTrouble) : Type 0 where
+  pub specification : Specification
+  pub specified : HasSpecification files spec specification
+  pub text : List ℕ
+  pub held : file files cert ≡ Some text
+  pub trouble_is : IsTrouble specification text trouble
+
+abbrev pub IsVerifyRefusal : Files → List ℕ → List ℕ → CommandRefusal → Type 0
+IsVerifyRefusal files spec cert (Common refusal) = IsFileRefusal files spec cert refusal
+IsVerifyRefusal files spec cert (Certificate trouble line) = HasTrouble files spec cert trouble
+
+-- the line of a refused certificate names indexes by the space of the specification in the file
+abbrev pub IsWrittenFor : Option Files → List ℕ → CommandRefusal → Type 0
+IsWrittenFor told spec (Common refusal) = ⊤
+IsWrittenFor told spec (Certificate trouble line) =
+    (s : Specification) × (ForSome told (λ files. HasSpecification files spec s) × IsWrittenOver s.declarations.space (Certificate trouble line))

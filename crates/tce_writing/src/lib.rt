@@ -1,0 +1,8 @@
+//! Whole files.
+#![tactic(auto)]
+
+#[cfg(test)]
+mod tests;
+mod writing;
+
+pub use writing::write_file;
