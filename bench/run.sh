@@ -1,0 +1,333 @@
+#!/bin/sh
+# Times whole runs beside plain C that goes through the same loops over the same tiles, compares the results byte for byte,
+# and prints the ratios. To be run by hand, at the top of the repository: sh bench/run.sh [PROGRAM]
+#
+# PROGRAM is the built program; where none is named, crates/tce/out/tce is built by `rt run`. Each side reads its
+# operands from files and writes the file of its result. The time is that of the processor for the whole process, the
+# least of some rounds in which the sides take turns, so that another load on the machine does little to it. The C is
+# compiled by gcc -O3 for the same level of processor, with all extents and edges as constants.
+set -eu
+rounds=${ROUNDS:-5}
+level=x86-64-v2
+top=$(pwd)
+program=${1:-}
+if [ -z "$program" ]; then
+    (cd crates/tce && rt run) > /tmp/run_build.$$ 2>&1 || true
+    program=$top/crates/tce/out/tce
+    [ -x "$program" ] || { tail -20 /tmp/run_build.$$; exit 1; }
+    rm -f /tmp/run_build.$$
+fi
+case $program in
+    /*) ;;
+    *) program=$top/$program ;;
+esac
+work=$(mktemp -d)
+trap 'rm -rf "$work"' EXIT INT TERM
+cd "$work"
+
+# spent COMMAND..: runs it and prints how many microseconds of the processor it took
+cat > spent.c <<'C'
+#include <stdio.h>
+#include <sys/resource.h>
+#include <sys/wait.h>
+#include <unistd.h>
+
+int main(int count, char **words) {
+    pid_t child = fork();
+    if (child == 0) {
+        if (!freopen("/dev/null", "w", stdout)) _exit(127);
+        execv(words[1], words + 1);
+        _exit(127);
+    }
+    int status = 0;
+    struct rusage use;
+    if (child < 0 || wait4(child, &status, 0, &use) < 0) return 1;
+    printf("%ld\n", (use.ru_utime.tv_sec + use.ru_stime.tv_sec) * 1000000L + use.ru_utime.tv_usec + use.ru_stime.tv_usec);
+    return WIFEXITED(status) ? WEXITSTATUS(status) : 1;
+}
+C
+
+# array FILE SEED EXTENT EDGE ..: an array file of elements from 0 to 15, or of ones where the seed is 0
+cat > array.c <<'C'
+#include <stdint.h>
+#include <stdio.h>
+#include <stdlib.h>
+
+typedef uint64_t u64;
+
+int main(int count, char **words) {
+    u64 rank = (count - 3) / 2, extents[8], edges[8], tiles = 1, tile_words = 1;
+    u64 x = strtoull(words[2], 0, 10);
+    FILE *out = fopen(words[1], "wb");
+    if (!out) return 1;
+    for (u64 d = 0; d < rank; d++) {
+        extents[d] = strtoull(words[3 + 2 * d], 0, 10);
+        edges[d] = strtoull(words[4 + 2 * d], 0, 10);
+        tiles *= (extents[d] + edges[d] - 1) / edges[d];
+        tile_words *= edges[d];
+    }
+    fwrite("TCARRAY1", 1, 8, out);
+    fwrite(&rank, 8, 1, out);
+    fwrite(extents, 8, rank, out);
+    fwrite(edges, 8, rank, out);
+    for (u64 t = 0; t < tiles; t++)
+        for (u64 k = 0; k < tile_words; k++) {
+            u64 tile = t, word = k, inside = 1;
+            for (int d = rank - 1; d >= 0; d--) {
+                u64 n = (extents[d] + edges[d] - 1) / edges[d];
+                inside &= tile % n * edges[d] + word % edges[d] < extents[d];
+                tile /= n;
+                word /= edges[d];
+            }
+            u64 element = x ? (x = x * 6364136223846793005u + 1442695040888963407u) >> 60 : 1;
+            if (!inside) element = 0;
+            fwrite(&element, 8, 1, out);
+        }
+    return fclose(out);
+}
+C
+
+# array files in memory, for the programs below
+cat > arrays.h <<'C'
+#include <stdint.h>
+#include <stdio.h>
+#include <stdlib.h>
+#include <string.h>
+
+typedef uint64_t u64;
+
+// the words of an array file whose head has so many bytes
+static u64 *get(const char *name, size_t head, size_t words) {
+    u64 *made = malloc(8 * words);
+    FILE *in = fopen(name, "rb");
+    if (!made || !in || fseek(in, head, SEEK_SET) || fread(made, 8, words, in) != words) exit(1);
+    fclose(in);
+    return made;
+}
+
+// an array file whose extents and edges follow one another in `shape`
+static void put(const char *name, u64 rank, const u64 *shape, const u64 *words, size_t n) {
+    FILE *out = fopen(name, "wb");
+    if (!out) exit(1);
+    fwrite("TCARRAY1", 1, 8, out);
+    fwrite(&rank, 8, 1, out);
+    fwrite(shape, 8, 2 * rank, out);
+    fwrite(words, 8, n, out);
+    if (fclose(out)) exit(1);
+}
+C
+
+# The formula of four tensors by its fused loops. TILED: the innermost loops are cut at the edges of the tiles by hand;
+# else each element's place is computed from its numbers.
+cat > four.c <<'C'
+#include "arrays.h"
+
+enum { TV = (V + EV - 1) / EV, TO = (O + EO - 1) / EO, EEOO = EV * EV * EO * EO, EEEO = EV * EV * EV * EO };
+enum { VVOO = TV * TV * TO * TO * EEOO, VVVO = TV * TV * TV * TO * EEEO };
+
+static u64 *A, *B, *C, *D, *S, T[O][O];
+
+static inline size_t vvoo(size_t p, size_t q, size_t r, size_t s) {
+    return (((p / EV * TV + q / EV) * TO + r / EO) * TO + s / EO) * EEOO + ((p % EV * EV + q % EV) * EO + r % EO) * EO + s % EO;
+}
+
+static inline size_t vvvo(size_t p, size_t q, size_t r, size_t s) {
+    return (((p / EV * TV + q / EV) * TV + r / EV) * TO + s / EO) * EEEO + ((p % EV * EV + q % EV) * EV + r % EV) * EO + s % EO;
+}
+
+#ifdef TILED
+static inline size_t least(size_t a, size_t b) { return a < b ? a : b; }
+
+static u64 inner(size_t b, size_t c, size_t d, size_t f) {
+    u64 sum = 0;
+    for (size_t e0 = 0; e0 < V; e0 += EV)
+        for (size_t l0 = 0; l0 < O; l0 += EO) {
+            const u64 *p = B + vvvo(b, e0, f, l0), *q = D + vvvo(c, d, e0, l0);
+            for (size_t e = 0; e < least(EV, V - e0); e++)
+                for (size_t l = 0; l < least(EO, O - l0); l++) sum += p[e * EV * EO + l] * q[e * EO + l];
+        }
+    return sum;
+}
+
+static void middle(size_t d, size_t f, u64 word) {
+    for (size_t j0 = 0; j0 < O; j0 += EO)
+        for (size_t k0 = 0; k0 < O; k0 += EO) {
+            const u64 *p = C + vvoo(d, f, j0, k0);
+            for (size_t j = 0; j < least(EO, O - j0); j++)
+                for (size_t k = 0; k < least(EO, O - k0); k++) T[j0 + j][k0 + k] += word * p[j * EO + k];
+        }
+}
+
+static void outer(size_t b, size_t c) {
+    for (size_t a0 = 0; a0 < V; a0 += EV)
+        for (size_t i0 = 0; i0 < O; i0 += EO)
+            for (size_t j0 = 0; j0 < O; j0 += EO)
+                for (size_t k0 = 0; k0 < O; k0 += EO) {
+                    const u64 *p = A + vvoo(a0, c, i0, k0);
+                    u64 *out = S + vvoo(a0, b, i0, j0);
+                    for (size_t a = 0; a < least(EV, V - a0); a++)
+                        for (size_t i = 0; i < least(EO, O - i0); i++)
+                            for (size_t j = 0; j < least(EO, O - j0); j++)
+                                for (size_t k = 0; k < least(EO, O - k0); k++)
+                                    out[(a * EV * EO + i) * EO + j] += T[j0 + j][k0 + k] * p[(a * EV * EO + i) * EO + k];
+                }
+}
+#else
+static u64 inner(size_t b, size_t c, size_t d, size_t f) {
+    u64 sum = 0;
+    for (size_t e = 0; e < V; e++)
+        for (size_t l = 0; l < O; l++) sum += B[vvvo(b, e, f, l)] * D[vvvo(c, d, e, l)];
+    return sum;
+}
+
+static void middle(size_t d, size_t f, u64 word) {
+    for (size_t j = 0; j < O; j++)
+        for (size_t k = 0; k < O; k++) T[j][k] += word * C[vvoo(d, f, j, k)];
+}
+
+static void outer(size_t b, size_t c) {
+    for (size_t a = 0; a < V; a++)
+        for (size_t i = 0; i < O; i++)
+            for (size_t j = 0; j < O; j++)
+                for (size_t k = 0; k < O; k++) S[vvoo(a, b, i, j)] += T[j][k] * A[vvoo(a, c, i, k)];
+}
+#endif
+
+int main(void) {
+    const u64 shape[8] = {V, V, O, O, EV, EV, EO, EO};
+    A = get("A.tca", 80, VVOO);
+    B = get("B.tca", 80, VVVO);
+    C = get("C.tca", 80, VVOO);
+    D = get("D.tca", 80, VVVO);
+    S = calloc(VVOO, 8);
+    for (size_t b = 0; b < V; b++)
+        for (size_t c = 0; c < V; c++) {
+            memset(T, 0, sizeof T);
+            for (size_t d = 0; d < V; d++)
+                for (size_t f = 0; f < V; f++) middle(d, f, inner(b, c, d, f));
+            outer(b, c);
+        }
+    put("plain.tca", 4, shape, S, VVOO);
+    return 0;
+}
+C
+
+# The product of two matrices, tile by tile.
+cat > matrix.c <<'C'
+#include "arrays.h"
+
+enum { T = N / E };
+
+int main(void) {
+    const u64 shape[4] = {N, N, E, E};
+    const u64 *a = get("A.tca", 48, N * N), *b = get("B.tca", 48, N * N);
+    u64 *c = calloc(N * N, 8);
+    for (size_t i = 0; i < T; i++)
+        for (size_t j = 0; j < T; j++)
+            for (size_t k = 0; k < T; k++) {
+                const u64 *p = a + (i * T + k) * E * E, *q = b + (k * T + j) * E * E;
+                u64 *restrict out = c + (i * T + j) * E * E;
+                for (size_t x = 0; x < E; x++)
+                    for (size_t z = 0; z < E; z++)
+                        for (size_t y = 0; y < E; y++) out[x * E + y] += p[x * E + z] * q[z * E + y];
+            }
+    put("plain.tca", 2, shape, c, N * N);
+    return 0;
+}
+C
+
+# The sum of all products of two vectors.
+cat > vectors.c <<'C'
+#include "arrays.h"
+
+int main(void) {
+    const u64 *a = get("A.tca", 32, N), *b = get("B.tca", 32, N);
+    u64 sum = 0;
+    for (size_t i = 0; i < N; i++)
+        for (size_t j = 0; j < N; j++) sum += a[i] * b[j];
+    put("plain.tca", 0, 0, &sum, 1);
+    return 0;
+}
+C
+
+four_spec() {
+    cat <<TCE
+range V $1 tile $3
+range O $2 tile $4
+index V a b c d e f
+index O i j k l
+tensor A[V,V,O,O]
+tensor B[V,V,V,O]
+tensor C[V,V,O,O]
+tensor D[V,V,V,O]
+tensor S[V,V,O,O]
+S[a,b,i,j] = sum{c,k}(sum{d,f}(sum{e,l}(B[b,e,f,l] * D[c,d,e,l]) * C[d,f,j,k]) * A[a,c,i,k])
+TCE
+}
+
+# four_data V O EV EO
+four_data() {
+    ./array A.tca 1 "$1" "$3" "$1" "$3" "$2" "$4" "$2" "$4"
+    ./array B.tca 2 "$1" "$3" "$1" "$3" "$1" "$3" "$2" "$4"
+    ./array C.tca 3 "$1" "$3" "$1" "$3" "$2" "$4" "$2" "$4"
+    ./array D.tca 4 "$1" "$3" "$1" "$3" "$1" "$3" "$2" "$4"
+}
+
+least() {
+    sort -n "$1" | head -1
+}
+
+# compare WHAT RESULT BUDGET ROUNDS SOURCE FLAGS..: the run of job.tce beside the plain program
+compare() {
+    what=$1 result=$2 budget=$3 times=$4 source=$5
+    shift 5
+    gcc -O3 -march=$level "$@" -o plain "$source"
+    : > plain.times
+    : > run.times
+    round=0
+    while [ $round -lt "$times" ]; do
+        ./spent ./plain >> plain.times
+        ./spent "$program" run job.tce "$budget" >> run.times
+        round=$((round + 1))
+    done
+    cmp -s plain.tca "$result" || { echo "$what: the results differ"; exit 1; }
+    echo "$(least plain.times) $(least run.times)" | awk -v what="$what" '{ printf "%-56s C %8.1f   run %8.1f   ratio %6.2f\n", what, $1 / 1e3, $2 / 1e3, $2 / $1 }'
+}
+
+gcc -O2 -o spent spent.c
+gcc -O2 -o array array.c
+echo "milliseconds of the processor, $level"
+
+four_spec 16 16 4 4 > job.tce
+four_data 16 16 4 4
+compare 'four tensors of 16, edge 4, all tiles held; by element' S.tca 327680 "$rounds" four.c -DV=16 -DO=16 -DEV=4 -DEO=4
+compare 'the same; C cut at the tiles by hand' S.tca 327680 "$rounds" four.c -DV=16 -DO=16 -DEV=4 -DEO=4 -DTILED
+compare 'the same with a budget of 16384' S.tca 16384 "$rounds" four.c -DV=16 -DO=16 -DEV=4 -DEO=4 -DTILED
+
+cat > job.tce <<'TCE'
+range N 512 tile 64
+index N i j k
+tensor A[N,N]
+tensor B[N,N]
+tensor C[N,N]
+C[i,j] = sum{k}(A[i,k] * B[k,j])
+TCE
+./array A.tca 1 512 64 512 64
+./array B.tca 2 512 64 512 64
+compare 'matrices of 512, edge 64, all tiles held' C.tca 786432 "$rounds" matrix.c -DN=512 -DE=64
+
+cat > job.tce <<'TCE'
+range N 49152 tile 4096
+index N i j
+tensor A[N]
+tensor B[N]
+tensor S[]
+S[] = sum{i,j}(A[i] * B[j])
+TCE
+./array A.tca 0 49152 4096
+./array B.tca 0 49152 4096
+compare 'all products of vectors of 49152, edge 4096' S.tca 12288 "$rounds" vectors.c -DN=49152
+
+four_spec 40 10 8 5 > job.tce
+four_data 40 10 8 5
+compare 'four tensors of 40 and 10, edges 8 and 5, budget 65536' S.tca 65536 1 four.c -DV=40 -DO=10 -DEV=8 -DEO=5 -DTILED
