@@ -24,6 +24,13 @@ pair_later loops outer choices old new left right later covered quiet =
     let here = covered quiet in
     record { joined = here.joined; joins = here.joins; each = All-weaker (ChoiceCovered outer here.joined old) (ChoiceCovered outer here.joined new) (λ choice h. choice_later outer here.joined old new choice later h) choices here.each }
 
+-- so do all pairs
+pub pairs_later : (loops outer : ℕ) (choices : List Choice) (old new lefts rights : List Candidate) → StandForAll outer old new
+    → All (λ left. All (PairCovered loops outer choices old left) rights) lefts → All (λ left. All (PairCovered loops outer choices new left) rights) lefts
+pairs_later loops outer choices old new lefts rights later covered =
+    All-weaker (λ left. All (PairCovered loops outer choices old left) rights) (λ left. All (PairCovered loops outer choices new left) rights)
+    (λ left all. All-weaker (PairCovered loops outer choices old left) (PairCovered loops outer choices new left) (λ right h. pair_later loops outer choices old new left right later h) rights all) lefts covered
+
 -- each candidate was there, or has the one property or the other; and those that were there have the latter
 pub from_earlier : (P Q : Candidate → Type 0) (mid new : List Candidate) → All (λ x. Contains mid x ⊎ Q x) new → ((x : Candidate) → Q x → P x) → All P mid → All P new
 from_earlier P Q mid new origin turns earlier =

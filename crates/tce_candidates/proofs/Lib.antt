@@ -1,7 +1,11 @@
-pub mod Retained
-pub mod Standing
-pub mod Covers
-pub mod Steppings
 pub mod Agreeing
-pub mod Reaching
+pub mod Covers
+pub mod Grouping
+pub mod Growing
+pub mod Parts
+pub mod Quantifiers
 pub mod ReachedStates
+pub mod Reaching
+pub mod Standing
+pub mod Steppings
+pub mod Thinning

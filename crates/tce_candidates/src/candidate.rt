@@ -1,12 +1,10 @@
 // Candidates: states with the fusions that reach them.
-ghost use Rattle.std.specs.Prelude.{◌≡◌, ◌↔◌, ◌+◌, ◌<◌, [], ◌∷◌, ◌++◌, length, IsTrue, Any};
-ghost use Rattle.tce_states.specs.Relation.{above};
-ghost use Rattle.tce_candidates.specs.Candidates.{Stands, limit_candidate};
+ghost use Rattle.std.specs.Prelude.{◌≡◌, ◌+◌, ◌<◌, [], ◌∷◌, ◌++◌, length};
+ghost use Rattle.tce_candidates.specs.Candidates.{limit_candidate};
 
 use arrayvec::ArrayVec;
 use tce_nesting::{Nesting, Row};
 use tce_space::IndexSet;
-use tce_steps::stands_for;
 
 /// A state of a subtree, with the sets that are fused above its nodes, in their order.
 #[derive(Debug, Default, Drop, PartialEq, Eq)]
@@ -42,13 +40,4 @@ pub fn joined_sets(left: &[IndexSet], right: &[IndexSet], own: IndexSet) -> Arra
     }
     sets.push(own);
     sets
-}
-
-// Whether some candidate stands for the state.
-pub(crate) fn is_covered(candidates: &[Candidate], state: &Row, outer: IndexSet) -> bool
-    ensures { IsTrue result ↔ Any (Stands outer (above state.now.classes) state.now.cost) candidates.now }
-{
-    candidates
-        .iter()
-        .any(|candidate| stands_for(&candidate.row, state, outer))
 }

@@ -2,8 +2,11 @@
 #![tactic(auto)]
 
 mod candidate;
+mod candidate_list;
+mod groups;
 mod laws;
 mod table;
+mod upper;
 
 pub use candidate::{Candidate, joined_sets};
 pub use laws::{covered_pairs_cover_steps, leaves_have_states, steps_are_states};

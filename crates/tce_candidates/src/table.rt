@@ -1,48 +1,35 @@
 // Tables of candidates of which none stands for another.
 ghost use Rattle.std.specs.Prelude.{◌≡◌, ◌⊎◌, ℕ, ◌+◌, ◌<◌, ◌≤◌, ◌^◌, length, IfOk, OnOk, All, AllPairs, Any, Contains};
 ghost use Rattle.tce_space.specs.IndexSet.{count};
-ghost use Rattle.tce_states.specs.Relation.{none, above};
+ghost use Rattle.tce_states.specs.Relation.{none};
 ghost use Rattle.tce_candidates.specs.Candidates.{Stands, StandForAll, AreApart, ChoiceCovered, PairCovered, IsStep, IsStepOf, IsReachedBelow, IsLimited, IsSmall, HaveRoom, limit_candidate};
+ghost use Rattle.tce_candidates.specs.Groups.{LeavesOpen};
 
-use crate::candidate::{Candidate, at_limit, is_covered, joined_sets};
+use crate::candidate::{Candidate, at_limit, joined_sets};
+use crate::candidate_list::CandidateList;
 use std::alloc::{AllocError, Global};
 use tce_nesting::Row;
 use tce_space::IndexSet;
-use tce_steps::{Choice, join_rows, stands_for, step};
+use tce_steps::{Choice, join_rows, step};
 
-// Adds the candidate and drops those for whose states it stands. Where one of the table stands for its state, nothing changes.
-fn keep(table: &mut Vec<Candidate>, candidate: Candidate, outer: IndexSet) -> Result<(), AllocError>
-    ensures stands { OnOk result (Any (Stands outer (above candidate.row.classes) candidate.row.cost) table.new.items) }
-    ensures others { OnOk result (StandForAll outer table.old.items table.new.items) }
-    ensures apart { OnOk result (AllPairs (AreApart outer) table.old.items → AllPairs (AreApart outer) table.new.items) }
-    ensures origin { OnOk result (All (λ x. Contains table.old.items x ⊎ (x ≡ candidate)) table.new.items) }
-{
-    if is_covered(table, &candidate.row, outer) {
-        return Ok(());
-    }
-    table.retain(|kept| !stands_for(&candidate.row, &kept.row, outer));
-    table.push(candidate)?;
-    Ok(())
-}
-
-// Keeps the step of one choice, where its set is allowed and it costs less than the limit.
+// Appends the step of one choice, where its set is allowed, it costs less than the limit, and no candidate stands for it.
 fn add_step(
-    table: &mut Vec<Candidate>,
+    list: &mut CandidateList,
     joined: &Row,
     left: &Candidate,
     right: &Candidate,
     choice: &Choice,
-    outer: IndexSet,
     limit: u128,
 ) -> Result<(), AllocError>
-    requires limit { Any (Stands outer none limit) table.old.items }
+    requires limit { Any (Stands list.old.outer none limit) list.old.candidates }
     requires cost { joined.now.cost < 2 ^ 97 }
     requires size { choice.now.size < 2 ^ 96 }
     requires room { length left.now.sets.items + length right.now.sets.items < 32 }
-    ensures covered { OnOk result (ChoiceCovered outer joined.now table.new.items choice.now) }
-    ensures others { OnOk result (StandForAll outer table.old.items table.new.items) }
-    ensures apart { OnOk result (AllPairs (AreApart outer) table.old.items → AllPairs (AreApart outer) table.new.items) }
-    ensures origin { OnOk result (All (λ x. Contains table.old.items x ⊎ (IsStep joined.now left.now right.now choice.now x × (x.row.cost < limit))) table.new.items) }
+    ensures covered { OnOk result (ChoiceCovered list.old.outer joined.now list.new.candidates choice.now) }
+    ensures outer { OnOk result (list.new.outer ≡ list.old.outer) }
+    ensures others { OnOk result (StandForAll list.old.outer list.old.candidates list.new.candidates) }
+    ensures later { OnOk result (AllPairs (LeavesOpen list.old.outer) list.old.candidates → AllPairs (LeavesOpen list.old.outer) list.new.candidates) }
+    ensures origin { OnOk result (All (λ x. Contains list.old.candidates x ⊎ (IsStep joined.now left.now right.now choice.now x × (x.row.cost < limit))) list.new.candidates) }
 {
     if limit <= joined.cost + choice.size {
         return Ok(());
@@ -50,37 +37,41 @@ fn add_step(
     let Some(row) = step(joined, choice) else {
         return Ok(());
     };
+    if list.covers(&row) {
+        return Ok(());
+    }
     let sets = joined_sets(left.sets.as_slice(), right.sets.as_slice(), choice.fused);
-    keep(table, Candidate { row, sets }, outer)
+    list.push(Candidate { row, sets })?;
+    Ok(())
 }
 
-// Keeps the steps below the limit of all choices from two operands' candidates, where their rows have no conflict.
+// Appends the steps below the limit of all choices from two operands' candidates, where their rows have no conflict and no candidate stands for them.
 fn add_steps(
-    table: &mut Vec<Candidate>,
+    list: &mut CandidateList,
     left: &Candidate,
     right: &Candidate,
     loops: IndexSet,
     choices: &[Choice],
-    outer: IndexSet,
     limit: u128,
 ) -> Result<(), AllocError>
-    requires limit { Any (Stands outer none limit) table.old.items }
+    requires limit { Any (Stands list.old.outer none limit) list.old.candidates }
     requires loops { count loops ≤ 10 }
     requires left { IsLimited left.now }
     requires right { IsLimited right.now }
     requires room { length left.now.sets.items + length right.now.sets.items < 32 }
     requires choices { All IsSmall choices.now }
-    ensures covered { OnOk result (PairCovered loops outer choices.now table.new.items left.now right.now) }
-    ensures others { OnOk result (StandForAll outer table.old.items table.new.items) }
-    ensures apart { OnOk result (AllPairs (AreApart outer) table.old.items → AllPairs (AreApart outer) table.new.items) }
-    ensures origin { OnOk result (All (λ x. Contains table.old.items x ⊎ (IsStepOf loops choices.now left.now right.now x × (x.row.cost < limit))) table.new.items) }
+    ensures covered { OnOk result (PairCovered loops list.old.outer choices.now list.new.candidates left.now right.now) }
+    ensures outer { OnOk result (list.new.outer ≡ list.old.outer) }
+    ensures others { OnOk result (StandForAll list.old.outer list.old.candidates list.new.candidates) }
+    ensures later { OnOk result (AllPairs (LeavesOpen list.old.outer) list.old.candidates → AllPairs (LeavesOpen list.old.outer) list.new.candidates) }
+    ensures origin { OnOk result (All (λ x. Contains list.old.candidates x ⊎ (IsStepOf loops choices.now left.now right.now x × (x.row.cost < limit))) list.new.candidates) }
 {
     if let Some(joined) = join_rows(&left.row, &right.row, loops) {
         if limit <= joined.cost {
             return Ok(());
         }
         for choice in choices {
-            add_step(table, &joined, left, right, choice, outer, limit)?;
+            add_step(list, &joined, left, right, choice, limit)?;
         }
     }
     Ok(())
@@ -107,12 +98,32 @@ pub fn candidates_of(
     ensures reached { IfOk result (λ table. All (λ x. IsReachedBelow limit loops choices.now lefts.now rights.now x ⊎ (x ≡ limit_candidate limit)) table.items) }
     ensures apart { IfOk result (λ table. AllPairs (AreApart outer) table.items) }
 {
-    let mut table = Vec::new(alloc);
-    table.push(at_limit(limit))?;
+    let mut list = CandidateList::new(alloc, outer)?;
+    list.push(at_limit(limit))?;
     for left in lefts {
         for right in rights {
-            add_steps(&mut table, left, right, loops, choices, outer, limit)?;
+            add_steps(&mut list, left, right, loops, choices, limit)?;
         }
     }
+    let table = thinned(alloc, list)?;
     Ok(table)
+}
+
+// The candidates without those for whose states a later one stands, in their order.
+fn thinned(alloc: Global, list: CandidateList) -> Result<Vec<Candidate>, AllocError>
+    requires { AllPairs (LeavesOpen list.outer) list.candidates }
+    ensures others { IfOk result (λ kept. StandForAll list.outer list.candidates kept.items) }
+    ensures apart { IfOk result (λ kept. AllPairs (AreApart list.outer) kept.items) }
+    ensures origin { IfOk result (λ kept. All (Contains list.candidates) kept.items) }
+{
+    let mut kept = CandidateList::new(alloc, list.outer())?;
+    let mut rest = list.into_candidates();
+    while let Some(candidate) = rest.pop() {
+        if !kept.covers(&candidate.row) {
+            kept.push(candidate)?;
+        }
+    }
+    let mut candidates = kept.into_candidates();
+    candidates.reverse();
+    Ok(candidates)
 }

@@ -1,0 +1,40 @@
+-- Groups of candidates by upper parts of the outer loops.
+use Rattle.std.specs.Prelude.{◌≡◌, ℕ, ◌<◌, ◌≤◌, ◌%◌, List, [], length, slice_index_or}
+use Rattle.std.specs.List.{Contains}
+use Rattle.tce_states.specs.Relation.{Relation, above}
+use Rattle.tce_candidates.specs.declared.candidate.Candidate.{Candidate}
+use Rattle.tce_candidates.specs.declared.groups.Entry.{Entry}
+use Rattle.tce_candidates.specs.Candidates.{Stands}
+use Rattle.tce_candidates.specs.Parts.{IsUpperPart}
+
+-- candidates that are compared on outer loops
+pub record Listed : Type 0 where
+  pub outer : ℕ
+  pub candidates : List Candidate
+
+-- the first of two candidates does not stand for the state of the second
+abbrev pub LeavesOpen : ℕ → Candidate → Candidate → Type 0
+LeavesOpen outer x y = Stands outer (above y.row.classes) y.row.cost x → ⊥
+
+-- the entries of the group of a set of loops
+abbrev pub group_of : List (List Entry) → ℕ → List Entry
+group_of groups part = slice_index_or groups (part % 251) []
+
+-- the candidate has an entry in the group of one of its upper parts
+pub record IsEntered (outer : ℕ) (groups : List (List Entry)) (place : ℕ) (candidate : Candidate) : Type 0 where
+  pub part : ℕ
+  pub upper : IsUpperPart outer (above candidate.row.classes) part
+  pub entered : Contains (group_of groups part) (record { cost = candidate.row.cost; place = place })
+
+-- so does each
+abbrev pub AreEntered : ℕ → List (List Entry) → List Candidate → Type 0
+AreEntered outer groups candidates =
+    (k : ℕ) (d : Candidate) → k < length candidates → IsEntered outer groups k (slice_index_or candidates k d)
+
+-- the candidate at the entry's place stands for a state, and the entry's cost is no more
+pub record StandsAt (outer : ℕ) (relation : Relation) (limit : ℕ) (candidates : List Candidate) (entry : Entry) : Type 0 where
+  pub cheap : entry.cost ≤ limit
+  pub candidate : Candidate
+  pub inside : entry.place < length candidates
+  pub is : slice_index_or candidates entry.place candidate ≡ candidate
+  pub stands : Stands outer relation limit candidate

@@ -1,0 +1,28 @@
+// Parts of the outer loops that a state puts above the others.
+ghost use Rattle.std.specs.Prelude.{ℕ, ◌<◌, length, All, Contains};
+ghost use Rattle.tce_states.specs.Relation.{above};
+ghost use Rattle.tce_candidates.specs.Parts.{IsUpperPart};
+
+use arrayvec::ArrayVec;
+use tce_nesting::Nesting;
+use tce_space::IndexSet;
+
+// The upper parts of the outer loops, smallest first. What is coarser on these loops has no others.
+pub(crate) fn upper_parts(classes: &Nesting, outer: IndexSet) -> ArrayVec<IndexSet, 11>
+    ensures all { (part : ℕ) → IsUpperPart outer (above classes.now) part → Contains result.items part }
+    ensures each { All (IsUpperPart outer (above classes.now)) result.items }
+    ensures some { 0 < length result.items }
+{
+    let mut parts = ArrayVec::<IndexSet, 11>::new();
+    let mut reached = IndexSet::empty();
+    parts.push(reached);
+    for class in classes.classes() {
+        reached = reached.union(class.meet(outer));
+        let _number = reached.bits();
+        if outer.within(reached) {
+            return parts;
+        }
+        parts.push(reached);
+    }
+    parts
+}
