@@ -1,37 +1,35 @@
--- The steps from two rows that are joined: by the join's classes, and set by set.
-use Rattle.std.specs.Prelude.{◌≡◌, ℕ, ◌+◌, ◌<◌, ◌≤◌, List}
-use Rattle.std.specs.List.{Any}
-use Rattle.tce_space.specs.IndexSet.{IsWithin, minus}
-use Rattle.tce_space.specs.Space.{IndexSpace, volume_of}
-use Rattle.tce_tree.specs.ContractionTree.{ContractionTree, node_dims}
-use Rattle.tce_states.specs.Relation.{above}
+-- The steps from two rows that are joined, by the join's classes and choice by choice, and what stands for all states from a cost on.
+use Rattle.std.specs.Prelude.{◌≡◌, ℕ, ◌+◌, ◌<◌, List, length, slice_index_or, Option, IfSome}
+use Rattle.std.specs.List.{AllWithin, Any}
+use Rattle.tce_states.specs.Relation.{above, none}
 use Rattle.tce_states.specs.Row.{Row, StandsFor}
 use Rattle.tce_nesting.specs.Classes.{restricted, IsJoinOf, AllowsSet}
+use Rattle.tce_steps.specs.declared.choice.Choice.{Choice}
 
 -- the row has all loops as both rows put them above each other, and costs as much as both
 pub record IsJointOf (loops : ℕ) (left right joint : Row) : Type 0 where
   pub classes : IsJoinOf loops (above left.classes) (above right.classes) joint.classes
   pub cost : joint.cost ≡ left.cost + right.cost
 
--- a row of node `v` stands for the step that a joined state makes, if its classes allow the set
-abbrev pub JointCovered : IndexSpace → ContractionTree → ℕ → ℕ → List Row → Row → ℕ → Type 0
-JointCovered space tree outer v rows joint fused =
-    AllowsSet (above joint.classes) fused
-    → Any (StandsFor outer (above (restricted joint.classes fused)) (joint.cost + volume_of space (minus (node_dims tree v) fused))) rows
+-- a row stands for the step that a joined state makes with the choice, if its classes allow the set
+abbrev pub ChoiceCovered : ℕ → List Row → Row → Choice → Type 0
+ChoiceCovered outer rows joint choice =
+    AllowsSet (above joint.classes) choice.fused
+    → Any (StandsFor outer (above (restricted joint.classes choice.fused)) (joint.cost + choice.size)) rows
 
 -- the classes allow the set, and no row stands for the step
-pub record JointUncovered (space : IndexSpace) (tree : ContractionTree) (outer v : ℕ) (rows : List Row) (joint : Row) (fused : ℕ) : Type 0 where
-  pub allowed : AllowsSet (above joint.classes) fused
-  pub uncovered : ¬ Any (StandsFor outer (above (restricted joint.classes fused)) (joint.cost + volume_of space (minus (node_dims tree v) fused))) rows
+pub record ChoiceUncovered (outer : ℕ) (rows : List Row) (joint : Row) (choice : Choice) : Type 0 where
+  pub allowed : AllowsSet (above joint.classes) choice.fused
+  pub uncovered : ¬ Any (StandsFor outer (above (restricted joint.classes choice.fused)) (joint.cost + choice.size)) rows
 
--- something holds of each part of a set whose number is from one number up to another
-abbrev pub EachWithin : ℕ → (ℕ → Type 0) → ℕ → ℕ → Type 0
-EachWithin set Holds low high = (part : ℕ) → low ≤ part → part < high → IsWithin part set → Holds part
+-- this is the first choice whose step no row stands for
+pub record IsFirstUncovered (outer : ℕ) (rows : List Row) (joint : Row) (choices : List Choice) (choice : Choice) : Type 0 where
+  pub place : ℕ
+  pub inside : place < length choices
+  pub choice_is : choice ≡ slice_index_or choices place choice
+  pub earlier : AllWithin (ChoiceCovered outer rows joint) choices 0 place
+  pub fails : ChoiceUncovered outer rows joint choice
 
--- this is the least such part that fails
-pub record IsLeastWithin (set : ℕ) (Holds Fails : ℕ → Type 0) (low high part : ℕ) : Type 0 where
-  pub from : low ≤ part
-  pub to : part < high
-  pub within : IsWithin part set
-  pub fails : Fails part
-  pub lesser : EachWithin set Holds low part
+-- if there is a bound, a row of that cost stands for every state that costs no less
+abbrev pub IsBound : ℕ → List Row → Option ℕ → Type 0
+IsBound outer rows bound = IfSome bound (λ cost. Any (StandsFor outer none cost) rows)

@@ -1,8 +1,10 @@
 //! The check of plans: whether a plan shows that its fusion is least, or the first rule that it breaks (after Lam et al. 1999).
 #![tactic(auto)]
 
+mod bound;
 mod joint;
 mod operands;
+mod recent;
 mod root;
 mod rules;
 mod steps;

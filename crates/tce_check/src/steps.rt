@@ -1,32 +1,35 @@
 // The steps at a node from rows of its operands, and whether its rows stand for them.
-ghost use Rattle.std.specs.Prelude.{◌≡◌, ℕ, ◌+◌, ◌%◌, ◌^◌, ◌<◌, ◌≤◌, ◌↔◌, IsTrue, false, IfSome, IsNone, MatchOption, All, Any};
-ghost use Rattle.tce_space.specs.IndexSet.{IsWithin, minus};
-ghost use Rattle.tce_space.specs.Space.{volume_of};
-ghost use Rattle.tce_tree.specs.ContractionTree.{operations, node_dims};
-ghost use Rattle.tce_tree.specs.Measure.{IsMeasured};
-ghost use Rattle.tce_states.specs.Relation.{above};
+ghost use Rattle.std.specs.Prelude.{◌≡◌, ◌+◌, ◌^◌, ◌<◌, ◌≤◌, IsTrue, false, IfSome, MatchOption, All, Any};
+ghost use Rattle.tce_tree.specs.ContractionTree.{operations};
+ghost use Rattle.tce_states.specs.Relation.{Relation};
 ghost use Rattle.tce_states.specs.Row.{StandsFor};
 ghost use Rattle.tce_states.specs.Cover.{StepsCovered};
 ghost use Rattle.tce_states.specs.Classes.{IsNesting};
 ghost use Rattle.tce_nesting.specs.Classes.{restricted};
+ghost use Rattle.tce_steps.specs.Steps.{AreChoices};
 ghost use Rattle.tce_check.specs.First.{First, FirstPair};
 ghost use Rattle.tce_check.specs.Verdict.{WhereJoined, IsLeastUncovered};
-ghost use Rattle.tce_check.specs.Joint.{JointCovered, JointUncovered, EachWithin, IsLeastWithin};
+ghost use Rattle.tce_check.specs.Joint.{ChoiceCovered, ChoiceUncovered, IsFirstUncovered, IsBound};
 
 use crate::joint::joint;
+use crate::recent::Recent;
 use crate::verdict::Verdict;
 use tce_nesting::Row;
 use tce_space::{IndexSet, Space};
+use tce_steps::Choice;
 use tce_tree::Tree;
 
-// A node but the root, the loops of its parent, and the rows that are to stand for its steps.
+// A node but the root, the loops of its parent, the sets that may be fused above it, and the rows that are to stand for its steps.
 #[derive(Clone, Copy)]
 pub(crate) struct Node<'a> {
     pub(crate) space: &'a Space,
     pub(crate) tree: &'a Tree,
     pub(crate) number: u8,
     pub(crate) outer: IndexSet,
+    pub(crate) choices: &'a [Choice],
     pub(crate) rows: &'a [Row],
+    // Some row stands for every state that costs no less.
+    pub(crate) bound: Option<u128>,
 }
 
 // A step: the set that is fused, and the state to which it leads.
@@ -46,97 +49,72 @@ impl Step {
     }
 }
 
-// Whether a row stands for a state.
-fn stands_for(row: &Row, state: &Row, outer: IndexSet) -> bool
-    ensures { IsTrue result ↔ StandsFor outer (above state.now.classes) state.now.cost row.now }
+// The state to which the joined states of the operands lead with a choice.
+fn state_of(joint: &Row, choice: &Choice) -> Row
+    requires small { joint.now.cost < 2 ^ 97 }
+    requires size { choice.now.size ≤ 2 ^ 90 }
+    ensures classes { result.classes ≡ restricted joint.now.classes choice.now.fused }
+    ensures cost { result.cost ≡ joint.now.cost + choice.now.size }
+    ensures nesting { IsNesting result.classes }
 {
-    row.cost <= state.cost && row.classes.coarser(&state.classes, outer)
-}
-
-// Whether some row stands for a state.
-fn is_stood_for(rows: &[Row], state: &Row, outer: IndexSet) -> bool
-    ensures { IsTrue result ↔ Any (StandsFor outer (above state.now.classes) state.now.cost) rows.now }
-{
-    rows.iter().any(|row| stands_for(row, state, outer))
+    let state = Row {
+        classes: joint.classes.restrict(choice.fused),
+        cost: joint.cost + choice.size,
+    };
+    let _classes = state.classes.classes();
+    state
 }
 
 impl<'a> Node<'a> {
-    // The elements that the node keeps where a set is fused.
-    fn size_left(&self, fused: IndexSet) -> u128
-        requires measured { IsMeasured self.now.space.now self.now.tree.now }
-        requires inside { self.now.number < operations self.now.tree.now }
-        ensures value { result ≡ volume_of self.now.space.now (minus (node_dims self.now.tree.now self.now.number) fused) }
-        ensures limit { result ≤ 2 ^ 90 }
+    // Whether a row is known to stand for all states of this cost.
+    fn stands_for_all(&self, cost: u128) -> bool
+        requires bound { IsBound self.now.outer self.now.rows.now self.now.bound }
+        ensures { IsTrue result → (relation : Relation) → Any (StandsFor self.now.outer relation cost) self.now.rows.now }
     {
-        let _count = self.space.index_count();
-        let kept = self.tree.dims(self.number).minus(fused);
-        self.space.volume(kept).unwrap()
+        match self.bound {
+            Some(bound) => bound <= cost,
+            None => false,
+        }
     }
 
-    // The state to which the joined states of the operands lead where a set is fused.
-    fn step(&self, joint: &Row, fused: IndexSet) -> Row
-        requires measured { IsMeasured self.now.space.now self.now.tree.now }
-        requires inside { self.now.number < operations self.now.tree.now }
+    // Whether the choice's set may not be fused, or some row stands for its step.
+    fn is_covered(&self, joint: &Row, choice: &Choice, recent: &mut Recent) -> bool
+        requires bound { IsBound self.now.outer self.now.rows.now self.now.bound }
         requires small { joint.now.cost < 2 ^ 97 }
-        ensures classes { result.classes ≡ restricted joint.now.classes fused }
-        ensures cost { result.cost ≡ joint.now.cost + volume_of self.now.space.now (minus (node_dims self.now.tree.now self.now.number) fused) }
-        ensures nesting { IsNesting result.classes }
+        requires size { choice.now.size ≤ 2 ^ 90 }
+        ensures yes { IsTrue result → ChoiceCovered self.now.outer self.now.rows.now joint.now choice.now }
+        ensures no { result ≡ false → ChoiceUncovered self.now.outer self.now.rows.now joint.now choice.now }
     {
-        let state = Row {
-            classes: joint.classes.restrict(fused),
-            cost: joint.cost + self.size_left(fused),
-        };
-        let _classes = state.classes.classes();
-        state
+        if self.stands_for_all(joint.cost + choice.size) {
+            return true;
+        }
+        !joint.classes.allowed(choice.fused)
+            || recent.is_stood_for(self.rows, &state_of(joint, choice), self.outer)
     }
 
-    // Whether the set may not be fused, or some row stands for its step.
-    fn is_covered(&self, joint: &Row, fused: IndexSet) -> bool
-        requires measured { IsMeasured self.now.space.now self.now.tree.now }
-        requires inside { self.now.number < operations self.now.tree.now }
+    // The first choice for whose step no row stands.
+    fn first_uncovered_choice(&self, joint: &Row, recent: &mut Recent) -> Option<Choice>
+        requires sizes { All (λ choice. choice.size ≤ 2 ^ 90) self.now.choices.now }
+        requires bound { IsBound self.now.outer self.now.rows.now self.now.bound }
         requires small { joint.now.cost < 2 ^ 97 }
-        ensures yes { IsTrue result → JointCovered self.now.space.now self.now.tree.now self.now.outer self.now.number self.now.rows.now joint.now fused }
-        ensures no { result ≡ false → JointUncovered self.now.space.now self.now.tree.now self.now.outer self.now.number self.now.rows.now joint.now fused }
+        ensures first { MatchOption result (All (ChoiceCovered self.now.outer self.now.rows.now joint.now) self.now.choices.now)
+            (λ choice. IsFirstUncovered self.now.outer self.now.rows.now joint.now self.now.choices.now choice) }
+        ensures size { IfSome result (λ choice. choice.size ≤ 2 ^ 90) }
     {
-        !joint.classes.allowed(fused)
-            || is_stood_for(self.rows, &self.step(joint, fused), self.outer)
-    }
-
-    // The least set whose step has no row, of those whose members from `below` on are the chosen ones.
-    fn first_uncovered_set(&self, joint: &Row, chosen: IndexSet, below: u8) -> Option<IndexSet>
-        requires measured { IsMeasured self.now.space.now self.now.tree.now }
-        requires inside { self.now.number < operations self.now.tree.now }
-        requires small { joint.now.cost < 2 ^ 97 }
-        requires index { below ≤ 24 }
-        requires within { IsWithin chosen (node_dims self.now.tree.now self.now.number) }
-        requires aligned { chosen % 2 ^ below ≡ 0 }
-        ensures found { IfSome result (IsLeastWithin (node_dims self.now.tree.now self.now.number)
-            (JointCovered self.now.space.now self.now.tree.now self.now.outer self.now.number self.now.rows.now joint.now)
-            (JointUncovered self.now.space.now self.now.tree.now self.now.outer self.now.number self.now.rows.now joint.now) chosen (chosen + 2 ^ below)) }
-        ensures none { IsNone result → EachWithin (node_dims self.now.tree.now self.now.number)
-            (JointCovered self.now.space.now self.now.tree.now self.now.outer self.now.number self.now.rows.now joint.now) chosen (chosen + 2 ^ below) }
-    {
-        if below == 0 {
-            return if self.is_covered(joint, chosen) {
-                None
-            } else {
-                Some(chosen)
-            };
+        for choice in self.choices {
+            if !self.is_covered(joint, choice, recent) {
+                return Some(*choice);
+            }
         }
-        let index = below - 1;
-        if let Some(part) = self.first_uncovered_set(joint, chosen, index) {
-            return Some(part);
-        }
-        if !self.tree.dims(self.number).has(index) {
-            return None;
-        }
-        self.first_uncovered_set(joint, chosen.with(index), index)
+        None
     }
 
     // Of the steps from two rows the one of the least set for which no row stands.
-    fn first_uncovered_step(&self, left: &Row, right: &Row) -> Option<Step>
-        requires measured { IsMeasured self.now.space.now self.now.tree.now }
+    fn first_uncovered_step(&self, left: &Row, right: &Row, recent: &mut Recent) -> Option<Step>
         requires inside { self.now.number < operations self.now.tree.now }
+        requires choices { AreChoices self.now.space.now self.now.tree.now self.now.number self.now.choices.now }
+        requires sizes { All (λ choice. choice.size ≤ 2 ^ 90) self.now.choices.now }
+        requires bound { IsBound self.now.outer self.now.rows.now self.now.bound }
         requires left { left.now.cost < 2 ^ 96 }
         requires right { right.now.cost < 2 ^ 96 }
         ensures { MatchOption result
@@ -144,15 +122,23 @@ impl<'a> Node<'a> {
             (λ found. IsLeastUncovered self.now.space.now self.now.tree.now self.now.outer self.now.number self.now.rows.now found.fused found.state left.now right.now) }
     {
         let joint = joint(left, right, self.tree.loops(self.number))?;
-        let fused = self.first_uncovered_set(&joint, IndexSet::empty(), 24)?;
-        let state = self.step(&joint, fused);
-        Some(Step { fused, state })
+        if self.stands_for_all(joint.cost) {
+            return None;
+        }
+        let choice = self.first_uncovered_choice(&joint, recent)?;
+        let state = state_of(&joint, &choice);
+        Some(Step {
+            fused: choice.fused,
+            state,
+        })
     }
 
     // The first such step with one left row, by the right row.
-    fn first_uncovered_with(&self, left: &Row, rights: &[Row]) -> Option<Step>
-        requires measured { IsMeasured self.now.space.now self.now.tree.now }
+    fn first_uncovered_with(&self, left: &Row, rights: &[Row], recent: &mut Recent) -> Option<Step>
         requires inside { self.now.number < operations self.now.tree.now }
+        requires choices { AreChoices self.now.space.now self.now.tree.now self.now.number self.now.choices.now }
+        requires sizes { All (λ choice. choice.size ≤ 2 ^ 90) self.now.choices.now }
+        requires bound { IsBound self.now.outer self.now.rows.now self.now.bound }
         requires left { left.now.cost < 2 ^ 96 }
         requires rights { All (λ row. row.cost < 2 ^ 96) rights.now }
         ensures { MatchOption result
@@ -161,7 +147,7 @@ impl<'a> Node<'a> {
             (IsLeastUncovered self.now.space.now self.now.tree.now self.now.outer self.now.number self.now.rows.now found.fused found.state left.now) rights.now) }
     {
         for right in rights {
-            if let Some(step) = self.first_uncovered_step(left, right) {
+            if let Some(step) = self.first_uncovered_step(left, right, recent) {
                 return Some(step);
             }
         }
@@ -170,8 +156,10 @@ impl<'a> Node<'a> {
 
     // The first such step, by the left row and then by the right one.
     pub(crate) fn first_uncovered(&self, lefts: &[Row], rights: &[Row]) -> Option<Step>
-        requires measured { IsMeasured self.now.space.now self.now.tree.now }
         requires inside { self.now.number < operations self.now.tree.now }
+        requires choices { AreChoices self.now.space.now self.now.tree.now self.now.number self.now.choices.now }
+        requires sizes { All (λ choice. choice.size ≤ 2 ^ 90) self.now.choices.now }
+        requires bound { IsBound self.now.outer self.now.rows.now self.now.bound }
         requires lefts { All (λ row. row.cost < 2 ^ 96) lefts.now }
         requires rights { All (λ row. row.cost < 2 ^ 96) rights.now }
         ensures { MatchOption result
@@ -179,8 +167,9 @@ impl<'a> Node<'a> {
             (λ found. FirstPair (WhereJoined self.now.tree.now self.now.number (StepsCovered self.now.space.now self.now.tree.now self.now.outer self.now.number self.now.rows.now))
             (IsLeastUncovered self.now.space.now self.now.tree.now self.now.outer self.now.number self.now.rows.now found.fused found.state) lefts.now rights.now) }
     {
+        let mut recent = Recent::new();
         for left in lefts {
-            if let Some(step) = self.first_uncovered_with(left, rights) {
+            if let Some(step) = self.first_uncovered_with(left, rights, &mut recent) {
                 return Some(step);
             }
         }

@@ -7,10 +7,12 @@ ghost use Rattle.tce_nesting.specs.Plan.{RowsFit};
 ghost use Rattle.tce_check.specs.First.{IsFirst};
 ghost use Rattle.tce_check.specs.Verdict.{CoversAt, FailsAt};
 
+use crate::bound::bound_of;
 use crate::operands::{leaf_row, left_rows, right_rows};
 use crate::steps::{Node, Step};
 use tce_nesting::Tables;
 use tce_space::Space;
+use tce_steps::choices;
 use tce_tree::Tree;
 
 // The first step at a node for which none of its rows stands; none at the root.
@@ -23,12 +25,17 @@ fn first_uncovered_at(space: &Space, tree: &Tree, tables: &Tables, v: u8) -> Opt
 {
     let parent = tree.parent(v)?;
     let leaf = [leaf_row()];
+    let outer = tree.loops(parent);
+    let choices = choices(space, tree, v);
+    let rows = tables.rows(v);
     let node = Node {
         space,
         tree,
         number: v,
-        outer: tree.loops(parent),
-        rows: tables.rows(v),
+        outer,
+        choices: choices.as_slice(),
+        rows,
+        bound: bound_of(rows, outer),
     };
     node.first_uncovered(
         left_rows(tree, tables, v, &leaf),

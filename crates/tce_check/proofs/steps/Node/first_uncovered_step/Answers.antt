@@ -1,24 +1,32 @@
-use Rattle.std.proofs.Common.{◌≡◌, ◌≤◌, ◌+◌, ◌^◌, refl, sym, ap, ◌∙◌, subst, arith}
-use Rattle.tce_tree.specs.ContractionTree.{node_loops}
-use Rattle.tce_states.specs.Relation.{HasNoConflict}
-use Rattle.tce_states.specs.Row.{rows_joined}
+use Rattle.std.proofs.Common.{refl, subst}
+use Rattle.std.specs.List.{Any}
+use Rattle.tce_states.specs.Relation.{Relation, HasNoConflict}
+use Rattle.tce_states.specs.Row.{Row, StandsFor, rows_joined}
 use Rattle.tce_check.specs.Joint.{IsJointOf}
-use Rattle.tce_check.proofs.Joints.{steps_of_joint, least_of_joint}
+use Rattle.tce_check.proofs.Joints.{steps_of_bound, steps_of_choices, least_of_choices}
 use Rattle.tce_check.proofs.steps.Node.first_uncovered_step.Goals as goal
 
-pub returns-in_err-fused : goal.returns-in_err-fused
-returns-in_err-fused c =
+pub returns-in_err-choice : goal.returns-in_err-choice
+returns-in_err-choice c =
     let node = c.args.self.now in
     let join = subst (λ s. IsJointOf s c.args.left.now c.args.right.now c.in_ok-joint.joint) c.loops.ensures.value c.in_ok-joint.ensures.joins in
-    rw c.from_residual-in_err-fused.ensures
-    (λ quiet. steps_of_joint node.space.now node.tree.now node.outer node.number node.rows.now c.args.left.now c.args.right.now c.in_ok-joint.joint
-    c.empty.result (c.empty.result + 2 ^ 24) c.requires.inside join c.empty.ensures.value (omega arith) (c.in_err-fused.ensures.none refl))
+    rw c.from_residual-in_err-choice.ensures
+    (λ quiet. steps_of_choices node.space.now node.tree.now node.outer node.number node.rows.now c.args.left.now c.args.right.now c.in_ok-joint.joint
+    node.choices.now c.requires.inside join c.requires.choices c.in_err-choice.ensures.first)
 
 pub returns : goal.returns
 returns c =
     let node = c.args.self.now in
     let join = subst (λ s. IsJointOf s c.args.left.now c.args.right.now c.in_ok-joint.joint) c.loops.ensures.value c.in_ok-joint.ensures.joins in
-    least_of_joint node.space.now node.tree.now node.outer node.number node.rows.now c.args.left.now c.args.right.now c.in_ok-joint.joint
-    c.empty.result (c.empty.result + 2 ^ 24) c.in_ok-fused.fused c.step-state.result c.requires.inside
+    least_of_choices node.space.now node.tree.now node.outer node.number node.rows.now c.args.left.now c.args.right.now c.in_ok-joint.joint
+    node.choices.now c.in_ok-choice.choice c.state_of-state.result c.requires.inside
     (subst (λ s. HasNoConflict s (rows_joined c.args.left.now c.args.right.now)) c.loops.ensures.value (c.in_ok-joint.ensures.quiet.0 refl))
-    join c.empty.ensures.value c.in_ok-fused.ensures.found c.step-state.ensures.nesting c.step-state.ensures.classes c.step-state.ensures.cost
+    join c.requires.choices c.in_ok-choice.ensures.first c.state_of-state.ensures.nesting c.state_of-state.ensures.classes c.state_of-state.ensures.cost
+
+pub returns-then-stands_for_all : goal.returns-then-stands_for_all
+returns-then-stands_for_all c =
+    let node = c.args.self.now in
+    let join = subst (λ s. IsJointOf s c.args.left.now c.args.right.now c.in_ok-joint.joint) c.loops.ensures.value c.in_ok-joint.ensures.joins in
+    let all = subst (λ (r : Row). (relation : Relation) → Any (StandsFor node.outer relation r.cost) node.rows.now) c.joint-2.view_is
+    (c.stands_for_all.ensures c.if-stands_for_all.true) in
+    λ quiet. steps_of_bound node.space.now node.tree.now node.outer node.number node.rows.now c.args.left.now c.args.right.now c.in_ok-joint.joint join all

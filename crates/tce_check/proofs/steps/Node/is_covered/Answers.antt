@@ -1,11 +1,18 @@
-use Rattle.std.proofs.Common.{subst, sym}
+use Rattle.std.proofs.Common.{◌+◌, subst, sym}
+use Rattle.std.specs.List.{Any}
 use Rattle.std.proofs.lemmas.Bool.{both_ways, not-true}
 use Rattle.tce_states.specs.Relation.{above}
-use Rattle.tce_states.specs.Row.{Row}
-use Rattle.tce_nesting.specs.Classes.{AllowsSet}
+use Rattle.tce_states.specs.Row.{Row, StandsFor}
+use Rattle.tce_nesting.specs.Classes.{restricted, AllowsSet}
 use Rattle.tce_check.proofs.steps.Node.is_covered.Goals as goal
+
+pub returns-then-stands_for_all-clause-yes : goal.returns-then-stands_for_all-clause-yes
+returns-then-stands_for_all-clause-yes c h allows =
+    let node = c.args.self.now in
+    let state = above (restricted c.args.joint.now.classes c.args.choice.now.fused) in
+    subst (λ (r : Row). Any (StandsFor node.outer state (r.cost + c.args.choice.now.size)) node.rows.now) c.joint.view_is (c.stands_for_all.ensures c.if-stands_for_all.true state)
 
 pub returns-then-not-allowed-clause-yes : goal.returns-then-not-allowed-clause-yes
 returns-then-not-allowed-clause-yes c h allows =
-    let seen = subst (λ (r : Row). AllowsSet (above r.classes) c.args.fused) (sym c.joint.view_is) allows in
+    let seen = subst (λ (r : Row). AllowsSet (above r.classes) c.args.choice.now.fused) (sym c.joint.view_is) allows in
     absurd (both_ways c.allowed.result (not-true c.allowed.result h) (c.allowed.ensures.1 seen))
