@@ -1,8 +1,8 @@
 // The blocks of a box, one after the other.
-ghost use Rattle.std.specs.Prelude.{◌≡◌, ℕ, ◌+◌, ◌*◌, List, length, drop, slice_get};
+ghost use Rattle.std.specs.Prelude.{◌≡◌, ℕ, ◌+◌, ◌*◌, if◌then◌else◌, List, length, drop, slice_get, Some, None};
 ghost use Rattle.std.specs.List.{All};
 ghost use Rattle.std.specs.Option.{option_map};
-ghost use Rattle.tce_block.specs.Parts.{Part, block, blocks};
+ghost use Rattle.tce_block.specs.Parts.{Part, block as block_of, blocks};
 ghost use Rattle.tce_block.specs.Numbers.{IsNumbered};
 ghost use Rattle.tce_block.specs.Cuts.{IsCut, extents_of, edges_of, part_of};
 
@@ -68,27 +68,40 @@ impl Blocks {
         ensures block { option_map part_of result ≡ slice_get self.old 0 }
         ensures rest { self.new ≡ drop 1 self.old }
     {
-        if self.finished {
-            return None;
+        let mut block = Block::default();
+        if self.next_in(&mut block) {
+            Some(block)
+        } else {
+            None
         }
-        let block = block_at(&self.extents, &self.edges, &self.numbers);
+    }
+
+    /// Makes `block` the next one in place, and tells whether there is one. After the last one there is none, however often
+    /// it is asked.
+    pub fn next_in(&mut self, block: &mut Block) -> bool
+        ensures block { (if result then Some (part_of block.new) else None) ≡ slice_get self.old 0 }
+        ensures rest { self.new ≡ drop 1 self.old }
+    {
+        if self.finished {
+            return false;
+        }
+        fill_block(&self.extents, &self.edges, &self.numbers, block);
         self.finished = advance(&mut self.numbers, &self.counts);
-        Some(block)
+        true
     }
 }
 
-// The block with these numbers.
-fn block_at(extents: &[u64], edges: &[u64], numbers: &[u64]) -> Block
+// Makes the block the one with these numbers.
+fn fill_block(extents: &[u64], edges: &[u64], numbers: &[u64], block: &mut Block)
     requires { IsNumbered extents.now edges.now numbers.now }
-    ensures { part_of result ≡ block extents.now edges.now numbers.now }
+    ensures { part_of block.new ≡ block_of extents.now edges.now numbers.now }
 {
-    let mut from = ArrayVec::new();
-    let mut len = ArrayVec::new();
+    block.from.clear();
+    block.len.clear();
     for d in 0..numbers.len() {
         let first = numbers[d] * edges[d];
         let end = (first + edges[d]).min(extents[d]);
-        from.push(first);
-        len.push(end - first);
+        block.from.push(first);
+        block.len.push(end - first);
     }
-    Block { from, len }
 }

@@ -3,7 +3,7 @@ ghost use Rattle.std.specs.Prelude.{◌≡◌, IsTrue, replicate, slice_set};
 ghost use Rattle.tce_space.specs.Box.{IsInside};
 
 use crate::{
-    blocks_stay_in_tiles, changes_keep_cells, first_numbers, slot_window, slots_show_nodes,
+    blocks_stay_in_tiles, changes_keep_cells, set_numbers, slot_window, slots_show_nodes,
     slots_show_words, tile_window, tiles_show_nodes, tiles_show_words, touched_tiles_stay,
     turns_stay_in_one_tile, windows_are_apart,
 };
@@ -84,10 +84,12 @@ fn laws_of_windows(_rt: HostRuntime) -> Result<(), Fail> {
 // The loop over index 1 begins at 7; without loops all numbers stay.
 #[test]
 fn loops_begin_at_their_first_numbers(rt: HostRuntime) -> Result<(), Fail> {
-    let begun = first_numbers(&two(5, 2), &[1], &[7]);
-    assert_eq!(rt; begun[0], 5);
-    assert_eq!(rt; begun[1], 7);
-    assert_eq!(rt; first_numbers(&two(5, 2), &[], &[])[1], 2);
+    let mut numbers = two(5, 2);
+    set_numbers(&mut numbers, &[1], &[7]);
+    assert_eq!(rt; numbers[0], 5);
+    assert_eq!(rt; numbers[1], 7);
+    set_numbers(&mut numbers, &[], &[]);
+    assert_eq!(rt; numbers[1], 7);
     Ok(())
 }
 

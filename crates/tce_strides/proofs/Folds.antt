@@ -95,6 +95,12 @@ range_every word place k w a zero same = refl
 range_every word place k w a (suc n) same =
     ap (λ b. after_range word place k (if b then word w a else w) (a + 1) n) (eq-eqb (place a) k (same a)) ∙ range_every word place k (word w a) (a + 1) n same
 
+-- one number more
+pub range_more : (f : ℕ → ℕ → ℕ) (w a n : ℕ) → fold f w (range_with_len a (suc n)) ≡ f (fold f w (range_with_len a n)) (a + n)
+range_more f w a zero = let here : a ≡ a + 0 = omega arith in ap (f w) here
+range_more f w a (suc n) =
+    range_more f (f w a) (a + 1) n ∙ (let there : a + 1 + n ≡ a + suc n = omega arith in ap (f (fold f (f w a) (range_with_len (a + 1) n))) there)
+
 -- the last turn alone
 pub range_last : (f : ℕ → ℕ) (w a n : ℕ) → 0 < n → fold (λ v x. f x) w (range_with_len a n) ≡ f (a + (n - 1))
 range_last f w a zero some = absurd (omega arith)

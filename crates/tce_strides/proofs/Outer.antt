@@ -23,6 +23,12 @@ one_loop d [] some few = absurd (omega arith)
 one_loop d (l ∷ []) some few = refl
 one_loop d (l ∷ m ∷ ls) some few = absurd (omega arith)
 
+pub two_loops : {A : Type 0} (d : A) (loops : List A) → 2 ≤ length loops → length loops < 3 → loops ≡ get_or loops 0 d ∷ get_or loops 1 d ∷ []
+two_loops d [] some few = absurd (omega arith)
+two_loops d (l ∷ []) some few = absurd (omega arith)
+two_loops d (l ∷ m ∷ []) some few = refl
+two_loops d (l ∷ m ∷ n ∷ ls) some few = absurd (omega arith)
+
 pub more_loops : {A : Type 0} (d : A) (loops : List A) → 1 ≤ length loops → loops ≡ get_or loops 0 d ∷ take (length loops - 1) (drop 1 loops)
 more_loops d [] some = absurd (omega arith)
 more_loops d (l ∷ ls) some = ap (λ rest. l ∷ rest) (sym (take_all (length (l ∷ ls) - 1) ls (omega arith)))

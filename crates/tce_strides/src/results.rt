@@ -62,6 +62,7 @@ fn turns_below(words: &mut Words, turn: Turn, loops: &[Loop], out: u64, left: u6
     match loops {
         [] => runs::turn_once(words, turn, out, left, right),
         [only] => runs::turn_along(words, turn, *only, out, left, right),
+        [rows, along] => runs::turns_in_rows(words, turn, *rows, *along, out, left, right),
         [first, rest @ ..] => {
             for x in 0..first.len {
                 turns_below(

@@ -1,11 +1,15 @@
 //! Single turns, and innermost loops.
 ghost use Rattle.std.specs.Prelude.{◌≡◌, ℕ, ◌^◌, ◌<◌, length, [], ◌∷◌};
+ghost use Rattle.std.specs.List.{range_with_len, fold};
 ghost use Rattle.tce_space.specs.Box.{places};
 ghost use Rattle.tce_strides.specs.Places.{word_place, AreWithin, AreApart};
-ghost use Rattle.tce_strides.specs.Turns.{IsMade, grown, operate, computed, turned};
+ghost use Rattle.tce_strides.specs.Turns.{IsMade, grown, grown_by_products, operate, computed, turned};
 
 use crate::loops::{Loop, Operation, SumLoop, Turn};
 use tce_words::Words;
+
+// From so many turns on a run of words pays for its call.
+const LONG: u64 = 8;
 
 pub(crate) fn grow_once(words: &mut Words, out: u64, operand: u64)
     requires out { out < length words.old }
@@ -55,6 +59,8 @@ pub(crate) fn turn_once(words: &mut Words, turn: Turn, out: u64, left: u64, righ
     words.put(out, word);
 }
 
+// One loop. The short ones are made part of their rows, where a call would cost as much as the turns.
+#[inline]
 pub(crate) fn turn_along(
     words: &mut Words,
     turn: Turn,
@@ -72,11 +78,99 @@ pub(crate) fn turn_along(
     requires apart_from_right { AreApart (along.len ∷ []) (word_place out (along.out ∷ [])) (word_place right (along.right ∷ [])) }
     ensures { IsMade (turned turn words.old (word_place left (along.left ∷ [])) (word_place right (along.right ∷ []))) (word_place out (along.out ∷ [])) (places (along.len ∷ [])) words.old words.new }
 {
+    if along.len < LONG {
+        turn_short(words, turn, along, out, left, right);
+    } else {
+        turn_long(words, turn, along, out, left, right);
+    }
+}
+
+// The turns of a short loop.
+#[inline]
+fn turn_short(words: &mut Words, turn: Turn, along: Loop, out: u64, left: u64, right: u64)
+    requires limit { length words.old < 2 ^ 60 }
+    requires positive { 0 < along.len }
+    requires out { AreWithin (length words.old) (along.len ∷ []) (word_place out (along.out ∷ [])) }
+    requires left { AreWithin (length words.old) (along.len ∷ []) (word_place left (along.left ∷ [])) }
+    requires right { AreWithin (length words.old) (along.len ∷ []) (word_place right (along.right ∷ [])) }
+    requires apart_from_left { AreApart (along.len ∷ []) (word_place out (along.out ∷ [])) (word_place left (along.left ∷ [])) }
+    requires apart_from_right { AreApart (along.len ∷ []) (word_place out (along.out ∷ [])) (word_place right (along.right ∷ [])) }
+    ensures { IsMade (turned turn words.old (word_place left (along.left ∷ [])) (word_place right (along.right ∷ []))) (word_place out (along.out ∷ [])) (places (along.len ∷ [])) words.old words.new }
+{
+    match turn {
+        Turn::Grow => grow_short(words, along, out, left, right),
+        Turn::Compute(_) => turn_by_turn(words, turn, along, out, left, right),
+    }
+}
+
+// The products in the turns of a short loop are added.
+#[inline]
+fn grow_short(words: &mut Words, along: Loop, out: u64, left: u64, right: u64)
+    requires limit { length words.old < 2 ^ 60 }
+    requires positive { 0 < along.len }
+    requires out { AreWithin (length words.old) (along.len ∷ []) (word_place out (along.out ∷ [])) }
+    requires left { AreWithin (length words.old) (along.len ∷ []) (word_place left (along.left ∷ [])) }
+    requires right { AreWithin (length words.old) (along.len ∷ []) (word_place right (along.right ∷ [])) }
+    requires apart_from_left { AreApart (along.len ∷ []) (word_place out (along.out ∷ [])) (word_place left (along.left ∷ [])) }
+    requires apart_from_right { AreApart (along.len ∷ []) (word_place out (along.out ∷ [])) (word_place right (along.right ∷ [])) }
+    ensures { IsMade (turned Turn.Grow words.old (word_place left (along.left ∷ [])) (word_place right (along.right ∷ []))) (word_place out (along.out ∷ [])) (places (along.len ∷ [])) words.old words.new }
+{
+    if along.out == 0 {
+        grow_at_one(words, along, out, left, right);
+    } else {
+        turn_by_turn(words, Turn::Grow, along, out, left, right);
+    }
+}
+
+// The turns of a long loop, by runs of words.
+#[inline(never)]
+fn turn_long(words: &mut Words, turn: Turn, along: Loop, out: u64, left: u64, right: u64)
+    requires limit { length words.old < 2 ^ 60 }
+    requires positive { 0 < along.len }
+    requires out { AreWithin (length words.old) (along.len ∷ []) (word_place out (along.out ∷ [])) }
+    requires left { AreWithin (length words.old) (along.len ∷ []) (word_place left (along.left ∷ [])) }
+    requires right { AreWithin (length words.old) (along.len ∷ []) (word_place right (along.right ∷ [])) }
+    requires apart_from_left { AreApart (along.len ∷ []) (word_place out (along.out ∷ [])) (word_place left (along.left ∷ [])) }
+    requires apart_from_right { AreApart (along.len ∷ []) (word_place out (along.out ∷ [])) (word_place right (along.right ∷ [])) }
+    ensures { IsMade (turned turn words.old (word_place left (along.left ∷ [])) (word_place right (along.right ∷ []))) (word_place out (along.out ∷ [])) (places (along.len ∷ [])) words.old words.new }
+{
     if along.out == 0 {
         turns_at_one(words, turn, along, out, left, right);
     } else {
         turns_along(words, turn, along, out, left, right);
     }
+}
+
+// A word and the products of the operands' words in the turns of a short loop.
+#[inline]
+fn grown_along(words: &Words, along: Loop, word: u64, left: u64, right: u64) -> u64
+    requires limit { length words.now < 2 ^ 60 }
+    requires left { AreWithin (length words.now) (along.len ∷ []) (word_place left (along.left ∷ [])) }
+    requires right { AreWithin (length words.now) (along.len ∷ []) (word_place right (along.right ∷ [])) }
+    ensures { result ≡ fold (λ w x. grown_by_products words.now (word_place left (along.left ∷ [])) (word_place right (along.right ∷ [])) w (x ∷ [])) word (range_with_len 0 along.len) }
+{
+    let mut total = word;
+    for x in 0..along.len {
+        let a = words.get(left + x * along.left);
+        let b = words.get(right + x * along.right);
+        total = total.wrapping_add(a.wrapping_mul(b));
+    }
+    total
+}
+
+// Adds the products in the turns of a short loop to the word at one place.
+#[inline]
+fn grow_at_one(words: &mut Words, along: Loop, out: u64, left: u64, right: u64)
+    requires limit { length words.old < 2 ^ 60 }
+    requires positive { 0 < along.len }
+    requires still { along.out ≡ 0 }
+    requires out { AreWithin (length words.old) (along.len ∷ []) (word_place out (along.out ∷ [])) }
+    requires left { AreWithin (length words.old) (along.len ∷ []) (word_place left (along.left ∷ [])) }
+    requires right { AreWithin (length words.old) (along.len ∷ []) (word_place right (along.right ∷ [])) }
+    ensures { IsMade (turned Turn.Grow words.old (word_place left (along.left ∷ [])) (word_place right (along.right ∷ []))) (word_place out (along.out ∷ [])) (places (along.len ∷ [])) words.old words.new }
+{
+    let word = grown_along(words, along, words.get(out), left, right);
+    words.put(out, word);
 }
 
 fn turns_at_one(words: &mut Words, turn: Turn, along: Loop, out: u64, left: u64, right: u64)
@@ -96,6 +190,61 @@ fn turns_at_one(words: &mut Words, turn: Turn, along: Loop, out: u64, left: u64,
             let b = words.get(right + last * along.right);
             words.put(out, result_of(operation, a, b));
         }
+    }
+}
+
+// The turns of a short loop, one by one.
+#[inline]
+fn turn_by_turn(words: &mut Words, turn: Turn, along: Loop, out: u64, left: u64, right: u64)
+    requires limit { length words.old < 2 ^ 60 }
+    requires positive { 0 < along.len }
+    requires out { AreWithin (length words.old) (along.len ∷ []) (word_place out (along.out ∷ [])) }
+    requires left { AreWithin (length words.old) (along.len ∷ []) (word_place left (along.left ∷ [])) }
+    requires right { AreWithin (length words.old) (along.len ∷ []) (word_place right (along.right ∷ [])) }
+    requires apart_from_left { AreApart (along.len ∷ []) (word_place out (along.out ∷ [])) (word_place left (along.left ∷ [])) }
+    requires apart_from_right { AreApart (along.len ∷ []) (word_place out (along.out ∷ [])) (word_place right (along.right ∷ [])) }
+    ensures { IsMade (turned turn words.old (word_place left (along.left ∷ [])) (word_place right (along.right ∷ []))) (word_place out (along.out ∷ [])) (places (along.len ∷ [])) words.old words.new }
+{
+    for x in 0..along.len {
+        turn_once(
+            words,
+            turn,
+            out + x * along.out,
+            left + x * along.left,
+            right + x * along.right,
+        );
+    }
+}
+
+// Two loops, one inside the other.
+pub(crate) fn turns_in_rows(
+    words: &mut Words,
+    turn: Turn,
+    rows: Loop,
+    along: Loop,
+    out: u64,
+    left: u64,
+    right: u64,
+)
+    requires limit { length words.old < 2 ^ 60 }
+    requires rows { 0 < rows.len }
+    requires positive { 0 < along.len }
+    requires out { AreWithin (length words.old) (rows.len ∷ along.len ∷ []) (word_place out (rows.out ∷ along.out ∷ [])) }
+    requires left { AreWithin (length words.old) (rows.len ∷ along.len ∷ []) (word_place left (rows.left ∷ along.left ∷ [])) }
+    requires right { AreWithin (length words.old) (rows.len ∷ along.len ∷ []) (word_place right (rows.right ∷ along.right ∷ [])) }
+    requires apart_from_left { AreApart (rows.len ∷ along.len ∷ []) (word_place out (rows.out ∷ along.out ∷ [])) (word_place left (rows.left ∷ along.left ∷ [])) }
+    requires apart_from_right { AreApart (rows.len ∷ along.len ∷ []) (word_place out (rows.out ∷ along.out ∷ [])) (word_place right (rows.right ∷ along.right ∷ [])) }
+    ensures { IsMade (turned turn words.old (word_place left (rows.left ∷ along.left ∷ [])) (word_place right (rows.right ∷ along.right ∷ []))) (word_place out (rows.out ∷ along.out ∷ [])) (places (rows.len ∷ along.len ∷ [])) words.old words.new }
+{
+    for x in 0..rows.len {
+        turn_along(
+            words,
+            turn,
+            along,
+            out + x * rows.out,
+            left + x * rows.left,
+            right + x * rows.right,
+        );
     }
 }
 

@@ -145,3 +145,38 @@ fn rows_are_joined(rt: HostRuntime) -> Result<(), Fail> {
     expect_word(&rt, &words, 22, u64::MAX - 5);
     Ok(())
 }
+
+// Loops of eight turns: the ninth word's products with the first eight are added, the sum of their squares, and the last
+// square is put.
+fn run_along(words: &mut Words)
+    requires { length words.old ≡ 24 }
+    ensures { length words.new ≡ 24 }
+{
+    let along = Loop {
+        len: 8,
+        out: 1,
+        left: 1,
+        right: 0,
+    };
+    let still = Loop {
+        len: 8,
+        out: 0,
+        left: 1,
+        right: 1,
+    };
+    grow_by_products(words, &[along], 12, 0, 8);
+    grow_by_products(words, &[still], 20, 0, 0);
+    compute(words, Operation::Multiply, &[still], 21, 0, 0);
+}
+
+#[test]
+fn long_loops_run(rt: HostRuntime) -> Result<(), Fail> {
+    let mut room = HeapRoom::new(rt.alloc());
+    let mut words = block_of(&mut room, &[1, 2, 3, 4, 5, 6, 7, 8, 9, 0, 0, 0])?;
+    run_along(&mut words);
+    expect_word(&rt, &words, 12, 9);
+    expect_word(&rt, &words, 19, 72);
+    expect_word(&rt, &words, 20, 204);
+    expect_word(&rt, &words, 21, 64);
+    Ok(())
+}

@@ -1,8 +1,9 @@
 -- Blocks that are run one after the other.
-use Rattle.std.proofs.Common.{◌≡◌, ℕ, ◌+◌, ◌*◌, ◌<◌, ◌≤◌, ◌^◌, true, List, [], ◌∷◌, ◌++◌, map, length, drop, slice_get, slice_index, Option, Some, None, append_assoc, append-nil, length-append, refl, sym, ap, ◌∙◌, subst, arith}
+use Rattle.std.proofs.Common.{◌≡◌, ℕ, ◌+◌, ◌*◌, ◌<◌, ◌≤◌, ◌^◌, Bool, true, false, if◌then◌else◌, List, [], ◌∷◌, ◌++◌, map, length, drop, slice_get, slice_index, Option, Some, None, append_assoc, append-nil, length-append, refl, sym, ap, ◌∙◌, subst, arith}
 use Rattle.std.specs.Option.{option_map}
 use Rattle.std.specs.List.{All, AllByRecursion}
 use Rattle.std.specs.Int.{div_ceil}
+use Rattle.std.proofs.lemmas.List.{length-map}
 use Rattle.std.proofs.lemmas.List.Elements.{All-from_recursion}
 use Rattle.std.proofs.lemmas.List.Sums.{fold_push}
 use Rattle.tce_space.specs.Box.{product}
@@ -22,6 +23,7 @@ use Rattle.tce_tail.specs.Laws.{AreLoops}
 use Rattle.tce_tail.specs.Touches.{block_count}
 use Rattle.tce_walk.specs.Machine.{tail_program, touches_of_tail, IsTailAt}
 use Rattle.tce_walk.specs.declared.machine.Tail.{Tail}
+use Rattle.tce_windows.specs.Loops.{AreLoops as AreLoopsWith}
 use Rattle.tce_workspace.specs.Workspace.{Workspace, setting_in, state_in}
 use Rattle.tce_workspace.specs.Prepared.{IsPrepared}
 use Rattle.tce_workspace.specs.Steps.{IsKept, IsChanged}
@@ -77,6 +79,13 @@ first_is : (left : List Part) (part : Part) → slice_get left 0 ≡ Some part �
 first_is [] part e = absurd (cc)
 first_is (p ∷ rest) part e = let same : p ≡ part = cc in record { rest = rest; left_is = ap (λ q. q ∷ rest) same; behind = refl }
 
+-- what an answer tells of the blocks that are left
+pub first_told : (told : Bool) (part : Part) (left : List Part) → (if told then Some part else None) ≡ slice_get left 0 → told ≡ true → slice_get left 0 ≡ Some part
+first_told told part left e is = sym e ∙ ap (λ b. if b then Some part else None) is
+
+pub none_told : (told : Bool) (part : Part) (left : List Part) → (if told then Some part else None) ≡ slice_get left 0 → told ≡ false → slice_get left 0 ≡ None
+none_told told part left e is = sym e ∙ ap (λ b. if b then Some part else None) is
+
 pub is_block : (x y : Workspace) (tail : Tail) (a : Assignment) (left : List Part) (part : Part) → IsAlong x y tail a left → slice_get left 0 ≡ Some part → IsBlockOf x.places.space tail part
 is_block x y tail a left part along e =
     let first = first_is left part e in (
@@ -130,7 +139,7 @@ each : (P : ℕ → Type 0) (xs : List ℕ) → ((i : ℕ) → among xs i ≡ tr
 each P [] h = tt
 each P (x ∷ xs) h = (h x (among_first x xs), each P xs (λ i m. h i (among_later x xs i m)))
 
-loop_declared : (x : Workspace) (tail : Tail) (a : Assignment) → IsSpace x.places.space → IsPrepared x → IsTailAt (setting_in x) tail a
+pub loop_declared : (x : Workspace) (tail : Tail) (a : Assignment) → IsSpace x.places.space → IsPrepared x → IsTailAt (setting_in x) tail a
     → (i : ℕ) → among (loops_of tail) i ≡ true → i < length x.places.space.indexes
 loop_declared x tail a space is h i m =
     node_loops_declared x.places.space x.places.tree tail.node h.known space.index_limit is.measured.declared i (h.loops i m)
@@ -174,3 +183,17 @@ ended x y tail a left space turns is words at along e =
 
 pub has_turns : (space : IndexSpace) → IsSpace space → HasTurns space
 has_turns space is = record { extents = λ i l. (index_limits space i is l).some; edges = λ i l. (index_limits space i is l).edge_some }
+
+-- ---- blocks as long as the edges
+
+edges_as_many : (space : IndexSpace) (loops : List ℕ) → length (map (edge_at space) loops) ≡ length loops
+edges_as_many space loops = length-map loops (edge_at space)
+
+pub edge_loops : (x : Workspace) (tail : Tail) (a : Assignment) → IsSpace x.places.space → IsPrepared x → IsTailAt (setting_in x) tail a
+    → AreLoopsWith (loops_of tail) (map (edge_at x.places.space) (loops_of tail))
+edge_loops x tail a space is at = record {
+  distinct = at.distinct;
+  below = λ i m. omega (arith, loop_declared x tail a space is at i m, space.index_limit);
+  as_many = edges_as_many x.places.space (loops_of tail);
+  some = positive (edge_at x.places.space) (loops_of tail) (λ i m. (has_turns x.places.space space).edges i (loop_declared x tail a space is at i m));
+}

@@ -1,12 +1,13 @@
 -- What the calls of a block ask, from what is known of the block.
-use Rattle.std.proofs.Common.{◌≡◌, ◌≢◌, ℕ, ◌<◌, ◌≤◌, false, List, [], ◌∷◌, map, length, Some, None, refl, sym, ap, ◌∙◌, subst, arith}
-use Rattle.std.proofs.lemmas.Bool.{true≢false}
+use Rattle.std.proofs.Common.{◌≡◌, ◌≢◌, ℕ, ◌<◌, ◌≤◌, false, if◌then◌else◌, List, [], ◌∷◌, map, length, Some, None, refl, sym, ap, ◌∙◌, subst, inl, inr, arith}
+use mathlib.Core.Path.{fun_ext}
+use Rattle.std.proofs.lemmas.Bool.{true≢false, cases_Bool}
 use Rattle.tce_space.specs.Space.{extent_at, edge_at}
 use Rattle.tce_tree.specs.ContractionTree.{ContractionTree, leaf, constant, binary, sum, is_leaf, Arithmetic, multiply, add, subtract, operations, node}
 use Rattle.tce_tree.specs.FlatTree.{left_of, right_of, right_operand, first_number_of, kind_of, arithmetic_kind}
 use Rattle.tce_tree.specs.declared.node.Kind.{Kind}
 use Rattle.tce_tree.specs.declared.node.Kind.TheVariants.{Sum}
-use Rattle.tce_tree.specs.Value.{Assignment}
+use Rattle.tce_tree.specs.Value.{Assignment, assignment}
 use Rattle.tce_tree.specs.declared.node.Operand.{Operand}
 use Rattle.tce_tree.specs.declared.node.Operand.TheVariants.{Node}
 use Rattle.tce_tree.proofs.Operands.{left_is_before, right_is_before}
@@ -18,7 +19,8 @@ use Rattle.tce_code.specs.Shape.{IsSum}
 use Rattle.tce_code.proofs.Emitted.{node-not_leaf}
 use Rattle.tce_walk.specs.Machine.{IsNodeAt, IsJoined}
 use Rattle.tce_walk.specs.declared.machine.Tail.{Tail}
-use Rattle.tce_windows.specs.Turns.{IsTurn}
+use Rattle.tce_tree.specs.WellFormed.{among}
+use Rattle.tce_windows.specs.Turns.{IsTurn, turns_of}
 use Rattle.tce_windows.specs.declared.window.Window.{Window}
 use Rattle.tce_windows.proofs.Leaving.{parts_are_within, parts_are_apart}
 use Rattle.tce_operand_windows.specs.Laws.{StandApart}
@@ -28,7 +30,7 @@ use Rattle.tce_operands.specs.Slots.{IsSlotAt}
 use Rattle.tce_workspace.specs.Workspace.{Workspace, setting_in}
 use Rattle.tce_workspace.specs.Operands.{IsPlaceOf}
 use Rattle.tce_workspace.proofs.Operating.{own_place}
-use Rattle.tce_tails.specs.Blocks.{loops_of, IsWithin, HaveNone}
+use Rattle.tce_tails.specs.Blocks.{loops_of, AreOutside, IsWithin, HaveNone}
 use Rattle.tce_tails.specs.Windows.{IsOperandWindow, IsPlaceWindow}
 use Rattle.tce_tails.proofs.Operands.{left_place, right_place, sum_place}
 use Rattle.tce_tails.proofs.Turning.{IsAtBlock, Reads, each_positive, loop_edge, block_turns, block_loops, node_at_turn, operand_within}
@@ -56,6 +58,17 @@ block_begins y tail a part h =
       same_rank = same_lengths (edge_at y.places.space) (extent_at y.places.space) (loops_of tail);
       positive = each_positive (edge_at y.places.space) (loops_of tail) (loop_edge y tail a part h);
     }) h.block.0 part h.block.1)
+
+-- the numbers at the first turn, where all other indexes have those of the loops round the tail
+pub begun_first : (loops : List ℕ) (a first : Assignment) (part : Part) → AreOutside loops a first → (turns_of loops first part).first ≡ (turns_of loops a part).first
+begun_first loops a first part h = fun_ext (λ i.
+    elim (cases_Bool (among loops i)) [
+      | inl e ↦ ap (λ b. if b then assignment loops part.from i else first i) e ∙ sym (ap (λ b. if b then assignment loops part.from i else a i) e)
+      | inr e ↦ ap (λ b. if b then assignment loops part.from i else first i) e ∙ h i e ∙ sym (ap (λ b. if b then assignment loops part.from i else a i) e)
+    ])
+
+pub outside_still : (loops : List ℕ) (a first : Assignment) (part : Part) → first ≡ (turns_of loops a part).first → AreOutside loops a first
+outside_still loops a first part e = λ i m. ap (λ f. f i) e ∙ ap (λ b. if b then assignment loops part.from i else a i) m
 
 -- ---- the node's places and operands at the turns
 

@@ -6,3 +6,4 @@ pub mod Placing
 pub mod Leaving
 pub mod Asking
 pub mod Running
+pub mod Stepping

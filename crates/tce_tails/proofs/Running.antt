@@ -22,7 +22,7 @@ use Rattle.tce_workspace.specs.Steps.{IsKept, IsRead}
 use Rattle.tce_workspace.proofs.Putting.{with_words}
 use Rattle.tce_tails.specs.Blocks.{loops_of, IsWithin, HaveNone}
 use Rattle.tce_tails.specs.Windows.{AreSumWindows, ArePairWindows}
-use Rattle.tce_tails.specs.declared.windows.Windows.{Windows}
+use Rattle.tce_tails.specs.declared.steps.Windows.{Windows}
 use Rattle.tce_tails.proofs.Turning.{IsAtBlock, block_later, Reads}
 use Rattle.tce_tails.proofs.Placing.{Puts}
 use Rattle.tce_tails.proofs.Leaving.{turns_at, ReadsBoth, IsRun, run_from, sum_leaves, pair_leaves, joined_leaves}

@@ -1,7 +1,9 @@
 -- Blocks of the loops of a tail.
-use Rattle.std.specs.Prelude.{◌≡◌, ℕ, List, map, slice_get, Some}
+use Rattle.std.specs.Prelude.{◌≡◌, ℕ, false, List, map, slice_get, Some}
 use Rattle.tce_space.specs.Space.{IndexSpace, extent_at, edge_at}
 use Rattle.tce_block.specs.Parts.{Part, blocks}
+use Rattle.tce_tree.specs.Value.{Assignment}
+use Rattle.tce_tree.specs.WellFormed.{among}
 use Rattle.tce_strides.specs.Places.{AreWithin, AreApart}
 use Rattle.tce_walk.specs.declared.machine.Tail.{Tail}
 use Rattle.tce_windows.specs.Loops.{numbers_along, place_along}
@@ -17,6 +19,10 @@ blocks_of space tail = blocks (map (extent_at space) (loops_of tail)) (map (edge
 -- the part is one of them
 abbrev pub IsBlockOf : IndexSpace → Tail → Part → Type 0
 IsBlockOf space tail part = (k : ℕ) × (slice_get (blocks_of space tail) k ≡ Some part)
+
+-- the numbers of all other indexes are those of the loops round the tail
+abbrev pub AreOutside : List ℕ → Assignment → Assignment → Type 0
+AreOutside loops a first = (i : ℕ) → among loops i ≡ false → first i ≡ a i
 
 -- the words of a window are among `count` words in all turns of a block
 abbrev pub IsWithin : ℕ → Tail → Part → Window → Type 0

@@ -1,3 +1,4 @@
 pub mod Blocks
 pub mod Along
 pub mod Windows
+pub mod Evaluations

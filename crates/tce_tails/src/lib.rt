@@ -7,6 +7,7 @@
 
 mod block;
 mod cuts;
+mod steps;
 mod tail;
 mod turns;
 mod windows;

@@ -8,9 +8,9 @@ ghost use Rattle.tce_workspace.specs.Prepared.{IsPrepared};
 ghost use Rattle.tce_workspace.specs.Steps.{IsKept, IsChanged};
 
 use crate::block::run_block;
-use crate::cuts::cuts_of;
-use crate::windows::Windows;
-use tce_block::Blocks;
+use crate::cuts::{cuts_of, sequence_of};
+use crate::steps::{Windows, set_steps};
+use tce_block::{Block, Blocks};
 use tce_cache::Cache;
 use tce_outside::{Disk, Failed};
 use tce_walk::Tail;
@@ -44,7 +44,11 @@ pub fn run_tail<D: Disk>(
     let cuts = cuts_of(evaluation.space, tail.loops.0.as_slice());
     let mut blocks = Blocks::new(&cuts);
     let mut windows = Windows::blank();
-    while let Some(block) = blocks.next() {
+    set_steps(evaluation, cache, tail, &mut windows);
+    let mut sequence = sequence_of(tail, &cuts, &windows);
+    let mut first = *numbers;
+    let mut block = Block::default();
+    while blocks.next_in(&mut block) {
         run_block(
             evaluation,
             words,
@@ -53,6 +57,8 @@ pub fn run_tail<D: Disk>(
             tail,
             numbers,
             &block,
+            &mut first,
+            &mut sequence,
             &mut windows,
         )?;
     }

@@ -7,7 +7,7 @@ ghost use Rattle.tce_cache.specs.Cache.{IsWritable};
 ghost use Rattle.tce_tree.specs.FlatTree.{left_of, right_of};
 ghost use Rattle.tce_tree.specs.Memory.{memory};
 ghost use Rattle.tce_layout.specs.Layout.{IsLayout, slot_at};
-ghost use Rattle.tce_operands.specs.Slots.{IsSlotAt};
+ghost use Rattle.tce_operands.specs.Slots.{IsSlotAt, slot_word};
 ghost use Rattle.tce_tail.specs.Tails.{reads_constant};
 ghost use Rattle.tce_walk.specs.Machine.{operation_of_node, IsNodeAt};
 ghost use Rattle.tce_operand_windows.specs.Windows.{IsSlotWindow};
@@ -15,10 +15,10 @@ ghost use Rattle.tce_workspace.specs.Workspace.{workspace, setting_in, shape_ove
 ghost use Rattle.tce_workspace.specs.Prepared.{IsPrepared, IsStored};
 ghost use Rattle.tce_workspace.specs.Operands.{IsPlaceOf};
 ghost use Rattle.tce_workspace.specs.Steps.{IsKept, IsRead};
-ghost use Rattle.tce_tails.specs.Windows.{HasPlace, IsTouchedTile, IsOperandWindow, IsPlaceWindow, KeepsLast, AreSumWindows, ArePairWindows};
+ghost use Rattle.tce_tails.specs.Windows.{AreTensorSteps, AreOperandSteps, ArePlaceSteps, HasPlace, IsTouchedTile, IsOperandWindow, IsPlaceWindow, KeepsLast, AreSumWindows, ArePairWindows};
 
+use crate::steps::Windows;
 use tce_cache::Cache;
-use tce_operand_windows::tile_steps;
 use tce_operands::slot_place;
 use tce_outside::{Disk, Failed};
 use tce_tree::{Leaf, Operand};
@@ -26,30 +26,20 @@ use tce_windows::Window;
 use tce_words::Words;
 use tce_workspace::{Evaluation, find_element};
 
-/// The windows of a block: of its operands, of its result, and of the places of a joined product. A block with one operand
-/// has it on the left.
-#[derive(Drop)]
-pub(crate) struct Windows {
-    pub left: Window,
-    pub right: Window,
-    pub out: Window,
-    pub own: Window,
-}
-
-impl Windows {
-    /// Windows that mean nothing yet.
-    pub(crate) fn blank() -> Windows {
-        let window = Window {
-            first: 0,
-            steps: [0; 24],
-        };
-        Windows {
-            left: window,
-            right: window,
-            out: window,
-            own: window,
-        }
+// Where the word of an inner node at these numbers stands. A slot of one word has it at its beginning.
+fn place_in_slot(evaluation: &Evaluation, words: &Words, v: u8, first: &[u64; 24]) -> u64
+    requires laid { IsLayout evaluation.now.space.now evaluation.now.tree.now evaluation.now.fusion.now.0.items evaluation.now.layout.now.0.items }
+    requires inner { IsSlotAt evaluation.now.space.now evaluation.now.tree.now evaluation.now.fusion.now.0.items v (slice_index first.now) }
+    requires room { memory evaluation.now.space.now evaluation.now.tree.now evaluation.now.fusion.now.0.items ≤ length words.now }
+    ensures { result ≡ slot_word (slot_at evaluation.now.layout.now.0.items v) (slice_index first.now) }
+{
+    // The length of the block bounds all places.
+    let _len = words.len();
+    let slot = &evaluation.layout.0[v as usize];
+    if slot.size == 1 {
+        return slot.offset;
     }
+    slot_place(slot, first)
 }
 
 // Finds the window of an inner node's slot.
@@ -62,14 +52,11 @@ pub(crate) fn node_window(
 )
     requires laid { IsLayout evaluation.now.space.now evaluation.now.tree.now evaluation.now.fusion.now.0.items evaluation.now.layout.now.0.items }
     requires inner { IsSlotAt evaluation.now.space.now evaluation.now.tree.now evaluation.now.fusion.now.0.items v (slice_index first.now) }
+    requires steps { window.old.steps ≡ (slot_at evaluation.now.layout.now.0.items v).steps }
     requires room { memory evaluation.now.space.now evaluation.now.tree.now evaluation.now.fusion.now.0.items ≤ length words.now }
     ensures { IsSlotWindow (slot_at evaluation.now.layout.now.0.items v) (slice_index first.now) window.new }
 {
-    // The length of the block bounds all places.
-    let _len = words.len();
-    let slot = &evaluation.layout.0[v as usize];
-    window.first = slot_place(slot, first);
-    window.steps = slot.steps;
+    window.first = place_in_slot(evaluation, words, v, first);
 }
 
 // Finds the window of the tile in which the element of a tensor at the first turn lies. The tile is touched, with `write` for
@@ -89,6 +76,7 @@ fn touch_window<D: Disk>(
     requires known { All (λ i. i < 24) leaf.now.indexes.items }
     requires inside { IsInside (shape_over _evaluation.now.space.now leaf.now.indexes.items).extents (map (slice_index first.now) leaf.now.indexes.items) }
     requires writable { IsTrue write → IsWritable cache.old leaf.now.tensor }
+    requires steps { AreTensorSteps (shape_over _evaluation.now.space.now leaf.now.indexes.items) leaf.now.indexes.items window.old.steps }
     requires few { cache.old.touches + 1 ≤ 2 ^ 100 }
     ensures window { OnOk result (IsTouchedTile 1 cache.new leaf.now.tensor (shape_over _evaluation.now.space.now leaf.now.indexes.items)
         leaf.now.indexes.items (slice_index first.now) write window.new) }
@@ -101,9 +89,7 @@ fn touch_window<D: Disk>(
     let _len = words.len();
     let element = find_element(cache, leaf, first);
     let at = cache.touch(disk, words, leaf.tensor, element.tile, write)?;
-    let shape = &cache.array(leaf.tensor).shape;
     window.first = at + element.place;
-    window.steps = tile_steps(shape, leaf.indexes.as_slice());
     Ok(())
 }
 
@@ -119,6 +105,7 @@ pub(crate) fn operand_window<D: Disk>(
 ) -> Result<(), Failed>
     requires prepared { IsPrepared (workspace evaluation.now words.old cache.old (D.files disk.old)) }
     requires place { HasPlace (workspace evaluation.now words.old cache.old (D.files disk.old)) operand.now (slice_index first.now) }
+    requires steps { AreOperandSteps (workspace evaluation.now words.old cache.old (D.files disk.old)).places operand.now window.old.steps }
     requires few { cache.old.touches + 1 ≤ 2 ^ 100 }
     ensures window { OnOk result (IsOperandWindow 1 (workspace evaluation.now words.new cache.new (D.files disk.new)) operand.now (slice_index first.now) window.new) }
     ensures last { OnOk result (KeepsLast cache.old cache.new) }
@@ -151,6 +138,7 @@ pub(crate) fn place_window<D: Disk>(
 ) -> Result<(), Failed>
     requires prepared { IsPrepared (workspace evaluation.now words.old cache.old (D.files disk.old)) }
     requires place { IsPlaceOf (workspace evaluation.now words.old cache.old (D.files disk.old)) v (slice_index first.now) }
+    requires steps { ArePlaceSteps (workspace evaluation.now words.old cache.old (D.files disk.old)).places v window.old.steps }
     requires few { cache.old.touches + 1 ≤ 2 ^ 100 }
     ensures window { OnOk result (IsPlaceWindow 1 (workspace evaluation.now words.new cache.new (D.files disk.new)) v (slice_index first.now) window.new) }
     ensures last { OnOk result (KeepsLast cache.old cache.new) }
@@ -188,6 +176,8 @@ pub(crate) fn sum_windows<D: Disk>(
     requires prepared { IsPrepared (workspace evaluation.now words.old cache.old (D.files disk.old)) }
     requires node { IsNodeAt (setting_in (workspace evaluation.now words.old cache.old (D.files disk.old))) v (slice_index first.now) }
     requires free { reads_constant evaluation.now.tree.now (operation_of_node evaluation.now.tree.now v) ≡ false }
+    requires left_steps { AreOperandSteps (workspace evaluation.now words.old cache.old (D.files disk.old)).places (left_of evaluation.now.tree.now v) windows.old.left.steps }
+    requires out_steps { ArePlaceSteps (workspace evaluation.now words.old cache.old (D.files disk.old)).places v windows.old.out.steps }
     requires few { cache.old.touches + 2 ≤ 2 ^ 100 }
     ensures windows { OnOk result (AreSumWindows (workspace evaluation.now words.new cache.new (D.files disk.new)) (left_of evaluation.now.tree.now v) v (slice_index first.now) windows.new) }
     ensures read { OnOk result (IsRead 2 (workspace evaluation.now words.old cache.old (D.files disk.old)) (workspace evaluation.now words.new cache.new (D.files disk.new))) }
@@ -226,7 +216,11 @@ pub(crate) fn pair_windows<D: Disk>(
     requires free { reads_constant evaluation.now.tree.now (operation_of_node evaluation.now.tree.now v) ≡ false }
     requires right { right_of evaluation.now.tree.now v ≡ Some right.now }
     requires place { IsPlaceOf (workspace evaluation.now words.old cache.old (D.files disk.old)) out (slice_index first.now) }
+    requires left_steps { AreOperandSteps (workspace evaluation.now words.old cache.old (D.files disk.old)).places (left_of evaluation.now.tree.now v) windows.old.left.steps }
+    requires right_steps { AreOperandSteps (workspace evaluation.now words.old cache.old (D.files disk.old)).places right.now windows.old.right.steps }
+    requires out_steps { ArePlaceSteps (workspace evaluation.now words.old cache.old (D.files disk.old)).places out windows.old.out.steps }
     requires few { cache.old.touches + 3 ≤ 2 ^ 100 }
+    ensures own { windows.new.own ≡ windows.old.own }
     ensures windows { OnOk result (ArePairWindows (workspace evaluation.now words.new cache.new (D.files disk.new)) (left_of evaluation.now.tree.now v) right.now out (slice_index first.now) windows.new) }
     ensures read { OnOk result (IsRead 3 (workspace evaluation.now words.old cache.old (D.files disk.old)) (workspace evaluation.now words.new cache.new (D.files disk.new))) }
     ensures kept { IsKept (workspace evaluation.now words.old cache.old (D.files disk.old)) (workspace evaluation.now words.new cache.new (D.files disk.new)) }

@@ -1,5 +1,5 @@
 -- The loops along which a place moves, before those along which it stays.
-use Rattle.std.proofs.Common.{◌≡◌, ℕ, ◌+◌, ◌-◌, ◌*◌, ◌<◌, not, eqb, List, [], ◌∷◌, ◌++◌, map, filter, length, take, slice_index, sum_by, refl, sym, ap, ◌∙◌, subst, inl, inr, arith, zero-add, add-zero}
+use Rattle.std.proofs.Common.{◌≡◌, ℕ, ◌+◌, ◌-◌, ◌*◌, ◌<◌, not, eqb, List, [], ◌∷◌, ◌++◌, map, filter, length, slice_index, sum_by, refl, sym, ap, ◌∙◌, subst, inl, inr, arith, zero-add, add-zero}
 use Rattle.std.specs.List.{All}
 use Rattle.std.specs.List.Sorted.{IsPermutation}
 use Rattle.std.proofs.lemmas.Bool.{cases_Bool, eqb-true}
@@ -21,7 +21,7 @@ use Rattle.tce_windows.specs.Windows.{steps_along}
 use Rattle.tce_windows.specs.declared.nest.Axis.{Axis}
 use Rattle.tce_windows.specs.declared.window.Window.{Window}
 use Rattle.tce_windows.proofs.Calls.{positive_nest, within_nest, apart_nest, lens_are, out_are, left_are, right_are}
-use Rattle.tce_windows.proofs.Nests.{loops_in_front, same_numbers}
+use Rattle.tce_windows.proofs.Nests.{same_numbers}
 use Rattle.tce_windows.proofs.Stills.{lasts, within_split, apart_split, farthest_below, computed_split}
 
 abbrev pub kept_of : Window → List Axis → List Axis
@@ -255,11 +255,10 @@ some_axes order ns axes loops nest =
     all_some [] h = All-nil (λ (x : Axis). 0 < x.len)
     all_some (x ∷ axes) h = All-cons (λ (x : Axis). 0 < x.len) x axes h.0 (all_some axes h.1)
 
-pub runs_kept : (out left right : Window) (axes kept now moved paired other : List Axis) (xs : List Loop) (n f g : ℕ) → now ≡ axes → f ≡ left.first + sum_by (advanced out left) now
-    → other ≡ axes → g ≡ right.first + sum_by (advanced out right) other → moved ≡ axes → kept ≡ filter (moves out) moved → paired ≡ kept → n ≡ length kept
-    → take (length paired) xs ≡ map (pair_loop out left right) paired → RunsKept out left right axes (take n xs) f g
-runs_kept out left right axes kept now moved paired other xs n f g e at i there k filtered p l made = record {
-  loops_are = loops_in_front (pair_loop out left right) kept paired xs n p l made ∙ ap (map (pair_loop out left right)) (filtered ∙ ap (filter (moves out)) k);
+pub runs_kept : (out left right : Window) (axes now other moved : List Axis) (loops : List Loop) (f g : ℕ) → now ≡ axes → f ≡ left.first + sum_by (advanced out left) now
+    → other ≡ axes → g ≡ right.first + sum_by (advanced out right) other → moved ≡ axes → loops ≡ map (pair_loop out left right) (filter (moves out) moved) → RunsKept out left right axes loops f g
+runs_kept out left right axes now other moved loops f g e at i there k made = record {
+  loops_are = made ∙ ap (λ zs. map (pair_loop out left right) (filter (moves out) zs)) k;
   left_is = at ∙ ap (λ zs. left.first + sum_by (advanced out left) zs) e;
   right_is = there ∙ ap (λ zs. right.first + sum_by (advanced out right) zs) i;
 }

@@ -1,17 +1,18 @@
 -- Loops in the sequence in which they run.
-use Rattle.std.proofs.Common.{◌≡◌, ℕ, ◌+◌, ◌<◌, ◌≤◌, true, List, [], ◌∷◌, ◌++◌, map, length, take, drop, get_or, slice_set, refl, sym, ap, ap₂, ◌∙◌, subst, arith}
+use Rattle.std.proofs.Common.{◌≡◌, ℕ, zero, suc, ◌+◌, ◌<◌, ◌≤◌, true, List, [], ◌∷◌, ◌++◌, map, length, take, drop, get_or, slice_get, slice_index, slice_set, Some, refl, sym, ap, ap₂, ◌∙◌, subst, arith}
 use Rattle.std.specs.List.{All, refill}
 use Rattle.std.specs.List.Sorted.{IsPermutation}
 use Rattle.std.proofs.lemmas.Bool.{false≢true}
 use Rattle.std.proofs.lemmas.List.{take_more, take_more_set, take_all, take-append-le, map-append}
-use Rattle.std.proofs.lemmas.List.Elements.{All-cons, All-nil, All-head, All-tail, All-weaker}
+use Rattle.std.proofs.lemmas.List.Elements.{All-head, All-tail, All-weaker, All-map, All-same, All-push}
 use Rattle.std.proofs.lemmas.List.Sorted.{IsPermutation-map, All-permutation}
+use Rattle.std.proofs.lemmas.Option.{slice_get-get_or}
 use Rattle.tce_tree.specs.Value.{assignment}
 use Rattle.tce_tree.specs.WellFormed.{among, is_distinct}
 use Rattle.tce_tree.proofs.Lists.{among_first, among_later, distinct_first, distinct_later}
 use Rattle.tce_block.proofs.BoxSums.{with-same, with-other}
 use Rattle.tce_windows.specs.Loops.{AreLoops}
-use Rattle.tce_windows.specs.Nests.{IsNest, indexes_of, lens_of}
+use Rattle.tce_windows.specs.Nests.{IsNest, IsPlaced, ArePlaced, indexes_of, lens_of, with_len}
 use Rattle.tce_windows.specs.declared.nest.Axis.{Axis}
 
 -- one element more of a list whose elements are listed in turn
@@ -27,38 +28,75 @@ one_set f xs ys d x h l m =
     ∙ sym (map-append f (take d xs) (get_or xs d x ∷ []))
     ∙ ap (map f) (sym (take_more xs d x l))
 
--- an axis of the loops, with the loop's numbers
-abbrev IsAxis : List ℕ → List ℕ → Axis → Type 0
-IsAxis order lens x = (among order x.index ≡ true) × (x.len ≡ assignment order lens x.index)
-
-all_axes : (axes : List Axis) → is_distinct (indexes_of axes) ≡ true → All (IsAxis (indexes_of axes) (lens_of axes)) axes
-all_axes [] d = All-nil (IsAxis [] [])
-all_axes (x ∷ axes) d =
-    let order : List ℕ = indexes_of axes in
-    let lens : List ℕ = lens_of axes in
-    All-cons (IsAxis (x.index ∷ order) (x.len ∷ lens)) x axes (among_first x.index order, sym (with-same (assignment order lens) x.index x.len))
-    (All-weaker (IsAxis order lens) (IsAxis (x.index ∷ order) (x.len ∷ lens)) (λ y h. (
-      among_later x.index order y.index h.0,
-      h.1 ∙ sym (with-other (assignment order lens) x.index x.len y.index (λ e. false≢true (sym (distinct_first x.index order d) ∙ ap (among order) (sym e) ∙ h.0))),
-    ))
-    axes (all_axes axes (distinct_later x.index order d)))
-
 pub same_numbers : (count : ℕ → ℕ) (axes : List Axis) → All (λ (x : Axis). x.len ≡ count x.index) axes → lens_of axes ≡ map count (indexes_of axes)
 same_numbers count [] h = refl
 same_numbers count (x ∷ axes) h =
     ap₂ (λ y ys. y ∷ ys) (All-head (λ (x : Axis). x.len ≡ count x.index) x axes h) (same_numbers count axes (All-tail (λ (x : Axis). x.len ≡ count x.index) x axes h))
 
+-- an axis more, which stands at the next place
+pub placed_more : (loops : List ℕ) (axes now : List Axis) (d : ℕ) (x : Axis) → d < length loops → now ≡ axes ++ x ∷ [] → x.at ≡ d → x.index ≡ get_or loops d 0 → All (IsPlaced loops) axes → All (IsPlaced loops) now
+placed_more loops axes now d x low e at is h =
+    let here : slice_get loops x.at ≡ Some x.index = ap (slice_get loops) at ∙ slice_get-get_or loops d 0 low ∙ ap (λ i. Some i) (sym is) in
+    All-same (IsPlaced loops) now (axes ++ x ∷ []) e (All-push (IsPlaced loops) axes x h here)
+
+-- elements behind one that is set
+pub get_behind : {X : Type 0} (xs : List X) (i j : ℕ) (v : X) → i < j → slice_get (slice_set xs i v) j ≡ slice_get xs j
+get_behind [] i j v low = refl
+get_behind (x ∷ xs) zero zero v low = absurd (omega arith)
+get_behind (x ∷ xs) zero (suc j) v low = refl
+get_behind (x ∷ xs) (suc i) zero v low = absurd (omega arith)
+get_behind (x ∷ xs) (suc i) (suc j) v low = get_behind xs i j v (omega arith)
+
+-- an element that two lists share
+pub same_element : {X : Type 0} (xs ys : List X) (d : ℕ) (x : X) → d < length xs → d < length ys → slice_get xs d ≡ slice_get ys d → get_or xs d x ≡ get_or ys d x
+same_element xs ys d x low also e =
+    let here : Some (get_or xs d x) ≡ Some (get_or ys d x) = sym (slice_get-get_or xs d x low) ∙ e ∙ slice_get-get_or ys d x also in
+    cc
+
+-- the index of a loop at a place
+placed_among : (order : List ℕ) (k i : ℕ) → slice_get order k ≡ Some i → among order i ≡ true
+placed_among [] k i e = absurd (cc)
+placed_among (x ∷ order) zero i e = let same : x ≡ i = cc in ap (among (x ∷ order)) (sym same) ∙ among_first x order
+placed_among (x ∷ order) (suc k) i e = among_later x order i (placed_among order k i e)
+
+-- the loop at a place has its number
+number_at : (order lens : List ℕ) (k i : ℕ) → is_distinct order ≡ true → length lens ≡ length order → slice_get order k ≡ Some i → assignment order lens i ≡ slice_index lens k
+number_at [] lens k i d l e = absurd (cc)
+number_at (x ∷ order) [] k i d l e = absurd (omega arith)
+number_at (x ∷ order) (n ∷ lens) zero i d l e =
+    let same : x ≡ i = cc in
+    ap (assignment (x ∷ order) (n ∷ lens)) (sym same) ∙ with-same (assignment order lens) x n
+number_at (x ∷ order) (n ∷ lens) (suc k) i d l e =
+    with-other (assignment order lens) x n i (λ same. false≢true (sym (distinct_first x order d) ∙ ap (among order) (sym same) ∙ placed_among order k i e))
+    ∙ number_at order lens k i (distinct_later x order d) (omega arith) e
+
+-- axes with other numbers have the same indexes
+same_indexes : (lens : List ℕ) (axes : List Axis) → indexes_of (map (with_len lens) axes) ≡ indexes_of axes
+same_indexes lens [] = refl
+same_indexes lens (x ∷ axes) = ap (λ is. x.index ∷ is) (same_indexes lens axes)
+
 -- the axes of loops, in another sequence
-pub nest_from : (order lens : List ℕ) (axes sorted : List Axis) → AreLoops order lens → indexes_of axes ≡ order → lens_of axes ≡ lens → IsPermutation axes sorted → IsNest order lens sorted
-nest_from order lens axes sorted loops indexes numbers same =
-    let all : All (IsAxis order lens) axes =
-    subst (λ is. All (IsAxis is lens) axes) indexes (subst (λ ns. All (IsAxis (indexes_of axes) ns) axes) numbers (all_axes axes (ap is_distinct indexes ∙ loops.distinct))) in
-    let now : All (IsAxis order lens) sorted = All-permutation (IsAxis order lens) axes sorted same all in
-    record {
-      same = subst (λ is. IsPermutation is (indexes_of sorted)) indexes (IsPermutation-map (λ (x : Axis). x.index) axes sorted same);
-      numbers = (All-weaker (IsAxis order lens) (λ (x : Axis). x.len ≡ assignment order lens x.index) (λ x h. h.1) sorted now);
-      below = All-weaker (IsAxis order lens) (λ (x : Axis). x.index < 24) (λ x h. loops.below x.index h.0) sorted now;
-    }
+pub placed_from : (order : List ℕ) (axes sorted : List Axis) → indexes_of axes ≡ order → All (IsPlaced order) axes → IsPermutation axes sorted → ArePlaced order sorted
+placed_from order axes sorted indexes all same = record {
+  same = subst (λ is. IsPermutation is (indexes_of sorted)) indexes (IsPermutation-map (λ (x : Axis). x.index) axes sorted same);
+  placed = All-permutation (IsPlaced order) axes sorted same all;
+}
+
+-- the axes with the numbers of a block
+pub nest_now : (order lens : List ℕ) (axes : List Axis) → AreLoops order lens → ArePlaced order axes → IsNest order lens (map (with_len lens) axes)
+nest_now order lens axes loops placed = record {
+  same = subst (IsPermutation order) (sym (same_indexes lens axes)) placed.same;
+  numbers = All-map (λ (x : Axis). x.len ≡ assignment order lens x.index) (with_len lens) axes
+      (All-weaker (IsPlaced order) (λ (x : Axis). slice_index lens x.at ≡ assignment order lens x.index) (λ x h. sym (number_at order lens x.at x.index loops.distinct loops.as_many h)) axes placed.placed);
+  below = All-map (λ (x : Axis). x.index < 24) (with_len lens) axes
+      (All-weaker (IsPlaced order) (λ (x : Axis). x.index < 24) (λ x h. loops.below x.index (placed_among order x.at x.index h)) axes placed.placed);
+}
+
+pub placed_now : (order lens : List ℕ) (axes : List Axis) → ArePlaced order axes → ArePlaced order (map (with_len lens) axes)
+placed_now order lens axes placed = record {
+  same = subst (IsPermutation order) (sym (same_indexes lens axes)) placed.same;
+  placed = All-map (IsPlaced order) (with_len lens) axes placed.placed;
+}
 
 -- what a slice of a list holds after each of its elements was moved
 pub refill_whole : (n : ℕ) (xs ws : List Axis) → length ws ≡ n → refill n xs ws ≡ ws

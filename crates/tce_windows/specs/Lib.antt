@@ -3,4 +3,5 @@ pub mod Windows
 pub mod Loops
 pub mod Laws
 pub mod Nests
+pub mod Sequences
 pub mod Leaving

@@ -1,5 +1,5 @@
 -- Loops in the sequence in which they run.
-use Rattle.std.specs.Prelude.{◌≡◌, ℕ, ◌-◌, ◌*◌, ◌<◌, ◌==◌, Bool, not, if◌then◌else◌, List, map, slice_index}
+use Rattle.std.specs.Prelude.{◌≡◌, ℕ, ◌-◌, ◌*◌, ◌<◌, ◌==◌, Bool, not, if◌then◌else◌, List, map, slice_get, slice_index, Some}
 use Rattle.std.specs.List.{All}
 use Rattle.std.specs.List.Sorted.{IsPermutation}
 use Rattle.tce_tree.specs.Value.{assignment}
@@ -19,6 +19,19 @@ pub record IsNest (order lens : List ℕ) (axes : List Axis) : Type 0 where
   pub same : IsPermutation order (indexes_of axes)
   pub numbers : All (λ (x : Axis). x.len ≡ assignment order lens x.index) axes
   pub below : All (λ (x : Axis). x.index < 24) axes
+
+-- the loop that stands at the axis's place has its index
+abbrev pub IsPlaced : List ℕ → Axis → Type 0
+IsPlaced order x = slice_get order x.at ≡ Some x.index
+
+-- the loops in some sequence, each with its place
+pub record ArePlaced (order : List ℕ) (axes : List Axis) : Type 0 where
+  pub same : IsPermutation order (indexes_of axes)
+  pub placed : All (IsPlaced order) axes
+
+-- the axis with as many numbers as its loop has
+abbrev pub with_len : List ℕ → Axis → Axis
+with_len lens x = record x { len = slice_index lens x.at }
 
 -- a loop over one operand, and one over two
 abbrev pub sum_loop : Window → Window → Axis → SumLoop

@@ -2,16 +2,18 @@
 ghost use Rattle.std.specs.Prelude.{◌≡◌, ℕ, ◌<◌, ◌≤◌, List, length, map, take};
 ghost use Rattle.std.specs.List.{All};
 ghost use Rattle.tce_windows.specs.Loops.{AreLoops};
-ghost use Rattle.tce_windows.specs.Nests.{IsNest, indexes_of, lens_of, pair_loop, sum_loop};
+ghost use Rattle.tce_windows.specs.Nests.{ArePlaced, IsPlaced, indexes_of, with_len, pair_loop, sum_loop};
 
 use crate::window::Window;
 use arrayvec::ArrayVec;
 use tce_strides::{Loop, SumLoop};
 
-/// A loop: its index, how many numbers it has, and how far in it runs best.
+/// A loop: its index, where it stands among the loops, how many numbers it has in the block that runs, and how far in it
+/// runs best.
 #[derive(Clone, Copy, Debug, Default)]
 pub(crate) struct Axis {
     pub(crate) index: u8,
+    pub(crate) at: usize,
     pub(crate) len: u64,
     pub(crate) rank: u64,
 }
@@ -30,20 +32,22 @@ fn rank(len: u64, out: u64, left: u64, right: u64) -> u64 {
     class * 0x1_0000_0000 + len.min(0xffff_ffff)
 }
 
-fn ranked(index: u8, len: u64, out: &Window, left: &Window, right: &Window) -> Axis
+fn ranked(index: u8, at: usize, len: u64, out: &Window, left: &Window, right: &Window) -> Axis
     requires { index < 24 }
     ensures index { result.index ≡ index }
-    ensures len { result.len ≡ len }
+    ensures place { result.at ≡ at }
 {
     let i = index as usize;
     Axis {
         index,
+        at,
         len,
         rank: rank(len, out.steps[i], left.steps[i], right.steps[i]),
     }
 }
 
-fn axes_of(
+/// The loops in their own sequence, with ranks for these windows.
+pub(crate) fn axes_of(
     loops: &[u8],
     lens: &[u64],
     out: &Window,
@@ -53,43 +57,37 @@ fn axes_of(
     requires few { length loops.now ≤ 10 }
     requires loops { AreLoops loops.now lens.now }
     ensures indexes { indexes_of result.items ≡ loops.now }
-    ensures lens { lens_of result.items ≡ lens.now }
+    ensures placed { All (IsPlaced loops.now) result.items }
 {
     let mut axes = ArrayVec::new();
     for d in 0..loops.len() {
-        axes.push(ranked(loops[d], lens[d], out, left, right));
+        axes.push(ranked(loops[d], d, lens[d], out, left, right));
     }
     axes
 }
 
-/// The loops in the sequence in which they run best over these windows, the last one innermost.
-pub(crate) fn nest(
-    loops: &[u8],
-    lens: &[u64],
-    out: &Window,
-    left: &Window,
-    right: &Window,
-) -> ArrayVec<Axis, 10>
-    requires few { length loops.now ≤ 10 }
-    requires loops { AreLoops loops.now lens.now }
-    ensures { IsNest loops.now lens.now result.items }
+/// Gives each loop its numbers in a block.
+pub(crate) fn set_lens(axes: &mut [Axis], _loops: &[u8], lens: &[u64])
+    requires placed { ArePlaced _loops.now axes.old }
+    requires each { length lens.now ≡ length _loops.now }
+    ensures { axes.new ≡ map (with_len lens.now) axes.old }
 {
-    let mut axes = axes_of(loops, lens, out, left, right);
-    axes.sort_unstable_by_key(|axis| axis.rank);
-    axes
+    for d in 0..axes.len() {
+        axes[d].len = lens[axes[d].at];
+    }
 }
 
-/// The loops over a result and one operand, and behind them others that mean nothing.
-pub(crate) fn sum_loops(axes: &[Axis], out: &Window, operand: &Window) -> [SumLoop; 10]
+/// Puts the loops over a result and one operand at the front of a list.
+pub(crate) fn fill_sum_loops(
+    axes: &[Axis],
+    out: &Window,
+    operand: &Window,
+    loops: &mut [SumLoop; 10],
+)
     requires few { length axes.now ≤ 10 }
     requires below { All (λ x. x.index < 24) axes.now }
-    ensures { take (length axes.now) result ≡ map (sum_loop out.now operand.now) axes.now }
+    ensures { take (length axes.now) loops.new ≡ map (sum_loop out.now operand.now) axes.now }
 {
-    let mut loops = [SumLoop {
-        len: 1,
-        out: 0,
-        operand: 0,
-    }; 10];
     for d in 0..axes.len() {
         let i = axes[d].index as usize;
         loops[d] = SumLoop {
@@ -98,21 +96,20 @@ pub(crate) fn sum_loops(axes: &[Axis], out: &Window, operand: &Window) -> [SumLo
             operand: operand.steps[i],
         };
     }
-    loops
 }
 
-/// The loops over a result and two operands, and behind them others that mean nothing.
-pub(crate) fn pair_loops(axes: &[Axis], out: &Window, left: &Window, right: &Window) -> [Loop; 10]
+/// Puts the loops over a result and two operands at the front of a list.
+pub(crate) fn fill_pair_loops(
+    axes: &[Axis],
+    out: &Window,
+    left: &Window,
+    right: &Window,
+    loops: &mut [Loop; 10],
+)
     requires few { length axes.now ≤ 10 }
     requires below { All (λ x. x.index < 24) axes.now }
-    ensures { take (length axes.now) result ≡ map (pair_loop out.now left.now right.now) axes.now }
+    ensures { take (length axes.now) loops.new ≡ map (pair_loop out.now left.now right.now) axes.now }
 {
-    let mut loops = [Loop {
-        len: 1,
-        out: 0,
-        left: 0,
-        right: 0,
-    }; 10];
     for d in 0..axes.len() {
         let i = axes[d].index as usize;
         loops[d] = Loop {
@@ -122,5 +119,4 @@ pub(crate) fn pair_loops(axes: &[Axis], out: &Window, left: &Window, right: &Win
             right: right.steps[i],
         };
     }
-    loops
 }

@@ -1,25 +1,39 @@
 // Loops along which the place of a result stays: of what is put there, only that of their last turns counts.
-ghost use Rattle.std.specs.Prelude.{◌≡◌, ℕ, ◌+◌, ◌<◌, ◌≤◌, ◌^◌, length, sum_by};
+ghost use Rattle.std.specs.Prelude.{◌≡◌, ℕ, ◌+◌, ◌<◌, ◌≤◌, ◌^◌, length, map, take, sum_by};
 ghost use Rattle.std.specs.List.{All, filter};
-ghost use Rattle.tce_windows.specs.Nests.{advanced, moves};
+ghost use Rattle.tce_windows.specs.Nests.{advanced, moves, pair_loop};
 
 use crate::nest::Axis;
 use crate::window::Window;
-use arrayvec::ArrayVec;
+use tce_strides::Loop;
 
-/// The loops along which the place of the result moves.
-pub(crate) fn moving(axes: &[Axis], out: &Window) -> ArrayVec<Axis, 10>
+/// Puts the loops along which the place of the result moves at the front of a list, and answers how many they are.
+pub(crate) fn fill_moving_loops(
+    axes: &[Axis],
+    out: &Window,
+    left: &Window,
+    right: &Window,
+    loops: &mut [Loop; 10],
+) -> usize
     requires few { length axes.now ≤ 10 }
     requires below { All (λ x. x.index < 24) axes.now }
-    ensures { result.items ≡ filter (moves out.now) axes.now }
+    ensures few { result ≤ 10 }
+    ensures loops { take result loops.new ≡ map (pair_loop out.now left.now right.now) (filter (moves out.now) axes.now) }
 {
-    let mut kept = ArrayVec::new();
+    let mut count = 0;
     for axis in axes {
-        if out.steps[axis.index as usize] != 0 {
-            kept.push(*axis);
+        let i = axis.index as usize;
+        if out.steps[i] != 0 {
+            loops[count] = Loop {
+                len: axis.len,
+                out: out.steps[i],
+                left: left.steps[i],
+                right: right.steps[i],
+            };
+            count += 1;
         }
     }
-    kept
+    count
 }
 
 fn advance(axis: Axis, out: &Window, window: &Window) -> u64

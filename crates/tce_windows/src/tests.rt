@@ -1,7 +1,7 @@
 //! Small blocks, with results by hand.
 ghost use Rattle.std.specs.Prelude.{◌≡◌, ◌+◌, ◌<◌, length, IfOk};
 
-use crate::{Window, compute, grow, grow_by_products, laws};
+use crate::{LoopSequence, Window, compute, grow, grow_by_products, laws};
 use std::alloc::AllocError;
 use std::process::Abort;
 use std::test::Fail;
@@ -92,16 +92,26 @@ fn multiply(words: &mut Words)
     requires { length words.old ≡ 24 }
     ensures { length words.new ≡ 24 }
 {
-    grow_by_products(
-        words,
+    let mut sequence = LoopSequence::of(
         &[ROW, COLUMN, BETWEEN],
-        &[2, 2, 3],
+        &[1, 1, 9],
         &PRODUCT,
         &LEFT,
         &RIGHT,
     );
     grow_by_products(
         words,
+        &mut sequence,
+        &[ROW, COLUMN, BETWEEN],
+        &[2, 2, 3],
+        &PRODUCT,
+        &LEFT,
+        &RIGHT,
+    );
+    let mut other = LoopSequence::of(&[BETWEEN, ROW, COLUMN], &[3, 2, 2], &PRODUCT, &LEFT, &RIGHT);
+    grow_by_products(
+        words,
+        &mut other,
         &[BETWEEN, ROW, COLUMN],
         &[3, 2, 2],
         &PRODUCT,
@@ -115,8 +125,10 @@ fn sum_rows(words: &mut Words)
     requires { length words.old ≡ 24 }
     ensures { length words.new ≡ 24 }
 {
-    grow(words, &[BETWEEN, ROW], &[3, 2], &SUMS, &LEFT);
-    grow(words, &[], &[], &SUMS, &LEFT);
+    let mut sequence = LoopSequence::of(&[BETWEEN, ROW], &[3, 2], &SUMS, &LEFT, &LEFT);
+    grow(words, &mut sequence, &[BETWEEN, ROW], &[3, 2], &SUMS, &LEFT);
+    let mut none = LoopSequence::of(&[], &[], &SUMS, &LEFT, &LEFT);
+    grow(words, &mut none, &[], &[], &SUMS, &LEFT);
 }
 
 // The last products in the rows, and the differences of the rows.
@@ -124,18 +136,22 @@ fn put_results(words: &mut Words)
     requires { length words.old ≡ 24 }
     ensures { length words.new ≡ 24 }
 {
+    let mut sequence = LoopSequence::of(&[BETWEEN, ROW], &[3, 2], &LAST, &LEFT, &RIGHT);
     compute(
         words,
         Operation::Multiply,
+        &mut sequence,
         &[BETWEEN, ROW],
         &[3, 2],
         &LAST,
         &LEFT,
         &RIGHT,
     );
+    let mut alone = LoopSequence::of(&[BETWEEN], &[3], &DIFFERENCES, &SECOND_ROW, &LEFT);
     compute(
         words,
         Operation::Subtract,
+        &mut alone,
         &[BETWEEN],
         &[3],
         &DIFFERENCES,

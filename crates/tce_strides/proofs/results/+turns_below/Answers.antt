@@ -1,9 +1,11 @@
-use Rattle.std.proofs.Common.{◌≡◌, ◌-◌, [], ◌∷◌, length, get_or, take, drop, subst, ap, arith}
+use Rattle.std.proofs.Common.{◌≡◌, ◌-◌, [], ◌∷◌, length, get_or, take, drop, subst, sym, ap, arith}
+use Rattle.tce_space.specs.Box.{places}
 use Rattle.tce_space.specs.Tiling.{ArePositive}
 use Rattle.tce_strides.specs.declared.loops.Loop.{Loop}
 use Rattle.tce_strides.specs.Places.{word_place, AreWithin, AreApart}
 use Rattle.tce_strides.specs.Steps.{lens, out_steps, left_steps, right_steps}
-use Rattle.tce_strides.proofs.Outer.{TurnFit, no_loop, one_loop, more_loops, turn_rest, turn_bases, turn_turns_more}
+use Rattle.tce_strides.specs.Turns.{IsMade, turned}
+use Rattle.tce_strides.proofs.Outer.{TurnFit, no_loop, one_loop, two_loops, more_loops, turn_rest, turn_bases, turn_turns_more}
 use Rattle.tce_strides.proofs.results.+turns_below.Goals as goal
 
 pub turn_once-requires-clause-out : goal.turn_once-requires-clause-out
@@ -53,6 +55,37 @@ pub turn_along-requires-clause-apart_from_right : goal.turn_along-requires-claus
 turn_along-requires-clause-apart_from_right t c =
     let none : Loop = record { len = 0; out = 0; left = 0; right = 0 } in
     subst (λ ls. AreApart (lens ls) (word_place c.args.out (out_steps ls)) (word_place c.args.right (right_steps ls))) (one_loop none c.args.loops.now c.in-len1.len_at_least c.in-len1.len_below) c.requires.apart_from_right
+
+pub turns_in_rows-requires-clause-out : goal.turns_in_rows-requires-clause-out
+turns_in_rows-requires-clause-out t c =
+    let none : Loop = record { len = 0; out = 0; left = 0; right = 0 } in
+    subst (λ ls. AreWithin (length c.args.words.now) (lens ls) (word_place c.args.out (out_steps ls))) (two_loops none c.args.loops.now c.in-len2.len_at_least c.in-len2.len_below) c.requires.out
+
+pub turns_in_rows-requires-clause-left : goal.turns_in_rows-requires-clause-left
+turns_in_rows-requires-clause-left t c =
+    let none : Loop = record { len = 0; out = 0; left = 0; right = 0 } in
+    subst (λ ls. AreWithin (length c.args.words.now) (lens ls) (word_place c.args.left (left_steps ls))) (two_loops none c.args.loops.now c.in-len2.len_at_least c.in-len2.len_below) c.requires.left
+
+pub turns_in_rows-requires-clause-right : goal.turns_in_rows-requires-clause-right
+turns_in_rows-requires-clause-right t c =
+    let none : Loop = record { len = 0; out = 0; left = 0; right = 0 } in
+    subst (λ ls. AreWithin (length c.args.words.now) (lens ls) (word_place c.args.right (right_steps ls))) (two_loops none c.args.loops.now c.in-len2.len_at_least c.in-len2.len_below) c.requires.right
+
+pub turns_in_rows-requires-clause-apart_from_left : goal.turns_in_rows-requires-clause-apart_from_left
+turns_in_rows-requires-clause-apart_from_left t c =
+    let none : Loop = record { len = 0; out = 0; left = 0; right = 0 } in
+    subst (λ ls. AreApart (lens ls) (word_place c.args.out (out_steps ls)) (word_place c.args.left (left_steps ls))) (two_loops none c.args.loops.now c.in-len2.len_at_least c.in-len2.len_below) c.requires.apart_from_left
+
+pub turns_in_rows-requires-clause-apart_from_right : goal.turns_in_rows-requires-clause-apart_from_right
+turns_in_rows-requires-clause-apart_from_right t c =
+    let none : Loop = record { len = 0; out = 0; left = 0; right = 0 } in
+    subst (λ ls. AreApart (lens ls) (word_place c.args.out (out_steps ls)) (word_place c.args.right (right_steps ls))) (two_loops none c.args.loops.now c.in-len2.len_at_least c.in-len2.len_below) c.requires.apart_from_right
+
+pub returns-in-len2 : goal.returns-in-len2
+returns-in-len2 t c =
+    let none : Loop = record { len = 0; out = 0; left = 0; right = 0 } in
+    subst (λ ls. IsMade (turned c.args.turn c.args.words.now (word_place c.args.left (left_steps ls)) (word_place c.args.right (right_steps ls))) (word_place c.args.out (out_steps ls)) (places (lens ls)) c.args.words.now c.turns_in_rows.new.words)
+    (sym (two_loops none c.args.loops.now c.in-len2.len_at_least c.in-len2.len_below)) c.turns_in_rows.ensures
 
 pub overflow_mul-x : goal.overflow_mul-x
 overflow_mul-x t c =

@@ -6,25 +6,10 @@ use Rattle.tce_walk.specs.Machine.{assignment_of}
 use Rattle.tce_workspace.specs.Workspace.{Workspace, workspace}
 use Rattle.tce_workspace.proofs.Operating.{own_place}
 use Rattle.tce_tails.proofs.Turning.{IsAtBlock, block_loops}
-use Rattle.tce_tails.proofs.Asking.{block_begins, node_at_first, not_sum}
+use Rattle.tce_tails.proofs.Asking.{node_at_first, not_sum}
+use Rattle.tce_tails.proofs.Stepping.{pair_steps}
 use Rattle.tce_tails.proofs.Running.{operands_ready, own_ready, pair_runs}
 use Rattle.tce_tails.proofs.block.run_pair.Goals as goal
-
-pub first_turn-first-requires-clause-loops : goal.first_turn-first-requires-clause-loops
-first_turn-first-requires-clause-loops g c =
-    let x : Workspace = workspace c.args.evaluation.now c.args.words.now c.args.cache.now (g.D.Disk.files c.args.disk.now) in
-    let a : Assignment = assignment_of c.args.numbers.now in
-    let part : Part = part_of c.args.block.now in
-    let h : IsAtBlock x c.args.tail.now a part = record { space = c.index_count-indexes.ensures.limits; tree = c.count-nodes.ensures.kept; prepared = c.requires.prepared; tail_is = c.requires.tail; block = c.requires.block } in
-    block_loops x c.args.tail.now a part h
-
-pub first_turn-first-requires-clause-each : goal.first_turn-first-requires-clause-each
-first_turn-first-requires-clause-each g c =
-    let x : Workspace = workspace c.args.evaluation.now c.args.words.now c.args.cache.now (g.D.Disk.files c.args.disk.now) in
-    let a : Assignment = assignment_of c.args.numbers.now in
-    let part : Part = part_of c.args.block.now in
-    let h : IsAtBlock x c.args.tail.now a part = record { space = c.index_count-indexes.ensures.limits; tree = c.count-nodes.ensures.kept; prepared = c.requires.prepared; tail_is = c.requires.tail; block = c.requires.block } in
-    block_begins x c.args.tail.now a part h
 
 pub pair_windows-requires-clause-node : goal.pair_windows-requires-clause-node
 pair_windows-requires-clause-node g c =
@@ -32,7 +17,7 @@ pair_windows-requires-clause-node g c =
     let a : Assignment = assignment_of c.args.numbers.now in
     let part : Part = part_of c.args.block.now in
     let h : IsAtBlock x c.args.tail.now a part = record { space = c.index_count-indexes.ensures.limits; tree = c.count-nodes.ensures.kept; prepared = c.requires.prepared; tail_is = c.requires.tail; block = c.requires.block } in
-    node_at_first x c.args.tail.now a part (slice_index c.first_turn-first.result) h c.first_turn-first.ensures
+    node_at_first x c.args.tail.now a part (slice_index c.args.first.now) h c.requires.first
 
 pub pair_windows-requires-clause-place : goal.pair_windows-requires-clause-place
 pair_windows-requires-clause-place g c =
@@ -40,7 +25,7 @@ pair_windows-requires-clause-place g c =
     let a : Assignment = assignment_of c.args.numbers.now in
     let part : Part = part_of c.args.block.now in
     let h : IsAtBlock x c.args.tail.now a part = record { space = c.index_count-indexes.ensures.limits; tree = c.count-nodes.ensures.kept; prepared = c.requires.prepared; tail_is = c.requires.tail; block = c.requires.block } in
-    own_place x c.args.tail.now.node (slice_index c.first_turn-first.result) (node_at_first x c.args.tail.now a part (slice_index c.first_turn-first.result) h c.first_turn-first.ensures)
+    own_place x c.args.tail.now.node (slice_index c.args.first.now) (node_at_first x c.args.tail.now a part (slice_index c.args.first.now) h c.requires.first)
 
 pub operation_of-operation-requires : goal.operation_of-operation-requires
 operation_of-operation-requires g c =
@@ -62,9 +47,9 @@ compute_turns-requires-clause-out g c =
     let a : Assignment = assignment_of c.args.numbers.now in
     let part : Part = part_of c.args.block.now in
     let h : IsAtBlock x c.args.tail.now a part = record { space = c.index_count-indexes.ensures.limits; tree = c.count-nodes.ensures.kept; prepared = c.requires.prepared; tail_is = c.requires.tail; block = c.requires.block } in
-    let ready = operands_ready x y c.args.tail.now a part c.args.right.now c.args.tail.now.node (slice_index c.first_turn-first.result) c.pair_windows.new.windows h c.in_ok-pair_windows.ensures.kept c.in_ok-pair_windows.ensures.read
-    c.first_turn-first.ensures c.requires.right c.in_ok-pair_windows.ensures.windows in
-    let places = own_ready y c.args.tail.now a part c.args.right.now (slice_index c.first_turn-first.result) c.pair_windows.new.windows ready c.first_turn-first.ensures c.in_ok-pair_windows.ensures.windows in
+    let ready = operands_ready x y c.args.tail.now a part c.args.right.now c.args.tail.now.node (slice_index c.args.first.now) c.pair_windows.new.windows h c.in_ok-pair_windows.ensures.kept c.in_ok-pair_windows.ensures.read
+    c.requires.first c.requires.right c.in_ok-pair_windows.ensures.windows in
+    let places = own_ready y c.args.tail.now a part c.args.right.now (slice_index c.args.first.now) c.pair_windows.new.windows ready c.requires.first c.in_ok-pair_windows.ensures.windows in
     places.out_is
 
 pub compute_turns-requires-clause-left : goal.compute_turns-requires-clause-left
@@ -74,8 +59,8 @@ compute_turns-requires-clause-left g c =
     let a : Assignment = assignment_of c.args.numbers.now in
     let part : Part = part_of c.args.block.now in
     let h : IsAtBlock x c.args.tail.now a part = record { space = c.index_count-indexes.ensures.limits; tree = c.count-nodes.ensures.kept; prepared = c.requires.prepared; tail_is = c.requires.tail; block = c.requires.block } in
-    let ready = operands_ready x y c.args.tail.now a part c.args.right.now c.args.tail.now.node (slice_index c.first_turn-first.result) c.pair_windows.new.windows h c.in_ok-pair_windows.ensures.kept c.in_ok-pair_windows.ensures.read
-    c.first_turn-first.ensures c.requires.right c.in_ok-pair_windows.ensures.windows in
+    let ready = operands_ready x y c.args.tail.now a part c.args.right.now c.args.tail.now.node (slice_index c.args.first.now) c.pair_windows.new.windows h c.in_ok-pair_windows.ensures.kept c.in_ok-pair_windows.ensures.read
+    c.requires.first c.requires.right c.in_ok-pair_windows.ensures.windows in
     ready.left_in
 
 pub compute_turns-requires-clause-right : goal.compute_turns-requires-clause-right
@@ -85,8 +70,8 @@ compute_turns-requires-clause-right g c =
     let a : Assignment = assignment_of c.args.numbers.now in
     let part : Part = part_of c.args.block.now in
     let h : IsAtBlock x c.args.tail.now a part = record { space = c.index_count-indexes.ensures.limits; tree = c.count-nodes.ensures.kept; prepared = c.requires.prepared; tail_is = c.requires.tail; block = c.requires.block } in
-    let ready = operands_ready x y c.args.tail.now a part c.args.right.now c.args.tail.now.node (slice_index c.first_turn-first.result) c.pair_windows.new.windows h c.in_ok-pair_windows.ensures.kept c.in_ok-pair_windows.ensures.read
-    c.first_turn-first.ensures c.requires.right c.in_ok-pair_windows.ensures.windows in
+    let ready = operands_ready x y c.args.tail.now a part c.args.right.now c.args.tail.now.node (slice_index c.args.first.now) c.pair_windows.new.windows h c.in_ok-pair_windows.ensures.kept c.in_ok-pair_windows.ensures.read
+    c.requires.first c.requires.right c.in_ok-pair_windows.ensures.windows in
     ready.right_in
 
 pub compute_turns-requires-clause-apart_from_left : goal.compute_turns-requires-clause-apart_from_left
@@ -96,9 +81,9 @@ compute_turns-requires-clause-apart_from_left g c =
     let a : Assignment = assignment_of c.args.numbers.now in
     let part : Part = part_of c.args.block.now in
     let h : IsAtBlock x c.args.tail.now a part = record { space = c.index_count-indexes.ensures.limits; tree = c.count-nodes.ensures.kept; prepared = c.requires.prepared; tail_is = c.requires.tail; block = c.requires.block } in
-    let ready = operands_ready x y c.args.tail.now a part c.args.right.now c.args.tail.now.node (slice_index c.first_turn-first.result) c.pair_windows.new.windows h c.in_ok-pair_windows.ensures.kept c.in_ok-pair_windows.ensures.read
-    c.first_turn-first.ensures c.requires.right c.in_ok-pair_windows.ensures.windows in
-    let places = own_ready y c.args.tail.now a part c.args.right.now (slice_index c.first_turn-first.result) c.pair_windows.new.windows ready c.first_turn-first.ensures c.in_ok-pair_windows.ensures.windows in
+    let ready = operands_ready x y c.args.tail.now a part c.args.right.now c.args.tail.now.node (slice_index c.args.first.now) c.pair_windows.new.windows h c.in_ok-pair_windows.ensures.kept c.in_ok-pair_windows.ensures.read
+    c.requires.first c.requires.right c.in_ok-pair_windows.ensures.windows in
+    let places = own_ready y c.args.tail.now a part c.args.right.now (slice_index c.args.first.now) c.pair_windows.new.windows ready c.requires.first c.in_ok-pair_windows.ensures.windows in
     places.from_left
 
 pub compute_turns-requires-clause-apart_from_right : goal.compute_turns-requires-clause-apart_from_right
@@ -108,9 +93,9 @@ compute_turns-requires-clause-apart_from_right g c =
     let a : Assignment = assignment_of c.args.numbers.now in
     let part : Part = part_of c.args.block.now in
     let h : IsAtBlock x c.args.tail.now a part = record { space = c.index_count-indexes.ensures.limits; tree = c.count-nodes.ensures.kept; prepared = c.requires.prepared; tail_is = c.requires.tail; block = c.requires.block } in
-    let ready = operands_ready x y c.args.tail.now a part c.args.right.now c.args.tail.now.node (slice_index c.first_turn-first.result) c.pair_windows.new.windows h c.in_ok-pair_windows.ensures.kept c.in_ok-pair_windows.ensures.read
-    c.first_turn-first.ensures c.requires.right c.in_ok-pair_windows.ensures.windows in
-    let places = own_ready y c.args.tail.now a part c.args.right.now (slice_index c.first_turn-first.result) c.pair_windows.new.windows ready c.first_turn-first.ensures c.in_ok-pair_windows.ensures.windows in
+    let ready = operands_ready x y c.args.tail.now a part c.args.right.now c.args.tail.now.node (slice_index c.args.first.now) c.pair_windows.new.windows h c.in_ok-pair_windows.ensures.kept c.in_ok-pair_windows.ensures.read
+    c.requires.first c.requires.right c.in_ok-pair_windows.ensures.windows in
+    let places = own_ready y c.args.tail.now a part c.args.right.now (slice_index c.args.first.now) c.pair_windows.new.windows ready c.requires.first c.in_ok-pair_windows.ensures.windows in
     places.from_right
 
 pub returns-clause-changed : goal.returns-clause-changed
@@ -120,11 +105,11 @@ returns-clause-changed g c =
     let a : Assignment = assignment_of c.args.numbers.now in
     let part : Part = part_of c.args.block.now in
     let h : IsAtBlock x c.args.tail.now a part = record { space = c.index_count-indexes.ensures.limits; tree = c.count-nodes.ensures.kept; prepared = c.requires.prepared; tail_is = c.requires.tail; block = c.requires.block } in
-    let ready = operands_ready x y c.args.tail.now a part c.args.right.now c.args.tail.now.node (slice_index c.first_turn-first.result) c.pair_windows.new.windows h c.in_ok-pair_windows.ensures.kept c.in_ok-pair_windows.ensures.read
-    c.first_turn-first.ensures c.requires.right c.in_ok-pair_windows.ensures.windows in
-    let places = own_ready y c.args.tail.now a part c.args.right.now (slice_index c.first_turn-first.result) c.pair_windows.new.windows ready c.first_turn-first.ensures c.in_ok-pair_windows.ensures.windows in
+    let ready = operands_ready x y c.args.tail.now a part c.args.right.now c.args.tail.now.node (slice_index c.args.first.now) c.pair_windows.new.windows h c.in_ok-pair_windows.ensures.kept c.in_ok-pair_windows.ensures.read
+    c.requires.first c.requires.right c.in_ok-pair_windows.ensures.windows in
+    let places = own_ready y c.args.tail.now a part c.args.right.now (slice_index c.args.first.now) c.pair_windows.new.windows ready c.requires.first c.in_ok-pair_windows.ensures.windows in
     (pair_runs x y c.args.tail.now a part c.args.right.now c.operation_of-operation.result c.kind.result c.pair_windows.new.windows c.compute_turns.new.words c.requires.prepared c.in_ok-pair_windows.ensures.kept
-    c.in_ok-pair_windows.ensures.read ready places c.len-len.ensures.words c.requires.alone c.kind.ensures c.operation_of-operation.ensures c.compute_turns.ensures).changed
+    c.in_ok-pair_windows.ensures.read ready places c.len-len.ensures.words c.requires.alone c.kind.ensures c.operation_of-operation.ensures c.compute_turns.ensures.made).changed
 
 pub returns-clause-kept : goal.returns-clause-kept
 returns-clause-kept g c =
@@ -133,8 +118,19 @@ returns-clause-kept g c =
     let a : Assignment = assignment_of c.args.numbers.now in
     let part : Part = part_of c.args.block.now in
     let h : IsAtBlock x c.args.tail.now a part = record { space = c.index_count-indexes.ensures.limits; tree = c.count-nodes.ensures.kept; prepared = c.requires.prepared; tail_is = c.requires.tail; block = c.requires.block } in
-    let ready = operands_ready x y c.args.tail.now a part c.args.right.now c.args.tail.now.node (slice_index c.first_turn-first.result) c.pair_windows.new.windows h c.in_ok-pair_windows.ensures.kept c.in_ok-pair_windows.ensures.read
-    c.first_turn-first.ensures c.requires.right c.in_ok-pair_windows.ensures.windows in
-    let places = own_ready y c.args.tail.now a part c.args.right.now (slice_index c.first_turn-first.result) c.pair_windows.new.windows ready c.first_turn-first.ensures c.in_ok-pair_windows.ensures.windows in
+    let ready = operands_ready x y c.args.tail.now a part c.args.right.now c.args.tail.now.node (slice_index c.args.first.now) c.pair_windows.new.windows h c.in_ok-pair_windows.ensures.kept c.in_ok-pair_windows.ensures.read
+    c.requires.first c.requires.right c.in_ok-pair_windows.ensures.windows in
+    let places = own_ready y c.args.tail.now a part c.args.right.now (slice_index c.args.first.now) c.pair_windows.new.windows ready c.requires.first c.in_ok-pair_windows.ensures.windows in
     (pair_runs x y c.args.tail.now a part c.args.right.now c.operation_of-operation.result c.kind.result c.pair_windows.new.windows c.compute_turns.new.words c.requires.prepared c.in_ok-pair_windows.ensures.kept
-    c.in_ok-pair_windows.ensures.read ready places c.len-len.ensures.words c.requires.alone c.kind.ensures c.operation_of-operation.ensures c.compute_turns.ensures).kept
+    c.in_ok-pair_windows.ensures.read ready places c.len-len.ensures.words c.requires.alone c.kind.ensures c.operation_of-operation.ensures c.compute_turns.ensures.made).kept
+
+pub returns-clause-steps : goal.returns-clause-steps
+returns-clause-steps g c =
+    let y : Workspace = workspace c.args.evaluation.now c.pair_windows.new.words c.pair_windows.new.cache (g.D.Disk.files c.pair_windows.new.disk) in
+    pair_steps y c.args.tail.now c.args.right.now (slice_index c.args.first.now) c.pair_windows.new.windows c.requires.right c.requires.alone c.in_ok-pair_windows.ensures.windows
+
+pub pair_windows-requires-clause-right_steps : goal.pair_windows-requires-clause-right_steps
+pair_windows-requires-clause-right_steps g c = c.requires.steps.right_are c.args.right.now c.requires.right
+
+pub pair_windows-requires-clause-out_steps : goal.pair_windows-requires-clause-out_steps
+pair_windows-requires-clause-out_steps g c = c.requires.steps.pair_are c.args.right.now c.requires.right c.requires.alone

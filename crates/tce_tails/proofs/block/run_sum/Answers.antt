@@ -5,25 +5,10 @@ use Rattle.tce_block.specs.Parts.{Part}
 use Rattle.tce_walk.specs.Machine.{assignment_of}
 use Rattle.tce_workspace.specs.Workspace.{Workspace, workspace}
 use Rattle.tce_tails.proofs.Turning.{IsAtBlock, block_loops}
-use Rattle.tce_tails.proofs.Asking.{block_begins, node_at_first}
+use Rattle.tce_tails.proofs.Asking.{node_at_first}
+use Rattle.tce_tails.proofs.Stepping.{sum_steps}
 use Rattle.tce_tails.proofs.Running.{sum_ready, sum_runs}
 use Rattle.tce_tails.proofs.block.run_sum.Goals as goal
-
-pub first_turn-first-requires-clause-loops : goal.first_turn-first-requires-clause-loops
-first_turn-first-requires-clause-loops g c =
-    let x : Workspace = workspace c.args.evaluation.now c.args.words.now c.args.cache.now (g.D.Disk.files c.args.disk.now) in
-    let a : Assignment = assignment_of c.args.numbers.now in
-    let part : Part = part_of c.args.block.now in
-    let h : IsAtBlock x c.args.tail.now a part = record { space = c.index_count-indexes.ensures.limits; tree = c.count-nodes.ensures.kept; prepared = c.requires.prepared; tail_is = c.requires.tail; block = c.requires.block } in
-    block_loops x c.args.tail.now a part h
-
-pub first_turn-first-requires-clause-each : goal.first_turn-first-requires-clause-each
-first_turn-first-requires-clause-each g c =
-    let x : Workspace = workspace c.args.evaluation.now c.args.words.now c.args.cache.now (g.D.Disk.files c.args.disk.now) in
-    let a : Assignment = assignment_of c.args.numbers.now in
-    let part : Part = part_of c.args.block.now in
-    let h : IsAtBlock x c.args.tail.now a part = record { space = c.index_count-indexes.ensures.limits; tree = c.count-nodes.ensures.kept; prepared = c.requires.prepared; tail_is = c.requires.tail; block = c.requires.block } in
-    block_begins x c.args.tail.now a part h
 
 pub sum_windows-requires-clause-node : goal.sum_windows-requires-clause-node
 sum_windows-requires-clause-node g c =
@@ -31,7 +16,7 @@ sum_windows-requires-clause-node g c =
     let a : Assignment = assignment_of c.args.numbers.now in
     let part : Part = part_of c.args.block.now in
     let h : IsAtBlock x c.args.tail.now a part = record { space = c.index_count-indexes.ensures.limits; tree = c.count-nodes.ensures.kept; prepared = c.requires.prepared; tail_is = c.requires.tail; block = c.requires.block } in
-    node_at_first x c.args.tail.now a part (slice_index c.first_turn-first.result) h c.first_turn-first.ensures
+    node_at_first x c.args.tail.now a part (slice_index c.args.first.now) h c.requires.first
 
 pub grow_turns-requires-clause-loops : goal.grow_turns-requires-clause-loops
 grow_turns-requires-clause-loops g c =
@@ -48,7 +33,7 @@ grow_turns-requires-clause-out g c =
     let a : Assignment = assignment_of c.args.numbers.now in
     let part : Part = part_of c.args.block.now in
     let h : IsAtBlock x c.args.tail.now a part = record { space = c.index_count-indexes.ensures.limits; tree = c.count-nodes.ensures.kept; prepared = c.requires.prepared; tail_is = c.requires.tail; block = c.requires.block } in
-    let ready = sum_ready x y c.args.tail.now a part (slice_index c.first_turn-first.result) c.sum_windows.new.windows h c.in_ok-sum_windows.ensures.kept c.in_ok-sum_windows.ensures.read c.first_turn-first.ensures
+    let ready = sum_ready x y c.args.tail.now a part (slice_index c.args.first.now) c.sum_windows.new.windows h c.in_ok-sum_windows.ensures.kept c.in_ok-sum_windows.ensures.read c.requires.first
     c.in_ok-sum_windows.ensures.windows in
     ready.out
 
@@ -59,7 +44,7 @@ grow_turns-requires-clause-operand g c =
     let a : Assignment = assignment_of c.args.numbers.now in
     let part : Part = part_of c.args.block.now in
     let h : IsAtBlock x c.args.tail.now a part = record { space = c.index_count-indexes.ensures.limits; tree = c.count-nodes.ensures.kept; prepared = c.requires.prepared; tail_is = c.requires.tail; block = c.requires.block } in
-    let ready = sum_ready x y c.args.tail.now a part (slice_index c.first_turn-first.result) c.sum_windows.new.windows h c.in_ok-sum_windows.ensures.kept c.in_ok-sum_windows.ensures.read c.first_turn-first.ensures
+    let ready = sum_ready x y c.args.tail.now a part (slice_index c.args.first.now) c.sum_windows.new.windows h c.in_ok-sum_windows.ensures.kept c.in_ok-sum_windows.ensures.read c.requires.first
     c.in_ok-sum_windows.ensures.windows in
     ready.operand
 
@@ -70,7 +55,7 @@ grow_turns-requires-clause-apart g c =
     let a : Assignment = assignment_of c.args.numbers.now in
     let part : Part = part_of c.args.block.now in
     let h : IsAtBlock x c.args.tail.now a part = record { space = c.index_count-indexes.ensures.limits; tree = c.count-nodes.ensures.kept; prepared = c.requires.prepared; tail_is = c.requires.tail; block = c.requires.block } in
-    let ready = sum_ready x y c.args.tail.now a part (slice_index c.first_turn-first.result) c.sum_windows.new.windows h c.in_ok-sum_windows.ensures.kept c.in_ok-sum_windows.ensures.read c.first_turn-first.ensures
+    let ready = sum_ready x y c.args.tail.now a part (slice_index c.args.first.now) c.sum_windows.new.windows h c.in_ok-sum_windows.ensures.kept c.in_ok-sum_windows.ensures.read c.requires.first
     c.in_ok-sum_windows.ensures.windows in
     ready.apart
 
@@ -81,10 +66,10 @@ returns-clause-changed g c =
     let a : Assignment = assignment_of c.args.numbers.now in
     let part : Part = part_of c.args.block.now in
     let h : IsAtBlock x c.args.tail.now a part = record { space = c.index_count-indexes.ensures.limits; tree = c.count-nodes.ensures.kept; prepared = c.requires.prepared; tail_is = c.requires.tail; block = c.requires.block } in
-    let ready = sum_ready x y c.args.tail.now a part (slice_index c.first_turn-first.result) c.sum_windows.new.windows h c.in_ok-sum_windows.ensures.kept c.in_ok-sum_windows.ensures.read c.first_turn-first.ensures
+    let ready = sum_ready x y c.args.tail.now a part (slice_index c.args.first.now) c.sum_windows.new.windows h c.in_ok-sum_windows.ensures.kept c.in_ok-sum_windows.ensures.read c.requires.first
     c.in_ok-sum_windows.ensures.windows in
     (sum_runs x y c.args.tail.now a part c.sum_windows.new.windows c.grow_turns.new.words c.requires.prepared c.in_ok-sum_windows.ensures.kept c.in_ok-sum_windows.ensures.read ready c.len-len.ensures.words c.requires.sum
-    c.grow_turns.ensures).changed
+    c.grow_turns.ensures.made).changed
 
 pub returns-clause-kept : goal.returns-clause-kept
 returns-clause-kept g c =
@@ -93,7 +78,15 @@ returns-clause-kept g c =
     let a : Assignment = assignment_of c.args.numbers.now in
     let part : Part = part_of c.args.block.now in
     let h : IsAtBlock x c.args.tail.now a part = record { space = c.index_count-indexes.ensures.limits; tree = c.count-nodes.ensures.kept; prepared = c.requires.prepared; tail_is = c.requires.tail; block = c.requires.block } in
-    let ready = sum_ready x y c.args.tail.now a part (slice_index c.first_turn-first.result) c.sum_windows.new.windows h c.in_ok-sum_windows.ensures.kept c.in_ok-sum_windows.ensures.read c.first_turn-first.ensures
+    let ready = sum_ready x y c.args.tail.now a part (slice_index c.args.first.now) c.sum_windows.new.windows h c.in_ok-sum_windows.ensures.kept c.in_ok-sum_windows.ensures.read c.requires.first
     c.in_ok-sum_windows.ensures.windows in
     (sum_runs x y c.args.tail.now a part c.sum_windows.new.windows c.grow_turns.new.words c.requires.prepared c.in_ok-sum_windows.ensures.kept c.in_ok-sum_windows.ensures.read ready c.len-len.ensures.words c.requires.sum
-    c.grow_turns.ensures).kept
+    c.grow_turns.ensures.made).kept
+
+pub returns-clause-steps : goal.returns-clause-steps
+returns-clause-steps g c =
+    let y : Workspace = workspace c.args.evaluation.now c.sum_windows.new.words c.sum_windows.new.cache (g.D.Disk.files c.sum_windows.new.disk) in
+    sum_steps y c.args.tail.now (slice_index c.args.first.now) c.sum_windows.new.windows c.requires.sum c.in_ok-sum_windows.ensures.windows
+
+pub sum_windows-requires-clause-out_steps : goal.sum_windows-requires-clause-out_steps
+sum_windows-requires-clause-out_steps g c = c.requires.steps.sum_are c.requires.sum

@@ -3,7 +3,7 @@ use Rattle.tce_tree.specs.FlatTree.{left_of}
 use Rattle.tce_workspace.specs.Workspace.{Workspace, workspace}
 use Rattle.tce_workspace.proofs.Following.{kept_on, read_on}
 use Rattle.tce_workspace.proofs.Operating.{node_after}
-use Rattle.tce_tails.specs.Windows.{HasPlace, IsOperandWindow}
+use Rattle.tce_tails.specs.Windows.{HasPlace, IsOperandWindow, AreOperandSteps}
 use Rattle.tce_tails.proofs.Operands.{left_place, right_place}
 use Rattle.tce_tails.proofs.Touching.{operand_later}
 use Rattle.tce_tails.proofs.windows.pair_windows.Goals as goal
@@ -71,3 +71,8 @@ returns-clause-kept g c =
     let z : Workspace = workspace c.args.evaluation.now c.operand_window-2.new.words c.operand_window-2.new.cache (g.D.Disk.files c.operand_window-2.new.disk) in
     let v : Workspace = workspace c.args.evaluation.now c.place_window.new.words c.place_window.new.cache (g.D.Disk.files c.place_window.new.disk) in
     kept_on x z v (kept_on x y z c.in_ok-operand_window.ensures.kept c.in_ok-operand_window-2.ensures.kept) c.in_ok-place_window.ensures.kept
+
+pub operand_window-requires-clause-steps : goal.operand_window-requires-clause-steps
+operand_window-requires-clause-steps g c =
+    let x : Workspace = workspace c.args.evaluation.now c.args.words.now c.args.cache.now (g.D.Disk.files c.args.disk.now) in
+    subst (λ o. AreOperandSteps x.places o c.args.windows.now.left.steps) (sym c.left-operand.ensures.value) c.requires.left_steps

@@ -14,3 +14,9 @@ touch_window-requires-clause-inside g c =
     let x : Workspace = workspace c.args.evaluation.now c.args.words.now c.args.cache.now (g.D.Disk.files c.args.disk.now) in
     let last : c.args.v + 1 ≡ operations x.places.tree = omega (arith, c.if-v-count.true, c.count-count.ensures.value) in
     root_inside x (slice_index c.args.first.now) c.requires.prepared (place_at_root x c.args.v (slice_index c.args.first.now) last c.requires.place)
+
+pub touch_window-requires-clause-steps : goal.touch_window-requires-clause-steps
+touch_window-requires-clause-steps g c = c.requires.steps.root (omega (arith, c.if-v-count.true, c.count-count.ensures.value))
+
+pub node_window-requires-clause-steps : goal.node_window-requires-clause-steps
+node_window-requires-clause-steps g c = c.requires.steps.inner (omega (arith, c.if-v-count.false, c.count-count.ensures.value, c.requires.place.known))

@@ -1,0 +1,64 @@
+//! The sequence in which the loops of blocks run.
+ghost use Rattle.std.specs.Prelude.{◌≡◌, ◌≤◌, length};
+ghost use Rattle.tce_windows.specs.Loops.{AreLoops};
+ghost use Rattle.tce_windows.specs.Nests.{IsNest};
+
+use crate::nest::{Axis, axes_of, set_lens};
+use crate::window::Window;
+use arrayvec::ArrayVec;
+use tce_strides::{Loop, SumLoop};
+
+/// The sequence in which loops run best over windows with some steps, the last one innermost, for one block after another.
+///
+/// It has room for the loops of the block that runs, with their steps.
+#[derive(Drop)]
+pub struct LoopSequence {
+    pub(crate) axes: ArrayVec<Axis, 10>,
+    pub(crate) sums: [SumLoop; 10],
+    pub(crate) pairs: [Loop; 10],
+}
+
+impl LoopSequence {
+    ghost use Rattle.tce_windows.specs.Sequences.{IsLoopSequence};
+
+    /// The sequence for blocks with so many numbers in each loop, over windows with these steps. Loops of other lengths may
+    /// run in it too.
+    pub fn of(
+        loops: &[u8],
+        lens: &[u64],
+        out: &Window,
+        left: &Window,
+        right: &Window,
+    ) -> LoopSequence
+        requires few { length loops.now ≤ 10 }
+        requires loops { AreLoops loops.now lens.now }
+        ensures { IsLoopSequence loops.now result }
+    {
+        let mut axes = axes_of(loops, lens, out, left, right);
+        axes.sort_unstable_by_key(|axis| axis.rank);
+        LoopSequence {
+            axes,
+            sums: [SumLoop {
+                len: 1,
+                out: 0,
+                operand: 0,
+            }; 10],
+            pairs: [Loop {
+                len: 1,
+                out: 0,
+                left: 0,
+                right: 0,
+            }; 10],
+        }
+    }
+
+    /// Gives the loops their numbers in a block.
+    pub(crate) fn begin(&mut self, loops: &[u8], lens: &[u64])
+        requires sequence { IsLoopSequence loops.now self.old }
+        requires loops { AreLoops loops.now lens.now }
+        ensures nest { IsNest loops.now lens.now self.new.axes.items }
+        ensures sequence { IsLoopSequence loops.now self.new }
+    {
+        set_lens(self.axes.as_mut_slice(), loops, lens);
+    }
+}
