@@ -6,6 +6,7 @@ use Rattle.tce_space.specs.Tiling.{tile_words}
 use Rattle.tce_tree.specs.ContractionTree.{node, node_dims, operations}
 use Rattle.tce_tree.specs.Fusion.{kept_dims}
 use Rattle.tce_tree.specs.Memory.{size_at, size_before, memory}
+use Rattle.tce_search.proofs.LastLimit.{zeros_fit, zeros_legal}
 use Rattle.tce_spec.specs.Specification.{Specification, IsSpecification}
 use Rattle.tce_spec.specs.Operands.{operands, shape_of, largest_tile}
 use Rattle.tce_takings.specs.Takings.{tile_count, tile_take}
@@ -16,7 +17,6 @@ use Rattle.tce_example.proofs.Bounds.{sum_le, demo_volume_le}
 use Rattle.tce_example.proofs.Declared.{tile_le}
 use Rattle.tce_example.proofs.Specified.{rules}
 use Rattle.tce_demo.specs.Done.{demo_budget}
-use Rattle.tce_demo.proofs.Unfused.{zeros_fit, zeros_legal}
 
 largest_le : (f : ℕ → ℕ) (m : ℕ) → ((t : ℕ) → f t ≤ m) → (ts : List ℕ) (a : ℕ) → a ≤ m → fold (λ largest t. max largest (f t)) a ts ≤ m
 largest_le f m le [] a h = h

@@ -1,4 +1,3 @@
-pub mod Unfused
 pub mod Affordable
 pub mod Operands
 pub mod Ran

@@ -25,8 +25,9 @@ use Rattle.tce_example.proofs.Specified.{specified}
 use Rattle.tce_tools.specs.Demo.{demo_text}
 use Rattle.tce_example.specs.Files.{DemoOthersStay, with_input, with_demo}
 use Rattle.tce_example.proofs.OtherFiles.{tensor_stays, stay_twice}
-use Rattle.tce_demo.specs.Done.{demo_budget, result_sum, report_text, IsRunOf, IsDemonstrated, IsDemoTaking}
-use Rattle.tce_demo.proofs.Affordable.{take_within}
+use Rattle.tce_demo.specs.Done.{demo_budget, result_sum, report_text, IsRunOf, CanRunDemo, IsDemonstrated, IsDemoTaking}
+use Rattle.tce_demo.proofs.Affordable.{affordable, take_within}
+use Rattle.tce_demo.proofs.Operands.{has_operands}
 
 -- what a refused run leaves of the room, by the command's refusal
 pub room_left : (f : JobFault) (r : Refusal) (s : Specification) (budget : ℕ) (before after : List (ℕ × ℕ)) → (IsFreeFault f → IsFree r) → IsRoomLeft f s budget before after
@@ -102,6 +103,12 @@ all_stay s d before input ran after first second same =
 pub sum_after : (s : Specification) (ran after : Option Files) (n : ℕ) → after ≡ ran → ForSome ran (λ files. n ≡ result_sum s files) → ForSome after (λ files. n ≡ result_sum s files)
 sum_after s ran after n same sum = subst (λ (told : Option Files). ForSome told (λ files. n ≡ result_sum s files)) (sym same) sum
 
+-- a demonstration can be run over what it writes
+can_run : (s : Specification) (v o : ℕ) → s ≡ demo_specification v o → IsExtent v → IsExtent o → CanRunDemo v o s
+can_run s v o is hv ho seed files =
+    let d : IsDemo s = record { v = v; o = o; v_within = hv; o_within = ho; is = is } in
+    record { affordable = affordable s d; operands = has_operands s d seed (demo_text v o) files }
+
 -- what is run is what the text specifies
 pub all_done : {A E : Type 0} (bytes : A → List ℕ) (answer : Result A E) (s : Specification) (text : List ℕ) (seed v o : ℕ) (before after : Option Files) (takings takings_after : List (ℕ × ℕ))
     → s ≡ demo_specification v o → text ≡ demo_text v o → IsExtent v → IsExtent o
@@ -109,6 +116,7 @@ pub all_done : {A E : Type 0} (bytes : A → List ℕ) (answer : Result A E) (s 
 all_done bytes (Ok report) s text seed v o before after takings takings_after is text_is hv ho run = record {
   specification = s;
   specified = subst (λ (x : Specification). IsDemoOf v o x) (sym is) (specified v o hv ho);
+  able = can_run s v o is hv ho;
   run = subst (λ (x : List ℕ). IsRunOf s seed x before after takings takings_after (bytes report)) text_is run;
 }
 all_done bytes (Err e) s text seed v o before after takings takings_after is text_is hv ho run = tt
@@ -116,7 +124,7 @@ all_done bytes (Err e) s text seed v o before after takings takings_after is tex
 demo_taking : (s : Specification) (v o : ℕ) (r : Refusal) (takings takings_after : List (ℕ × ℕ)) → s ≡ demo_specification v o → IsExtent v → IsExtent o
     → (IsFree r × HasTaken s demo_budget takings takings_after) ⊎ (takings_after ≡ takings) → (IsFree r × IsDemoTaking v o takings takings_after) ⊎ (takings_after ≡ takings)
 demo_taking s v o r takings takings_after is hv ho (inl more) =
-    inl (more.0, record { specification = s; specified = subst (λ (x : Specification). IsDemoOf v o x) (sym is) (specified v o hv ho); taking = more.1 })
+    inl (more.0, record { specification = s; specified = subst (λ (x : Specification). IsDemoOf v o x) (sym is) (specified v o hv ho); able = can_run s v o is hv ho; taking = more.1 })
 demo_taking s v o r takings takings_after is hv ho (inr same) = inr same
 
 pub demo_takings : {A : Type 0} (answer : Result A Refusal) (s : Specification) (v o : ℕ) (takings takings_after : List (ℕ × ℕ)) → s ≡ demo_specification v o → IsExtent v → IsExtent o

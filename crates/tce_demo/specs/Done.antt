@@ -15,8 +15,9 @@ use Rattle.tce_spec.specs.Operands.{shape_of}
 use Rattle.tce_result.specs.TensorFiles.{file_of}
 use Rattle.tce_takings.specs.Takings.{tile_take}
 use Rattle.tce_job.specs.Prepared.{taking_of, HasTaken}
+use Rattle.tce_job.specs.Refusals.{CanRun}
 use Rattle.tce_example.specs.Specification.{IsDemoOf}
-use Rattle.tce_example.specs.Files.{with_demo}
+use Rattle.tce_example.specs.Files.{with_input, with_demo}
 
 -- the words that the tiles of a run may take
 abbrev pub demo_budget : ℕ
@@ -41,14 +42,20 @@ pub record IsRunOf (s : Specification) (seed : ℕ) (text : List ℕ) (before af
   pub summed : ForSome after (λ files. sum ≡ result_sum s files)
   pub reported : report ≡ report_text plan.memory (tile_take s demo_budget) sum
 
--- that is so of what the text specifies
+-- the run has all that it needs in the files that a demonstration writes, whatever is drawn and whatever else the disk has
+abbrev pub CanRunDemo : ℕ → ℕ → Specification → Type 0
+CanRunDemo v o s = (seed : ℕ) (files : Files) → CanRun (with_input s seed (demo_text v o) files) s demo_budget
+
+-- that is so of what the text specifies, which can be run
 pub record IsDemonstrated (before after : Option Files) (takings takings_after : List (ℕ × ℕ)) (seed v o : ℕ) (report : List ℕ) : Type 0 where
   pub specification : Specification
   pub specified : IsDemoOf v o specification
+  pub able : CanRunDemo v o specification
   pub run : IsRunOf specification seed (demo_text v o) before after takings takings_after report
 
--- there is one taking more, that of a run of the demonstration
+-- there is one taking more, that of a run of the demonstration, which can be run
 pub record IsDemoTaking (v o : ℕ) (takings takings_after : List (ℕ × ℕ)) : Type 0 where
   pub specification : Specification
   pub specified : IsDemoOf v o specification
+  pub able : CanRunDemo v o specification
   pub taking : HasTaken specification demo_budget takings takings_after

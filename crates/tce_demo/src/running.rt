@@ -9,7 +9,7 @@ ghost use Rattle.tce_result.specs.ResultBytes.{with_result};
 ghost use Rattle.tce_arrays.specs.Opened.{HasOperands, operand_count};
 ghost use Rattle.tce_job.specs.Prepared.{HasTaken};
 ghost use Rattle.tce_job.specs.Run.{IsReported};
-ghost use Rattle.tce_job.specs.Refusals.{IsFree as IsFreeFault};
+ghost use Rattle.tce_job.specs.Refusals.{NamesDeclared, IsFree as IsFreeFault};
 ghost use Rattle.tce_example.specs.Specification.{IsDemo};
 ghost use Rattle.tce_demo.specs.Done.{demo_budget};
 
@@ -17,31 +17,23 @@ use std::alloc::Global;
 use tce_command::Refusal;
 use tce_job::{JobFault, RunReport, run_job};
 use tce_outside::Disk;
-use tce_space::Name;
 use tce_spec::Spec;
 use tce_words::Room;
 
 // The words that tiles may take.
 const BUDGET: u64 = 16384;
 
-// The name of a tensor; no name where there is no such tensor.
-fn name_of(spec: &Spec, t: u8) -> Name {
-    if t < spec.tensor_count() {
-        spec.tensor(t).name
-    } else {
-        Name::new()
-    }
-}
-
 // The refusal of a command whose run is refused.
 fn refusal_of(spec: &Spec, fault: JobFault) -> Refusal
+    requires { NamesDeclared spec.now fault }
     ensures free { IsFreeFault fault → IsFree result }
-    ensures disk { result ≡ Refusal.Disk → fault ≡ JobFault.Disk }
+    ensures disk { fault ≡ JobFault.Disk → result ≡ Refusal.Disk }
+    ensures disk_alone { result ≡ Refusal.Disk → fault ≡ JobFault.Disk }
 {
     match fault {
         JobFault::BudgetTooSmall(least) => Refusal::Budget(least),
         JobFault::IntermediatesTooLarge(memory) => Refusal::Intermediates(memory),
-        JobFault::Array(t, fault) => Refusal::Array(name_of(spec, t), fault),
+        JobFault::Array(t, fault) => Refusal::Array(spec.tensor(t).name, fault),
         JobFault::Disk => Refusal::Disk,
         JobFault::Memory => Refusal::Memory,
     }

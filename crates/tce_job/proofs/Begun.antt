@@ -1,18 +1,17 @@
 -- What is prepared is as the run of its code asks.
-use Rattle.std.proofs.Common.{◌≡◌, ◌≢◌, ℕ, zero, suc, ◌+◌, ◌-◌, ◌*◌, ◌/◌, ◌^◌, ◌<◌, ◌≤◌, Bool, true, false, not, ◌&&◌, List, [], ◌∷◌, All, length, map, min, max, ltb, eq-eqb, slice_get, get_or, Option, Some, None, unwrap_or, inl, inr, refl, sym, ap, ap₂, ◌∙◌, subst, arith}
+use Rattle.std.proofs.Common.{◌≡◌, ℕ, suc, ◌+◌, ◌-◌, ◌*◌, ◌/◌, ◌^◌, ◌<◌, ◌≤◌, Bool, true, false, not, ◌&&◌, List, [], ◌∷◌, All, length, map, min, max, ltb, eq-eqb, slice_get, Option, Some, None, unwrap_or, inl, inr, refl, sym, ap, ap₂, ◌∙◌, subst, arith}
 use Rattle.std.proofs.Math.Nat.{div-lt_iff_lt-mul, mul-le-mul_left}
-use Rattle.std.specs.Option.{IsSomeAnd, ForSome}
+use Rattle.std.specs.Option.{IsSomeAnd}
 use Rattle.std.specs.List.{list_all}
-use Rattle.std.proofs.lemmas.Bool.{and_from, and_parts, or_left, or_right, cases_lt, lt-ltb}
+use Rattle.std.proofs.lemmas.Bool.{and_from, or_left, or_right, cases_lt, lt-ltb}
 use Rattle.std.proofs.lemmas.List.{length-replicate, get_or_past}
 use Rattle.std.proofs.lemmas.Option.{slice_get_cases}
 use Rattle.std.proofs.lemmas.Simd.{map-map}
 use Rattle.tce_outside.specs.Files.{Files, file}
 use Rattle.tce_space.specs.IndexSet.{has}
-use Rattle.tce_space.specs.Space.{IndexSpace, Index, IsSpace, no_index, index_at, range_at, extent_at, tiling_of}
-use Rattle.tce_space.specs.Tiling.{Tiling, IsTiling, tile_words, tiles, padded_words}
+use Rattle.tce_space.specs.Space.{IndexSpace, Index, IsSpace, no_index, index_at, range_at, tiling_of}
+use Rattle.tce_space.specs.Tiling.{Tiling, IsTiling, tile_words, tiles}
 use Rattle.tce_space.proofs.IndexSetLaws.{has-minus, has-empty}
-use Rattle.tce_array.specs.declared.form.Form.{Form}
 use Rattle.tce_array.specs.declared.form.Form.TheVariants.{One}
 use Rattle.tce_array.specs.Forms.{form_of, form_len, IsForm, word_at}
 use Rattle.tce_array.specs.Files.{AreBytes}
@@ -25,7 +24,6 @@ use Rattle.tce_tree.specs.ContractionTree.{ContractionTree, leaf, constant, bina
 use Rattle.tce_tree.specs.FlatTree.{IsTree}
 use Rattle.tce_tree.specs.Fusion.{FusionFits, kept_dims, fused_at}
 use Rattle.tce_tree.specs.Orders.{lists_of}
-use Rattle.tce_tree.specs.WellFormed.{among}
 use Rattle.tce_tree.proofs.Nodes.{node-root}
 use Rattle.tce_tree.proofs.NamedIndexes.{has-set_of_list}
 use Rattle.tce_declarations.specs.Declarations.{Declarations, no_tensor, tensor_at}
@@ -36,20 +34,17 @@ use Rattle.tce_code.specs.Plan.{plan_of}
 use Rattle.tce_code.specs.Program.{program_of}
 use Rattle.tce_tail.specs.Touches.{touch_bound}
 use Rattle.tce_tail.proofs.TouchBound.{touches_are_few}
-use Rattle.tce_operands.specs.NodeStates.{root_dims}
-use Rattle.tce_workspace.specs.Workspace.{Workspace, shape_over, result_shape}
-use Rattle.tce_workspace.specs.Prepared.{IsStored, IsOperand, HasOperands, IsPrepared as IsWorkspace}
+use Rattle.tce_workspace.specs.Workspace.{Workspace, shape_over}
+use Rattle.tce_workspace.specs.Prepared.{IsStored, HasOperands, IsPrepared as IsWorkspace}
 use Rattle.tce_exec.specs.Run.{IsZero}
-use Rattle.tce_result.specs.TensorFiles.{file_of}
 use Rattle.tce_result.proofs.Results.{result_tiling}
-use Rattle.tce_takings.specs.Takings.{least_budget, tile_count, frame_count, tile_take}
+use Rattle.tce_takings.specs.Takings.{tile_count, frame_count, tile_take}
 use Rattle.tce_takings.proofs.Tiles.{largest_some}
 use Rattle.tce_arrays.specs.Arrays.{AreArraysOf, IsResultArray, IsOperandArray}
 use Rattle.tce_arrays.specs.Laws.{made_result}
 use Rattle.tce_arrays.proofs.Made.{made_zero}
 use Rattle.tce_arrays.proofs.Operands.{not_result}
 use Rattle.tce_job.specs.declared.prepared.Prepared.{Prepared}
-use Rattle.tce_job.specs.Prepared.{IsPrepared, IsEmptyCache}
 use Rattle.tce_job.specs.Run.{IsBegun}
 
 -- ---- shapes and indexes

@@ -1,5 +1,5 @@
 -- A run is refused for one reason.
-use Rattle.std.proofs.Common.{◌≡◌, ◌≢◌, ℕ, ◌<◌, ◌≤◌, ◌^◌, ◌⊎◌, Bool, true, false, List, Option, Some, None, Result, Ok, Err, inl, inr, refl, sym, ap, ◌∙◌, subst, arith}
+use Rattle.std.proofs.Common.{◌≡◌, ◌≢◌, ℕ, ◌⊎◌, Bool, true, false, List, Option, Some, None, Result, Ok, Err, inl, inr, refl, sym, ap, ◌∙◌, subst, arith}
 use Rattle.std.proofs.lemmas.Bool.{cases_lt, true≢false}
 use Rattle.std.specs.Option.{ForSome, IsSomeAnd}
 use Rattle.tce_outside.specs.Files.{Files, file}
@@ -8,19 +8,18 @@ use Rattle.tce_array.specs.declared.form.Form.{Form}
 use Rattle.tce_array.specs.declared.fault.ArrayFault.{ArrayFault}
 use Rattle.tce_array.specs.declared.fault.ArrayFault.TheVariants as array_fault
 use Rattle.tce_array.specs.Forms.{form_of, IsArray}
-use Rattle.tce_array.specs.Faults.{IsFault, IsAnswer}
+use Rattle.tce_array.specs.Faults.{IsFault}
 use Rattle.tce_array.proofs.OneAnswer.{agree}
 use Rattle.tce_nesting.specs.declared.plan.Plan.{Plan}
 use Rattle.tce_search.specs.LeastPlan.{IsLeastPlan}
 use Rattle.tce_spec.specs.Specification.{Specification}
 use Rattle.tce_spec.specs.Operands.{shape_of}
 use Rattle.tce_result.specs.TensorFiles.{file_of}
-use Rattle.tce_takings.specs.Takings.{least_budget}
 use Rattle.tce_arrays.specs.declared.opening.Refused.{Refused}
 use Rattle.tce_arrays.specs.Opened.{operand, operand_count, HasArray, HasOperands, form_at, IsOpened, AreOpened, IsRefusedAt, IsRefused}
 use Rattle.tce_job.specs.declared.fault.JobFault.{JobFault}
 use Rattle.tce_job.specs.declared.fault.JobFault.TheVariants.{BudgetTooSmall, IntermediatesTooLarge, Array, Disk, Memory}
-use Rattle.tce_job.specs.Refusals.{IsLeastMemory, IsAffordable, IsCause, MayBeRefused, MustBeRefused, CanRun, IsFree}
+use Rattle.tce_job.specs.Refusals.{IsLeastMemory, IsAffordable, IsCause, MayBeRefused, MustBeRefused, NamesDeclared, CanRun, IsFree}
 
 -- the least memory is one
 pub one_memory : (s : Specification) (n m : ℕ) → IsLeastMemory s n → IsLeastMemory s m → n ≡ m
@@ -83,6 +82,11 @@ has_array files s forms t h = by_file (file files (file_of s t)) h
 pub have_operands : (files : Files) (s : Specification) (forms : List Form) → AreOpened files s forms (operand_count s) → HasOperands files s (operand_count s)
 have_operands files s forms opened d h = has_array files s forms (operand s d) (opened d h)
 
+-- what was tested can be run
+pub can_run : (told : Option Files) (s : Specification) (budget : ℕ) (forms : List Form) → IsAffordable s budget → ForSome told (λ files. AreOpened files s forms (operand_count s))
+    → ForSome told (λ files. CanRun files s budget)
+can_run told s budget forms able opened files is = record { affordable = able; operands = have_operands files s forms (opened files is) }
+
 none_refused : (files : Files) (s : Specification) (r : Refused) → HasOperands files s (operand_count s) → IsRefused files s r → r.fault ≢ array_fault.Disk → ⊥
 none_refused files s r has (d, p) real = no_array files s d r p real (has d p.one_of_them)
 
@@ -97,6 +101,14 @@ only_told told s budget (IntermediatesTooLarge n) p = p
 only_told told s budget (Array t fault) p = (p.0, p.1.1, p.2)
 only_told told s budget Disk p = tt
 only_told told s budget Memory p = tt
+
+-- a cause names declared tensors alone
+pub names_declared : (told : Option Files) (s : Specification) (budget : ℕ) (f : JobFault) → IsCause (MayBeRefused told s) s budget f → NamesDeclared s f
+names_declared told s budget (BudgetTooSmall n) p = tt
+names_declared told s budget (IntermediatesTooLarge n) p = tt
+names_declared told s budget (Array t fault) p = p.1.0
+names_declared told s budget Disk p = tt
+names_declared told s budget Memory p = tt
 
 -- two reasons are one, but for faults
 both : (told : Option Files) (s : Specification) (t u : ℕ) (f g : ArrayFault) → IsRefusedIfTold told s (record { tensor = t; fault = f }) → MustBeRefused told s (record { tensor = u; fault = g })

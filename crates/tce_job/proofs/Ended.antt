@@ -1,6 +1,6 @@
 -- What the run of the code and the flush leave.
-use Rattle.std.proofs.Common.{◌≡◌, ◌≢◌, ℕ, Bool, ◌+◌, ◌*◌, ◌<◌, true, false, List, [], length, take, slice_get, Option, Some, None, is_some, unwrap_or, if◌then◌else◌, refl, sym, ap, ap₂, ◌∙◌, subst}
-use Rattle.std.specs.Option.{IsSomeAnd, ForSome, option_map}
+use Rattle.std.proofs.Common.{◌≡◌, ◌≢◌, ℕ, Bool, ◌+◌, ◌*◌, ◌<◌, true, false, List, [], length, slice_get, Option, Some, None, is_some, unwrap_or, if◌then◌else◌, refl, sym, ap, ◌∙◌, subst}
+use Rattle.std.specs.Option.{IsSomeAnd, option_map}
 use Rattle.std.specs.FinMap.{same_map, get-remove, slice_cmp-IsAntisymmetric, nat_cmp-IsAntisymmetric}
 use Rattle.std.proofs.lemmas.Cmp.{nat_list_cmp_total}
 use Rattle.std.proofs.Common.{cond, ◌⊎◌, inl, inr}
@@ -11,11 +11,11 @@ use Rattle.tce_space.specs.Box.{IsInside}
 use Rattle.tce_space.specs.Space.{extent_at}
 use Rattle.tce_space.specs.Tiling.{Tiling, tile_words, tiles, tile_number, place_in_tile, word_number}
 use Rattle.tce_array.specs.declared.form.Form.TheVariants.{One}
-use Rattle.tce_array.specs.Forms.{IsForm, head_len}
+use Rattle.tce_array.specs.Forms.{IsForm}
 use Rattle.tce_array.specs.Files.{AreBytes, IsPadding}
-use Rattle.tce_array.proofs.MadeFiles.{file-with_file, with_file-with_file}
+use Rattle.tce_array.proofs.MadeFiles.{with_file-with_file}
 use Rattle.tce_cache.specs.declared.array.ArrayRef.{ArrayRef}
-use Rattle.tce_cache.specs.Cache.{State as CacheState, OnlyWritableDiffers, word_of_tile, current_word}
+use Rattle.tce_cache.specs.Cache.{State as CacheState, OnlyWritableDiffers, word_of_tile}
 use Rattle.tce_cache.specs.Transfer.{contents, word_in_file}
 use Rattle.tce_cache.specs.Touch.{front, AreWritten, KeepsArrays}
 use Rattle.tce_tree.specs.Value.{value, assignment}
@@ -23,8 +23,8 @@ use Rattle.tce_formula.specs.Contraction.{has_tensor}
 use Rattle.tce_spec.specs.Specification.{Specification, IsSpecification}
 use Rattle.tce_spec.specs.Operands.{shape_of}
 use Rattle.tce_operands.specs.NodeStates.{current_cell}
-use Rattle.tce_workspace.specs.Workspace.{Workspace, shape_over, result_shape, setting_in, element_of, filed_element}
-use Rattle.tce_workspace.specs.Steps.{IsKept, IsContinued}
+use Rattle.tce_workspace.specs.Workspace.{Workspace, shape_over, setting_in, element_of, filed_element}
+use Rattle.tce_workspace.specs.Steps.{IsKept}
 use Rattle.tce_exec.specs.Run.{IsRun, HasValues}
 use Rattle.tce_result.specs.TensorFiles.{file_of, bytes_in, elements}
 use Rattle.tce_result.specs.ResultBytes.{result_element, result_bytes, with_result}
@@ -35,12 +35,10 @@ use Rattle.tce_arrays.specs.Finished.{IsFinished, IsFlushed}
 use Rattle.tce_arrays.specs.Laws.{made_result, IsOperand}
 use Rattle.tce_arrays.proofs.Operands.{is_operand}
 use Rattle.tce_spec.proofs.Seen.{operand_declared}
-use Rattle.tce_arrays.specs.Reading.{HoldOperands}
 use Rattle.tce_arrays.proofs.Made.{made_zero}
 use Rattle.tce_arrays.proofs.Reading.{read}
 use Rattle.tce_arrays.proofs.Flushed.{flushed, whole}
 use Rattle.tce_job.specs.declared.prepared.Prepared.{Prepared}
-use Rattle.tce_job.specs.Prepared.{IsPrepared}
 use Rattle.tce_job.specs.Run.{IsBegun}
 use Rattle.tce_job.proofs.Begun.{workspace_with, workspace_for, array_of, result_at, result_shape_is}
 

@@ -1,5 +1,5 @@
 -- The tests of a run.
-use Rattle.std.proofs.Common.{◌≡◌, ◌≢◌, ℕ, ◌<◌, ◌≤◌, ◌^◌, Option, Result, Ok, Err, refl, sym, ap, ◌∙◌, subst, arith}
+use Rattle.std.proofs.Common.{◌≡◌, ◌≢◌, ℕ, ◌≤◌, ◌^◌, Option, Result, Ok, Err, refl, sym, ap, ◌∙◌, subst, arith}
 use Rattle.tce_outside.specs.Files.{Files}
 use Rattle.tce_outside.specs.Fault.{HasCause}
 use Rattle.tce_array.specs.declared.fault.ArrayFault.{ArrayFault}
@@ -11,7 +11,7 @@ use Rattle.tce_takings.specs.Takings.{least_budget}
 use Rattle.tce_arrays.specs.declared.opening.Refused.{Refused}
 use Rattle.tce_job.specs.declared.fault.JobFault.{JobFault}
 use Rattle.tce_job.specs.declared.fault.JobFault.TheVariants.{BudgetTooSmall, IntermediatesTooLarge, Array, Disk, Memory}
-use Rattle.tce_job.specs.Refusals.{IsLeastMemory, IsAffordable, IsCause, MayBeRefused, IsFaultOf, IsOpeningFault}
+use Rattle.tce_job.specs.Refusals.{IsAffordable, IsCause, MayBeRefused, IsFaultOf, IsOpeningFault}
 use Rattle.tce_job.proofs.Causes.{one_memory, least_memory}
 
 -- a least plan within the limits can be afforded

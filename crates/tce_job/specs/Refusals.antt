@@ -39,6 +39,14 @@ MayBeRefused told s refused = (refused.tensor < length s.declarations.tensors) �
 abbrev pub MustBeRefused : Option Files → Specification → Refused → Type 0
 MustBeRefused told s refused = IsSomeAnd told (λ files. IsRefused files s refused)
 
+-- a tensor that the fault names is declared
+abbrev pub NamesDeclared : Specification → JobFault → Type 0
+NamesDeclared s (BudgetTooSmall n) = ⊤
+NamesDeclared s (IntermediatesTooLarge n) = ⊤
+NamesDeclared s (Array t fault) = t < length s.declarations.tensors
+NamesDeclared s Disk = ⊤
+NamesDeclared s Memory = ⊤
+
 -- all that a run needs is there
 pub record CanRun (files : Files) (s : Specification) (budget : ℕ) : Type 0 where
   pub affordable : IsAffordable s budget

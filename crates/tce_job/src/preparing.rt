@@ -190,6 +190,9 @@ pub fn prepare_run<D: Disk, R: Room>(
     ensures taken { IfOk result (λ p. R.takings room.new ≡ R.takings room.old ++ taking_of spec.now budget p.plan ∷ []) }
     ensures able { OnOk result (ForSome (D.files disk.old) (λ files. CanRun files spec.now budget)) }
 
+    // Words are taken only where the run can be run.
+    ensures tested { (R.takings room.new ≡ R.takings room.old) ⊎ ForSome (D.files disk.old) (λ files. CanRun files spec.now budget) }
+
     // Why a run is refused, and that it is refused so wherever there is a cause.
     ensures refused { IfErr result (IsCause (MayBeRefused (D.files disk.old) spec.now) spec.now budget) }
     ensures exactly { (due : Fault) → (IsFree due → ⊥) → IsCause (MustBeRefused (D.files disk.old) spec.now) spec.now budget due → IsRefusedAs due result }

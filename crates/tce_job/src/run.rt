@@ -66,6 +66,9 @@ pub fn run_job<D: Disk, R: Room>(
     ensures reported { IfOk result (IsReported spec.now budget (R.takings room.old) (R.takings room.new)) }
     ensures able { OnOk result (ForSome (D.files disk.old) (λ files. CanRun files spec.now budget)) }
 
+    // Words are taken only where the run can be run.
+    ensures tested { (R.takings room.new ≡ R.takings room.old) ⊎ ForSome (D.files disk.old) (λ files. CanRun files spec.now budget) }
+
     // Why a run is refused, and that it is refused so wherever there is a cause.
     ensures refused { IfErr result (IsCause (MayBeRefused (D.files disk.old) spec.now) spec.now budget) }
     ensures exactly { (due : Fault) → (IsFree due → ⊥) → IsCause (MustBeRefused (D.files disk.old) spec.now) spec.now budget due → IsRefusedAs due result }

@@ -1,5 +1,5 @@
 -- What the refusal that tells a fault of a run says of the command.
-use Rattle.std.proofs.Common.{◌≡◌, ◌≢◌, ℕ, ◌<◌, ◌⊎◌, List, Option, Result, Ok, Err, inl, inr, refl, sym, ap, ◌∙◌, subst, length, arith}
+use Rattle.std.proofs.Common.{◌≡◌, ◌≢◌, ℕ, ◌⊎◌, List, Option, Result, Ok, Err, inl, inr, refl, sym, ap, ◌∙◌, subst}
 use Rattle.std.specs.Option.{ForSome}
 use Rattle.tce_outside.specs.Files.{Files}
 use Rattle.tce_array.specs.declared.fault.ArrayFault.{ArrayFault}
@@ -8,22 +8,14 @@ use Rattle.tce_spec.specs.Specification.{Specification}
 use Rattle.tce_arrays.specs.Opened.{IsRefused}
 use Rattle.tce_job.specs.declared.fault.JobFault.{JobFault}
 use Rattle.tce_job.specs.declared.fault.JobFault.TheVariants as faults
-use Rattle.tce_job.specs.Refusals.{IsCause, MayBeRefused}
+use Rattle.tce_job.specs.Refusals.{IsCause, CanRun}
 use Rattle.tce_job.specs.Prepared.{IsRoomLeft as JobRoomLeft, HasTaken}
 use Rattle.tce_command.specs.declared.refusal.Refusal.{Refusal}
 use Rattle.tce_command.specs.declared.refusal.Refusal.TheVariants.{Missing, Array, Disk, Memory}
 use Rattle.tce_source.specs.Source.{HasSpecification}
 use Rattle.tce_run.specs.Refusals.{IsFirstRefused, IsJobRefusal}
 use Rattle.tce_run.specs.Done.{IsTaking, IsRoomLeft}
-use Rattle.tce_run.specs.Told.{TellsOperand, NamesDeclared, IsToldAs}
-
--- what a run tells names declared tensors alone
-pub names_declared : (told : Option Files) (s : Specification) (budget : ℕ) (f : JobFault) → IsCause (MayBeRefused told s) s budget f → NamesDeclared s f
-names_declared told s budget (faults.BudgetTooSmall n) p = tt
-names_declared told s budget (faults.IntermediatesTooLarge n) p = tt
-names_declared told s budget (faults.Array t fault) p = p.1.0
-names_declared told s budget faults.Disk p = tt
-names_declared told s budget faults.Memory p = tt
+use Rattle.tce_run.specs.Told.{TellsOperand, IsToldAs}
 
 told_operand : (files : Files) (s : Specification) (budget t : ℕ) (fault : ArrayFault) (a : Refusal) → TellsOperand s t fault a → IsFirstRefused files s budget t fault → fault ≢ array_fault.Disk → IsJobRefusal files s budget a
 told_operand files s budget t array_fault.NoFile (Missing name) told first real = (t, first, told)
@@ -71,11 +63,13 @@ pub unchanged : (before middle after : Option Files) (s : Specification) (f : Jo
 unchanged before middle after s f a same told (inl failed) = inl (subst (λ g. IsToldAs s g a) failed told)
 unchanged before middle after s f a same told (inr stay) = inr (stay ∙ same)
 
--- what the run leaves of the room, the command leaves
-one_taking : (before : Option Files) (s : Specification) (spec : List ℕ) (budget : ℕ) (taken after : List (ℕ × ℕ)) → ForSome before (λ files. HasSpecification files spec s)
-    → (after ≡ taken) ⊎ HasTaken s budget taken after → (after ≡ taken) ⊎ IsTaking before taken after spec budget
-one_taking before s spec budget taken after specified (inl same) = inl same
-one_taking before s spec budget taken after specified (inr more) = inr (record { specification = s; specified = specified; plan = more.plan; least = more.least; taking = more.taken })
+-- what the run leaves of the room, the command leaves; words were taken only where the run could be run
+one_taking : (before middle : Option Files) (s : Specification) (spec : List ℕ) (budget : ℕ) (taken after : List (ℕ × ℕ)) → middle ≡ before → ForSome before (λ files. HasSpecification files spec s)
+    → (after ≡ taken) ⊎ ForSome middle (λ files. CanRun files s budget) → (after ≡ taken) ⊎ HasTaken s budget taken after → (after ≡ taken) ⊎ IsTaking before taken after spec budget
+one_taking before middle s spec budget taken after same specified (inl still) left = inl still
+one_taking before middle s spec budget taken after same specified (inr able) (inl still) = inl still
+one_taking before middle s spec budget taken after same specified (inr able) (inr more) =
+    inr (record { specification = s; specified = specified; able = λ files told. able files (same ∙ told); plan = more.plan; least = more.least; taking = more.taken })
 
 operand_room : (before : Option Files) (s : Specification) (spec : List ℕ) (budget t : ℕ) (fault : ArrayFault) (a : Refusal) (taken after : List (ℕ × ℕ)) → TellsOperand s t fault a → after ≡ taken
     → IsRoomLeft a before taken after spec budget
@@ -85,10 +79,13 @@ operand_room before s spec budget t (array_fault.BadHeader n) (Array name fault)
 operand_room before s spec budget t array_fault.Disk (Array name fault) taken after told same = same
 operand_room before s spec budget t fault a taken after told same = absurd told
 
-pub told_room : (before : Option Files) (s : Specification) (spec : List ℕ) (budget : ℕ) (f : JobFault) (a : Refusal) (taken after : List (ℕ × ℕ)) → ForSome before (λ files. HasSpecification files spec s)
-    → IsToldAs s f a → JobRoomLeft f s budget taken after → IsRoomLeft a before taken after spec budget
-told_room before s spec budget (faults.BudgetTooSmall n) a taken after specified told p = subst (λ b. IsRoomLeft b before taken after spec budget) (sym told) p
-told_room before s spec budget (faults.IntermediatesTooLarge n) a taken after specified told p = subst (λ b. IsRoomLeft b before taken after spec budget) (sym told) p
-told_room before s spec budget (faults.Array t fault) a taken after specified told p = operand_room before s spec budget t fault a taken after told p
-told_room before s spec budget faults.Disk a taken after specified told p = subst (λ b. IsRoomLeft b before taken after spec budget) (sym told) (one_taking before s spec budget taken after specified p)
-told_room before s spec budget faults.Memory a taken after specified told p = subst (λ b. IsRoomLeft b before taken after spec budget) (sym told) (one_taking before s spec budget taken after specified p)
+pub told_room : (before middle : Option Files) (s : Specification) (spec : List ℕ) (budget : ℕ) (f : JobFault) (a : Refusal) (taken after : List (ℕ × ℕ)) → middle ≡ before
+    → ForSome before (λ files. HasSpecification files spec s) → IsToldAs s f a → (after ≡ taken) ⊎ ForSome middle (λ files. CanRun files s budget) → JobRoomLeft f s budget taken after
+    → IsRoomLeft a before taken after spec budget
+told_room before middle s spec budget (faults.BudgetTooSmall n) a taken after same specified told tested p = subst (λ b. IsRoomLeft b before taken after spec budget) (sym told) p
+told_room before middle s spec budget (faults.IntermediatesTooLarge n) a taken after same specified told tested p = subst (λ b. IsRoomLeft b before taken after spec budget) (sym told) p
+told_room before middle s spec budget (faults.Array t fault) a taken after same specified told tested p = operand_room before s spec budget t fault a taken after told p
+told_room before middle s spec budget faults.Disk a taken after same specified told tested p =
+    subst (λ b. IsRoomLeft b before taken after spec budget) (sym told) (one_taking before middle s spec budget taken after same specified tested p)
+told_room before middle s spec budget faults.Memory a taken after same specified told tested p =
+    subst (λ b. IsRoomLeft b before taken after spec budget) (sym told) (one_taking before middle s spec budget taken after same specified tested p)

@@ -31,10 +31,11 @@ pub record IsRun (before after : Option Files) (taken taken_after : List (ℕ ×
   pub reported : report
       ≡ run_text specification.declarations.space specification.tree (stated plan) (tile_take specification budget) (file_of specification specification.result) (form_len One (shape_of specification specification.result))
 
--- the room gave once more, the memory of a least plan of the specification in the file and the words for tiles
+-- the room gave once more, the memory of a least plan of the specification in the file and the words for tiles, and all that the run needs was there
 pub record IsTaking (before : Option Files) (taken taken_after : List (ℕ × ℕ)) (spec : List ℕ) (budget : ℕ) : Type 0 where
   pub specification : Specification
   pub specified : ForSome before (λ files. HasSpecification files spec specification)
+  pub able : ForSome before (λ files. CanRun files specification budget)
   pub plan : Plan
   pub least : IsLeastPlan specification.declarations.space specification.tree plan
   pub taking : taken_after ≡ taken ++ (plan.memory, tile_take specification budget) ∷ []

@@ -1,5 +1,5 @@
 -- How a fault of a run is told to a user.
-use Rattle.std.specs.Prelude.{◌≡◌, ⊤, ℕ, ◌<◌, List, length}
+use Rattle.std.specs.Prelude.{◌≡◌, ℕ, List}
 use Rattle.tce_array.specs.declared.fault.ArrayFault.{ArrayFault}
 use Rattle.tce_array.specs.declared.fault.ArrayFault.TheVariants.{NoFile}
 use Rattle.tce_spec.specs.Specification.{Specification}
@@ -19,14 +19,6 @@ NamesTensor name fault refusal = ⊥
 abbrev pub TellsOperand : Specification → ℕ → ArrayFault → Refusal → Type 0
 TellsOperand s t NoFile refusal = NamesFile (file_of s t) refusal
 TellsOperand s t fault refusal = NamesTensor (name_of s t) fault refusal
-
--- a tensor that the fault names is declared
-abbrev pub NamesDeclared : Specification → JobFault → Type 0
-NamesDeclared s (faults.BudgetTooSmall least) = ⊤
-NamesDeclared s (faults.IntermediatesTooLarge memory) = ⊤
-NamesDeclared s (faults.Array t fault) = t < length s.declarations.tensors
-NamesDeclared s faults.Disk = ⊤
-NamesDeclared s faults.Memory = ⊤
 
 -- the refusal tells the fault
 abbrev pub IsToldAs : Specification → JobFault → Refusal → Type 0

@@ -1,6 +1,7 @@
 // Refusals for the faults of a run.
 ghost use Rattle.std.specs.Prelude.{◌≡◌, ◌≢◌, ◌<◌, length};
-ghost use Rattle.tce_run.specs.Told.{TellsOperand, NamesDeclared, IsToldAs};
+ghost use Rattle.tce_job.specs.Refusals.{NamesDeclared};
+ghost use Rattle.tce_run.specs.Told.{TellsOperand, IsToldAs};
 
 use tce_array::ArrayFault;
 use tce_command::Refusal;

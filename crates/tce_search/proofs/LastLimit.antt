@@ -24,14 +24,14 @@ zeros_fuse_nothing zero v = refl
 zeros_fuse_nothing (suc n) zero = refl
 zeros_fuse_nothing (suc n) (suc v) = zeros_fuse_nothing n v
 
-zeros_fit : (tree : ContractionTree) → FusionFits tree (replicate (operations tree) 0)
+pub zeros_fit : (tree : ContractionTree) → FusionFits tree (replicate (operations tree) 0)
 zeros_fit tree = record {
   each = length-replicate (operations tree) 0;
   within = λ v v_in i m. absurd (both_ways (has (fused_at (replicate (operations tree) 0) v) i) (ap (λ s. has s i) (zeros_fuse_nothing (operations tree) v) ∙ has-empty i) m);
   root = zeros_fuse_nothing (operations tree) (operations tree - 1);
 }
 
-zeros_legal : (tree : ContractionTree) → IsLegal tree (replicate (operations tree) 0)
+pub zeros_legal : (tree : ContractionTree) → IsLegal tree (replicate (operations tree) 0)
 zeros_legal tree =
     let unfused = zeros_fuse_nothing (operations tree) in
     legal_from_states tree (replicate (operations tree) 0) (zeros_fit tree) (record {

@@ -80,7 +80,7 @@ done_can (demo seed v o) before after taken taken_after report done = λ files t
 pub done_takes : (command : Command) (before after : Option Files) (taken taken_after : List (ℕ × ℕ)) (report : List ℕ) → IsDone command before after taken taken_after report
     → MayTake command before taken taken_after
 done_takes (run spec budget) before after taken taken_after report done =
-    inr (record { specification = done.specification; specified = done.specified; plan = done.plan; least = done.least; taking = done.taking })
+    inr (record { specification = done.specification; specified = done.specified; able = done.able; plan = done.plan; least = done.least; taking = done.taking })
 done_takes (plan spec) before after taken taken_after report done = done.2
 done_takes (cert spec name) before after taken taken_after report done = done.1
 done_takes (check spec name) before after taken taken_after report done = done.2
@@ -88,7 +88,7 @@ done_takes (pack spec tensor flat) before after taken taken_after report done = 
 done_takes (unpack spec tensor flat) before after taken taken_after report done = done.1
 done_takes (convert spec tensor form) before after taken taken_after report done = done.1
 done_takes (demo seed v o) before after taken taken_after report done =
-    inr (record { specification = done.specification; specified = done.specified; taking = record { plan = done.run.plan; least = done.run.least; taken = done.run.taken } })
+    inr (record { specification = done.specification; specified = done.specified; able = done.able; taking = record { plan = done.run.plan; least = done.run.least; taken = done.run.taken } })
 
 -- Statuses of refusals.
 

@@ -1,141 +1,64 @@
 //! Runs over a disk that fails at each call in turn, and over a room that refuses its call.
 use crate::JobFault;
-use crate::tests::given::{Array, disk_with, file_bytes, ran, spec_of};
-use std::alloc::Global;
-use std::process::Abort;
+use crate::tests::given::{disk_with, has_array, has_arrays, ran, spec_of};
+use crate::tests::rows::{LISTS, Row, TILES};
+use std::alloc::{AllocError, Global};
 use std::test::Fail;
-use tce_array::Form;
 use tce_outside::{FaultyDisk, MemDisk};
 use tce_spec::Spec;
 use tce_words::{HeapRoom, RefusingRoom};
 
-const OUTER: &[u8] =
-    b"range N 2\nindex N i j\ntensor A[N]\ntensor B[N]\ntensor C[N,N]\nC[i,j] = A[i] * B[j]\n";
+const ROWS: &[Row<'static>] = &[LISTS, TILES];
 
-const OUTER_OPERANDS: [Array<'static>; 2] = [
-    Array {
-        file: "A.tca",
-        form: Form::One,
-        dimensions: &[(2, 1)],
-        words: &[1, 2],
-    },
-    Array {
-        file: "B.tca",
-        form: Form::One,
-        dimensions: &[(2, 1)],
-        words: &[3, 4],
-    },
-];
-
-const OUTER_RESULT: Array<'static> = Array {
-    file: "C.tca",
-    form: Form::One,
-    dimensions: &[(2, 1), (2, 1)],
-    words: &[3, 4, 6, 8],
-};
-
-const MATRICES: &[u8] =
-    b"range N 4 tile 2\nindex N i j k\ntensor A[N,N]\ntensor B[N,N]\ntensor C[N,N]\nC[i,j] = sum{k}(A[i,k] * B[k,j])\n";
-
-// A matrix of 1 to 16, and the unit matrix.
-const MATRICES_OPERANDS: [Array<'static>; 2] = [
-    Array {
-        file: "A.tca",
-        form: Form::One,
-        dimensions: &[(4, 2), (4, 2)],
-        words: &[1, 2, 5, 6, 3, 4, 7, 8, 9, 10, 13, 14, 11, 12, 15, 16],
-    },
-    Array {
-        file: "B.tca",
-        form: Form::One,
-        dimensions: &[(4, 2), (4, 2)],
-        words: &[1, 0, 0, 1, 0, 0, 0, 0, 0, 0, 0, 0, 1, 0, 0, 1],
-    },
-];
-
-const MATRICES_RESULT: Array<'static> = Array {
-    file: "C.tca",
-    form: Form::One,
-    dimensions: &[(4, 2), (4, 2)],
-    words: &[1, 2, 5, 6, 3, 4, 7, 8, 9, 10, 13, 14, 11, 12, 15, 16],
-};
-
-// A run with its budget, which takes this much memory.
-#[derive(Drop)]
-struct Row<'a> {
-    text: &'a [u8],
-    operands: &'a [Array<'a>],
-    budget: u64,
-    result: Array<'a>,
-    taking: (u64, u64),
+// How a run ends over a disk that fails at one call: it is made and there was no fault, or the one fault fails it.
+#[derive(Clone, Copy, PartialEq)]
+enum End {
+    Made,
+    Failed,
+    Wrong,
 }
 
-const ROWS: [Row<'static>; 2] = [
-    Row {
-        text: OUTER,
-        operands: &OUTER_OPERANDS,
-        budget: 3,
-        result: OUTER_RESULT,
-        taking: (0, 3),
-    },
-    Row {
-        text: MATRICES,
-        operands: &MATRICES_OPERANDS,
-        budget: 12,
-        result: MATRICES_RESULT,
-        taking: (1, 12),
-    },
-];
-
-// Runs over a disk whose call of this number fails, and answers whether the run was made.
-fn is_made(
-    rt: &impl Abort,
-    alloc: Global,
-    spec: &Spec,
-    row: &Row,
-    call: u64,
-) -> Result<bool, Fail> {
-    let mut failing = Vec::new(alloc);
-    failing.push(call)?;
-    let mut disk = FaultyDisk::new(disk_with(alloc, row.operands)?, failing);
+// Runs over such a disk: the memory of the row is taken, or, where the run fails, none.
+fn end_over(alloc: Global, spec: &Spec, row: &Row, disk: &mut FaultyDisk) -> End {
     let mut room = HeapRoom::new(alloc);
-    let made = match ran(alloc, spec, row.budget, &mut disk, &mut room) {
-        Ok(_report) => true,
-        Err(JobFault::Disk) => false,
-        Err(_) => return Err(Fail::new("only the disk fails")),
-    };
-    assert_eq!(rt; disk.faults(), if made { 0 } else { 1 }, "call {call}");
-    let taken = room.takings() == [row.taking].as_slice();
-    assert!(rt; taken || !made && room.takings().is_empty(), "call {call}");
-    check_files(rt, alloc, row, disk.inner(), made)?;
-    Ok(made)
+    let answer = ran(alloc, spec, row.budget, disk, &mut room, b"");
+    let taking = [(row.memory, row.tiles)];
+    let taken = room.takings() == taking.as_slice();
+    match answer {
+        Ok(_) if taken && disk.faults() == 0 => End::Made,
+        Err(JobFault::Disk) if disk.faults() == 1 && (taken || room.takings().is_empty()) => {
+            End::Failed
+        }
+        _ => End::Wrong,
+    }
 }
 
-// The operands are as they were, and the result is whole where the run was made.
-fn check_files(
-    rt: &impl Abort,
-    alloc: Global,
-    row: &Row,
-    disk: &MemDisk,
-    made: bool,
-) -> Result<(), Fail> {
-    for operand in row.operands {
-        let bytes = file_bytes(alloc, operand)?;
-        assert_eq!(rt; disk.file(operand.file), Some(bytes.as_slice()));
+// Whether the operands are as they were, and the result is whole where the run was made.
+fn are_files(alloc: Global, row: &Row, disk: &MemDisk, end: End) -> Result<bool, AllocError> {
+    if end == End::Made && !has_array(alloc, disk, &row.result)? {
+        return Ok(false);
     }
-    if made {
-        let bytes = file_bytes(alloc, &row.result)?;
-        assert_eq!(rt; disk.file(row.result.file), Some(bytes.as_slice()));
-    }
-    Ok(())
+    has_arrays(alloc, disk, row.operands)
+}
+
+// Runs over a disk whose call of this number fails.
+fn end_at(alloc: Global, spec: &Spec, row: &Row, call: u64) -> Result<End, AllocError> {
+    let failing = vec![in alloc; call]?;
+    let mut disk = FaultyDisk::new(disk_with(alloc, row.operands)?, failing);
+    let end = end_over(alloc, spec, row, &mut disk);
+    let right = are_files(alloc, row, disk.inner(), end)?;
+    Ok(if right { end } else { End::Wrong })
 }
 
 // How many calls of the disk a run makes: each of them fails a run, and no later one.
-fn calls_of(rt: &impl Abort, alloc: Global, row: &Row) -> Result<u64, Fail> {
-    let spec = spec_of(alloc, row.text)?;
+fn calls_of(alloc: Global, spec: &Spec, row: &Row) -> Result<u64, Fail> {
     for call in 0..1000 {
-        if is_made(rt, alloc, &spec, row, call)? {
-            return Ok(call);
+        match end_at(alloc, spec, row, call)? {
+            End::Made => return Ok(call),
+            End::Failed => {}
+            End::Wrong => return Err(Fail::new(
+                "only the disk fails, and only files of results change",
+            )),
         }
     }
     Err(Fail::new("a run makes fewer calls"))
@@ -143,32 +66,48 @@ fn calls_of(rt: &impl Abort, alloc: Global, row: &Row) -> Result<u64, Fail> {
 
 #[test]
 fn each_failing_call_of_the_disk_fails_the_run(rt: HostRuntime) -> Result<(), Fail> {
-    for row in &ROWS {
-        let calls = calls_of(&rt, rt.alloc(), row)?;
+    for row in ROWS {
+        let spec = spec_of(rt.alloc(), row.text.as_bytes())?;
+        let calls = calls_of(rt.alloc(), &spec, row)?;
         // two for each operand and for the making of the result are the least
-        assert!(rt; 6 < calls, "{calls}");
+        assert!(rt; 6 < calls);
     }
     Ok(())
 }
 
+// Whether a run whose room refuses its call wants memory, and leaves neither a result nor a taking.
+fn wants_memory(alloc: Global, spec: &Spec, disk: &mut MemDisk, room: &mut RefusingRoom) -> bool {
+    let answer = ran(alloc, spec, LISTS.budget, disk, room, b"");
+    matches!(answer, Err(JobFault::Memory))
+        && disk.file("C.tca").is_none()
+        && room.takings().is_empty()
+}
+
+// Whether a run over the same room is made, and leaves its result and its taking.
+fn is_made(
+    alloc: Global,
+    spec: &Spec,
+    disk: &mut MemDisk,
+    room: &mut RefusingRoom,
+) -> Result<bool, AllocError> {
+    let made = ran(alloc, spec, LISTS.budget, disk, room, b"").is_ok();
+    let taking = [(LISTS.memory, LISTS.tiles)];
+    Ok(made && room.takings() == taking.as_slice() && has_array(alloc, disk, &LISTS.result)?)
+}
+
+// Whether the room refuses the first run alone.
+fn is_refused_once(alloc: Global, spec: &Spec) -> Result<bool, AllocError> {
+    let mut disk = disk_with(alloc, LISTS.operands)?;
+    let mut room = RefusingRoom::new(alloc, 0);
+    let refused = wants_memory(alloc, spec, &mut disk, &mut room);
+    let made = is_made(alloc, spec, &mut disk, &mut room)?;
+    Ok(refused && made)
+}
+
 #[test]
 fn a_refusing_room_leaves_no_result(rt: HostRuntime) -> Result<(), Fail> {
-    let alloc = rt.alloc();
-    let spec = spec_of(alloc, OUTER)?;
-    let mut disk = disk_with(alloc, &OUTER_OPERANDS)?;
-    let mut room = RefusingRoom::new(alloc, 0);
-    let refused = matches!(
-        ran(alloc, &spec, 3, &mut disk, &mut room),
-        Err(JobFault::Memory)
-    );
+    let spec = spec_of(rt.alloc(), LISTS.text.as_bytes())?;
+    let refused = is_refused_once(rt.alloc(), &spec)?;
     assert!(rt; refused);
-    assert_eq!(rt; disk.file("C.tca"), None);
-    assert_eq!(rt; room.takings().len(), 0);
-    // only the first call is refused
-    let made = ran(alloc, &spec, 3, &mut disk, &mut room).is_ok();
-    assert!(rt; made);
-    let bytes = file_bytes(alloc, &OUTER_RESULT)?;
-    assert_eq!(rt; disk.file("C.tca"), Some(bytes.as_slice()));
-    assert_eq!(rt; room.takings(), [(0, 3)].as_slice());
     Ok(())
 }

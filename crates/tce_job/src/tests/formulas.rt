@@ -3,27 +3,32 @@ use crate::tests::draws::Draws;
 use crate::tests::given::{ran, spec_of};
 use crate::tests::terms::{
     ASSIGNMENTS, DECLARED, INDEXES, Join, OPERANDS, Term, joined, leaves, number_at, push_name,
-    summed,
+    push_term, summed,
 };
 use crate::tests::tiled::{Range, elements, tiled_bytes};
 use std::alloc::{AllocError, Global};
 use std::process::Abort;
 use std::test::Fail;
 use tce_outside::MemDisk;
+use tce_spec::Spec;
 use tce_words::HeapRoom;
 
 // The most operations of a formula.
 const MOST_OPERATIONS: u64 = 9;
 
+fn drawn_words(alloc: Global, draws: &mut Draws, count: u64) -> Result<Vec<u64>, AllocError> {
+    let mut words = Vec::new(alloc);
+    for _ in 0..count {
+        words.push(draws.word())?;
+    }
+    Ok(words)
+}
+
 // The elements of each operand, drawn.
 fn drawn_operands(alloc: Global, draws: &mut Draws) -> Result<Vec<Vec<u64>>, AllocError> {
     let mut operands = Vec::new(alloc);
     for (_, ranges) in OPERANDS {
-        let mut words = Vec::new(alloc);
-        for _ in 0..elements(ranges) {
-            words.push(draws.word())?;
-        }
-        operands.push(words)?;
+        operands.push(drawn_words(alloc, draws, elements(ranges))?)?;
     }
     Ok(operands)
 }
@@ -56,44 +61,48 @@ fn drawn_join(
     }
 }
 
-// A formula with one operation more, or with those of another formula and one more.
-fn grown(
+// Puts a formula with one operation more behind the others, or one with those of another formula and one more: not where
+// these are too many.
+fn push_grown(
     alloc: Global,
     draws: &mut Draws,
-    term: &Term,
-    terms: &[Term],
-) -> Result<Option<Term>, AllocError> {
+    terms: &mut Vec<Term>,
+    newest: usize,
+) -> Result<(), AllocError> {
+    let Some(term) = terms.get(newest) else {
+        return Ok(());
+    };
     let indexes = drawn_indexes(term, draws);
     if draws.below(5) < 2 && indexes != [false; 4] {
-        return Ok(Some(summed(alloc, indexes, term)?));
+        let sum = summed(alloc, indexes, term)?;
+        return push_term(terms, sum);
     }
     let Some(other) = terms.get(draws.below(terms.len() as u64) as usize) else {
-        return Ok(None);
+        return Ok(());
     };
     if MOST_OPERATIONS <= term.operations.wrapping_add(other.operations) {
-        return Ok(None);
+        return Ok(());
     }
-    Ok(Some(drawn_join(alloc, draws, term, other)?))
+    let join = drawn_join(alloc, draws, term, other)?;
+    push_term(terms, join)
 }
 
-// A formula with some operations over operands with these elements.
-fn drawn_term(
+// Formulas over operands with these elements, the last of which has most operations.
+fn drawn_terms(
     alloc: Global,
     draws: &mut Draws,
     operands: &[Vec<u64>],
-) -> Result<Option<Term>, AllocError> {
+) -> Result<Vec<Term>, AllocError> {
     let mut terms = leaves(alloc, operands)?;
-    let mut newest = draws.below(terms.len() as u64) as usize;
+    let leaves = terms.len();
+    let mut newest = draws.below(leaves as u64) as usize;
     for _ in 0..8 {
-        let Some(term) = terms.get(newest) else {
-            return Ok(None);
-        };
-        if let Some(term) = grown(alloc, draws, term, terms.as_slice())? {
-            newest = terms.len();
-            terms.push(term)?;
+        push_grown(alloc, draws, &mut terms, newest)?;
+        if leaves < terms.len() {
+            newest = terms.len() - 1;
         }
     }
-    Ok(terms.pop())
+    Ok(terms)
 }
 
 // The places of the indexes of a formula among the four, upwards or downwards.
@@ -109,17 +118,32 @@ fn drawn_order(alloc: Global, draws: &mut Draws, term: &Term) -> Result<Vec<usiz
     Ok(order)
 }
 
-// The whole specification of a formula whose result has its indexes in this order.
-fn text_of(alloc: Global, term: &Term, order: &[usize]) -> Result<String, AllocError> {
-    let mut ranges = String::new(alloc);
+// The names of the ranges of indexes, in this order.
+fn range_names(alloc: Global, order: &[usize]) -> Result<String, AllocError> {
     let mut names = String::new(alloc);
     for at in order {
         if let Some(index) = INDEXES.get(*at) {
-            push_name(&mut ranges, index.range_name)?;
+            push_name(&mut names, index.range_name)?;
+        }
+    }
+    Ok(names)
+}
+
+// The names of indexes, in this order.
+fn index_names(alloc: Global, order: &[usize]) -> Result<String, AllocError> {
+    let mut names = String::new(alloc);
+    for at in order {
+        if let Some(index) = INDEXES.get(*at) {
             push_name(&mut names, index.name)?;
         }
     }
-    let formula = term.text.as_str();
+    Ok(names)
+}
+
+// The whole specification of a formula whose result has its indexes in this order.
+fn text_of(alloc: Global, formula: &str, order: &[usize]) -> Result<String, AllocError> {
+    let ranges = range_names(alloc, order)?;
+    let names = index_names(alloc, order)?;
     format!(in alloc; "{DECLARED}tensor R[{ranges}]\nR[{names}] = {formula}\n")
 }
 
@@ -146,58 +170,109 @@ fn place_in(order: &[usize], assignment: u64) -> u64 {
     place
 }
 
-// The bytes of the result's file.
-fn result_bytes(alloc: Global, term: &Term, order: &[usize]) -> Result<Vec<u8>, AllocError> {
-    let mut ranges: Vec<Range> = Vec::new(alloc);
+// The ranges of indexes, in this order.
+fn ranges_of(alloc: Global, order: &[usize]) -> Result<Vec<Range>, AllocError> {
+    let mut ranges = Vec::new(alloc);
     for at in order {
         if let Some(index) = INDEXES.get(*at) {
             ranges.push(index.range)?;
         }
     }
+    Ok(ranges)
+}
+
+// The elements of the result, in row-major order.
+fn result_elements(alloc: Global, term: &Term, order: &[usize]) -> Result<Vec<u64>, AllocError> {
     let mut cells = vec![in alloc; 0u64; ASSIGNMENTS as usize]?;
     for assignment in 0..ASSIGNMENTS {
-        if is_listed(order, assignment) {
-            let place = place_in(order, assignment) as usize;
-            if place < cells.len() {
-                cells[place] = term.value(assignment);
-            }
+        let place = place_in(order, assignment) as usize;
+        if is_listed(order, assignment) && place < cells.len() {
+            cells[place] = term.value(assignment);
         }
     }
+    Ok(cells)
+}
+
+// The bytes of the result's file.
+fn result_bytes(alloc: Global, term: &Term, order: &[usize]) -> Result<Vec<u8>, AllocError> {
+    let ranges = ranges_of(alloc, order)?;
+    let cells = result_elements(alloc, term, order)?;
     tiled_bytes(alloc, ranges.as_slice(), cells.as_slice())
+}
+
+fn put_operand(
+    alloc: Global,
+    disk: &mut MemDisk,
+    name: &str,
+    ranges: &[Range],
+    words: &[u64],
+) -> Result<(), AllocError> {
+    let bytes = tiled_bytes(alloc, ranges, words)?;
+    disk.put_file(name, &bytes)
 }
 
 // A disk with the files of the operands.
 fn disk_of(alloc: Global, operands: &[Vec<u64>]) -> Result<MemDisk, AllocError> {
     let mut disk = MemDisk::new(alloc);
     for ((name, ranges), words) in OPERANDS.iter().zip(operands.iter()) {
-        let bytes = tiled_bytes(alloc, ranges, words.as_slice())?;
-        disk.put_file(name, &bytes)?;
+        put_operand(alloc, &mut disk, name, ranges, words.as_slice())?;
     }
     Ok(disk)
 }
 
-// Runs a formula that is drawn, and compares its result.
+// Whether a run over a disk with the operands makes a file of these bytes.
+fn makes(
+    alloc: Global,
+    spec: &Spec,
+    budget: u64,
+    operands: &[Vec<u64>],
+    wanted: &[u8],
+) -> Result<bool, AllocError> {
+    let mut disk = disk_of(alloc, operands)?;
+    let mut room = HeapRoom::new(alloc);
+    let made = ran(alloc, spec, budget, &mut disk, &mut room, b"").is_ok();
+    Ok(made && disk.file("R.tca") == Some(wanted))
+}
+
+// Runs the specification of a formula with a drawn budget, and compares its result.
+fn check_text(
+    rt: &impl Abort,
+    alloc: Global,
+    draws: &mut Draws,
+    text: &str,
+    operands: &[Vec<u64>],
+    wanted: &[u8],
+) -> Result<(), Fail> {
+    let spec = spec_of(alloc, text.as_bytes())?;
+    let least = spec.largest_tile().saturating_mul(3);
+    let budget = least.saturating_add(draws.below(60));
+    let right = makes(alloc, &spec, budget, operands, wanted)?;
+    assert!(rt; right, "{text}");
+    Ok(())
+}
+
+// Runs a formula whose result has its indexes in a drawn order.
+fn check_term(
+    rt: &impl Abort,
+    alloc: Global,
+    draws: &mut Draws,
+    term: &Term,
+    operands: &[Vec<u64>],
+) -> Result<(), Fail> {
+    let order = drawn_order(alloc, draws, term)?;
+    let text = text_of(alloc, term.text.as_str(), order.as_slice())?;
+    let wanted = result_bytes(alloc, term, order.as_slice())?;
+    check_text(rt, alloc, draws, text.as_str(), operands, wanted.as_slice())
+}
+
+// Runs a formula that is drawn.
 fn check_drawn(rt: &impl Abort, alloc: Global, draws: &mut Draws) -> Result<(), Fail> {
     let operands = drawn_operands(alloc, draws)?;
-    let Some(term) = drawn_term(alloc, draws, operands.as_slice())? else {
+    let terms = drawn_terms(alloc, draws, operands.as_slice())?;
+    let Some(term) = terms.last() else {
         return Err(Fail::new("a formula is drawn"));
     };
-    let order = drawn_order(alloc, draws, &term)?;
-    let text = text_of(alloc, &term, order.as_slice())?;
-    let spec = spec_of(alloc, text.as_str().as_bytes())?;
-    let mut disk = disk_of(alloc, operands.as_slice())?;
-    let mut room = HeapRoom::new(alloc);
-    let largest = spec.largest_tile();
-    let budget = largest.saturating_mul(3).saturating_add(draws.below(60));
-    let made = ran(alloc, &spec, budget, &mut disk, &mut room).is_ok();
-    assert!(rt; made, "{text} with budget {budget}");
-    let wanted = result_bytes(alloc, &term, order.as_slice())?;
-    assert_eq!(rt;
-        disk.file("R.tca"),
-        Some(wanted.as_slice()),
-        "{text} with budget {budget}"
-    );
-    Ok(())
+    check_term(rt, alloc, draws, term, operands.as_slice())
 }
 
 #[test]

@@ -12,7 +12,7 @@ pub const DECLARED: &str =
     "range N 3 tile 2\nrange M 2\nrange K 4 tile 3\nindex N i j\nindex M k\nindex K l\ntensor A[N,M]\ntensor B[N,K]\ntensor D[K]\ntensor E[N,N]\n";
 
 /// An index: its name, its range, that range's name, and how far apart two assignments are that differ by one in it.
-#[derive(Clone, Copy, Debug)]
+#[derive(Clone, Copy)]
 pub struct Index {
     pub name: &'static str,
     pub range_name: &'static str,
@@ -67,7 +67,7 @@ pub const INDEXES: [Index; 4] = [
 ];
 
 /// The operands: the names of their files, and their ranges.
-pub const OPERANDS: [(&str, &[Range]); 4] = [
+pub const OPERANDS: &[(&str, &[Range])] = &[
     ("A.tca", &[N, M]),
     ("B.tca", &[N, K]),
     ("D.tca", &[K]),
@@ -75,7 +75,7 @@ pub const OPERANDS: [(&str, &[Range]); 4] = [
 ];
 
 // The references to the operands: the text, the operand's number, and which of the four indexes stand in it, in order.
-const REFERENCES: [(&str, usize, &[usize]); 8] = [
+const REFERENCES: &[(&str, usize, &[usize])] = &[
     ("A[i,k]", 0, &[0, 2]),
     ("A[j,k]", 0, &[1, 2]),
     ("B[i,l]", 1, &[0, 3]),
@@ -87,7 +87,7 @@ const REFERENCES: [(&str, usize, &[usize]); 8] = [
 ];
 
 // The constants.
-const CONSTANTS: [(&str, u64); 2] = [("3", 3), ("18446744073709551615", u64::MAX)];
+const CONSTANTS: &[(&str, u64)] = &[("3", 3), ("18446744073709551615", u64::MAX)];
 
 /// A formula: its text, which of the four indexes it has, how many operations, and its value at each assignment.
 #[derive(Drop)]
@@ -145,6 +145,19 @@ fn dims_of(indexes: &[usize]) -> [bool; 4] {
     dims
 }
 
+fn values_named(
+    alloc: Global,
+    indexes: &[usize],
+    elements: &[u64],
+) -> Result<Vec<u64>, AllocError> {
+    let mut values = Vec::new(alloc);
+    for assignment in 0..ASSIGNMENTS {
+        let element = element_named(indexes, assignment);
+        values.push(elements.get(element as usize).copied().unwrap_or(0))?;
+    }
+    Ok(values)
+}
+
 // A reference to an operand with these elements.
 fn reference(
     alloc: Global,
@@ -152,13 +165,10 @@ fn reference(
     indexes: &[usize],
     elements: &[u64],
 ) -> Result<Term, AllocError> {
-    let mut values = Vec::new(alloc);
-    for assignment in 0..ASSIGNMENTS {
-        let element = element_named(indexes, assignment);
-        values.push(elements.get(element as usize).copied().unwrap_or(0))?;
-    }
+    let values = values_named(alloc, indexes, elements)?;
+    let text = String::from_str(alloc, text)?;
     Ok(Term {
-        text: String::from_str(alloc, text)?,
+        text,
         dims: dims_of(indexes),
         operations: 0,
         values,
@@ -166,36 +176,54 @@ fn reference(
 }
 
 fn constant(alloc: Global, text: &str, number: u64) -> Result<Term, AllocError> {
-    let mut values = Vec::new(alloc);
-    for _ in 0..ASSIGNMENTS {
-        values.push(number)?;
-    }
+    let values = vec![in alloc; number; ASSIGNMENTS as usize]?;
+    let text = String::from_str(alloc, text)?;
     Ok(Term {
-        text: String::from_str(alloc, text)?,
+        text,
         dims: [false; 4],
         operations: 0,
         values,
     })
 }
 
-/// All references to the operands with these elements, and the constants.
-pub fn leaves(alloc: Global, operands: &[Vec<u64>]) -> Result<Vec<Term>, AllocError> {
-    let mut terms = Vec::new(alloc);
+/// Puts a formula behind others.
+pub fn push_term(terms: &mut Vec<Term>, term: Term) -> Result<(), AllocError> {
+    terms.push(term)?;
+    Ok(())
+}
+
+fn push_references(
+    alloc: Global,
+    terms: &mut Vec<Term>,
+    operands: &[Vec<u64>],
+) -> Result<(), AllocError> {
     for (text, operand, indexes) in REFERENCES {
-        let elements = match operands.get(operand) {
+        let elements = match operands.get(*operand) {
             Some(elements) => elements.as_slice(),
             None => &[],
         };
-        terms.push(reference(alloc, text, indexes, elements)?)?;
+        push_term(terms, reference(alloc, text, indexes, elements)?)?;
     }
+    Ok(())
+}
+
+fn push_constants(alloc: Global, terms: &mut Vec<Term>) -> Result<(), AllocError> {
     for (text, number) in CONSTANTS {
-        terms.push(constant(alloc, text, number)?)?;
+        push_term(terms, constant(alloc, text, *number)?)?;
     }
+    Ok(())
+}
+
+/// All references to the operands with these elements, and the constants.
+pub fn leaves(alloc: Global, operands: &[Vec<u64>]) -> Result<Vec<Term>, AllocError> {
+    let mut terms = Vec::new(alloc);
+    push_references(alloc, &mut terms, operands)?;
+    push_constants(alloc, &mut terms)?;
     Ok(terms)
 }
 
 /// What joins two formulas.
-#[derive(Clone, Copy, Debug)]
+#[derive(Clone, Copy)]
 pub enum Join {
     Times,
     Plus,
@@ -220,21 +248,38 @@ impl Join {
     }
 }
 
-/// Two formulas, joined.
-pub fn joined(alloc: Global, join: Join, left: &Term, right: &Term) -> Result<Term, AllocError> {
+// The values of two formulas, joined.
+fn joined_values(
+    alloc: Global,
+    join: Join,
+    left: &Term,
+    right: &Term,
+) -> Result<Vec<u64>, AllocError> {
     let mut values = Vec::new(alloc);
     for assignment in 0..ASSIGNMENTS {
         values.push(join.of(left.value(assignment), right.value(assignment)))?;
     }
+    Ok(values)
+}
+
+// The indexes that one of two formulas has.
+fn dims_of_both(left: &Term, right: &Term) -> [bool; 4] {
     let mut dims = left.dims;
     for at in 0..4 {
         dims[at] = left.dims[at] || right.dims[at];
     }
+    dims
+}
+
+/// Two formulas, joined.
+pub fn joined(alloc: Global, join: Join, left: &Term, right: &Term) -> Result<Term, AllocError> {
     let symbol = join.symbol();
     let (first, second) = (left.text.as_str(), right.text.as_str());
+    let values = joined_values(alloc, join, left, right)?;
+    let text = format!(in alloc; "({first} {symbol} {second})")?;
     Ok(Term {
-        text: format!(in alloc; "({first} {symbol} {second})")?,
-        dims,
+        text,
+        dims: dims_of_both(left, right),
         operations: left
             .operations
             .wrapping_add(right.operations)
@@ -243,36 +288,69 @@ pub fn joined(alloc: Global, join: Join, left: &Term, right: &Term) -> Result<Te
     })
 }
 
+// The sum of the values where one index has each of its numbers in place of its own.
+fn sum_over(values: &[u64], index: &Index, assignment: u64) -> u64 {
+    let mut sum = 0u64;
+    for number in 0..index.range.extent {
+        let other = with_number(assignment, index, number);
+        sum = sum.wrapping_add(values.get(other as usize).copied().unwrap_or(0));
+    }
+    sum
+}
+
 // The values of a sum over one index.
 fn summed_values(alloc: Global, values: &[u64], index: &Index) -> Result<Vec<u64>, AllocError> {
     let mut sums = Vec::new(alloc);
     for assignment in 0..ASSIGNMENTS {
-        let mut sum = 0u64;
-        for number in 0..index.range.extent {
-            let other = with_number(assignment, index, number);
-            sum = sum.wrapping_add(values.get(other as usize).copied().unwrap_or(0));
-        }
-        sums.push(sum)?;
+        sums.push(sum_over(values, index, assignment))?;
     }
     Ok(sums)
 }
 
-/// The sum of a formula over these indexes, which it has.
-pub fn summed(alloc: Global, summed: [bool; 4], term: &Term) -> Result<Term, AllocError> {
-    let mut values = term.values.clone()?;
-    let mut dims = term.dims;
-    let mut list = String::new(alloc);
+// The values of a sum over these indexes.
+fn summed_over(alloc: Global, summed: [bool; 4], values: &[u64]) -> Result<Vec<u64>, AllocError> {
+    let mut values = values.to_vec(alloc)?;
     for at in 0..4 {
         if summed[at] {
             values = summed_values(alloc, values.as_slice(), &INDEXES[at])?;
-            dims[at] = false;
-            push_name(&mut list, INDEXES[at].name)?;
         }
     }
-    let text = term.text.as_str();
+    Ok(values)
+}
+
+// The names of these indexes.
+fn names_of(alloc: Global, indexes: [bool; 4]) -> Result<String, AllocError> {
+    let mut names = String::new(alloc);
+    for at in 0..4 {
+        if indexes[at] {
+            push_name(&mut names, INDEXES[at].name)?;
+        }
+    }
+    Ok(names)
+}
+
+// The indexes of a formula without those of a sum.
+fn dims_without(term: &Term, summed: [bool; 4]) -> [bool; 4] {
+    let mut dims = term.dims;
+    for at in 0..4 {
+        dims[at] = term.dims[at] && !summed[at];
+    }
+    dims
+}
+
+// The text of a sum over these indexes.
+fn sum_text(alloc: Global, summed: [bool; 4], text: &str) -> Result<String, AllocError> {
+    let names = names_of(alloc, summed)?;
+    format!(in alloc; "sum{{{names}}}({text})")
+}
+
+/// The sum of a formula over these indexes, which it has.
+pub fn summed(alloc: Global, summed: [bool; 4], term: &Term) -> Result<Term, AllocError> {
+    let values = summed_over(alloc, summed, term.values.as_slice())?;
+    let text = sum_text(alloc, summed, term.text.as_str())?;
     Ok(Term {
-        text: format!(in alloc; "sum{{{list}}}({text})")?,
-        dims,
+        text,
+        dims: dims_without(term, summed),
         operations: term.operations.wrapping_add(1),
         values,
     })

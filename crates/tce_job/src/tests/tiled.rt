@@ -1,8 +1,9 @@
 //! Array files of ranges that are cut into tiles, by their elements in row-major order.
+use crate::tests::given::push_number;
 use std::alloc::{AllocError, Global};
 
 /// A range: its extent, the edge of its tiles, and how many tiles cover it. None of them is 0.
-#[derive(Clone, Copy, Debug)]
+#[derive(Clone, Copy)]
 pub struct Range {
     pub extent: u64,
     pub edge: u64,
@@ -58,16 +59,34 @@ fn element_at(ranges: &[Range], tile: u64, place: u64) -> Option<u64> {
     Some(element)
 }
 
-fn head(alloc: Global, ranges: &[Range]) -> Result<Vec<u8>, AllocError> {
-    let mut bytes = b"TCARRAY1".to_vec(alloc)?;
-    bytes.extend_from_slice(&(ranges.len() as u64).to_le_bytes())?;
+fn push_head(bytes: &mut Vec<u8>, ranges: &[Range]) -> Result<(), AllocError> {
+    bytes.extend_from_slice(b"TCARRAY1")?;
+    push_number(bytes, ranges.len() as u64)?;
     for range in ranges {
-        bytes.extend_from_slice(&range.extent.to_le_bytes())?;
+        push_number(bytes, range.extent)?;
     }
     for range in ranges {
-        bytes.extend_from_slice(&range.edge.to_le_bytes())?;
+        push_number(bytes, range.edge)?;
     }
-    Ok(bytes)
+    Ok(())
+}
+
+// The word at a place of a tile.
+fn word_at(ranges: &[Range], tile: u64, place: u64, elements: &[u64]) -> u64 {
+    match element_at(ranges, tile, place) {
+        Some(element) => elements.get(element as usize).copied().unwrap_or(0),
+        None => 0,
+    }
+}
+
+fn push_tiles(bytes: &mut Vec<u8>, ranges: &[Range], elements: &[u64]) -> Result<(), AllocError> {
+    let (words, tiles) = tiling(ranges);
+    for tile in 0..tiles {
+        for place in 0..words {
+            push_number(bytes, word_at(ranges, tile, place, elements))?;
+        }
+    }
+    Ok(())
 }
 
 /// The bytes of an array file: tile by tile, with 0 as padding.
@@ -76,16 +95,8 @@ pub fn tiled_bytes(
     ranges: &[Range],
     elements: &[u64],
 ) -> Result<Vec<u8>, AllocError> {
-    let mut bytes = head(alloc, ranges)?;
-    let (words, tiles) = tiling(ranges);
-    for tile in 0..tiles {
-        for place in 0..words {
-            let word = match element_at(ranges, tile, place) {
-                Some(element) => elements.get(element as usize).copied().unwrap_or(0),
-                None => 0,
-            };
-            bytes.extend_from_slice(&word.to_le_bytes())?;
-        }
-    }
+    let mut bytes = Vec::new(alloc);
+    push_head(&mut bytes, ranges)?;
+    push_tiles(&mut bytes, ranges, elements)?;
     Ok(bytes)
 }

@@ -1,6 +1,10 @@
+use Rattle.tce_job.proofs.Causes.{names_declared}
 use Rattle.tce_demo.proofs.Affordable.{affordable}
 use Rattle.tce_demo.proofs.Ran.{room_left}
 use Rattle.tce_demo.proofs.running.run_example.Goals as goal
+
+pub refusal_of-requires : goal.refusal_of-requires
+refusal_of-requires g c = names_declared (g.D.Disk.files c.args.disk.now) c.args.spec.now 16384 c.in-Err.fault c.in-Err.ensures.refused
 
 pub returns-in-Err-clause-refused : goal.returns-in-Err-clause-refused
 returns-in-Err-clause-refused g c = λ files told. c.refusal_of.ensures.free (c.in-Err.ensures.granted files told (record { affordable = affordable c.args.spec.now c.requires.spec; operands = c.requires.operands files told }))

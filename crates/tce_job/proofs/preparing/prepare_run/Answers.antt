@@ -1,5 +1,6 @@
+use Rattle.std.proofs.Common.{inr}
 use Rattle.std.proofs.lemmas.Result.{err_from_is_err_and}
-use Rattle.tce_job.proofs.Causes.{one_reason, no_reason, granted, have_operands}
+use Rattle.tce_job.proofs.Causes.{one_reason, no_reason, granted, have_operands, can_run}
 use Rattle.tce_job.proofs.preparing.prepare_run.Goals as goal
 
 pub returns-in_err-plan-clause-exactly : goal.returns-in_err-plan-clause-exactly
@@ -18,7 +19,11 @@ returns-clause-exactly g c = λ due free cause.
     (λ files told. have_operands files c.args.spec.now c.in_ok-plan.forms.0 (c.in_ok-plan.ensures.opened files told)) free cause
 
 pub returns-clause-able : goal.returns-clause-able
-returns-clause-able g c = λ files told. record {
-  affordable = c.in_ok-plan.ensures.affordable;
-  operands = have_operands files c.args.spec.now c.in_ok-plan.forms.0 (c.in_ok-plan.ensures.opened files told);
-}
+returns-clause-able g c = can_run (g.D.Disk.files c.args.disk.now) c.args.spec.now c.args.budget c.in_ok-plan.forms.0 c.in_ok-plan.ensures.affordable c.in_ok-plan.ensures.opened
+
+pub returns-clause-tested : goal.returns-clause-tested
+returns-clause-tested g c = inr (can_run (g.D.Disk.files c.args.disk.now) c.args.spec.now c.args.budget c.in_ok-plan.forms.0 c.in_ok-plan.ensures.affordable c.in_ok-plan.ensures.opened)
+
+pub returns-in_err-prepared-clause-tested : goal.returns-in_err-prepared-clause-tested
+returns-in_err-prepared-clause-tested g c =
+    inr (can_run (g.D.Disk.files c.args.disk.now) c.args.spec.now c.args.budget c.in_ok-plan.forms.0 c.in_ok-plan.ensures.affordable c.in_ok-plan.ensures.opened)

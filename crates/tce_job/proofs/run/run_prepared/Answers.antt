@@ -1,6 +1,4 @@
-use Rattle.std.proofs.Common.{◌≡◌, ℕ, ◌+◌, ◌≤◌, ◌^◌, sym, subst}
-use Rattle.tce_space.specs.Space.{IndexSpace}
-use Rattle.tce_tree.specs.ContractionTree.{ContractionTree}
+use Rattle.std.proofs.Common.{◌+◌, ◌≤◌, ◌^◌, sym, subst}
 use Rattle.tce_tree.specs.FlatTree.{IsTree}
 use Rattle.tce_code.specs.Program.{program_of}
 use Rattle.tce_tail.specs.Touches.{touch_bound}

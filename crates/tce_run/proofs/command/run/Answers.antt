@@ -1,6 +1,7 @@
 use Rattle.std.proofs.Common.{List, ℕ, refl, sym, subst}
+use Rattle.tce_job.proofs.Causes.{names_declared}
 use Rattle.tce_run.specs.Done.{IsRun}
-use Rattle.tce_run.proofs.Told.{names_declared, told_failure, answered, unchanged, told_room}
+use Rattle.tce_run.proofs.Told.{told_failure, answered, unchanged, told_room}
 use Rattle.tce_run.proofs.Ran.{ran, refused, both_causes}
 use Rattle.tce_run.proofs.command.run.Goals as goal
 
@@ -31,8 +32,8 @@ returns-clause-unchanged g c =
 
 pub returns-clause-takings : goal.returns-clause-takings
 returns-clause-takings g c =
-    told_room (g.D.Disk.files c.args.disk.now) c.in_ok-source.source c.args.spec.now c.args.budget c.in-Err.fault c.refusal_of.result (g.R.Room.takings c.args.room.now) (g.R.Room.takings c.run_job.new.room)
-    c.in_ok-source.ensures.read c.refusal_of.ensures c.in-Err.ensures.takings
+    told_room (g.D.Disk.files c.args.disk.now) (g.D.Disk.files c.read_source.new.disk) c.in_ok-source.source c.args.spec.now c.args.budget c.in-Err.fault c.refusal_of.result (g.R.Room.takings c.args.room.now)
+    (g.R.Room.takings c.run_job.new.room) c.in_ok-source.ensures.same c.in_ok-source.ensures.read c.refusal_of.ensures c.run_job.ensures.tested c.in-Err.ensures.takings
 
 pub returns-clause-cause : goal.returns-clause-cause
 returns-clause-cause g c =
