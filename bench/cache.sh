@@ -9,43 +9,9 @@
 # beside it stands cp. Times are those of the processor, the least of some rounds.
 set -eu
 rounds=${ROUNDS:-3}
-top=$(pwd)
-program=${1:-}
-if [ -z "$program" ]; then
-    (cd crates/tce && rt run) > /tmp/cache_build.$$ 2>&1 || true
-    program=$top/crates/tce/out/tce
-    [ -x "$program" ] || { tail -20 /tmp/cache_build.$$; exit 1; }
-    rm -f /tmp/cache_build.$$
-fi
-case $program in
-    /*) ;;
-    *) program=$top/$program ;;
-esac
-work=$(mktemp -d)
-trap 'rm -rf "$work"' EXIT INT TERM
-cd "$work"
-
-# spent COMMAND..: runs it and prints how many microseconds of the processor it took
-cat > spent.c <<'C'
-#include <stdio.h>
-#include <sys/resource.h>
-#include <sys/wait.h>
-#include <unistd.h>
-
-int main(int count, char **words) {
-    pid_t child = fork();
-    if (child == 0) {
-        if (!freopen("/dev/null", "w", stdout)) _exit(127);
-        execvp(words[1], words + 1);
-        _exit(127);
-    }
-    int status = 0;
-    struct rusage use;
-    if (child < 0 || wait4(child, &status, 0, &use) < 0) return 1;
-    printf("%ld\n", (use.ru_utime.tv_sec + use.ru_stime.tv_sec) * 1000000L + use.ru_utime.tv_usec + use.ru_stime.tv_usec);
-    return WIFEXITED(status) ? WEXITSTATUS(status) : 1;
-}
-C
+. "$(dirname "$0")/build.sh"
+set_program "$@"
+make_spent
 
 # ones FILE EXTENT EDGE: an array file of one dimension whose elements are all 1; the edge divides the extent
 cat > ones.c <<'C'
@@ -100,39 +66,21 @@ int main(void) {
 }
 C
 
-least() {
-    sort -n "$1" | head -1
-}
-
-# timed FILE COMMAND..: puts the times of all rounds into the file, and prints the least
-timed() {
-    to=$1
-    shift
-    : > "$to"
-    round=0
-    while [ $round -lt "$rounds" ]; do
-        ./spent "$@" >> "$to"
-        round=$((round + 1))
-    done
-    least "$to"
-}
-
-gcc -O2 -o spent spent.c
 gcc -O2 -o ones ones.c
 
 gcc -O3 -march=x86-64-v2 -DN=2048 -o list list.c
 printf 'range N 2048\nindex N i j\ntensor A[N]\ntensor B[N]\ntensor S[]\nS[] = sum{i,j}(A[i] * B[j])\n' > job.tce
 ./ones A.tca 2048 1
 ./ones B.tca 2048 1
-c=$(timed list.times ./list)
-r=$(timed run.times "$program" run job.tce 8192)
+c=$(least_spent ./list)
+r=$(least_spent "$program" run job.tce 8192)
 echo "$c $r" | awk '{ n = 2048 * 2048; printf "a block of one turn, three held tiles: C %.0f ns   run %.0f ns   ratio %.1f\n", 1e3 * $1 / n, 1e3 * $2 / n, $2 / $1 }'
 
 for edge in 64 512 4096 65536; do
     printf 'range N 4194304 tile %s\nindex N i\ntensor A[N]\ntensor B[]\ntensor C[N]\nC[i] = A[i] * B[]\n' $edge > job.tce
     ./ones A.tca 4194304 $edge
     { printf TCARRAY1; head -c 8 /dev/zero; printf '\003'; head -c 7 /dev/zero; } > B.tca
-    c=$(timed copy.times cp A.tca copy.tca)
-    r=$(timed run.times "$program" run job.tce $((3 * edge)))
+    c=$(least_spent cp A.tca copy.tca)
+    r=$(least_spent "$program" run job.tce $((3 * edge)))
     echo "$c $r" | awk -v edge=$edge '{ n = 4194304 / edge; printf "a tile of %5d words, read, read and written: cp %8.1f us   run %8.1f us   ratio %.1f\n", edge, $1 / n, $2 / n, $2 / $1 }'
 done

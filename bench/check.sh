@@ -4,11 +4,8 @@
 # and the memory that was accepted. The last line names the largest certificate.
 # usage: bench/check.sh [LIMIT in seconds, 60 where none is given]
 limit=${1:-60}
-top=$(cd "$(dirname "$0")/.." && pwd)
+. "$(dirname "$0")/build.sh"
 . "$top/bench/wide_trees.sh"
-work=$(mktemp -d)
-trap 'rm -rf "$work"' EXIT
-cd "$work" || exit 1
 most=0
 largest=none
 

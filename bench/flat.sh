@@ -7,23 +7,11 @@
 # is used, so `rt check` in crates/tce_tools makes this quick.
 set -eu
 rounds=5
-top=$(pwd)
-work=$(mktemp -d)
-trap 'rm -rf "$work"' EXIT INT TERM
-mkdir -p "$work/crates/tce/src" "$work/crates/tce/specs" "$work/crates/tce/proofs"
-for crate in tce_base tce_outside tce_space tce_array tce_tools; do
-    cp -r "$top/crates/$crate" "$work/crates/"
-done
-for part in src/disk.rt src/kept.rt specs/Kept.antt proofs/Counted.antt proofs/Tables.antt proofs/disk proofs/kept; do
-    cp -r "$top/crates/tce/$part" "$work/crates/tce/$part"
-done
-echo 'pub mod Kept' > "$work/crates/tce/specs/Lib.antt"
-printf 'pub mod Counted\npub mod Tables\n' > "$work/crates/tce/proofs/Lib.antt"
-grep -E '^(tce_base|tce_outside|tce_space|tce_array|tce_tools):' "$top/crates.txt" > "$work/crates.txt"
-echo 'tce: arrayvec tce_outside tce_space tce_tools' >> "$work/crates.txt"
-cp "$top/HANDLES" "$work/"
+. "$(dirname "$0")/build.sh"
+copy_crates tce_base tce_outside tce_space tce_array tce_tools
+copy_disk arrayvec tce_outside tce_space tce_tools
 
-cat > "$work/crates/tce/src/main.rt" <<'RATTLE'
+cat > crates/tce/src/main.rt <<'RATTLE'
 //! Packs or unpacks one file: the words are 0 or 1, and then an extent and an edge for each dimension.
 #![tactic(auto)]
 
@@ -122,10 +110,7 @@ fn main(rt: HostRuntime) -> ExitCode {
 }
 RATTLE
 
-cd "$work"
-git init -q .
-(cd crates/tce && rt run) > build.log 2>&1 || true
-[ -x crates/tce/out/tce ] || { tail -20 build.log; exit 1; }
+build crates/tce
 head -c 134217728 /dev/urandom > in.flat
 
 # the time of a command in microseconds
@@ -134,10 +119,6 @@ timed() {
     "$@"
     end=$(date +%s%N)
     echo $(((end - start) / 1000))
-}
-
-least() {
-    sort -n "$1" | head -1
 }
 
 echo '2^24 elements: milliseconds of cp, pack and unpack, and the speed of the two in parts of that of cp'

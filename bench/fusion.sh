@@ -3,15 +3,10 @@
 # edge, in nanoseconds: the least of a thousand rounds. To be run by hand, at the top of the repository:
 # sh bench/fusion.sh
 set -eu
-top=$(pwd)
-work=$(mktemp -d)
-trap 'rm -rf "$work"' EXIT
-mkdir -p "$work/crates/fusion_bench/src"
-for crate in tce_base tce_space tce_tree tce_fusion; do
-    cp -r "$top/crates/$crate" "$work/crates/"
-done
-grep -E '^(tce_base|tce_space|tce_tree|tce_fusion):' "$top/crates.txt" > "$work/crates.txt"
-echo 'fusion_bench: arrayvec anyhow tce_space tce_tree tce_fusion' >> "$work/crates.txt"
+. "$(dirname "$0")/build.sh"
+copy_crates tce_base tce_space tce_tree tce_fusion
+mkdir -p crates/fusion_bench/src
+echo 'fusion_bench: arrayvec anyhow tce_space tce_tree tce_fusion' >> crates.txt
 
 cat > "$work/crates/fusion_bench/src/main.rt" <<'RATTLE'
 //! Times of the calls on a fusion of 32 nodes of ten loops, in nanoseconds.
@@ -163,7 +158,6 @@ fn main(rt: HostRuntime) -> anyhow::Result<()> {
 }
 RATTLE
 
-cd "$work"
 git init -q .
 cd crates/fusion_bench
 rt run

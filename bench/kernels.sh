@@ -5,15 +5,10 @@
 # Each time is the least of many short rounds, so another load on the machine does little to it. The C and the Rattle
 # program take turns. Work that earlier checks kept in out/ is used, so `rt check` in crates/tce_words makes this quick.
 set -eu
-top=$(pwd)
-work=$(mktemp -d)
-trap 'rm -rf "$work"' EXIT
-mkdir -p "$work/crates/words_bench/src"
-for crate in tce_base tce_kernel tce_words; do
-    cp -r "$top/crates/$crate" "$work/crates/"
-done
-grep -E '^(tce_base|tce_kernel|tce_words):' "$top/crates.txt" > "$work/crates.txt"
-echo 'words_bench: tce_kernel tce_words' >> "$work/crates.txt"
+. "$(dirname "$0")/build.sh"
+copy_crates tce_base tce_kernel tce_words
+mkdir -p crates/words_bench/src
+echo 'words_bench: tce_kernel tce_words' >> crates.txt
 
 cat > "$work/crates/words_bench/src/main.rt" <<'RATTLE'
 //! Times of the kernels and of runs, in nanoseconds.
@@ -127,7 +122,7 @@ fn main(rt: HostRuntime) -> io::Result<()> {
 }
 RATTLE
 
-cat > "$work/plain.c" <<'C'
+cat > plain.c <<'C'
 #include <stdint.h>
 #include <stdio.h>
 #include <stdlib.h>
@@ -204,13 +199,13 @@ int main(void) {
 C
 
 for level in x86-64-v2 x86-64-v3; do
-    gcc -O3 -march=$level -o "$work/plain" "$work/plain.c"
-    (cd "$work/crates/words_bench" && rt run --cpu=$level) > "$work/first" 2>&1 || { tail -20 "$work/first"; exit 1; }
-    : > "$work/c"
-    : > "$work/r"
+    gcc -O3 -march=$level -o plain plain.c
+    (cd crates/words_bench && rt run --cpu=$level) > first 2>&1 || { tail -20 first; exit 1; }
+    : > c
+    : > r
     for _ in 1 2 3; do
-        "$work/plain" >> "$work/c"
-        "$work/crates/words_bench/out/words_bench" >> "$work/r"
+        ./plain >> c
+        crates/words_bench/out/words_bench >> r
     done
     echo "$level: nanoseconds a call, and Rattle's time over C's"
     awk '
@@ -227,5 +222,5 @@ for level in x86-64-v2 x86-64-v3; do
             word = (r["run512"] / 200 - each) / 448
             printf "  mul_add_run of 64 words: %.0f a call, of which %.0f beside its words\n", each, each - 64 * word
             printf "  2^27 words of zeros: C malloc and memset %.2f s, Room::take %.2f s, ratio %.2f\n", c["zeros"] / 1e9, r["zeros"] / 1e9, r["zeros"] / c["zeros"]
-        }' "$work/c" "$work/r"
+        }' c r
 done

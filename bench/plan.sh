@@ -3,11 +3,8 @@
 # It prints a line for each tree: the seconds, or `more than LIMIT`, and the memory of the plan.
 # usage: bench/plan.sh [LIMIT in seconds, 60 where none is given]
 limit=${1:-60}
-top=$(cd "$(dirname "$0")/.." && pwd)
+. "$(dirname "$0")/build.sh"
 . "$top/bench/wide_trees.sh"
-work=$(mktemp -d)
-trap 'rm -rf "$work"' EXIT
-cd "$work" || exit 1
 
 measure() {
     printf '%s\n%s\n' "$declared" "$2" > tree.tce

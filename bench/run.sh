@@ -9,43 +9,9 @@
 set -eu
 rounds=${ROUNDS:-5}
 level=x86-64-v2
-top=$(pwd)
-program=${1:-}
-if [ -z "$program" ]; then
-    (cd crates/tce && rt run) > /tmp/run_build.$$ 2>&1 || true
-    program=$top/crates/tce/out/tce
-    [ -x "$program" ] || { tail -20 /tmp/run_build.$$; exit 1; }
-    rm -f /tmp/run_build.$$
-fi
-case $program in
-    /*) ;;
-    *) program=$top/$program ;;
-esac
-work=$(mktemp -d)
-trap 'rm -rf "$work"' EXIT INT TERM
-cd "$work"
-
-# spent COMMAND..: runs it and prints how many microseconds of the processor it took
-cat > spent.c <<'C'
-#include <stdio.h>
-#include <sys/resource.h>
-#include <sys/wait.h>
-#include <unistd.h>
-
-int main(int count, char **words) {
-    pid_t child = fork();
-    if (child == 0) {
-        if (!freopen("/dev/null", "w", stdout)) _exit(127);
-        execv(words[1], words + 1);
-        _exit(127);
-    }
-    int status = 0;
-    struct rusage use;
-    if (child < 0 || wait4(child, &status, 0, &use) < 0) return 1;
-    printf("%ld\n", (use.ru_utime.tv_sec + use.ru_stime.tv_sec) * 1000000L + use.ru_utime.tv_usec + use.ru_stime.tv_usec);
-    return WIFEXITED(status) ? WEXITSTATUS(status) : 1;
-}
-C
+. "$(dirname "$0")/build.sh"
+set_program "$@"
+make_spent
 
 # array FILE SEED EXTENT EDGE ..: an array file of elements from 0 to 15, or of ones where the seed is 0
 cat > array.c <<'C'
@@ -273,10 +239,6 @@ four_data() {
     ./array D.tca 4 "$1" "$3" "$1" "$3" "$1" "$3" "$2" "$4"
 }
 
-least() {
-    sort -n "$1" | head -1
-}
-
 # compare WHAT RESULT BUDGET ROUNDS SOURCE FLAGS..: the run of job.tce beside the plain program
 compare() {
     what=$1 result=$2 budget=$3 times=$4 source=$5
@@ -294,7 +256,6 @@ compare() {
     echo "$(least plain.times) $(least run.times)" | awk -v what="$what" '{ printf "%-56s C %8.1f   run %8.1f   ratio %6.2f\n", what, $1 / 1e3, $2 / 1e3, $2 / $1 }'
 }
 
-gcc -O2 -o spent spent.c
 gcc -O2 -o array array.c
 echo "milliseconds of the processor, $level"
 
