@@ -1,26 +1,27 @@
 #!/bin/sh
-# Times `tce plan` on the term of four tensors and on wide trees within the limits: 32 nodes, ten loops a node.
-# It prints a line for each tree: the seconds, or `more than LIMIT`, and the memory of the plan.
-# usage: bench/plan.sh [LIMIT in seconds, 60 where none is given]
-limit=${1:-60}
+# Times `tce plan` on the term of four tensors and on wide trees within the limits. To be run by hand:
+# sh bench/plan.sh [PROGRAM]
+#
+# PROGRAM is the built program; where none is named, crates/tce/out/tce is built by `rt run`. It prints a line for each
+# tree: the milliseconds of the processor, the least of some rounds, and the memory of the plan.
+set -eu
+rounds=${ROUNDS:-5}
 . "$(dirname "$0")/build.sh"
 . "$top/bench/wide_trees.sh"
+set_program "$@"
+make_spent
 
 measure() {
     printf '%s\n%s\n' "$declared" "$2" > tree.tce
-    start=$(date +%s%N)
-    if timeout "$limit" "$top/tce" plan tree.tce > out.txt 2>/dev/null; then
-        end=$(date +%s%N)
-        echo "$1: $(((end - start) / 1000000)) ms, $(tail -n 1 out.txt)"
-    else
-        echo "$1: more than $limit s, or refused: $(tail -n 1 out.txt)"
-    fi
+    plan "$1" tree.tce
 }
 
-"$top/tce" > /dev/null 2>&1 # builds the program where it has to be built
-start=$(date +%s%N)
-for turn in 1 2 3 4 5 6 7 8 9 10; do
-    "$top/tce" plan "$top/examples/four/e3.tce" > out.txt 2>/dev/null
-done
-echo "four tensors, ten times: $((($(date +%s%N) - start) / 1000000)) ms, $(tail -n 1 out.txt)"
+plan() {
+    taken=$(least_spent "$program" plan "$2")
+    memory=$("$program" plan "$2" | tail -n 1)
+    echo "$1;$taken;$memory" | awk -F';' '{ printf "%-46s %7.1f ms  %s\n", $1 ":", $2 / 1e3, $3 }'
+}
+
+cp "$top/examples/four/e3.tce" four.tce
+plan "four tensors" four.tce
 each_tree measure
