@@ -70,7 +70,7 @@ fn each_failing_call_of_the_disk_fails_the_run(rt: HostRuntime) -> Result<(), Fa
         let spec = spec_of(rt.alloc(), row.text.as_bytes())?;
         let calls = calls_of(rt.alloc(), &spec, row)?;
         // two for each operand and for the making of the result are the least
-        assert!(rt; 6 < calls);
+        assert!(rt; 6 < calls, "{calls}");
     }
     Ok(())
 }

@@ -61,8 +61,7 @@ fn drawn_join(
     }
 }
 
-// Puts a formula with one operation more behind the others, or one with those of another formula and one more: not where
-// these are too many.
+// Puts a sum over the newest formula behind the others, or its join with one of them where that has not too many operations.
 fn push_grown(
     alloc: Global,
     draws: &mut Draws,
@@ -87,7 +86,7 @@ fn push_grown(
     push_term(terms, join)
 }
 
-// Formulas over operands with these elements, the last of which has most operations.
+// Formulas over operands with these elements, each behind those that it is made of.
 fn drawn_terms(
     alloc: Global,
     draws: &mut Draws,
@@ -247,7 +246,7 @@ fn check_text(
     let least = spec.largest_tile().saturating_mul(3);
     let budget = least.saturating_add(draws.below(60));
     let right = makes(alloc, &spec, budget, operands, wanted)?;
-    assert!(rt; right, "{text}");
+    assert!(rt; right, "{text} with budget {budget}");
     Ok(())
 }
 

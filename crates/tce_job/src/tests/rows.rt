@@ -21,15 +21,15 @@ pub struct Row<'a> {
     pub report: &'a [u8],
 }
 
-// What a run tells that takes what its row says, and is not refused.
+// What a run tells, where it is made and takes what its row says.
 fn made(alloc: Global, spec: &Spec, row: &Row, disk: &mut MemDisk) -> Option<Told> {
     let mut room = HeapRoom::new(alloc);
     let answer = ran(alloc, spec, row.budget, disk, &mut room, row.report);
     let takings = [(row.memory, row.tiles)];
     let taken = room.takings() == takings.as_slice();
     match answer {
-        Ok(told) => { if taken { Some(told) } else { None } }
-        Err(_) => None,
+        Ok(told) if taken => Some(told),
+        _ => None,
     }
 }
 
