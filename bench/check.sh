@@ -6,11 +6,7 @@
 # tree: the milliseconds of the processor that `cert` takes, the bytes of the certificate, those of `check`, and the
 # memory that was accepted. Each is the least of some rounds. The last line names the largest certificate.
 set -eu
-rounds=${ROUNDS:-5}
-. "$(dirname "$0")/build.sh"
-. "$top/bench/wide_trees.sh"
-set_program "$@"
-make_spent
+. "$(dirname "$0")/wide_trees.sh"
 most=0
 largest=none
 
@@ -32,7 +28,6 @@ certify_and_check() {
         awk -F';' '{ printf "%-46s cert %7.1f ms  %6d bytes  check %7.1f ms  %s\n", $1 ":", $2 / 1e3, $3, $4 / 1e3, $5 }'
 }
 
-cp "$top/examples/four/e3.tce" four.tce
 certify_and_check "four tensors" four.tce
 each_tree measure
 echo "the largest certificate: $largest, $most bytes"

@@ -5,11 +5,7 @@
 # PROGRAM is the built program; where none is named, crates/tce/out/tce is built by `rt run`. It prints a line for each
 # tree: the milliseconds of the processor, the least of some rounds, and the memory of the plan.
 set -eu
-rounds=${ROUNDS:-5}
-. "$(dirname "$0")/build.sh"
-. "$top/bench/wide_trees.sh"
-set_program "$@"
-make_spent
+. "$(dirname "$0")/wide_trees.sh"
 
 measure() {
     printf '%s\n%s\n' "$declared" "$2" > tree.tce
@@ -22,6 +18,5 @@ plan() {
     echo "$1;$taken;$memory" | awk -F';' '{ printf "%-46s %7.1f ms  %s\n", $1 ":", $2 / 1e3, $3 }'
 }
 
-cp "$top/examples/four/e3.tce" four.tce
 plan "four tensors" four.tce
 each_tree measure

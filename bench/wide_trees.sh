@@ -1,5 +1,12 @@
 # Wide trees within the limits, for the scripts that time plans and certificates: 32 nodes, ten loops a node.
-# To be read by `.`; `each_tree ACTION` calls `ACTION NAME FORMULA` for each tree.
+# To be read by `.` with the script's words, of which the first may name the built program: it reads build.sh, sets
+# `program`, and makes four.tce, the term of four tensors. `each_tree ACTION` calls `ACTION NAME FORMULA` for each tree.
+
+rounds=${ROUNDS:-5}
+. "$(dirname "$0")/build.sh"
+set_program "$@"
+make_spent
+cp "$top/examples/four/e3.tce" four.tce
 
 declared='range N 3
 index N a b c d e f g h i j
