@@ -5,7 +5,7 @@ use Rattle.std.proofs.lemmas.List.Elements.{All-weaker, All-contains}
 use Rattle.tce_states.specs.Relation.{above, HasNoConflict}
 use Rattle.tce_states.specs.Row.{Row, rows_joined}
 use Rattle.tce_nesting.specs.Classes.{restricted}
-use Rattle.tce_steps.specs.declared.choice.Choice.{Choice}
+use Rattle.tce_nesting.specs.declared.choice.Choice.{Choice}
 use Rattle.tce_steps.specs.Steps.{IsRowJoin}
 use Rattle.tce_candidates.specs.declared.candidate.Candidate.{Candidate}
 use Rattle.tce_candidates.specs.Candidates.{StandForAll, ChoiceCovered, PairCovered, IsStep, IsStepOf}

@@ -13,9 +13,9 @@ use Rattle.tce_states.proofs.Tells.{state-leaf}
 use Rattle.tce_states.proofs.Legality.{state_from_leaf}
 use Rattle.tce_states.proofs.Costs.{cost-leaf}
 use Rattle.tce_nesting.proofs.NestingLaws.{joins_tell_steps}
-use Rattle.tce_steps.specs.declared.choice.Choice.{Choice}
-use Rattle.tce_steps.specs.Steps.{AreChoices, LeavesSize}
-use Rattle.tce_steps.proofs.SubsetLists.{dims_within}
+use Rattle.tce_nesting.specs.declared.choice.Choice.{Choice}
+use Rattle.tce_nesting.specs.Choices.{AreChoices, LeavesSize}
+use Rattle.tce_nesting.proofs.SubsetLists.{dims_within}
 use Rattle.tce_candidates.specs.declared.candidate.Candidate.{Candidate}
 use Rattle.tce_candidates.specs.Candidates.{IsStepOf}
 use Rattle.tce_candidates.specs.Reached.{LeavesHaveStates, StepsAreStates}

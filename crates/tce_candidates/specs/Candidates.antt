@@ -4,7 +4,7 @@ use Rattle.std.specs.List.{All, Any, Contains}
 use Rattle.tce_states.specs.Relation.{Relation, above, HasNoConflict}
 use Rattle.tce_states.specs.Row.{Row, StandsFor, rows_joined}
 use Rattle.tce_nesting.specs.Classes.{AllowsSet, restricted}
-use Rattle.tce_steps.specs.declared.choice.Choice.{Choice}
+use Rattle.tce_nesting.specs.declared.choice.Choice.{Choice}
 use Rattle.tce_steps.specs.Steps.{IsRowJoin, IsRestricted}
 use Rattle.tce_candidates.specs.declared.candidate.Candidate.{Candidate}
 

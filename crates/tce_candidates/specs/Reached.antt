@@ -7,8 +7,8 @@ use Rattle.tce_tree.specs.Fusion.{fused_at}
 use Rattle.tce_states.specs.Relation.{above}
 use Rattle.tce_states.specs.Row.{leaf_row}
 use Rattle.tce_states.specs.State.{state, HasState, cost}
-use Rattle.tce_steps.specs.declared.choice.Choice.{Choice}
-use Rattle.tce_steps.specs.Steps.{AreChoices}
+use Rattle.tce_nesting.specs.declared.choice.Choice.{Choice}
+use Rattle.tce_nesting.specs.Choices.{AreChoices}
 use Rattle.tce_candidates.specs.declared.candidate.Candidate.{Candidate}
 use Rattle.tce_candidates.specs.Candidates.{IsStepOf}
 

@@ -8,9 +8,9 @@ ghost use Rattle.tce_candidates.specs.Groups.{LeavesOpen};
 use crate::candidate::{Candidate, at_limit, joined_sets};
 use crate::candidate_list::CandidateList;
 use std::alloc::{AllocError, Global};
-use tce_nesting::Row;
+use tce_nesting::{Choice, Row};
 use tce_space::IndexSet;
-use tce_steps::{Choice, join_rows, step};
+use tce_steps::{join_rows, step};
 
 // Appends the step of one choice, where its set is allowed, it costs less than the limit, and no candidate stands for it.
 fn add_step(

@@ -7,9 +7,8 @@ use arrayvec::ArrayVec;
 use std::alloc::Global;
 use std::process::Abort;
 use std::test::Fail;
-use tce_nesting::{Nesting, Row};
+use tce_nesting::{Choice, Nesting, Row, subsets};
 use tce_space::IndexSet;
-use tce_steps::{Choice, subsets};
 
 fn set(rt: &impl Abort, bits: u32) -> IndexSet {
     assert!(rt; bits < 1 << 24);

@@ -17,9 +17,9 @@ use Rattle.tce_states.specs.Classes.{IsNesting}
 use Rattle.tce_nesting.specs.Classes.{restricted}
 use Rattle.tce_nesting.specs.Laws.{TellsStep}
 use Rattle.tce_nesting.proofs.NestingLaws.{joins_tell_steps}
-use Rattle.tce_steps.specs.declared.choice.Choice.{Choice}
-use Rattle.tce_steps.specs.Steps.{AreChoices, LeavesSize}
-use Rattle.tce_steps.proofs.SubsetLists.{dims_within}
+use Rattle.tce_nesting.specs.declared.choice.Choice.{Choice}
+use Rattle.tce_nesting.specs.Choices.{AreChoices, LeavesSize}
+use Rattle.tce_nesting.proofs.SubsetLists.{dims_within}
 use Rattle.tce_check.specs.Joint.{IsJointOf, ChoiceCovered, IsFirstUncovered, IsBound}
 use Rattle.tce_check.specs.Verdict.{StepCovered, IsLeastUncovered}
 

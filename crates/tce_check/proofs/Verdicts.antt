@@ -15,7 +15,7 @@ use Rattle.tce_check.specs.First.{FirstPair}
 use Rattle.tce_check.specs.Verdict.{HasSize, IsLegalPlan, IsOrdered, IsSized, IsTotalled, IsCovered, IsAccepted, WhereJoined, IsLeastUncovered, CoversAt, FailsAt, IsBelow, IsVerdict}
 use Rattle.tce_check.specs.declared.verdict.Verdict.{Verdict}
 use Rattle.tce_check.specs.declared.verdict.Verdict.TheVariants.{Accepted, NotLegal, OrderWrong, SizeWrong, TotalWrong, NotCovered, BelowTotal}
-use Rattle.tce_check.proofs.Firsts.{number_not_all, number_meets, pair_not_all, pair_meets}
+use Rattle.tce_check.proofs.Firsts.{number_meets, pair_not_all, pair_meets}
 use Rattle.tce_check.proofs.FromTables.{one_parent}
 
 -- how many rules a plan keeps before the one of the verdict, and these rules

@@ -6,7 +6,7 @@ ghost use Rattle.tce_states.specs.Row.{StandsFor};
 ghost use Rattle.tce_states.specs.Cover.{StepsCovered};
 ghost use Rattle.tce_states.specs.Classes.{IsNesting};
 ghost use Rattle.tce_nesting.specs.Classes.{restricted};
-ghost use Rattle.tce_steps.specs.Steps.{AreChoices};
+ghost use Rattle.tce_nesting.specs.Choices.{AreChoices};
 ghost use Rattle.tce_check.specs.First.{First, FirstPair};
 ghost use Rattle.tce_check.specs.Verdict.{WhereJoined, IsLeastUncovered};
 ghost use Rattle.tce_check.specs.Joint.{ChoiceCovered, ChoiceUncovered, IsFirstUncovered, IsBound};
@@ -14,9 +14,8 @@ ghost use Rattle.tce_check.specs.Joint.{ChoiceCovered, ChoiceUncovered, IsFirstU
 use crate::joint::joint;
 use crate::recent::Recent;
 use crate::verdict::Verdict;
-use tce_nesting::Row;
+use tce_nesting::{Choice, Row};
 use tce_space::{IndexSet, Space};
-use tce_steps::Choice;
 use tce_tree::Tree;
 
 // A node but the root, the loops of its parent, the sets that may be fused above it, and the rows that are to stand for its steps.

@@ -10,9 +10,8 @@ ghost use Rattle.tce_check.specs.Verdict.{CoversAt, FailsAt};
 use crate::bound::bound_of;
 use crate::operands::{leaf_row, left_rows, right_rows};
 use crate::steps::{Node, Step};
-use tce_nesting::Tables;
+use tce_nesting::{Tables, choices};
 use tce_space::Space;
-use tce_steps::choices;
 use tce_tree::Tree;
 
 // The first step at a node for which none of its rows stands; none at the root.

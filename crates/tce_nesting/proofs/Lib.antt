@@ -4,3 +4,4 @@ pub mod Joins
 pub mod Cuts
 pub mod RowLists
 pub mod NestingLaws
+pub mod SubsetLists

@@ -1,7 +1,7 @@
 -- Nestings as lists of classes, outermost first, and the relations between indexes that they stand for.
-use Rattle.std.specs.Prelude.{◌≡◌, ℕ, Bool, false, ◌||◌, not, ◌==◌, List, [], ◌∷◌, map, IsTrue}
+use Rattle.std.specs.Prelude.{◌≡◌, ℕ, false, not, ◌==◌, List, map, IsTrue}
 use Rattle.std.specs.List.{filter}
-use Rattle.tce_space.specs.IndexSet.{IsIndexSet, has, meet, empty}
+use Rattle.tce_space.specs.IndexSet.{has, meet, empty}
 use Rattle.tce_states.specs.Relation.{Relation, above, joined}
 use Rattle.tce_states.specs.Classes.{in_class, IsInhabited}
 

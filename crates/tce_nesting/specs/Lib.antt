@@ -1,3 +1,5 @@
 pub mod Classes
+pub mod Subsets
+pub mod Choices
 pub mod Plan
 pub mod Laws

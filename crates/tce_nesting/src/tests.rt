@@ -1,9 +1,11 @@
-//! Steps of states that were worked by hand, and the plan of `(sum{k}(A[i,k])) * (sum{l}(B[j,l]))` with i of extent 5, j of 7, k and l of 2.
+//! Steps of states that were worked by hand, and the choices and the plan of `(sum{k}(A[i,k])) * (sum{l}(B[j,l]))` with i of extent 5, j of 7, k and l of 2.
+ghost use Rattle.std.specs.Prelude.{IfOk};
+ghost use Rattle.tce_tree.specs.Measure.{IsMeasured};
 
 use crate::nesting::is_empty;
 use crate::{
-    Nesting, Plan, Row, Tables, coarser_is_preorder, joins_tell_steps,
-    nestings_are_their_relations, restrictions_cut,
+    Nesting, Plan, Row, Tables, choices, coarser_is_preorder, joins_tell_steps,
+    nestings_are_their_relations, restrictions_cut, subsets,
 };
 use arrayvec::ArrayVec;
 use std::alloc::Global;
@@ -253,16 +255,64 @@ fn sum(alloc: Global, tensor: u8, free: u8, summed: u8) -> Result<Box<Expr>, Fai
     Ok(Box::new(alloc, Expr::Sum(list, leaf))?)
 }
 
-fn two_sums(rt: &impl Abort, alloc: Global) -> Result<Tree, Fail> {
+fn short_space(rt: &impl Abort, alloc: Global) -> Result<Space, Fail> {
     let mut space = Space::new(alloc)?;
     for (name, extent) in [("i", 5), ("j", 7), ("k", 2), ("l", 2)] {
         declare(rt, &mut space, name, extent)?;
     }
+    Ok(space)
+}
+
+fn two_sums(rt: &impl Abort, alloc: Global, space: &Space) -> Result<Tree, Fail>
+    ensures { IfOk result (IsMeasured space.now) }
+{
     let product = Expr::Product(sum(alloc, 0, 0, 2)?, sum(alloc, 1, 1, 3)?);
     assert!(rt; product.operations() <= 32);
-    assert!(rt; product.is_declared(&space));
+    assert!(rt; product.is_declared(space));
     assert!(rt; product.sums_are_distinct());
-    Ok(Tree::build(alloc, &space, &product)?)
+    Ok(Tree::build(alloc, space, &product)?)
+}
+
+#[test]
+fn subsets_stand_in_order(rt: HostRuntime) {
+    let cases: [(&[u8], &[u32]); 4] = [
+        (&[], &[0]),
+        (&[0], &[0, 1]),
+        (&[0, 2, 5], &[0, 1, 4, 5, 32, 33, 36, 37]),
+        (&[22, 23], &[0, 1 << 22, 1 << 23, 3 << 22]),
+    ];
+    for (indexes, wanted) in cases {
+        let all = set(indexes);
+        assert!(rt; all.count() <= 10);
+        let found = subsets(all);
+        assert_eq!(rt; found.len(), wanted.len());
+        for (subset, bits) in found.as_slice().iter().zip(wanted) {
+            assert_eq!(rt; subset.bits(), *bits);
+        }
+    }
+    let ten = set(&[0, 1, 2, 3, 4, 5, 6, 7, 8, 9]);
+    assert!(rt; ten.count() <= 10);
+    assert_eq!(rt; subsets(ten).len(), 1024);
+}
+
+#[test]
+fn choices_leave_the_worked_sizes(rt: HostRuntime) -> Result<(), Fail> {
+    let space = short_space(&rt, rt.alloc())?;
+    let tree = two_sums(&rt, rt.alloc(), &space)?;
+    let cases: [(u8, &[(u32, u128)]); 3] = [
+        (0, &[(0, 5), (0b01, 1)]),
+        (1, &[(0, 7), (0b10, 1)]),
+        (2, &[(0, 35), (0b01, 7), (0b10, 5), (0b11, 1)]),
+    ];
+    for (v, wanted) in cases {
+        assert!(rt; v < tree.count());
+        let found = choices(&space, &tree, v);
+        assert_eq!(rt; found.len(), wanted.len());
+        for (choice, (bits, size)) in found.as_slice().iter().zip(wanted) {
+            assert_eq!(rt; (choice.fused.bits(), choice.size), (*bits, *size));
+        }
+    }
+    Ok(())
 }
 
 // A plan that fuses a set on the second edge and has a row of one class in each list.
@@ -319,7 +369,8 @@ const WORKED: Stated = Stated {
 
 #[test]
 fn plans_fit_their_tree(rt: HostRuntime) -> Result<(), Fail> {
-    let tree = two_sums(&rt, rt.alloc())?;
+    let space = short_space(&rt, rt.alloc())?;
+    let tree = two_sums(&rt, rt.alloc(), &space)?;
     for (name, stated, fits) in [
         ("the worked plan", WORKED, true),
         (

@@ -17,8 +17,8 @@ use Rattle.tce_states.specs.Reached.{left_below, right_below}
 use Rattle.tce_states.proofs.Reached.{operands_are_joined}
 use Rattle.tce_nesting.specs.Classes.{restricted}
 use Rattle.tce_nesting.specs.Plan.{LiesWithin}
-use Rattle.tce_steps.specs.declared.choice.Choice.{Choice}
-use Rattle.tce_steps.specs.Steps.{AreChoices}
+use Rattle.tce_nesting.specs.declared.choice.Choice.{Choice}
+use Rattle.tce_nesting.specs.Choices.{AreChoices}
 use Rattle.tce_candidates.specs.declared.candidate.Candidate.{Candidate}
 use Rattle.tce_candidates.specs.Candidates.{AreApart as CandidatesApart, ChoiceCovered, PairCovered, IsStepOf, IsReachedBelow, limit_candidate}
 use Rattle.tce_candidates.specs.Laws.{rows_of}

@@ -7,8 +7,8 @@ ghost use Rattle.tce_search.specs.CandidateLists.{AreCandidates, AreFound};
 use crate::found::Found;
 use std::alloc::{AllocError, Global};
 use tce_candidates::{Candidate, candidates_of};
+use tce_nesting::choices;
 use tce_space::{IndexSet, Space};
-use tce_steps::choices;
 use tce_tree::Tree;
 
 /// The candidates of all nodes but the root: states that cost less than the limit, and what stands for all others.

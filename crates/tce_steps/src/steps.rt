@@ -6,8 +6,7 @@ ghost use Rattle.tce_states.specs.Row.{rows_joined, StandsFor};
 ghost use Rattle.tce_nesting.specs.Classes.{AllowsSet};
 ghost use Rattle.tce_steps.specs.Steps.{IsRowJoin, IsRestricted};
 
-use crate::choice::Choice;
-use tce_nesting::{Nesting, Row};
+use tce_nesting::{Choice, Nesting, Row};
 use tce_space::IndexSet;
 
 /// The two rows of a node's operands together: their classes joined on the node's loops, at most ten, and the sum of their costs. `None` exactly where they conflict.

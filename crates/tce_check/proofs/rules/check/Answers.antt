@@ -1,4 +1,4 @@
-use Rattle.std.proofs.Common.{◌≡◌, refl, sym, ◌∙◌, subst, arith}
+use Rattle.std.proofs.Common.{◌≡◌, refl, ◌∙◌, subst, arith}
 use Rattle.tce_tree.specs.Memory.{memory}
 use Rattle.tce_states.proofs.Covers.{least_by_cover}
 use Rattle.tce_states.specs.Cover.{Covers}

@@ -1,8 +1,8 @@
 use Rattle.std.proofs.Common.{◌≤◌, arith}
 use Rattle.tce_space.specs.IndexSet.{count}
 use Rattle.tce_tree.specs.ContractionTree.{node_dims, node_loops}
-use Rattle.tce_steps.proofs.SubsetLists.{count_within, dims_within}
-use Rattle.tce_steps.proofs.choice.choices.Goals as goal
+use Rattle.tce_nesting.proofs.SubsetLists.{count_within, dims_within}
+use Rattle.tce_nesting.proofs.choice.choices.Goals as goal
 
 pub subsets-requires : goal.subsets-requires
 subsets-requires c =

@@ -2,7 +2,7 @@
 ghost use Rattle.std.specs.Prelude.{◌≡◌, ◌+◌, ◌<◌, ◌≤◌, ◌*◌};
 ghost use Rattle.arrayvec.specs.ArrayVec.{array_vec_len};
 ghost use Rattle.tce_space.specs.IndexSet.{count};
-ghost use Rattle.tce_steps.specs.Subsets.{AreSubsets, widened};
+ghost use Rattle.tce_nesting.specs.Subsets.{AreSubsets, widened};
 
 use arrayvec::ArrayVec;
 use tce_space::IndexSet;

@@ -1,7 +1,7 @@
 use Rattle.std.proofs.Common.{◌≡◌, ◌≤◌, ◌^◌, take, map, length}
 use Rattle.std.specs.List.{All}
-use Rattle.tce_steps.specs.Steps.{LeavesSize}
-use Rattle.tce_steps.proofs.choice.choices.Given as goal
+use Rattle.tce_nesting.specs.Choices.{LeavesSize}
+use Rattle.tce_nesting.proofs.choice.choices.Given as goal
 
 abbrev pub invariant-loop-fused : goal.invariant-loop-fused
 invariant-loop-fused l = record {

@@ -15,7 +15,7 @@ use Rattle.tce_space.proofs.IndexSetLaws.{has-empty, has-minus, has-beyond, has_
 use Rattle.tce_tree.specs.ContractionTree.{ContractionTree, operations, node, node_dims, node_loops}
 use Rattle.tce_tree.proofs.Nodes.{size_bounds}
 use Rattle.tce_tree.proofs.Parents.{dims_within_loops}
-use Rattle.tce_steps.specs.Subsets.{AreSubsets, widened}
+use Rattle.tce_nesting.specs.Subsets.{AreSubsets, widened}
 
 -- the subsets of the members below `i`, least first
 abbrev pub subsets_below : ℕ → ℕ → List ℕ

@@ -2,7 +2,7 @@
 ghost use Rattle.std.specs.Prelude.{◌≡◌, ◌<◌, ◌≤◌, ◌^◌, All};
 ghost use Rattle.tce_tree.specs.ContractionTree.{operations};
 ghost use Rattle.tce_tree.specs.Measure.{IsMeasured};
-ghost use Rattle.tce_steps.specs.Steps.{AreChoices, LeavesSize};
+ghost use Rattle.tce_nesting.specs.Choices.{AreChoices, LeavesSize};
 
 use crate::subset_list::subsets;
 use arrayvec::ArrayVec;

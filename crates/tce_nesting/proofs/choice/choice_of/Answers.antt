@@ -3,7 +3,7 @@ use Rattle.tce_space.specs.IndexSet.{has, minus}
 use Rattle.tce_space.specs.Space.{volume_of}
 use Rattle.tce_tree.specs.ContractionTree.{node_dims}
 use Rattle.tce_fusion.proofs.SizeLaws.{kept_declared, kept_small, some_where, value_where}
-use Rattle.tce_steps.proofs.choice.choice_of.Goals as goal
+use Rattle.tce_nesting.proofs.choice.choice_of.Goals as goal
 
 pub volume-requires : goal.volume-requires
 volume-requires c i h =

@@ -1,7 +1,7 @@
 use Rattle.std.proofs.Common.{◌≡◌, sym, ◌∙◌, ap, subst, arith}
-use Rattle.tce_steps.specs.Subsets.{AreSubsets}
-use Rattle.tce_steps.proofs.SubsetLists.{subsets_below, room_to_widen, are_subsets}
-use Rattle.tce_steps.proofs.subset_list.subsets.Goals as goal
+use Rattle.tce_nesting.specs.Subsets.{AreSubsets}
+use Rattle.tce_nesting.proofs.SubsetLists.{subsets_below, room_to_widen, are_subsets}
+use Rattle.tce_nesting.proofs.subset_list.subsets.Goals as goal
 
 pub widen-requires-clause-room : goal.widen-requires-clause-room
 widen-requires-clause-room c = rw c.loop-index.invariant (room_to_widen c.args.set c.loop-index.index c.loop-index-test.true (sym c.has.ensures ∙ c.if-has.true) c.requires)
