@@ -218,16 +218,16 @@ module _ (s : Specification) (told : Option Files) (p : Prepared) (rules : IsSpe
   pub is_workspace : IsTree s.tree → IsWorkspace (workspace_for s p told)
   is_workspace tree = record {
     measured = rules.measured;
-    fits = b.prepared.least.least.fits;
+    fits = b.prepared.plan.fits.fusion;
     laid = b.prepared.slots;
     root = λ i.
         sym (has-set_of_list s.indexes i (result_indexes s rules)) ∙ ap (λ set. has set i) rules.contraction.same_indexes
-        ∙ sym (root_kept s.tree p.plan.fusion.0.items i tree.some b.prepared.least.least.fits);
+        ∙ sym (root_kept s.tree p.plan.fusion.0.items i tree.some b.prepared.plan.fits.fusion);
     tiling = subst IsTiling (sym result_shape_is) (result_tiling s rules);
     result = result_stored result_at.0 result_at.1;
     writable = at_array (λ a. a.writable ≡ true) s.result result_at.0 result_at.1 (listed.result result_at.0 result_at.1).writable;
     operands = operands_stored s.tree rules.contraction.leaves_fit (λ t h. h);
-    before = omega (arith, b.prepared.cache.at, b.prepared.least.memory_is);
+    before = omega (arith, b.prepared.cache.at, b.prepared.plan.memory_is);
     room = room;
     cache = empty_cache p.cache b.prepared.cache.held (subst (AreArrays p.cache.arrays) (sym b.prepared.cache.frame_words) listed.fit)
         (omega (arith, b.prepared.cache.frames, three_frames b.budget (largest_tile s) (tile_count s) (largest_some s rules) b.enough));
@@ -256,5 +256,5 @@ module _ (s : Specification) (told : Option Files) (p : Prepared) (rules : IsSpe
   pub few_touches : IsTree s.tree → p.cache.touches + touch_bound s.declarations.space s.tree (program_of p.code) ≤ 2 ^ 100
   few_touches tree =
       let few = touches_are_few s.declarations.space s.tree (plan_of p.plan.fusion.0.items (lists_of p.plan.orders.0.items)) p.code rules.declarations.space rules.measured tree
-      b.prepared.least.fits.orders b.prepared.code in
+      b.prepared.plan.fits.orders b.prepared.code in
       omega (arith, few, b.prepared.cache.touches)

@@ -1,12 +1,15 @@
 -- What a run has before its result is made.
-use Rattle.std.specs.Prelude.{◌≡◌, ◌⊎◌, ℕ, ◌+◌, ◌≤◌, ◌^◌, List, [], ◌∷◌, ◌++◌, replicate, Option}
-use Rattle.std.specs.Option.{ForSome}
-use Rattle.tce_outside.specs.Files.{Files}
+use Rattle.std.specs.Prelude.{◌≡◌, ◌⊎◌, ℕ, ◌+◌, ◌≤◌, ◌^◌, List, [], ◌∷◌, ◌++◌, replicate}
+use Rattle.tce_space.specs.Space.{IndexSpace}
 use Rattle.tce_array.specs.declared.form.Form.{Form}
 use Rattle.tce_array.specs.declared.form.Form.TheVariants.{One}
 use Rattle.tce_array.specs.Forms.{form_len}
+use Rattle.tce_tree.specs.ContractionTree.{ContractionTree}
+use Rattle.tce_tree.specs.Fusion.{Carries}
 use Rattle.tce_tree.specs.Orders.{lists_of}
+use Rattle.tce_tree.specs.Memory.{memory}
 use Rattle.tce_nesting.specs.declared.plan.Plan.{Plan}
+use Rattle.tce_nesting.specs.Plan.{PlanFits}
 use Rattle.tce_search.specs.LeastPlan.{IsLeastPlan}
 use Rattle.tce_report.specs.NodeLine.{stated}
 use Rattle.tce_report.specs.Report.{run_text}
@@ -20,11 +23,16 @@ use Rattle.tce_spec.specs.Operands.{largest_tile, shape_of}
 use Rattle.tce_result.specs.TensorFiles.{file_of}
 use Rattle.tce_takings.specs.Takings.{frame_count, tile_take}
 use Rattle.tce_arrays.specs.Arrays.{AreArraysOf}
-use Rattle.tce_arrays.specs.Opened.{operand_count, AreOpened}
 use Rattle.tce_job.specs.declared.fault.JobFault.{JobFault}
 use Rattle.tce_job.specs.declared.fault.JobFault.TheVariants.{Disk, Memory}
 use Rattle.tce_job.specs.declared.report.RunReport.{RunReport}
 use Rattle.tce_job.specs.declared.prepared.Prepared.{Prepared}
+
+-- a plan that fits the tree, whose orders carry its fusion, with the fusion's memory
+pub record IsCarriedPlan (space : IndexSpace) (tree : ContractionTree) (plan : Plan) : Type 0 where
+  pub fits : PlanFits tree plan
+  pub carried : Carries tree plan.fusion.0.items (lists_of plan.orders.0.items)
+  pub memory_is : plan.memory ≡ memory space tree plan.fusion.0.items
 
 -- the report of a run by this plan: its memory, the words for tiles, the length of the result's file, and the text of all these
 pub record IsReport (s : Specification) (budget : ℕ) (plan : Plan) (report : RunReport) : Type 0 where
@@ -42,9 +50,9 @@ pub record IsEmptyCache (s : Specification) (budget : ℕ) (forms : List Form) (
   pub held : c.held ≡ []
   pub touches : c.touches ≡ 0
 
--- a run by a least plan: its code, the slots of its intermediates, words that are all 0, a cache with the forms of the operands' files, and the report
+-- a run by a plan: its code, the slots of its intermediates, words that are all 0, a cache with the forms of the operands' files, and the report
 pub record IsPrepared (s : Specification) (budget : ℕ) (forms : List Form) (p : Prepared) : Type 0 where
-  pub least : IsLeastPlan s.declarations.space s.tree p.plan
+  pub plan : IsCarriedPlan s.declarations.space s.tree p.plan
   pub small : p.plan.memory ≤ 2 ^ 40
   pub code : IsCodeFor s.tree (plan_of p.plan.fusion.0.items (lists_of p.plan.orders.0.items)) p.code
   pub slots : IsLayout s.declarations.space s.tree p.plan.fusion.0.items p.layout.0.items
@@ -57,6 +65,10 @@ pub record IsPrepared (s : Specification) (budget : ℕ) (forms : List Form) (p 
 abbrev pub taking_of : Specification → ℕ → Plan → ℕ × ℕ
 taking_of s budget plan = (plan.memory, tile_take s budget)
 
+-- the takings are as they were, or the one of this plan is there besides
+abbrev pub MayHaveTaken : Specification → ℕ → Plan → List (ℕ × ℕ) → List (ℕ × ℕ) → Type 0
+MayHaveTaken s budget plan before after = (after ≡ before) ⊎ (after ≡ before ++ taking_of s budget plan ∷ [])
+
 -- there is one taking more: the least memory, and the words for tiles
 pub record HasTaken (s : Specification) (budget : ℕ) (before after : List (ℕ × ℕ)) : Type 0 where
   pub plan : Plan
@@ -68,9 +80,3 @@ abbrev pub IsRoomLeft : JobFault → Specification → ℕ → List (ℕ × ℕ)
 IsRoomLeft Disk s budget before after = (after ≡ before) ⊎ HasTaken s budget before after
 IsRoomLeft Memory s budget before after = (after ≡ before) ⊎ HasTaken s budget before after
 IsRoomLeft fault s budget before after = after ≡ before
-
--- a run is prepared, and its operands' files have the forms of its arrays, where the disk tells them
-pub record IsReady (s : Specification) (budget : ℕ) (told : Option Files) (p : Prepared) : Type 0 where
-  pub forms : List Form
-  pub prepared : IsPrepared s budget forms p
-  pub opened : ForSome told (λ files. AreOpened files s forms (operand_count s))

@@ -3,7 +3,7 @@
 //! [`run_job`] goes in a fixed order: the budget, the least memory for intermediates, the operands by first use, then
 //! all memory of the run, and the file of the result, so that want of memory leaves no half-written result. Then it runs
 //! the code and writes the result to its file. `specs/Refusals.antt` says why a run is refused, `specs/Prepared.antt`
-//! what it has, and `specs/Run.antt` what it leaves.
+//! what it has, and `specs/Run.antt` what it leaves. How a run goes does not ask whether its plan is least.
 #![tactic(auto)]
 
 mod bytes;

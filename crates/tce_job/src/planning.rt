@@ -5,7 +5,7 @@ ghost use Rattle.tce_outside.specs.Fault.{HasCause};
 ghost use Rattle.tce_array.specs.declared.fault.ArrayFault.TheVariants as array_fault;
 ghost use Rattle.tce_search.specs.LeastPlan.{IsLeastPlan};
 ghost use Rattle.tce_arrays.specs.Opened.{AreOpened, operand_count};
-ghost use Rattle.tce_job.specs.Refusals.{IsAffordable, IsCause, IsOpeningFault, IsFaultOf};
+ghost use Rattle.tce_job.specs.Refusals.{IsAffordable, IsCause, MayBeRefused, IsOpeningFault, IsFaultOf};
 
 use crate::fault::JobFault;
 use std::alloc::Global;
@@ -20,8 +20,8 @@ use tce_takings::least_budget;
 // The words that the intermediates of a run may take.
 const MOST_MEMORY: u128 = 1 << 40;
 
-/// A plan of a least fusion, where the budget is enough and the plan's memory within the limit.
-pub fn affordable_plan(alloc: Global, spec: &Spec, budget: u64) -> Result<Plan, JobFault>
+// A plan of a least fusion, where the budget is enough and the plan's memory within the limit.
+fn affordable_plan(alloc: Global, spec: &Spec, budget: u64) -> Result<Plan, JobFault>
     ensures plan { IfOk result (IsLeastPlan spec.now.declarations.space spec.now.tree) }
     ensures small { IfOk result (λ plan. plan.memory ≤ 2 ^ 40) }
     ensures affordable { OnOk result (IsAffordable spec.now budget) }
@@ -53,8 +53,8 @@ fn fault_of(refused: Refused) -> JobFault
     }
 }
 
-/// The forms of the operands' files.
-pub fn opened_forms<D: Disk>(spec: &Spec, disk: &mut D) -> Result<Forms, JobFault>
+// The forms of the operands' files.
+pub(crate) fn opened_forms<D: Disk>(spec: &Spec, disk: &mut D) -> Result<Forms, JobFault>
     ensures opened { IfOk result (λ forms. ForSome (D.files disk.old) (λ files. AreOpened files spec.now forms.0 (operand_count spec.now))) }
     ensures refused { IfErr result (IsOpeningFault (D.files disk.old) spec.now) }
     ensures same { D.files disk.new ≡ D.files disk.old }
@@ -64,4 +64,24 @@ pub fn opened_forms<D: Disk>(spec: &Spec, disk: &mut D) -> Result<Forms, JobFaul
         Ok(forms) => Ok(forms),
         Err(refused) => Err(fault_of(refused)),
     }
+}
+
+/// Tests all that a run needs, and gives a plan of a least fusion and the forms of the operands.
+pub fn tested<D: Disk>(
+    alloc: Global,
+    spec: &Spec,
+    budget: u64,
+    disk: &mut D,
+) -> Result<(Plan, Forms), JobFault>
+    ensures plan { IfOk result (λ pair. IsLeastPlan spec.now.declarations.space spec.now.tree pair.0) }
+    ensures small { IfOk result (λ pair. pair.0.memory ≤ 2 ^ 40) }
+    ensures affordable { OnOk result (IsAffordable spec.now budget) }
+    ensures opened { IfOk result (λ pair. ForSome (D.files disk.old) (λ files. AreOpened files spec.now pair.1.0 (operand_count spec.now))) }
+    ensures refused { IfErr result (IsCause (MayBeRefused (D.files disk.old) spec.now) spec.now budget) }
+    ensures same { D.files disk.new ≡ D.files disk.old }
+    ensures cause { HasCause (D.faults disk.old) (D.faults disk.new) (result ≡ Err JobFault.Disk) }
+{
+    let plan = affordable_plan(alloc, spec, budget)?;
+    let forms = opened_forms(spec, disk)?;
+    Ok((plan, forms))
 }

@@ -9,7 +9,7 @@ use tce_words::Words;
 /// All that a run needs beside the disk.
 #[derive(Drop)]
 pub struct Prepared {
-    /// A plan of a least fusion, with its standard orders.
+    /// The plan of the fusion by which it runs, with orders that carry it.
     pub plan: Plan,
     pub code: Code,
     /// Where the intermediates stand among the words.

@@ -1,21 +1,16 @@
-// A run up to the file of its result.
-ghost use Rattle.std.specs.Prelude.{◌≡◌, ◌⊎◌, ◌≤◌, ◌^◌, ◌++◌, ◌∷◌, [], Err, IfOk, IfErr, OnOk, OnErr, IsErrOf};
-ghost use Rattle.std.specs.Option.{ForSome, IsSomeAnd};
+// A run by a plan, up to the file of its result.
+ghost use Rattle.std.specs.Prelude.{◌≡◌, ◌⊎◌, ◌≤◌, ◌^◌, ◌++◌, ◌∷◌, [], Err, IfOk, IfErr, OnOk, OnErr};
 ghost use Rattle.tce_outside.specs.Files.{holding, others};
 ghost use Rattle.tce_outside.specs.Fault.{HasCause};
-ghost use Rattle.tce_spec.specs.Operands.{largest_tile};
-ghost use Rattle.tce_search.specs.LeastPlan.{IsLeastPlan};
 ghost use Rattle.tce_result.specs.TensorFiles.{file_of};
 ghost use Rattle.tce_takings.specs.Takings.{least_budget};
-ghost use Rattle.tce_arrays.specs.Opened.{AreOpened, operand_count};
 ghost use Rattle.tce_arrays.specs.Laws.{made_result};
 ghost use Rattle.tce_job.specs.declared.fault.JobFault.{JobFault as Fault};
-ghost use Rattle.tce_job.specs.Refusals.{IsAffordable, IsCause, MayBeRefused, MustBeRefused, CanRun, IsFree, IsRefusedAs, IsGranted};
-ghost use Rattle.tce_job.specs.Prepared.{IsPrepared, IsReady, IsEmptyCache, IsReport, IsRoomLeft, taking_of};
+ghost use Rattle.tce_job.specs.Refusals.{IsFree};
+ghost use Rattle.tce_job.specs.Prepared.{IsCarriedPlan, IsPrepared, IsEmptyCache, IsReport, MayHaveTaken, taking_of};
 
 use crate::bytes::Bytes;
 use crate::fault::JobFault;
-use crate::planning::{affordable_plan, opened_forms};
 use crate::prepared::Prepared;
 use crate::report::RunReport;
 use std::alloc::{AllocError, Global};
@@ -56,7 +51,7 @@ fn empty_cache(
 // The report of a run by this plan.
 fn report_of(alloc: Global, spec: &Spec, budget: u64, plan: &Plan) -> Result<RunReport, AllocError>
     requires enough { least_budget spec.now ≤ budget }
-    requires plan { IsLeastPlan spec.now.declarations.space spec.now.tree plan.now }
+    requires plan { IsCarriedPlan spec.now.declarations.space spec.now.tree plan.now }
     ensures { IfOk result (IsReport spec.now budget plan.now) }
 {
     let result = spec.result().tensor;
@@ -83,10 +78,11 @@ fn take_memory<R: Room>(
 ) -> Result<Prepared, AllocError>
     requires enough { least_budget spec.now ≤ budget }
     requires limit { budget ≤ 2 ^ 40 }
-    requires plan { IsLeastPlan spec.now.declarations.space spec.now.tree plan }
+    requires plan { IsCarriedPlan spec.now.declarations.space spec.now.tree plan }
     requires small { plan.memory ≤ 2 ^ 40 }
     ensures prepared { IfOk result (IsPrepared spec.now budget forms.now.0) }
-    ensures taken { IfOk result (λ p. R.takings room.new ≡ R.takings room.old ++ taking_of spec.now budget p.plan ∷ []) }
+    ensures plan { IfOk result (λ p. p.plan ≡ plan) }
+    ensures taken { OnOk result (R.takings room.new ≡ R.takings room.old ++ taking_of spec.now budget plan ∷ []) }
     ensures refused { OnErr result (R.takings room.new ≡ R.takings room.old) }
 {
     let memory = plan.memory as u64;
@@ -122,28 +118,8 @@ fn make_result<D: Disk>(spec: &Spec, disk: &mut D) -> Result<(), JobFault>
     }
 }
 
-// Tests all that a run needs, and gives its plan and the forms of its operands.
-fn tested<D: Disk>(
-    alloc: Global,
-    spec: &Spec,
-    budget: u64,
-    disk: &mut D,
-) -> Result<(Plan, Forms), JobFault>
-    ensures plan { IfOk result (λ pair. IsLeastPlan spec.now.declarations.space spec.now.tree pair.0) }
-    ensures small { IfOk result (λ pair. pair.0.memory ≤ 2 ^ 40) }
-    ensures affordable { OnOk result (IsAffordable spec.now budget) }
-    ensures opened { IfOk result (λ pair. ForSome (D.files disk.old) (λ files. AreOpened files spec.now pair.1.0 (operand_count spec.now))) }
-    ensures refused { IfErr result (IsCause (MayBeRefused (D.files disk.old) spec.now) spec.now budget) }
-    ensures same { D.files disk.new ≡ D.files disk.old }
-    ensures cause { HasCause (D.faults disk.old) (D.faults disk.new) (result ≡ Err Fault.Disk) }
-{
-    let plan = affordable_plan(alloc, spec, budget)?;
-    let forms = opened_forms(spec, disk)?;
-    Ok((plan, forms))
-}
-
-// Takes the memory of a run, and makes the file of its result.
-fn begun<D: Disk, R: Room>(
+/// Takes the memory of a run by a plan, and makes the file of its result.
+pub fn begin<D: Disk, R: Room>(
     alloc: Global,
     spec: &Spec,
     budget: u64,
@@ -154,14 +130,15 @@ fn begun<D: Disk, R: Room>(
 ) -> Result<Prepared, JobFault>
     requires enough { least_budget spec.now ≤ budget }
     requires limit { budget ≤ 2 ^ 40 }
-    requires plan { IsLeastPlan spec.now.declarations.space spec.now.tree plan }
+    requires plan { IsCarriedPlan spec.now.declarations.space spec.now.tree plan }
     requires small { plan.memory ≤ 2 ^ 40 }
     ensures prepared { IfOk result (IsPrepared spec.now budget forms.now.0) }
+    ensures plan { IfOk result (λ p. p.plan ≡ plan) }
     ensures made { OnOk result (D.files disk.new ≡ holding (file_of spec.now spec.now.result) (made_result spec.now) (D.files disk.old)) }
-    ensures taken { IfOk result (λ p. R.takings room.new ≡ R.takings room.old ++ taking_of spec.now budget p.plan ∷ []) }
+    ensures taken { OnOk result (R.takings room.new ≡ R.takings room.old ++ taking_of spec.now budget plan ∷ []) }
     ensures free { IfErr result IsFree }
     ensures unchanged { IfErr result (λ fault. (fault ≡ Fault.Disk) ⊎ (D.files disk.new ≡ D.files disk.old)) }
-    ensures takings { IfErr result (λ fault. IsRoomLeft fault spec.now budget (R.takings room.old) (R.takings room.new)) }
+    ensures takings { OnErr result (MayHaveTaken spec.now budget plan (R.takings room.old) (R.takings room.new)) }
     ensures others { others (file_of spec.now spec.now.result) (D.files disk.new) ≡ others (file_of spec.now spec.now.result) (D.files disk.old) }
     ensures cause { HasCause (D.faults disk.old) (D.faults disk.new) (result ≡ Err Fault.Disk) }
 {
@@ -169,42 +146,5 @@ fn begun<D: Disk, R: Room>(
         return Err(JobFault::Memory);
     };
     make_result(spec, disk)?;
-    Ok(prepared)
-}
-
-/// Tests and takes all that a run needs, and makes the file of its result, which holds zeros.
-///
-/// The budget, in words, is for tiles; it is at most 2^40. `BudgetTooSmall` comes first, then `IntermediatesTooLarge`,
-/// then the first operand that is refused; `Array` never holds the fault `Disk`. After every refusal but `Disk` all files
-/// are as they were.
-pub fn prepare_run<D: Disk, R: Room>(
-    alloc: Global,
-    spec: &Spec,
-    budget: u64,
-    disk: &mut D,
-    room: &mut R,
-) -> Result<Prepared, JobFault>
-    requires { budget ≤ 2 ^ 40 }
-    ensures ready { IfOk result (IsReady spec.now budget (D.files disk.old)) }
-    ensures made { OnOk result (D.files disk.new ≡ holding (file_of spec.now spec.now.result) (made_result spec.now) (D.files disk.old)) }
-    ensures taken { IfOk result (λ p. R.takings room.new ≡ R.takings room.old ++ taking_of spec.now budget p.plan ∷ []) }
-    ensures able { OnOk result (ForSome (D.files disk.old) (λ files. CanRun files spec.now budget)) }
-
-    // Words are taken only where the run can be run.
-    ensures tested { (R.takings room.new ≡ R.takings room.old) ⊎ ForSome (D.files disk.old) (λ files. CanRun files spec.now budget) }
-
-    // Why a run is refused, and that it is refused so wherever there is a cause.
-    ensures refused { IfErr result (IsCause (MayBeRefused (D.files disk.old) spec.now) spec.now budget) }
-    ensures exactly { (due : Fault) → (IsFree due → ⊥) → IsCause (MustBeRefused (D.files disk.old) spec.now) spec.now budget due → IsRefusedAs due result }
-    ensures granted { ForSome (D.files disk.old) (λ files. CanRun files spec.now budget → IsGranted result) }
-    ensures cause { HasCause (D.faults disk.old) (D.faults disk.new) (result ≡ Err Fault.Disk) }
-
-    // What a refused run leaves.
-    ensures unchanged { IfErr result (λ fault. (fault ≡ Fault.Disk) ⊎ (D.files disk.new ≡ D.files disk.old)) }
-    ensures takings { IfErr result (λ fault. IsRoomLeft fault spec.now budget (R.takings room.old) (R.takings room.new)) }
-    ensures others { others (file_of spec.now spec.now.result) (D.files disk.new) ≡ others (file_of spec.now spec.now.result) (D.files disk.old) }
-{
-    let (plan, forms) = tested(alloc, spec, budget, disk)?;
-    let prepared = begun(alloc, spec, budget, &forms, plan, disk, room)?;
     Ok(prepared)
 }

@@ -1,21 +1,26 @@
 // A whole run: what it prepares, its code, and the result in its file.
-ghost use Rattle.std.specs.Prelude.{◌≡◌, ◌⊎◌, ◌≤◌, ◌^◌, IfOk, IfErr, OnOk, IsErr, Err};
+ghost use Rattle.std.specs.Prelude.{◌≡◌, ◌⊎◌, ◌≤◌, ◌^◌, ◌++◌, ◌∷◌, [], IfOk, IfErr, OnOk, OnErr, IsErr, Err};
 ghost use Rattle.std.specs.Option.{ForSome, option_map};
 ghost use Rattle.tce_outside.specs.Files.{others};
 ghost use Rattle.tce_outside.specs.Fault.{HasCause};
 ghost use Rattle.tce_result.specs.TensorFiles.{file_of};
 ghost use Rattle.tce_result.specs.ResultBytes.{with_result};
+ghost use Rattle.tce_takings.specs.Takings.{least_budget};
+ghost use Rattle.tce_arrays.specs.Opened.{AreOpened, operand_count};
 ghost use Rattle.tce_job.specs.declared.fault.JobFault.{JobFault as Fault};
 ghost use Rattle.tce_job.specs.Refusals.{IsCause, MayBeRefused, MustBeRefused, CanRun, IsFree, IsRefusedAs, IsGranted};
-ghost use Rattle.tce_job.specs.Prepared.{IsRoomLeft};
+ghost use Rattle.tce_job.specs.Prepared.{IsCarriedPlan, IsReport, MayHaveTaken, IsRoomLeft, taking_of};
 ghost use Rattle.tce_job.specs.Run.{IsBegun, IsReported};
 
 use crate::fault::JobFault;
+use crate::planning::tested;
 use crate::prepared::Prepared;
-use crate::preparing::prepare_run;
+use crate::preparing::begin;
 use crate::report::RunReport;
 use std::alloc::Global;
+use tce_arrays::Forms;
 use tce_exec::run_code;
+use tce_nesting::Plan;
 use tce_outside::{Disk, Failed};
 use tce_spec::Spec;
 use tce_words::Room;
@@ -44,6 +49,39 @@ fn run_prepared<D: Disk>(spec: &Spec, prepared: &mut Prepared, disk: &mut D) -> 
     )?;
     prepared.cache.flush(disk, &prepared.words)?;
     Ok(())
+}
+
+// Runs a specification by a plan, whatever its fusion, over operands that were opened.
+pub(crate) fn run_by<D: Disk, R: Room>(
+    alloc: Global,
+    spec: &Spec,
+    budget: u64,
+    forms: &Forms,
+    plan: Plan,
+    disk: &mut D,
+    room: &mut R,
+) -> Result<RunReport, JobFault>
+    requires enough { least_budget spec.now ≤ budget }
+    requires limit { budget ≤ 2 ^ 40 }
+    requires plan { IsCarriedPlan spec.now.declarations.space spec.now.tree plan }
+    requires small { plan.memory ≤ 2 ^ 40 }
+    requires opened { ForSome (D.files disk.old) (λ files. AreOpened files spec.now forms.now.0 (operand_count spec.now)) }
+    ensures told { OnOk result (D.files disk.new ≡ option_map (with_result spec.now) (D.files disk.old)) }
+    ensures report { IfOk result (IsReport spec.now budget plan) }
+    ensures taken { OnOk result (R.takings room.new ≡ R.takings room.old ++ taking_of spec.now budget plan ∷ []) }
+    ensures free { IfErr result IsFree }
+    ensures unchanged { IfErr result (λ fault. (fault ≡ Fault.Disk) ⊎ (D.files disk.new ≡ D.files disk.old)) }
+    ensures takings { OnErr result (MayHaveTaken spec.now budget plan (R.takings room.old) (R.takings room.new)) }
+    ensures others { others (file_of spec.now spec.now.result) (D.files disk.new) ≡ others (file_of spec.now spec.now.result) (D.files disk.old) }
+    ensures cause { HasCause (D.faults disk.old) (D.faults disk.new) (result ≡ Err Fault.Disk) }
+{
+    // Specifications keep their rules.
+    let _space = spec.space();
+    let mut prepared = begin(alloc, spec, budget, forms, plan, disk, room)?;
+    match run_prepared(spec, &mut prepared, disk) {
+        Ok(()) => Ok(prepared.report),
+        Err(Failed) => Err(JobFault::Disk),
+    }
 }
 
 /// Runs a specification: puts the file of its result in place of whatever has that name, from the arrays of its
@@ -80,11 +118,7 @@ pub fn run_job<D: Disk, R: Room>(
     ensures takings { IfErr result (λ fault. IsRoomLeft fault spec.now budget (R.takings room.old) (R.takings room.new)) }
     ensures others { others (file_of spec.now spec.now.result) (D.files disk.new) ≡ others (file_of spec.now spec.now.result) (D.files disk.old) }
 {
-    // Specifications keep their rules.
-    let _space = spec.space();
-    let mut prepared = prepare_run(alloc, spec, budget, disk, room)?;
-    match run_prepared(spec, &mut prepared, disk) {
-        Ok(()) => Ok(prepared.report),
-        Err(Failed) => Err(JobFault::Disk),
-    }
+    let (plan, forms) = tested(alloc, spec, budget, disk)?;
+    let report = run_by(alloc, spec, budget, &forms, plan, disk, room)?;
+    Ok(report)
 }

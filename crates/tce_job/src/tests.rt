@@ -3,6 +3,7 @@
 mod devices;
 mod draws;
 mod formulas;
+mod fusions;
 mod given;
 mod refusals;
 mod rows;

@@ -1,9 +1,10 @@
-//! Formulas that are drawn, run with drawn budgets, and compared with their values at each assignment.
+//! Formulas that are drawn, run over tiles of drawn edges with drawn budgets, by a least fusion and by a drawn one, and compared with their values at each assignment.
 use crate::tests::draws::Draws;
+use crate::tests::fusions::{drawn_fusion, is_run_by};
 use crate::tests::given::{ran, spec_of};
 use crate::tests::terms::{
-    ASSIGNMENTS, DECLARED, INDEXES, Join, OPERANDS, Term, joined, leaves, number_at, push_name,
-    push_term, summed,
+    ASSIGNMENTS, DECLARED, INDEXES, Join, OPERANDS, RANGES, Term, joined, leaves, number_at,
+    push_name, push_term, summed,
 };
 use crate::tests::tiled::{Range, elements, tiled_bytes};
 use std::alloc::{AllocError, Global};
@@ -11,10 +12,39 @@ use std::process::Abort;
 use std::test::Fail;
 use tce_outside::MemDisk;
 use tce_spec::Spec;
+use tce_tree::Fusion;
 use tce_words::HeapRoom;
 
 // The most operations of a formula.
 const MOST_OPERATIONS: u64 = 9;
+
+// The ranges, cut into tiles, and the elements of each operand in row-major order.
+#[derive(Drop)]
+struct Given {
+    ranges: Vec<Range>,
+    operands: Vec<Vec<u64>>,
+}
+
+// The ranges, each with a drawn edge.
+fn drawn_ranges(alloc: Global, draws: &mut Draws) -> Result<Vec<Range>, AllocError> {
+    let mut ranges = Vec::new(alloc);
+    for (_, extent) in RANGES {
+        let edge = draws.below(extent).wrapping_add(1);
+        ranges.push(Range::cut(extent, edge))?;
+    }
+    Ok(ranges)
+}
+
+// The ranges of these numbers.
+fn ranges_at(alloc: Global, ranges: &[Range], numbers: &[usize]) -> Result<Vec<Range>, AllocError> {
+    let mut found = Vec::new(alloc);
+    for number in numbers {
+        if let Some(range) = ranges.get(*number) {
+            found.push(*range)?;
+        }
+    }
+    Ok(found)
+}
 
 fn drawn_words(alloc: Global, draws: &mut Draws, count: u64) -> Result<Vec<u64>, AllocError> {
     let mut words = Vec::new(alloc);
@@ -25,12 +55,23 @@ fn drawn_words(alloc: Global, draws: &mut Draws, count: u64) -> Result<Vec<u64>,
 }
 
 // The elements of each operand, drawn.
-fn drawn_operands(alloc: Global, draws: &mut Draws) -> Result<Vec<Vec<u64>>, AllocError> {
+fn drawn_operands(
+    alloc: Global,
+    draws: &mut Draws,
+    ranges: &[Range],
+) -> Result<Vec<Vec<u64>>, AllocError> {
     let mut operands = Vec::new(alloc);
-    for (_, ranges) in OPERANDS {
-        operands.push(drawn_words(alloc, draws, elements(ranges))?)?;
+    for (_, numbers) in OPERANDS {
+        let own = ranges_at(alloc, ranges, numbers)?;
+        operands.push(drawn_words(alloc, draws, elements(own.as_slice()))?)?;
     }
     Ok(operands)
+}
+
+fn drawn_given(alloc: Global, draws: &mut Draws) -> Result<Given, AllocError> {
+    let ranges = drawn_ranges(alloc, draws)?;
+    let operands = drawn_operands(alloc, draws, ranges.as_slice())?;
+    Ok(Given { ranges, operands })
 }
 
 // Some of the indexes that a formula has.
@@ -139,11 +180,28 @@ fn index_names(alloc: Global, order: &[usize]) -> Result<String, AllocError> {
     Ok(names)
 }
 
+// The declarations of the ranges.
+fn range_lines(alloc: Global, ranges: &[Range]) -> Result<String, AllocError> {
+    let mut lines = String::new(alloc);
+    for ((name, _), range) in RANGES.iter().zip(ranges) {
+        let (extent, edge) = (range.extent, range.edge);
+        let line = format!(in alloc; "range {name} {extent} tile {edge}\n")?;
+        lines.push_str(line.as_str())?;
+    }
+    Ok(lines)
+}
+
 // The whole specification of a formula whose result has its indexes in this order.
-fn text_of(alloc: Global, formula: &str, order: &[usize]) -> Result<String, AllocError> {
-    let ranges = range_names(alloc, order)?;
+fn text_of(
+    alloc: Global,
+    ranges: &[Range],
+    formula: &str,
+    order: &[usize],
+) -> Result<String, AllocError> {
+    let lines = range_lines(alloc, ranges)?;
+    let own = range_names(alloc, order)?;
     let names = index_names(alloc, order)?;
-    format!(in alloc; "{DECLARED}tensor R[{ranges}]\nR[{names}] = {formula}\n")
+    format!(in alloc; "{lines}{DECLARED}tensor R[{own}]\nR[{names}] = {formula}\n")
 }
 
 // Whether the indexes that are not listed have the number 0 at an assignment.
@@ -162,22 +220,22 @@ fn place_in(order: &[usize], assignment: u64) -> u64 {
     for at in order {
         if let Some(index) = INDEXES.get(*at) {
             place = place
-                .wrapping_mul(index.range.extent)
+                .wrapping_mul(index.extent)
                 .wrapping_add(number_at(assignment, index));
         }
     }
     place
 }
 
-// The ranges of indexes, in this order.
-fn ranges_of(alloc: Global, order: &[usize]) -> Result<Vec<Range>, AllocError> {
-    let mut ranges = Vec::new(alloc);
+// The numbers of the ranges of indexes, in this order.
+fn range_numbers(alloc: Global, order: &[usize]) -> Result<Vec<usize>, AllocError> {
+    let mut numbers = Vec::new(alloc);
     for at in order {
         if let Some(index) = INDEXES.get(*at) {
-            ranges.push(index.range)?;
+            numbers.push(index.range)?;
         }
     }
-    Ok(ranges)
+    Ok(numbers)
 }
 
 // The elements of the result, in row-major order.
@@ -193,10 +251,16 @@ fn result_elements(alloc: Global, term: &Term, order: &[usize]) -> Result<Vec<u6
 }
 
 // The bytes of the result's file.
-fn result_bytes(alloc: Global, term: &Term, order: &[usize]) -> Result<Vec<u8>, AllocError> {
-    let ranges = ranges_of(alloc, order)?;
+fn result_bytes(
+    alloc: Global,
+    ranges: &[Range],
+    term: &Term,
+    order: &[usize],
+) -> Result<Vec<u8>, AllocError> {
+    let numbers = range_numbers(alloc, order)?;
+    let own = ranges_at(alloc, ranges, numbers.as_slice())?;
     let cells = result_elements(alloc, term, order)?;
-    tiled_bytes(alloc, ranges.as_slice(), cells.as_slice())
+    tiled_bytes(alloc, own.as_slice(), cells.as_slice())
 }
 
 fn put_operand(
@@ -211,10 +275,11 @@ fn put_operand(
 }
 
 // A disk with the files of the operands.
-fn disk_of(alloc: Global, operands: &[Vec<u64>]) -> Result<MemDisk, AllocError> {
+fn disk_of(alloc: Global, given: &Given) -> Result<MemDisk, AllocError> {
     let mut disk = MemDisk::new(alloc);
-    for ((name, ranges), words) in OPERANDS.iter().zip(operands.iter()) {
-        put_operand(alloc, &mut disk, name, ranges, words.as_slice())?;
+    for ((name, numbers), words) in OPERANDS.iter().zip(given.operands.iter()) {
+        let own = ranges_at(alloc, given.ranges.as_slice(), numbers)?;
+        put_operand(alloc, &mut disk, name, own.as_slice(), words.as_slice())?;
     }
     Ok(disk)
 }
@@ -224,29 +289,46 @@ fn makes(
     alloc: Global,
     spec: &Spec,
     budget: u64,
-    operands: &[Vec<u64>],
+    given: &Given,
     wanted: &[u8],
 ) -> Result<bool, AllocError> {
-    let mut disk = disk_of(alloc, operands)?;
+    let mut disk = disk_of(alloc, given)?;
     let mut room = HeapRoom::new(alloc);
     let made = ran(alloc, spec, budget, &mut disk, &mut room, b"").is_ok();
     Ok(made && disk.file("R.tca") == Some(wanted))
 }
 
-// Runs the specification of a formula with a drawn budget, and compares its result.
+// Whether a run by this fusion does so.
+fn makes_by(
+    alloc: Global,
+    spec: &Spec,
+    budget: u64,
+    fusion: Fusion,
+    given: &Given,
+    wanted: &[u8],
+) -> Result<bool, Fail> {
+    let mut disk = disk_of(alloc, given)?;
+    let made = is_run_by(alloc, spec, budget, fusion, &mut disk)?;
+    Ok(made && disk.file("R.tca") == Some(wanted))
+}
+
+// Runs the specification of a formula with a drawn budget, by a least fusion and by a drawn one, and compares its results.
 fn check_text(
     rt: &impl Abort,
     alloc: Global,
     draws: &mut Draws,
     text: &str,
-    operands: &[Vec<u64>],
+    given: &Given,
     wanted: &[u8],
 ) -> Result<(), Fail> {
     let spec = spec_of(alloc, text.as_bytes())?;
     let least = spec.largest_tile().saturating_mul(3);
     let budget = least.saturating_add(draws.below(60));
-    let right = makes(alloc, &spec, budget, operands, wanted)?;
+    let right = makes(alloc, &spec, budget, given, wanted)?;
     assert!(rt; right, "{text} with budget {budget}");
+    let fusion = drawn_fusion(draws, spec.tree());
+    let right = makes_by(alloc, &spec, budget, fusion, given, wanted)?;
+    assert!(rt; right, "{text} with budget {budget} by a drawn fusion");
     Ok(())
 }
 
@@ -256,22 +338,23 @@ fn check_term(
     alloc: Global,
     draws: &mut Draws,
     term: &Term,
-    operands: &[Vec<u64>],
+    given: &Given,
 ) -> Result<(), Fail> {
+    let ranges = given.ranges.as_slice();
     let order = drawn_order(alloc, draws, term)?;
-    let text = text_of(alloc, term.text.as_str(), order.as_slice())?;
-    let wanted = result_bytes(alloc, term, order.as_slice())?;
-    check_text(rt, alloc, draws, text.as_str(), operands, wanted.as_slice())
+    let text = text_of(alloc, ranges, term.text.as_str(), order.as_slice())?;
+    let wanted = result_bytes(alloc, ranges, term, order.as_slice())?;
+    check_text(rt, alloc, draws, text.as_str(), given, wanted.as_slice())
 }
 
 // Runs a formula that is drawn.
 fn check_drawn(rt: &impl Abort, alloc: Global, draws: &mut Draws) -> Result<(), Fail> {
-    let operands = drawn_operands(alloc, draws)?;
-    let terms = drawn_terms(alloc, draws, operands.as_slice())?;
+    let given = drawn_given(alloc, draws)?;
+    let terms = drawn_terms(alloc, draws, given.operands.as_slice())?;
     let Some(term) = terms.last() else {
         return Err(Fail::new("a formula is drawn"));
     };
-    check_term(rt, alloc, draws, term, operands.as_slice())
+    check_term(rt, alloc, draws, term, &given)
 }
 
 #[test]

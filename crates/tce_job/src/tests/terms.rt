@@ -1,77 +1,66 @@
 //! Formulas over four indexes, each with its value at every assignment of numbers to all four.
 //!
 //! An assignment is a number below 72, the row-major place of the numbers of i, j, k and l.
-use crate::tests::tiled::Range;
 use std::alloc::{AllocError, Global};
 
 /// How many assignments there are.
 pub const ASSIGNMENTS: u64 = 72;
 
-/// The declarations of the ranges, the indexes and the operands.
+/// The declarations of the indexes and the operands.
 pub const DECLARED: &str =
-    "range N 3 tile 2\nrange M 2\nrange K 4 tile 3\nindex N i j\nindex M k\nindex K l\ntensor A[N,M]\ntensor B[N,K]\ntensor D[K]\ntensor E[N,N]\n";
+    "index N i j\nindex M k\nindex K l\ntensor A[N,M]\ntensor B[N,K]\ntensor D[K]\ntensor E[N,N]\n";
 
-/// An index: its name, its range, that range's name, and how far apart two assignments are that differ by one in it.
+/// The ranges: their names and extents.
+pub const RANGES: [(&str, u64); 3] = [("N", 3), ("M", 2), ("K", 4)];
+
+/// An index: its name, its range's number and name, its extent, and how far apart two assignments are that differ by one in it.
 #[derive(Clone, Copy)]
 pub struct Index {
     pub name: &'static str,
+    pub range: usize,
     pub range_name: &'static str,
-    pub range: Range,
+    pub extent: u64,
     pub step: u64,
 }
-
-const N: Range = Range {
-    extent: 3,
-    edge: 2,
-    tiles: 2,
-};
-
-const M: Range = Range {
-    extent: 2,
-    edge: 1,
-    tiles: 2,
-};
-
-const K: Range = Range {
-    extent: 4,
-    edge: 3,
-    tiles: 2,
-};
 
 /// The four indexes.
 pub const INDEXES: [Index; 4] = [
     Index {
         name: "i",
+        range: 0,
         range_name: "N",
-        range: N,
+        extent: 3,
         step: 24,
     },
     Index {
         name: "j",
+        range: 0,
         range_name: "N",
-        range: N,
+        extent: 3,
         step: 8,
     },
     Index {
         name: "k",
+        range: 1,
         range_name: "M",
-        range: M,
+        extent: 2,
         step: 4,
     },
     Index {
         name: "l",
+        range: 2,
         range_name: "K",
-        range: K,
+        extent: 4,
         step: 1,
     },
 ];
 
-/// The operands: the names of their files, and their ranges.
-pub const OPERANDS: &[(&str, &[Range])] = &[
-    ("A.tca", &[N, M]),
-    ("B.tca", &[N, K]),
-    ("D.tca", &[K]),
-    ("E.tca", &[N, N]),
+/// The operands: the names of their files, and the numbers of their ranges.
+pub const OPERANDS: &[(&str, &[usize])] = &[
+    ("A.tca", &[0, 1]),
+    ("B.tca", &[0, 2]),
+    ("D.tca", &[2]),
+    ("E.tca", &[0, 0]),
 ];
 
 // The references to the operands: the text, the operand's number, and which of the four indexes stand in it, in order.
@@ -107,10 +96,10 @@ impl Term {
 
 /// The number of an index at an assignment.
 pub fn number_at(assignment: u64, index: &Index) -> u64 {
-    if index.step == 0 || index.range.extent == 0 {
+    if index.step == 0 || index.extent == 0 {
         return 0;
     }
-    assignment / index.step % index.range.extent
+    assignment / index.step % index.extent
 }
 
 // The assignment with this number of an index in place of its own.
@@ -127,7 +116,7 @@ fn element_named(indexes: &[usize], assignment: u64) -> u64 {
     for at in indexes {
         if let Some(index) = INDEXES.get(*at) {
             element = element
-                .wrapping_mul(index.range.extent)
+                .wrapping_mul(index.extent)
                 .wrapping_add(number_at(assignment, index));
         }
     }
@@ -291,7 +280,7 @@ pub fn joined(alloc: Global, join: Join, left: &Term, right: &Term) -> Result<Te
 // The sum of the values where one index has each of its numbers in place of its own.
 fn sum_over(values: &[u64], index: &Index, assignment: u64) -> u64 {
     let mut sum = 0u64;
-    for number in 0..index.range.extent {
+    for number in 0..index.extent {
         let other = with_number(assignment, index, number);
         sum = sum.wrapping_add(values.get(other as usize).copied().unwrap_or(0));
     }

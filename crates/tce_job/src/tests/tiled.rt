@@ -10,6 +10,22 @@ pub struct Range {
     pub tiles: u64,
 }
 
+impl Range {
+    /// The range of this extent that is cut into tiles of this edge.
+    pub fn cut(extent: u64, edge: u64) -> Range {
+        let (tiles, rest) = divided(extent, edge);
+        Range {
+            extent,
+            edge,
+            tiles: if rest == 0 {
+                tiles
+            } else {
+                tiles.wrapping_add(1)
+            },
+        }
+    }
+}
+
 // How often a divisor goes into a number, and what is left.
 fn divided(number: u64, divisor: u64) -> (u64, u64) {
     if divisor == 0 {
