@@ -367,107 +367,75 @@ const WORKED: Stated = Stated {
     lists: 2,
 };
 
+// Whether the plan that is stated fits the tree.
+fn fits(rt: &impl Abort, alloc: Global, tree: &Tree, stated: &Stated) -> Result<bool, Fail> {
+    let plan = plan_of(rt, alloc, stated)?;
+    Ok(plan.fits(tree))
+}
+
+// The worked plan with other sizes.
+fn check_sizes(rt: &impl Abort, alloc: Global, tree: &Tree) -> Result<(), Fail> {
+    let cases: [(&[u128], bool); 5] = [
+        (&[5, 1], true),
+        (&[5], false),
+        (&[5, 1, 0], false),
+        (&[5, LARGEST], true),
+        (&[5, LARGEST + 1], false),
+    ];
+    for (sizes, wanted) in cases {
+        let stated = Stated { sizes, ..WORKED };
+        assert_eq!(rt; fits(rt, alloc, tree, &stated)?, wanted);
+    }
+    Ok(())
+}
+
+// The worked plan with another memory, and with another cost of a row.
+fn check_numbers(rt: &impl Abort, alloc: Global, tree: &Tree) -> Result<(), Fail> {
+    for (number, wanted) in [(LARGEST, true), (LARGEST + 1, false)] {
+        let stated = Stated {
+            memory: number,
+            ..WORKED
+        };
+        assert_eq!(rt; fits(rt, alloc, tree, &stated)?, wanted);
+        let stated = Stated {
+            cost: number,
+            ..WORKED
+        };
+        assert_eq!(rt; fits(rt, alloc, tree, &stated)?, wanted);
+    }
+    Ok(())
+}
+
+// The worked plan with another fused set, order, class or number of lists.
+fn check_sets(rt: &impl Abort, alloc: Global, tree: &Tree) -> Result<(), Fail> {
+    let cases: [(&[u8], &[u8], &[u8], u8); 4] = [
+        // a set beyond the dims
+        (&[3], &[1, 0], &[1], 2),
+        // an order without a loop
+        (&[1], &[1], &[1], 2),
+        // a class beyond the dims
+        (&[1], &[1, 0], &[1, 3], 2),
+        // a list too many
+        (&[1], &[1, 0], &[1], 3),
+    ];
+    for (fused, last_order, class, lists) in cases {
+        let stated = Stated {
+            fused,
+            last_order,
+            class,
+            lists,
+            ..WORKED
+        };
+        assert!(rt; !fits(rt, alloc, tree, &stated)?);
+    }
+    Ok(())
+}
+
 #[test]
 fn plans_fit_their_tree(rt: HostRuntime) -> Result<(), Fail> {
     let space = short_space(&rt, rt.alloc())?;
     let tree = two_sums(&rt, rt.alloc(), &space)?;
-    for (name, stated, fits) in [
-        ("the worked plan", WORKED, true),
-        (
-            "a set beyond the dims",
-            Stated {
-                fused: &[3],
-                ..WORKED
-            },
-            false,
-        ),
-        (
-            "an order without a loop",
-            Stated {
-                last_order: &[1],
-                ..WORKED
-            },
-            false,
-        ),
-        (
-            "a size too few",
-            Stated {
-                sizes: &[5],
-                ..WORKED
-            },
-            false,
-        ),
-        (
-            "a size too many",
-            Stated {
-                sizes: &[5, 1, 0],
-                ..WORKED
-            },
-            false,
-        ),
-        (
-            "sizes within the limit",
-            Stated {
-                sizes: &[5, LARGEST],
-                ..WORKED
-            },
-            true,
-        ),
-        (
-            "a size past the limit",
-            Stated {
-                sizes: &[5, LARGEST + 1],
-                ..WORKED
-            },
-            false,
-        ),
-        (
-            "memory within the limit",
-            Stated {
-                memory: LARGEST,
-                ..WORKED
-            },
-            true,
-        ),
-        (
-            "memory past the limit",
-            Stated {
-                memory: LARGEST + 1,
-                ..WORKED
-            },
-            false,
-        ),
-        (
-            "a class beyond the dims",
-            Stated {
-                class: &[1, 3],
-                ..WORKED
-            },
-            false,
-        ),
-        (
-            "a cost within the limit",
-            Stated {
-                cost: LARGEST,
-                ..WORKED
-            },
-            true,
-        ),
-        (
-            "a cost past the limit",
-            Stated {
-                cost: LARGEST + 1,
-                ..WORKED
-            },
-            false,
-        ),
-        ("a list too many", Stated { lists: 3, ..WORKED }, false),
-    ] {
-        assert_eq!(rt;
-            plan_of(&rt, rt.alloc(), &stated)?.fits(&tree),
-            fits,
-            "{name}"
-        );
-    }
-    Ok(())
+    check_sizes(&rt, rt.alloc(), &tree)?;
+    check_numbers(&rt, rt.alloc(), &tree)?;
+    check_sets(&rt, rt.alloc(), &tree)
 }

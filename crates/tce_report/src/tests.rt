@@ -224,94 +224,136 @@ const LONG: Stated = Stated {
     memory: 10004,
 };
 
-#[test]
-fn plans_are_reported(rt: HostRuntime) -> Result<(), Fail> {
-    let alloc = rt.alloc();
-    let affine_plan = Stated {
-        fused: &[&[0], &[], &[]],
-        orders: &[&[0], &[0], &[0]],
-        sizes: &[1, 2],
-        memory: 3,
-    };
-    let cases: [(&str, Box<Expr>, &[&str], Stated, &str); 4] = [
-        (
-            "no index fused, and an order against declaration",
-            two_sums(alloc)?,
-            &["i", "j", "k", "l"],
-            SHORT,
-            "tce plan 1\nnode 0 sum loops i,k fused - size 5\nnode 1 sum loops j,l fused j size 1\nnode 2 product loops j,i result\nmemory 6\n",
-        ),
-        (
-            "fused sets in order of declaration",
-            three_sums(alloc)?,
-            &LETTERS,
-            LONG,
-            "tce plan 1\nnode 0 product loops b,c,d,f,e,l fused b,c,d,e,f,l size 1\nnode 1 sum loops b,c,d,f,e,l fused b,c,d,f size 1\nnode 2 product loops b,c,d,f,j,k fused b,c,d,f,j,k size 1\nnode 3 sum loops b,c,d,f,j,k fused b,c size 10000\nnode 4 product loops b,c,a,i,j,k fused a,b,c,i,j,k size 1\nnode 5 sum loops b,c,a,i,j,k result\nmemory 10004\n",
-        ),
-        (
-            "additions and subtractions",
-            affine(alloc)?,
-            &["i"],
-            affine_plan,
-            "tce plan 1\nnode 0 product loops i fused i size 1\nnode 1 sub loops i fused - size 2\nnode 2 add loops i result\nmemory 3\n",
-        ),
-        (
-            "one node without loops",
-            product(alloc, leaf(alloc, 0, &[])?, leaf(alloc, 1, &[])?)?,
-            &["i"],
-            Stated {
-                fused: &[&[]],
-                orders: &[&[]],
-                sizes: &[],
-                memory: 0,
-            },
-            "tce plan 1\nnode 0 product loops - result\nmemory 0\n",
-        ),
-    ];
-    for (name, expr, names, stated, wanted) in &cases {
-        let space = space_of(alloc, names)?;
-        let tree = tree_over(alloc, &space, expr)?;
-        let plan = plan_of(alloc, stated)?;
-        let text = planned(alloc, &space, &tree, &plan)?;
-        assert_eq!(rt; text.as_slice(), wanted.as_bytes(), "{name}");
-    }
+// The plan that is stated for the formula has this report.
+fn check_plan(
+    rt: &impl Abort,
+    alloc: Global,
+    expr: &Expr,
+    names: &[&str],
+    stated: &Stated,
+    wanted: &str,
+) -> Result<(), Fail> {
+    let space = space_of(alloc, names)?;
+    let tree = tree_over(alloc, &space, expr)?;
+    let plan = plan_of(alloc, stated)?;
+    let text = planned(alloc, &space, &tree, &plan)?;
+    assert_eq!(rt; text.as_slice(), wanted.as_bytes());
     Ok(())
 }
 
+const AFFINE: Stated = Stated {
+    fused: &[&[0], &[], &[]],
+    orders: &[&[0], &[0], &[0]],
+    sizes: &[1, 2],
+    memory: 3,
+};
+
+const NO_LOOPS: Stated = Stated {
+    fused: &[&[]],
+    orders: &[&[]],
+    sizes: &[],
+    memory: 0,
+};
+
 #[test]
-fn runs_are_reported(rt: HostRuntime) -> Result<(), Fail> {
-    let alloc = rt.alloc();
-    let space = space_of(alloc, &["i", "j"])?;
-    let outer = product(alloc, leaf(alloc, 0, &[0])?, leaf(alloc, 1, &[1])?)?;
-    let tree = tree_over(alloc, &space, &outer)?;
-    let one = plan_of(
-        alloc,
-        &Stated {
-            fused: &[&[]],
-            orders: &[&[0, 1]],
-            sizes: &[],
-            memory: 0,
-        },
-    )?;
-    let text = ran(alloc, &space, &tree, &one, 3, "C.tca", 80)?;
-    let wanted = b"tce run 1\nnode 0 product loops i,j result\nmemory 0\ntiles 3\nwrote C.tca 80\n";
-    assert_eq!(rt; text.as_slice(), wanted.as_slice(), "one node");
-    let summed = sum(alloc, &[0, 1], outer)?;
-    let tree = tree_over(alloc, &space, &summed)?;
-    let two = plan_of(
-        alloc,
-        &Stated {
-            fused: &[&[0, 1], &[]],
-            orders: &[&[0, 1], &[0, 1]],
-            sizes: &[1],
-            memory: 1,
-        },
-    )?;
-    let text = ran(alloc, &space, &tree, &two, 12288, "S.tca", 24)?;
+fn an_order_against_declaration_is_reported(rt: HostRuntime) -> Result<(), Fail> {
+    let expr = two_sums(rt.alloc())?;
     let wanted =
-        b"tce run 1\nnode 0 product loops i,j fused i,j size 1\nnode 1 sum loops i,j result\nmemory 1\ntiles 12288\nwrote S.tca 24\n";
-    assert_eq!(rt; text.as_slice(), wanted.as_slice(), "a fused product");
+        "tce plan 1\nnode 0 sum loops i,k fused - size 5\nnode 1 sum loops j,l fused j size 1\nnode 2 product loops j,i result\nmemory 6\n";
+    let names = ["i", "j", "k", "l"];
+    check_plan(&rt, rt.alloc(), &expr, &names, &SHORT, wanted)
+}
+
+#[test]
+fn fused_sets_are_reported_in_order_of_declaration(rt: HostRuntime) -> Result<(), Fail> {
+    let expr = three_sums(rt.alloc())?;
+    let wanted =
+        "tce plan 1\nnode 0 product loops b,c,d,f,e,l fused b,c,d,e,f,l size 1\nnode 1 sum loops b,c,d,f,e,l fused b,c,d,f size 1\nnode 2 product loops b,c,d,f,j,k fused b,c,d,f,j,k size 1\nnode 3 sum loops b,c,d,f,j,k fused b,c size 10000\nnode 4 product loops b,c,a,i,j,k fused a,b,c,i,j,k size 1\nnode 5 sum loops b,c,a,i,j,k result\nmemory 10004\n";
+    check_plan(&rt, rt.alloc(), &expr, &LETTERS, &LONG, wanted)
+}
+
+#[test]
+fn additions_and_subtractions_are_reported(rt: HostRuntime) -> Result<(), Fail> {
+    let expr = affine(rt.alloc())?;
+    let wanted =
+        "tce plan 1\nnode 0 product loops i fused i size 1\nnode 1 sub loops i fused - size 2\nnode 2 add loops i result\nmemory 3\n";
+    check_plan(&rt, rt.alloc(), &expr, &["i"], &AFFINE, wanted)
+}
+
+// `A[] * B[]`.
+fn numbers(alloc: Global) -> Result<Box<Expr>, Fail> {
+    let right = leaf(alloc, 1, &[])?;
+    product(alloc, leaf(alloc, 0, &[])?, right)
+}
+
+#[test]
+fn one_node_without_loops_is_reported(rt: HostRuntime) -> Result<(), Fail> {
+    let expr = numbers(rt.alloc())?;
+    let wanted = "tce plan 1\nnode 0 product loops - result\nmemory 0\n";
+    check_plan(&rt, rt.alloc(), &expr, &["i"], &NO_LOOPS, wanted)
+}
+
+// The run by the plan that is stated for the formula over i and j has this report.
+fn check_run(
+    rt: &impl Abort,
+    alloc: Global,
+    expr: &Expr,
+    stated: &Stated,
+    tiles: u64,
+    file: &str,
+    bytes: u64,
+    wanted: &str,
+) -> Result<(), Fail> {
+    let space = space_of(alloc, &["i", "j"])?;
+    let tree = tree_over(alloc, &space, expr)?;
+    let plan = plan_of(alloc, stated)?;
+    let text = ran(alloc, &space, &tree, &plan, tiles, file, bytes)?;
+    assert_eq!(rt; text.as_slice(), wanted.as_bytes());
     Ok(())
+}
+
+// `A[i] * B[j]`.
+fn outer(alloc: Global) -> Result<Box<Expr>, Fail> {
+    let right = leaf(alloc, 1, &[1])?;
+    product(alloc, leaf(alloc, 0, &[0])?, right)
+}
+
+const OUTER: Stated = Stated {
+    fused: &[&[]],
+    orders: &[&[0, 1]],
+    sizes: &[],
+    memory: 0,
+};
+
+const OUTER_SUM: Stated = Stated {
+    fused: &[&[0, 1], &[]],
+    orders: &[&[0, 1], &[0, 1]],
+    sizes: &[1],
+    memory: 1,
+};
+
+#[test]
+fn a_run_of_one_node_is_reported(rt: HostRuntime) -> Result<(), Fail> {
+    let expr = outer(rt.alloc())?;
+    let wanted = "tce run 1\nnode 0 product loops i,j result\nmemory 0\ntiles 3\nwrote C.tca 80\n";
+    check_run(&rt, rt.alloc(), &expr, &OUTER, 3, "C.tca", 80, wanted)
+}
+
+#[test]
+fn a_run_of_a_fused_product_is_reported(rt: HostRuntime) -> Result<(), Fail> {
+    let expr = sum(rt.alloc(), &[0, 1], outer(rt.alloc())?)?;
+    let wanted =
+        "tce run 1\nnode 0 product loops i,j fused i,j size 1\nnode 1 sum loops i,j result\nmemory 1\ntiles 12288\nwrote S.tca 24\n";
+    check_run(
+        &rt,
+        rt.alloc(),
+        &expr,
+        &OUTER_SUM,
+        12288,
+        "S.tca",
+        24,
+        wanted,
+    )
 }
 
 #[test]
