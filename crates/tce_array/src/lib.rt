@@ -15,8 +15,6 @@ mod head;
 mod laws;
 mod opening;
 mod place;
-#[cfg(test)]
-mod tests;
 
 pub use element::address;
 pub use fault::ArrayFault;

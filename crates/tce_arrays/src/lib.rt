@@ -9,8 +9,6 @@
 mod arrays;
 mod laws;
 mod opening;
-#[cfg(test)]
-mod tests;
 
 pub use arrays::arrays_of;
 pub use laws::{

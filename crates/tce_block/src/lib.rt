@@ -9,8 +9,6 @@ mod blocks;
 mod cut;
 mod laws;
 mod numbers;
-#[cfg(test)]
-mod tests;
 
 pub use blocks::Blocks;
 pub use cut::{Block, Cut};

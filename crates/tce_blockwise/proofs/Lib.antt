@@ -3,4 +3,3 @@ pub mod Places
 pub mod Closed
 pub mod Operands
 pub mod PartLaws
-pub mod Worked

@@ -5,7 +5,5 @@
 #![tactic(auto)]
 
 mod laws;
-#[cfg(test)]
-mod tests;
 
 pub use laws::{parts_keep_words, parts_make_tails};

@@ -12,8 +12,6 @@
 
 mod array;
 mod cache;
-#[cfg(test)]
-mod tests;
 mod transfer;
 
 pub use array::ArrayRef;

@@ -11,6 +11,3 @@ mod upper;
 pub use candidate::{Candidate, joined_sets};
 pub use laws::{covered_pairs_cover_steps, leaves_have_states, steps_are_states};
 pub use table::candidates_of;
-
-#[cfg(test)]
-mod tests;

@@ -10,8 +10,6 @@ mod indexes;
 mod print;
 mod ranges;
 mod tensors;
-#[cfg(test)]
-mod tests;
 mod words;
 
 pub use print::print_lines;

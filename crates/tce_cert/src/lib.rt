@@ -17,6 +17,3 @@ pub use fault::CertFault;
 pub use laws::{certificates_have_no_fault, first_faults_are_alone, plans_are_their_certificates};
 pub use read::read_cert;
 pub use write::write_cert;
-
-#[cfg(test)]
-mod tests;

@@ -11,6 +11,3 @@ mod rows;
 pub use cut::cut_at;
 pub use forms::{has_form, is_end_line, is_opening_line, read_memory_line, read_table_line};
 pub use rows::read_row_line;
-
-#[cfg(test)]
-mod tests;

@@ -9,6 +9,3 @@ mod laws;
 
 pub use command::certify;
 pub use laws::certificates_have_one_answer;
-
-#[cfg(test)]
-mod tests;

@@ -13,6 +13,3 @@ mod verdict;
 
 pub use rules::check;
 pub use verdict::Verdict;
-
-#[cfg(test)]
-mod tests;

@@ -15,5 +15,3 @@ pub mod Once
 pub mod Depths
 pub mod Conditions
 pub mod CodeLaws
-pub mod Worked
-pub mod Carrying

@@ -10,10 +10,3 @@ mod op;
 
 pub use emission::{Code, generate};
 pub use op::Op;
-
-#[cfg(test)]
-mod checking;
-#[cfg(test)]
-mod plain_run;
-#[cfg(test)]
-mod tests;

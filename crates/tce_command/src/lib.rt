@@ -26,6 +26,3 @@ pub use report::{finish, refuse, refuse_words};
 pub use status::Status;
 pub use trouble::CertTrouble;
 pub use trouble_line::TroubleLine;
-
-#[cfg(test)]
-mod tests;

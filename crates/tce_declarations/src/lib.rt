@@ -16,8 +16,6 @@ mod laws;
 mod numbers;
 mod ranges;
 mod tensors;
-#[cfg(test)]
-mod tests;
 mod text;
 
 pub use declarations::{Declarations, Tensor};

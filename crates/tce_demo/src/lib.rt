@@ -10,6 +10,3 @@ mod running;
 mod sum;
 
 pub use command::demo;
-
-#[cfg(test)]
-mod tests;

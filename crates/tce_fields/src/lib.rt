@@ -13,6 +13,3 @@ pub use indexes::{indexes_named, members_of, set_named};
 pub use names::read_names;
 pub use number::read_number;
 pub use parts::split_parts;
-
-#[cfg(test)]
-mod tests;

@@ -14,6 +14,3 @@ mod tensor;
 
 pub use commands::{convert, pack, unpack};
 pub use laws::flat_commands_have_one_answer;
-
-#[cfg(test)]
-mod tests;

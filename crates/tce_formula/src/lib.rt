@@ -12,8 +12,6 @@ mod laws;
 mod names;
 mod read;
 mod rule;
-#[cfg(test)]
-mod tests;
 
 pub use laws::{examples_have_their_faults, examples_mean_their_trees, formula_lines_have_names};
 pub use read::{Contraction, read_formula};

@@ -13,8 +13,6 @@
 mod laws;
 mod ring;
 mod table;
-#[cfg(test)]
-mod tests;
 
 pub use laws::{
     drops_keep, latest_tiles_stay, loads_keep, puts_are_current, touches_change_the_list,

@@ -9,4 +9,3 @@ pub mod Inserting
 pub mod Checking
 pub mod SizeLaws
 pub mod Pushed
-pub mod Worked

@@ -9,6 +9,3 @@ mod sizes;
 pub use legality::{first_illegal, is_legal};
 pub use orders::{first_not_carried, standard_orders};
 pub use sizes::{memory, size_of};
-
-#[cfg(test)]
-mod tests;

@@ -21,8 +21,6 @@ mod parser;
 mod printer;
 mod read_error;
 mod statement;
-#[cfg(test)]
-mod tests;
 mod token;
 mod tokenizer;
 

@@ -8,9 +8,6 @@ ghost use Rattle.std.specs.Prelude.{◌≡◌, map, length, replicate};
 ghost use Rattle.std.specs.Simd.Lanes.{zip2};
 ghost use Rattle.tce_base.specs.Word.{wrapping_add, wrapping_sub, wrapping_mul, wrapping_sum};
 
-#[cfg(test)]
-mod tests;
-
 use std::simd::prelude::*;
 
 const LANES: usize = 8;

@@ -9,8 +9,3 @@ mod slot;
 
 pub use layout::lay_out;
 pub use slot::{Layout, Slot};
-
-#[cfg(test)]
-mod checking;
-#[cfg(test)]
-mod tests;

@@ -18,6 +18,3 @@ pub use plan::Plan;
 pub use row::Row;
 pub use subset_list::subsets;
 pub use tables::Tables;
-
-#[cfg(test)]
-mod tests;

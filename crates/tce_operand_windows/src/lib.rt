@@ -21,6 +21,3 @@ pub use laws::{
 };
 pub use slot::slot_window;
 pub use tile::{tile_steps, tile_window};
-
-#[cfg(test)]
-mod tests;

@@ -20,6 +20,3 @@ pub use laws::{
     touches_keep_states,
 };
 pub use slot::slot_place;
-
-#[cfg(test)]
-mod tests;

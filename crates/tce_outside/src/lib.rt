@@ -12,8 +12,6 @@ mod faulty_sink;
 mod laws;
 mod memory;
 mod schedule;
-#[cfg(test)]
-mod tests;
 
 pub use device::{Disk, Failed, OutFault, Sink};
 pub use faulty_disk::FaultyDisk;

@@ -8,6 +8,3 @@ mod laws;
 
 pub use command::plan;
 pub use laws::plans_have_one_answer;
-
-#[cfg(test)]
-mod tests;

@@ -16,6 +16,3 @@ pub use line::node_line;
 pub use names::push_names;
 pub use reader::{LineFault, NodeLine, read_node_line};
 pub use report::{plan_text, run_text};
-
-#[cfg(test)]
-mod tests;

@@ -2,4 +2,3 @@ pub mod Shapes
 pub mod Names
 pub mod Agreement
 pub mod Results
-pub mod Worked

@@ -7,8 +7,6 @@
 
 mod laws;
 mod naming;
-#[cfg(test)]
-mod tests;
 
 pub use laws::{results_are_told, tensors_have_files};
 pub use naming::file_of;

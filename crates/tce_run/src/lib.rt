@@ -9,6 +9,3 @@ mod refusals;
 
 pub use command::run;
 pub use laws::runs_have_one_answer;
-
-#[cfg(test)]
-mod tests;

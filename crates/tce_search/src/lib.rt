@@ -7,6 +7,3 @@ mod plan;
 mod root;
 
 pub use plan::search;
-
-#[cfg(test)]
-mod tests;

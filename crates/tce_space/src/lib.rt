@@ -15,6 +15,3 @@ pub use name::{FileName, Name, is_name};
 pub use row_major::{place, places_are_in_order};
 pub use shape::{Shape, ShapeFault, words_are_apart};
 pub use space::{Space, SpaceFault, volumes_grow};
-
-#[cfg(test)]
-mod tests;

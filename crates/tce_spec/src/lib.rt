@@ -8,8 +8,6 @@
 mod laws;
 mod operands;
 mod spec;
-#[cfg(test)]
-mod tests;
 
 pub use laws::every_text_has_one_outcome;
 pub use spec::{Spec, print_spec, read_spec};

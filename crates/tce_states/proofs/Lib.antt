@@ -1,4 +1,3 @@
-pub mod Worked
 pub mod Steps
 pub mod Operands
 pub mod Links
@@ -9,6 +8,5 @@ pub mod Covers
 pub mod Reached
 pub mod Unfused
 pub mod Choices
-pub mod WorkedCover
 pub mod ClassLists
 pub mod StateClasses

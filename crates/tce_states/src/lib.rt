@@ -11,6 +11,3 @@ pub use laws::{
     rows_stand_together, some_rows_join, standing_is_order, states_have_classes, steps_are_reached,
     total_is_bound,
 };
-
-#[cfg(test)]
-mod tests;

@@ -4,6 +4,3 @@
 mod steps;
 
 pub use steps::{is_stood_for, join_rows, stands_for, step};
-
-#[cfg(test)]
-mod tests;

@@ -7,8 +7,6 @@ mod loops;
 mod results;
 mod runs;
 mod sums;
-#[cfg(test)]
-mod tests;
 
 pub use loops::{Loop, Operation, SumLoop};
 pub use results::{compute, grow_by_products};

@@ -1,4 +1,3 @@
 pub mod Tails
 pub mod TailLaws
-pub mod Worked
 pub mod TouchBound

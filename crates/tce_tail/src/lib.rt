@@ -5,7 +5,5 @@
 #![tactic(auto)]
 
 mod laws;
-#[cfg(test)]
-mod tests;
 
 pub use laws::{joined_tails_add_up, single_tails_end_at_last, sum_tails_add_up, touches_are_few};

@@ -8,8 +8,6 @@
 
 mod laws;
 mod takings;
-#[cfg(test)]
-mod tests;
 
 pub use laws::frames_have_room;
 pub use takings::{frame_count, least_budget, tile_count, tile_take};

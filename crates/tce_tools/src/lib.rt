@@ -19,8 +19,6 @@ mod run;
 mod shuffle;
 mod storage;
 mod sum;
-#[cfg(test)]
-mod tests;
 mod transfer;
 
 pub use conversion::convert;

@@ -10,6 +10,3 @@ mod top;
 
 pub use tce_command::Status;
 pub use top::tce;
-
-#[cfg(test)]
-mod tests;

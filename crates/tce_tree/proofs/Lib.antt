@@ -10,4 +10,3 @@ pub mod OrderTests
 pub mod Values
 pub mod Conditions
 pub mod Operands
-pub mod Worked

@@ -15,6 +15,3 @@ pub use fusion::{Fusion, Orders};
 pub use laws::{parents_have_operands, value_depends_on_dims, value_is_word};
 pub use node::{Kind, Operand};
 pub use tree::Tree;
-
-#[cfg(test)]
-mod tests;

@@ -10,6 +10,3 @@ mod reading;
 
 pub use command::verify;
 pub use laws::{accepted_is_least, verifications_have_one_answer, written_is_verified};
-
-#[cfg(test)]
-mod tests;

@@ -9,8 +9,6 @@ mod laws;
 mod machine;
 mod running;
 mod search;
-#[cfg(test)]
-mod tests;
 
 pub use laws::{joined_tails_are_known, single_tails_are_known, sum_tails_are_known};
 pub use machine::{Machine, Tail};

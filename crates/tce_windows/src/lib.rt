@@ -10,8 +10,6 @@ pub mod laws;
 mod nest;
 mod sequence;
 mod still;
-#[cfg(test)]
-mod tests;
 mod window;
 
 pub use blocks::{compute, grow, grow_by_products};

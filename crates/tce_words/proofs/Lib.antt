@@ -4,5 +4,4 @@ pub mod MemoryMade
 pub mod MemoryRows
 pub mod RowPlaces
 pub mod RunSteps
-pub mod TestPlaces
 pub mod WordSteps

@@ -8,8 +8,6 @@ mod products;
 mod room;
 mod runs;
 mod sums;
-#[cfg(test)]
-mod tests;
 mod words;
 
 pub use room::{HeapRoom, RefusingRoom, Room};

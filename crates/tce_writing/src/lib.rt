@@ -1,8 +1,6 @@
 //! Whole files.
 #![tactic(auto)]
 
-#[cfg(test)]
-mod tests;
 mod writing;
 
 pub use writing::write_file;

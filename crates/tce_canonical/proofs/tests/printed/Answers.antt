@@ -1,5 +1,0 @@
-use Rattle.tce_formula.proofs.LineNames.{line_names}
-use Rattle.tce_canonical.proofs.tests.printed.Goals as goal
-
-pub read_formula-found-requires-clause-written : goal.read_formula-found-requires-clause-written
-read_formula-found-requires-clause-written c = (line_names _ _ _ _ c.in-Ok.ensures.said).2

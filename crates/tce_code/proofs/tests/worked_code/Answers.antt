@@ -1,8 +1,0 @@
-use Rattle.tce_code.proofs.Worked as worked
-use Rattle.tce_code.proofs.tests.worked_code.Goals as goal
-
-pub returns-clause-code : goal.returns-clause-code
-returns-clause-code c = worked.worked_code
-
-pub returns-clause-runs : goal.returns-clause-runs
-returns-clause-runs c = worked.worked_runs
