@@ -2,7 +2,7 @@
 ghost use Rattle.std.specs.Prelude.{◌≡◌, ◌++◌, List, ℕ, length, replicate, Option, IfOk, OnOk, IsErr, IsErrOf, take};
 ghost use Rattle.std.specs.Option.{ForSome, option_map};
 ghost use Rattle.tce_outside.specs.Files.{Files, file, HasPart, part, others, holding, written};
-ghost use Rattle.tce_outside.specs.Fault.{HasCause};
+ghost use Rattle.tce_outside.specs.Fault.{HasCause, TellsFaults};
 
 use thiserror::Error;
 
@@ -26,7 +26,8 @@ pub enum OutFault {
 ///
 /// Contracts see two meanings: the files, where the disk tells them, as a finite map from names to lists of
 /// bytes; and a count of faults, which never falls and which stops at 2^64 - 1. A call answers that the disk
-/// failed only where the count rose in that call, or stands at its end.
+/// failed only where the count rose in that call, or stands at its end; where it answers no failure the count is
+/// what it was.
 ///
 /// No call changes whether the disk tells its files: each equation over `files` below holds of a disk that
 /// tells nothing only where it tells nothing afterwards.
@@ -41,7 +42,8 @@ pub trait Disk {
     fn size(&mut self, name: &str) -> Result<Option<u64>, Failed>
         ensures length { IfOk result (λ len. ForSome (files self.old) (λ fs. len ≡ option_map length (file fs name.now))) }
         ensures same { files self.new ≡ files self.old }
-        ensures cause { HasCause (faults self.old) (faults self.new) (IsErr result) };
+        ensures cause { HasCause (faults self.old) (faults self.new) (IsErr result) }
+        ensures told { TellsFaults (faults self.old) (faults self.new) (IsErr result) };
 
     /// Puts a file of `len` zero bytes in the place of whatever has this name.
     ///
@@ -51,7 +53,8 @@ pub trait Disk {
         ensures made { OnOk result (files self.new ≡ holding name.now (replicate len 0) (files self.old)) }
         ensures memory { IsErrOf result OutFault.Memory → files self.new ≡ files self.old }
         ensures others { others name.now (files self.new) ≡ others name.now (files self.old) }
-        ensures cause { HasCause (faults self.old) (faults self.new) (IsErrOf result OutFault.Failed) };
+        ensures cause { HasCause (faults self.old) (faults self.new) (IsErrOf result OutFault.Failed) }
+        ensures told { TellsFaults (faults self.old) (faults self.new) (IsErrOf result OutFault.Failed) };
 
     /// Reads the bytes of a file from place `at` on until `out` is full. Where the disk fails, `out` may hold
     /// anything. Nothing changes on the disk.
@@ -59,7 +62,8 @@ pub trait Disk {
         requires { ForSome (files self.old) (λ fs. HasPart fs name.now at (length out.old)) }
         ensures read { OnOk result (ForSome (files self.old) (λ fs. out.new ≡ part fs name.now at (length out.old))) }
         ensures same { files self.new ≡ files self.old }
-        ensures cause { HasCause (faults self.old) (faults self.new) (IsErr result) };
+        ensures cause { HasCause (faults self.old) (faults self.new) (IsErr result) }
+        ensures told { TellsFaults (faults self.old) (faults self.new) (IsErr result) };
 
     /// Writes all of `bytes` over the same number of bytes of a file from place `at` on.
     ///
@@ -69,7 +73,8 @@ pub trait Disk {
         requires { ForSome (files self.old) (λ fs. HasPart fs name.now at (length bytes.now)) }
         ensures written { OnOk result (files self.new ≡ written name.now at bytes.now (files self.old)) }
         ensures others { others name.now (files self.new) ≡ others name.now (files self.old) }
-        ensures cause { HasCause (faults self.old) (faults self.new) (IsErr result) };
+        ensures cause { HasCause (faults self.old) (faults self.new) (IsErr result) }
+        ensures told { TellsFaults (faults self.old) (faults self.new) (IsErr result) };
 }
 
 /// Where text is put.
@@ -89,5 +94,6 @@ pub trait Sink {
         ensures whole { OnOk result (bytes self.new ≡ option_map (λ put. put ++ piece.now) (bytes self.old)) }
         ensures memory { IsErrOf result OutFault.Memory → bytes self.new ≡ bytes self.old }
         ensures prefix { (k : ℕ) × (bytes self.new ≡ option_map (λ put. put ++ take k piece.now) (bytes self.old)) }
-        ensures cause { HasCause (faults self.old) (faults self.new) (IsErrOf result OutFault.Failed) };
+        ensures cause { HasCause (faults self.old) (faults self.new) (IsErrOf result OutFault.Failed) }
+        ensures told { TellsFaults (faults self.old) (faults self.new) (IsErrOf result OutFault.Failed) };
 }

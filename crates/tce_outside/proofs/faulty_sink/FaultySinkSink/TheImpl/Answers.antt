@@ -9,4 +9,5 @@ put-tells c =
       memory = search rules;
       prefix = put_prefix c.result _ _ _ c.ensures.whole c.ensures.err;
       cause = search rules;
+      told = search rules;
     }
