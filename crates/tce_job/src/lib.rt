@@ -13,8 +13,6 @@ mod prepared;
 mod preparing;
 mod report;
 mod run;
-#[cfg(test)]
-mod tests;
 
 pub use bytes::Bytes;
 pub use fault::JobFault;
