@@ -1,0 +1,50 @@
+#!/bin/sh
+# Runs the gate, `rt ci`, and prints the processor seconds of each crate's proof, tests and edits, dearest first.
+# usage: bench/gate.sh [--anew] [NAME ..] [> table]      What rt says goes to standard error.
+# Where an earlier run keeps what a crate needs, its columns show what this run did alone: --anew proves all.
+cd "$(dirname "$0")/.." || exit 1
+log=$(mktemp)
+trap 'rm -f "$log"' EXIT
+python3 - "$(readlink -f "$(command -v rt)")" "$log" "$@" <<'END' >&2
+import importlib.machinery
+import importlib.util
+import sys
+
+path, log, *words = sys.argv[1:]
+sys.path.insert(0, path.rpartition("/")[0])
+loader = importlib.machinery.SourceFileLoader("rt", path)
+rt = importlib.util.module_from_spec(importlib.util.spec_from_loader("rt", loader))
+sys.modules["rt"] = rt
+sys.argv = [path, "ci", *words]
+loader.exec_module(rt)
+
+# A check of rattle: its crate, what it is for, and its processor and wall seconds.
+TIMED = """
+import os, sys, time
+log, words, began = sys.argv[1], sys.argv[2:], time.time()
+child = os.fork()
+if not child:
+    os.execvp(words[0], words)
+_, status, used = os.wait4(child, 0)
+name = words[words.index('--crate-name') + 1] if '--crate-name' in words else '-'
+kind = 'edits' if '/rt-edit-' in os.getcwd() else 'tests' if '--test' in words else 'proof'
+with open(log, 'a') as it:
+    it.write(f'{name} {kind} {used.ru_utime + used.ru_stime:.1f} {time.time() - began:.1f}\\n')
+if os.WIFSIGNALED(status):
+    os.kill(os.getpid(), os.WTERMSIG(status))
+os._exit(os.WEXITSTATUS(status))
+"""
+guarded = rt.rtlib.guarded
+rt.rtlib.guarded = lambda: [*guarded(), sys.executable, "-ISc", TIMED, log]
+sys.exit(rt.main(["ci", *words]))
+END
+status=$?
+awk '
+    { seconds[$1 " " $2] += $3; all[$1] += $3; kinds[$2] += $3; total += $3; names[$1] = 1 }
+    END {
+        printf "| Crate | proof | tests | edits | all |\n|---|---|---|---|---|\n"
+        printf "| all | %d | %d | %d | %d |\n", kinds["proof"], kinds["tests"], kinds["edits"], total
+        for (name in names)
+            printf "| %s | %d | %d | %d | %d |\n", name, seconds[name " proof"], seconds[name " tests"], seconds[name " edits"], all[name] | "sort -t\"|\" -k6,6nr"
+    }' "$log"
+exit $status
