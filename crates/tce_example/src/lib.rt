@@ -8,4 +8,4 @@ mod input;
 mod laws;
 
 pub use input::{Example, make_example, write_input};
-pub use laws::demos_are_specified;
+pub use laws::{demos_are_canonical, demos_are_specified};
