@@ -2,7 +2,7 @@
 ghost use Rattle.std.specs.Prelude.{◌≡◌, ℕ, ◌+◌, ◌*◌, ◌≤◌, ◌<◌, List, length, take, drop, IfOk, IfErr, OnOk, IsErr, IsErrOf, Err, codes, ◌++◌};
 ghost use Rattle.std.specs.Option.{ForSome, IsSomeAnd};
 ghost use Rattle.tce_outside.specs.Files.{file, others, holding};
-ghost use Rattle.tce_outside.specs.Fault.{HasCause};
+ghost use Rattle.tce_outside.specs.Fault.{HasCause, TellsFaults};
 ghost use Rattle.tce_array.specs.Forms.{form_of, form_bytes, IsArray};
 ghost use Rattle.tce_array.specs.Faults.{IsFault, IsOnlyAnswer};
 ghost use Rattle.std.specs.Str.{bytes_eq};
@@ -46,6 +46,7 @@ fn find_form<D: Disk>(disk: &mut D, name: &str, len: u64) -> Result<Form, Failed
     ensures form { IfOk result (λ form. ForSome (D.files disk.old) (λ fs. IsSomeAnd (file fs name.now) (λ bytes. form_of bytes ≡ form))) }
     ensures same { D.files disk.new ≡ D.files disk.old }
     ensures cause { HasCause (D.faults disk.old) (D.faults disk.new) (IsErr result) }
+    ensures told { TellsFaults (D.faults disk.old) (D.faults disk.new) (IsErr result) }
 {
     if len < 24 {
         return Ok(Form::One);
@@ -68,6 +69,7 @@ pub fn open<D: Disk>(disk: &mut D, name: &str, shape: &Shape) -> Result<Form, Ar
     ensures exact { ForSome (D.files disk.old) (λ fs. IsOnlyAnswer shape.now (file fs name.now) result) }
     ensures same { D.files disk.new ≡ D.files disk.old }
     ensures cause { HasCause (D.faults disk.old) (D.faults disk.new) (result ≡ Err ArrayFault.Disk) }
+    ensures told { TellsFaults (D.faults disk.old) (D.faults disk.new) (result ≡ Err ArrayFault.Disk) }
 {
     let Ok(size) = disk.size(name) else {
         return Err(ArrayFault::Disk);
@@ -103,6 +105,7 @@ pub fn create<D: Disk>(disk: &mut D, name: &str, form: Form, shape: &Shape) -> R
     ensures memory { IsErrOf result OutFault.Memory → D.files disk.new ≡ D.files disk.old }
     ensures others { others name.now (D.files disk.new) ≡ others name.now (D.files disk.old) }
     ensures cause { HasCause (D.faults disk.old) (D.faults disk.new) (IsErrOf result OutFault.Failed) }
+    ensures told { TellsFaults (D.faults disk.old) (D.faults disk.new) (IsErrOf result OutFault.Failed) }
 {
     disk.make(name, form_len(form, shape))?;
     let head = head(form, shape);

@@ -18,7 +18,7 @@ use Rattle.tce_arrays.specs.Opened.{operand_count, operand, form_at, HasArray, H
 -- the first operands are opened, that many of them
 pub record IsOpening (s : Specification) (start now : Option Files) (faults later_faults : ℕ) (forms : List Form) (count : ℕ) : Type 0 where
   pub same : now ≡ start
-  pub later : faults ≤ later_faults
+  pub counted : later_faults ≡ faults
   pub opened : ForSome start (λ files. AreOpened files s forms count)
   pub long : length forms ≡ 32
 
@@ -46,13 +46,13 @@ next_opened files s forms form k t is within before here d h = by_tensor (cases_
     by_tensor (inr (inr above)) = at_other (λ e. absurd (omega arith))
 
 pub begins : (s : Specification) (told : Option Files) (faults : ℕ) (forms : List Form) → length forms ≡ 32 → IsOpening s told told faults faults forms 0
-begins s told faults forms long = record { same = refl; later = omega arith; opened = λ files was d h. absurd (omega arith); long = long }
+begins s told faults forms long = record { same = refl; counted = refl; opened = λ files was d h. absurd (omega arith); long = long }
 
 pub goes_on : (s : Specification) (start now then : Option Files) (a b c : ℕ) (forms : List Form) (form : Form) (k t : ℕ) → t ≡ operand s k → t < 32
-    → IsOpening s start now a b forms k → then ≡ now → b ≤ c → ForSome now (λ files. HasForm files s t form) → IsOpening s start then a c (set forms t form) (k + 1)
-goes_on s start now then a b c forms form k t is within before same later here = record {
+    → IsOpening s start now a b forms k → then ≡ now → c ≡ b → ForSome now (λ files. HasForm files s t form) → IsOpening s start then a c (set forms t form) (k + 1)
+goes_on s start now then a b c forms form k t is within before same counted here = record {
   same = same ∙ before.same;
-  later = omega (arith, before.later, later);
+  counted = counted ∙ before.counted;
   opened = λ files told. next_opened files s forms form k t is (omega (arith, before.long)) (before.opened files told) (here files (before.same ∙ told));
   long = length-set forms t form ∙ before.long;
 }

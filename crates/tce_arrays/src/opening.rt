@@ -2,7 +2,7 @@
 ghost use Rattle.std.specs.Prelude.{◌≡◌, ◌<◌, IfOk, IfErr, IsErrAnd, length};
 ghost use Rattle.std.specs.Option.{ForSome, IsSomeAnd};
 ghost use Rattle.tce_outside.specs.Files.{file};
-ghost use Rattle.tce_outside.specs.Fault.{HasCause};
+ghost use Rattle.tce_outside.specs.Fault.{HasCause, TellsFaults};
 ghost use Rattle.tce_array.specs.Forms.{form_of, IsArray};
 ghost use Rattle.tce_array.specs.Faults.{IsFault};
 ghost use Rattle.tce_spec.specs.Operands.{shape_of};
@@ -34,6 +34,7 @@ fn open_tensor<D: Disk>(spec: &Spec, t: u8, disk: &mut D) -> Result<Form, Refuse
     ensures fault { IfErr result (λ refused. ForSome (D.files disk.old) (λ files. IsFault (shape_of spec.now t) (file files (file_of spec.now t)) refused.fault)) }
     ensures same { D.files disk.new ≡ D.files disk.old }
     ensures cause { HasCause (D.faults disk.old) (D.faults disk.new) (IsErrAnd result (λ refused. refused.fault ≡ ArrayFault.Disk)) }
+    ensures told { TellsFaults (D.faults disk.old) (D.faults disk.new) (IsErrAnd result (λ refused. refused.fault ≡ ArrayFault.Disk)) }
 {
     let name = file_of(spec, t);
     match open(disk, name.as_str(), &spec.tensor(t).shape) {
@@ -51,6 +52,7 @@ pub fn open_operands<D: Disk>(spec: &Spec, disk: &mut D) -> Result<Forms, Refuse
     ensures declared { IfErr result (λ refused. refused.tensor < length spec.now.declarations.tensors) }
     ensures same { D.files disk.new ≡ D.files disk.old }
     ensures cause { HasCause (D.faults disk.old) (D.faults disk.new) (IsErrAnd result (λ refused. refused.fault ≡ ArrayFault.Disk)) }
+    ensures told { TellsFaults (D.faults disk.old) (D.faults disk.new) (IsErrAnd result (λ refused. refused.fault ≡ ArrayFault.Disk)) }
 {
     let operands = spec.operands();
     // A specification keeps its rules.

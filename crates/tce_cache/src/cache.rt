@@ -1,7 +1,7 @@
 // A cache of tiles.
 ghost use Rattle.std.specs.Prelude.{◌≡◌, ℕ, ◌+◌, ◌*◌, ◌^◌, ◌<◌, ◌≤◌, ◌↔◌, [], length, drop, slice_get, slice_index, map, IfOk, OnOk, IsOk, IsErr, IsSome, IsTrue, Some, None};
 ghost use Rattle.std.specs.Option.{ForSome};
-ghost use Rattle.tce_outside.specs.Fault.{HasCause};
+ghost use Rattle.tce_outside.specs.Fault.{HasCause, TellsFaults};
 ghost use Rattle.tce_frames.specs.Held.{Held, look_up, cleaned};
 ghost use Rattle.tce_frames.specs.Current.{place, IsSameOutside};
 
@@ -150,6 +150,7 @@ impl Cache {
         ensures others { IsSameOutside (layout self.now) frame words.old words.new }
         ensures same { D.files disk.new ≡ D.files disk.old }
         ensures cause { HasCause (D.faults disk.old) (D.faults disk.new) (IsErr result) }
+        ensures told { TellsFaults (D.faults disk.old) (D.faults disk.new) (IsErr result) }
     {
         let array = &self.arrays[array as usize];
         let n = array.shape.tile_words();
@@ -175,6 +176,7 @@ impl Cache {
         ensures written { OnOk result (ForSome (D.files disk.old) (λ fs. ForSome (D.files disk.new) (λ gs. IsTileWritten self.now fs gs words.now array tile frame))) }
         ensures others { OnlyWritableDiffers self.now (D.files disk.old) (D.files disk.new) }
         ensures cause { HasCause (D.faults disk.old) (D.faults disk.new) (IsErr result) }
+        ensures told { TellsFaults (D.faults disk.old) (D.faults disk.new) (IsErr result) }
     {
         let array = &self.arrays[array as usize];
         let n = array.shape.tile_words();
@@ -200,6 +202,7 @@ impl Cache {
         ensures cache { IsCache self.new }
         ensures others { OnlyWritableDiffers self.old (D.files disk.old) (D.files disk.new) }
         ensures cause { HasCause (D.faults disk.old) (D.faults disk.new) (IsErr result) }
+        ensures told { TellsFaults (D.faults disk.old) (D.faults disk.new) (IsErr result) }
     {
         let held = self.table.frame(frame);
         if held.marked {
@@ -230,6 +233,7 @@ impl Cache {
         ensures cache { IsCache self.new }
         ensures others { OnlyWritableDiffers self.old (D.files disk.old) (D.files disk.new) }
         ensures cause { HasCause (D.faults disk.old) (D.faults disk.new) (IsErr result) }
+        ensures told { TellsFaults (D.faults disk.old) (D.faults disk.new) (IsErr result) }
     {
         if self.table.len() < self.table.frames() {
             return Ok(self.table.hold(array, tile, marked));
@@ -263,6 +267,7 @@ impl Cache {
         ensures outside { IsSameOutsideFrames self.old words.old words.new }
         ensures others { OnlyWritableDiffers self.old (D.files disk.old) (D.files disk.new) }
         ensures cause { HasCause (D.faults disk.old) (D.faults disk.new) (IsErr result) }
+        ensures told { TellsFaults (D.faults disk.old) (D.faults disk.new) (IsErr result) }
     {
         let frame = self.take_frame(disk, words, array, tile, marked)?;
         self.read_tile(disk, words, array, tile, frame)?;
@@ -295,6 +300,7 @@ impl Cache {
         ensures outside { IsSameOutsideFrames self.old words.old words.new }
         ensures others { OnlyWritableDiffers self.old (D.files disk.old) (D.files disk.new) }
         ensures cause { HasCause (D.faults disk.old) (D.faults disk.new) (IsErr result) }
+        ensures told { TellsFaults (D.faults disk.old) (D.faults disk.new) (IsErr result) }
     {
         // The length of the block bounds all places.
         let _len = words.len();
@@ -322,6 +328,7 @@ impl Cache {
         ensures cache { IsCache self.new }
         ensures others { OnlyWritableDiffers self.old (D.files disk.old) (D.files disk.new) }
         ensures cause { HasCause (D.faults disk.old) (D.faults disk.new) (IsErr result) }
+        ensures told { TellsFaults (D.faults disk.old) (D.faults disk.new) (IsErr result) }
     {
         // The length of the block bounds all places.
         let _len = words.len();

@@ -2,7 +2,7 @@
 ghost use Rattle.std.specs.Prelude.{◌≡◌, ◌+◌, ◌*◌, ◌/◌, ◌%◌, ◌^◌, ◌<◌, ◌≤◌, length, OnOk, IsErr};
 ghost use Rattle.std.specs.Option.{ForSome};
 ghost use Rattle.tce_outside.specs.Files.{others};
-ghost use Rattle.tce_outside.specs.Fault.{HasCause};
+ghost use Rattle.tce_outside.specs.Fault.{HasCause, TellsFaults};
 ghost use Rattle.tce_space.specs.Tiling.{IsTiling, padded_words};
 ghost use Rattle.tce_array.specs.Forms.{width, word_in, word_place};
 ghost use Rattle.tce_words.specs.Load.{IsLoaded};
@@ -62,6 +62,7 @@ fn read_piece<D: Disk>(
     ensures others { IsSameBut at n words.old words.new }
     ensures same { D.files disk.new ≡ D.files disk.old }
     ensures cause { HasCause (D.faults disk.old) (D.faults disk.new) (IsErr result) }
+    ensures told { TellsFaults (D.faults disk.old) (D.faults disk.new) (IsErr result) }
 {
     disk.read_at(array.file.as_str(), place_of(array, from), piece)?;
     load_piece(words, at, array.form, piece);
@@ -89,6 +90,7 @@ pub(crate) fn read_words<D: Disk>(
     ensures others { IsSameBut at n words.old words.new }
     ensures same { D.files disk.new ≡ D.files disk.old }
     ensures cause { HasCause (D.faults disk.old) (D.faults disk.new) (IsErr result) }
+    ensures told { TellsFaults (D.faults disk.old) (D.faults disk.new) (IsErr result) }
 {
     let mut buffer = [0; PIECE];
     let width = array.form.width();
@@ -122,6 +124,7 @@ fn write_piece<D: Disk>(
     ensures written { OnOk result (ForSome (D.files disk.old) (λ fs. ForSome (D.files disk.new) (λ gs. IsWritten array.now fs gs from words.now at n))) }
     ensures others { others array.now.file.bytes (D.files disk.new) ≡ others array.now.file.bytes (D.files disk.old) }
     ensures cause { HasCause (D.faults disk.old) (D.faults disk.new) (IsErr result) }
+    ensures told { TellsFaults (D.faults disk.old) (D.faults disk.new) (IsErr result) }
 {
     // The block says that each word has 64 bits.
     let _len = words.len();
@@ -150,6 +153,7 @@ pub(crate) fn write_words<D: Disk>(
     ensures written { OnOk result (ForSome (D.files disk.old) (λ fs. ForSome (D.files disk.new) (λ gs. IsWritten array.now fs gs from words.now at n))) }
     ensures others { others array.now.file.bytes (D.files disk.new) ≡ others array.now.file.bytes (D.files disk.old) }
     ensures cause { HasCause (D.faults disk.old) (D.faults disk.new) (IsErr result) }
+    ensures told { TellsFaults (D.faults disk.old) (D.faults disk.new) (IsErr result) }
 {
     let mut buffer = [0; PIECE];
     let mut done = 0;

@@ -17,4 +17,4 @@ mod run;
 pub use bytes::Bytes;
 pub use fault::JobFault;
 pub use report::RunReport;
-pub use run::run_job;
+pub use run::{run_by, run_job};

@@ -51,8 +51,13 @@ fn run_prepared<D: Disk>(spec: &Spec, prepared: &mut Prepared, disk: &mut D) -> 
     Ok(())
 }
 
-// Runs a specification by a plan, whatever its fusion, over operands that were opened.
-pub(crate) fn run_by<D: Disk, R: Room>(
+/// Runs a specification by any plan whose orders carry its fusion, over operands that were opened.
+///
+/// The budget, in words, is for tiles. It is at least three of the largest tiles, and at most 2^40, as is the memory of
+/// the plan. The run takes its memory once, the words of the room last, and after that makes the file of the result.
+/// It answers `Memory`, after which all files are as they were, or `Disk`, after which the result's file may hold
+/// anything or be absent.
+pub fn run_by<D: Disk, R: Room>(
     alloc: Global,
     spec: &Spec,
     budget: u64,

@@ -1,7 +1,7 @@
 // New files.
 ghost use Rattle.std.specs.Prelude.{◌≡◌, OnOk, IsErrOf};
 ghost use Rattle.tce_outside.specs.Files.{holding, others};
-ghost use Rattle.tce_outside.specs.Fault.{HasCause};
+ghost use Rattle.tce_outside.specs.Fault.{HasCause, TellsFaults};
 
 use tce_outside::{Disk, OutFault};
 
@@ -11,6 +11,7 @@ pub fn write_file<D: Disk>(disk: &mut D, name: &str, bytes: &[u8]) -> Result<(),
     ensures memory { IsErrOf result OutFault.Memory → D.files disk.new ≡ D.files disk.old }
     ensures others { others name.now (D.files disk.new) ≡ others name.now (D.files disk.old) }
     ensures cause { HasCause (D.faults disk.old) (D.faults disk.new) (IsErrOf result OutFault.Failed) }
+    ensures told { TellsFaults (D.faults disk.old) (D.faults disk.new) (IsErrOf result OutFault.Failed) }
 {
     disk.make(name, bytes.len() as u64)?;
     match disk.write_at(name, 0, bytes) {

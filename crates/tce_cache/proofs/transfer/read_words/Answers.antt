@@ -1,4 +1,4 @@
-use Rattle.std.proofs.Common.{arith, ◌∙◌}
+use Rattle.std.proofs.Common.{arith, rules, ◌∙◌}
 use Rattle.tce_cache.proofs.Transfers.{words_joined, others_joined}
 use Rattle.tce_cache.proofs.transfer.read_words.Goals as goal
 
@@ -13,7 +13,10 @@ loop-done-preserved g c =
       done = omega (arith, c.min-count.ensures);
       len = read.len ∙ before.len;
       files = read.same ∙ before.files;
-      later = omega (arith, read.cause.later, before.later);
+      counted = read.told (search rules) ∙ before.counted;
       read = λ x told. words_joined c.args.array.now x c.args.from c.args.at c.loop-done.done c.min-count.result c.loop-done.words c.read_piece.new.words (before.read x told) (read.read x (before.files ∙ told)) read.others;
       others = others_joined c.args.at c.loop-done.done c.min-count.result c.args.n c.args.words.now c.loop-done.words c.read_piece.new.words (omega (arith, c.min-count.ensures)) before.others read.others;
     }
+
+pub returns-clause-told : goal.returns-clause-told
+returns-clause-told g c = λ _. c.loop-done.invariant.counted

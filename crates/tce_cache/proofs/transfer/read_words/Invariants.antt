@@ -8,7 +8,7 @@ invariant-loop-done g l = record {
   done : l.done ≤ l.n;
   len : length l.words ≡ length l.fn.words;
   files : g.D.Disk.files l.disk ≡ g.D.Disk.files l.fn.disk;
-  later : g.D.Disk.faults l.fn.disk ≤ g.D.Disk.faults l.disk;
+  counted : g.D.Disk.faults l.disk ≡ g.D.Disk.faults l.fn.disk;
   read : ForSome (g.D.Disk.files l.fn.disk) (λ fs. AreWordsOf l.array fs l.from l.words l.at l.done);
   others : IsSameBut l.at l.n l.fn.words l.words;
 }

@@ -1,4 +1,4 @@
-use Rattle.std.proofs.Common.{arith, ◌≡◌, ◌∙◌, subst}
+use Rattle.std.proofs.Common.{arith, rules, ◌≡◌, ◌∙◌, subst}
 use Rattle.tce_cache.specs.Transfer.{IsWritten}
 use Rattle.tce_cache.proofs.Transfers.{told_before, written_joined}
 use Rattle.tce_cache.proofs.transfer.write_words.Goals as goal
@@ -18,7 +18,7 @@ loop-done-preserved g c =
     record {
       done = omega (arith, c.min-count.ensures);
       others = piece.others ∙ before.others;
-      later = omega (arith, piece.cause.later, before.later);
+      counted = piece.told (search rules) ∙ before.counted;
       written = λ x told y now.
           let middle = told_before c.args.array.now.file.bytes _ _ y piece.others now in
           written_joined c.args.array.now x middle.0 y c.args.from c.args.at c.loop-done.done c.min-count.result c.args.words.now
@@ -29,3 +29,6 @@ pub returns-clause-written : goal.returns-clause-written
 returns-clause-written g c x told y now =
     let all : c.loop-done.done ≡ c.args.n = omega (arith, c.loop-done.invariant.done, c.loop-done-test.false) in
     subst (IsWritten c.args.array.now x y c.args.from c.args.words.now c.args.at) all (c.loop-done.invariant.written x told y now)
+
+pub returns-clause-told : goal.returns-clause-told
+returns-clause-told g c = λ _. c.loop-done.invariant.counted

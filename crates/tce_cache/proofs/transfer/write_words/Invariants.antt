@@ -8,7 +8,7 @@ abbrev pub invariant-loop-done : goal.invariant-loop-done
 invariant-loop-done g l = record {
   done : l.done ≤ l.n;
   others : others l.array.file.bytes (g.D.Disk.files l.disk) ≡ others l.array.file.bytes (g.D.Disk.files l.fn.disk);
-  later : g.D.Disk.faults l.fn.disk ≤ g.D.Disk.faults l.disk;
+  counted : g.D.Disk.faults l.disk ≡ g.D.Disk.faults l.fn.disk;
   written : ForSome (g.D.Disk.files l.fn.disk) (λ fs. ForSome (g.D.Disk.files l.disk) (λ gs. IsWritten l.array fs gs l.from l.words l.at l.done));
 }
 

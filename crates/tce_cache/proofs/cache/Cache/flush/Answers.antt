@@ -1,4 +1,4 @@
-use Rattle.std.proofs.Common.{◌≡◌, ◌∙◌, ℕ, Some, false, length, map, ap, sym, subst, arith}
+use Rattle.std.proofs.Common.{◌≡◌, ◌∙◌, ℕ, Some, false, length, map, ap, sym, subst, arith, rules}
 use Rattle.tce_frames.specs.Held.{Held, look_up, cleaned}
 use Rattle.tce_cache.specs.Cache.{State, OnlyWritableDiffers}
 use Rattle.tce_cache.specs.Touch.{with_held, unmarked, IsSameArrays}
@@ -43,7 +43,7 @@ loop-frame-preserved g c =
           let second = subst (λ (z : State). IsSameArrays (with_held s l.held s.touches) z middle.0 y words words) state (subst (λ (z : State). IsSameArrays z n middle.0 y words words) before.state (back.arrays middle.0 middle.1 y now)) in
           subst (λ (z : State). IsSameArrays s z x y words words) (sym state) (same_trans s l.held n.held s.touches s.touches x middle.0 y words words words first second);
       others = both_differ s _ _ _ before.others (differ_again s l.held s.touches _ _ (subst (λ (z : State). OnlyWritableDiffers z (g.D.Disk.files c.loop-frame.disk) (g.D.Disk.files c.write_back.new.disk)) before.state back.others));
-      later = omega (arith, back.cause.later, before.later);
+      counted = back.told (search rules) ∙ before.counted;
     }
 
 pub returns-clause-flushed : goal.returns-clause-flushed
@@ -62,3 +62,6 @@ returns-clause-written g c x told y now =
     let words = c.args.words.now in
     let none : (a t : ℕ) (h : Held) → look_up l.held a t ≡ Some h → h.marked ≡ false = λ a t h e. all.clean a t h e (omega (arith, all.low a t h e, c.loop-frame-test.false)) in
     all_written s l.held s.touches x y words (subst (λ (z : State). IsSameArrays s z x y words words) all.state (all.arrays x told y now)) none
+
+pub returns-clause-told : goal.returns-clause-told
+returns-clause-told g c = λ _. c.loop-frame.invariant.counted

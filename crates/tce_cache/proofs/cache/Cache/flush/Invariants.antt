@@ -14,5 +14,5 @@ invariant-loop-frame g l = record {
   held : map unmarked l.self.held ≡ map unmarked l.fn.self.held;
   arrays : KeepsArrays l.fn.self l.self (g.D.Disk.files l.fn.disk) (g.D.Disk.files l.disk) l.words l.words;
   others : OnlyWritableDiffers l.fn.self (g.D.Disk.files l.fn.disk) (g.D.Disk.files l.disk);
-  later : g.D.Disk.faults l.fn.disk ≤ g.D.Disk.faults l.disk;
+  counted : g.D.Disk.faults l.disk ≡ g.D.Disk.faults l.fn.disk;
 }
