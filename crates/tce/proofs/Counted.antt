@@ -1,7 +1,7 @@
 -- A count that rises by one at each failure gives a failure its cause.
-use Rattle.std.proofs.Common.{◌≡◌, ◌≤◌, ℕ, refl, Result, Ok, Err, OnOk, IfOk, IsErr, IsErrOf, is_err, None, arith, rules, if◌then◌else◌}
+use Rattle.std.proofs.Common.{◌≡◌, ◌≤◌, ℕ, refl, ap, Result, Ok, Err, OnOk, IfOk, IfErr, IsErr, IsErrOf, is_err, None, arith, rules, if◌then◌else◌}
 use Rattle.std.specs.Option.{ForSome}
-use Rattle.tce_outside.specs.Fault.{HasCause, Rose}
+use Rattle.tce_outside.specs.Fault.{HasCause, Rose, TellsFaults}
 use Rattle.tce_outside.specs.Schedule.{one_more}
 
 one_more_rises : (n : ℕ) → Rose n (one_more n)
@@ -31,3 +31,12 @@ counted_cause (Err e) old new counted = rw counted (record { later = one_more_la
 pub counted_cause_of : {T E : Type 0} (result : Result T E) (fault : E) (old new : ℕ) → new ≡ (if is_err result then one_more old else old) → HasCause old new (IsErrOf result fault)
 counted_cause_of (Ok x) fault old new counted = search rules
 counted_cause_of (Err e) fault old new counted = rw counted (record { later = one_more_later old; rose = λ _. one_more_rises old })
+
+-- and where no failure is answered, none was counted
+pub counted_told : {T E : Type 0} (result : Result T E) (old new : ℕ) → new ≡ (if is_err result then one_more old else old) → TellsFaults old new (IsErr result)
+counted_told (Ok x) old new counted = λ _. counted
+counted_told (Err e) old new counted = λ fine. absurd (fine (search rules))
+
+pub counted_told_of : {T E : Type 0} (result : Result T E) (fault : E) (old new : ℕ) → IfErr result (λ e. e ≡ fault) → new ≡ (if is_err result then one_more old else old) → TellsFaults old new (IsErrOf result fault)
+counted_told_of (Ok x) fault old new only counted = λ _. counted
+counted_told_of (Err e) fault old new only counted = λ fine. absurd (fine (ap Err only))

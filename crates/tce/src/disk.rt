@@ -79,12 +79,12 @@ impl<'a, R: Files<File = File>> FileDisk<'a, R> {
         ensures { self.new.faults ≡ self.old.faults }
     {
         if let Some(file) = self.reading.get(name) {
-            return file.read_exact_at(out, at).is_ok();
+            return is_filled(file, at, out);
         }
         let Ok(file) = OpenOptions::new().read(true).open(self.files, name) else {
             return false;
         };
-        let filled = file.read_exact_at(out, at).is_ok();
+        let filled = is_filled(&file, at, out);
         self.reading.keep(name, file);
         filled
     }
@@ -94,15 +94,25 @@ impl<'a, R: Files<File = File>> FileDisk<'a, R> {
         ensures { self.new.faults ≡ self.old.faults }
     {
         if let Some(file) = self.writing.get(name) {
-            return file.write_all_at(bytes, at).is_ok();
+            return is_written(file, at, bytes);
         }
         let Ok(file) = OpenOptions::new().write(true).open(self.files, name) else {
             return false;
         };
-        let wrote = file.write_all_at(bytes, at).is_ok();
+        let wrote = is_written(&file, at, bytes);
         self.writing.keep(name, file);
         wrote
     }
+}
+
+// Reads until `out` is full, however few bytes one call of the system gives.
+pub(crate) fn is_filled<F: FileExt>(file: &F, at: u64, out: &mut [u8]) -> bool {
+    file.read_exact_at(out, at).is_ok()
+}
+
+// Writes all of the bytes, however few one call of the system takes.
+pub(crate) fn is_written<F: FileExt>(file: &F, at: u64, bytes: &[u8]) -> bool {
+    file.write_all_at(bytes, at).is_ok()
 }
 
 impl<R: Files<File = File>> Disk for FileDisk<'_, R> {

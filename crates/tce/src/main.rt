@@ -1,8 +1,12 @@
-//! The program: `run SPEC BUDGET` in the current folder.
+//! The program: one command in the current folder, as `run SPEC BUDGET`, `plan SPEC` or `pack SPEC TENSOR FLAT`.
 //!
 //! The words of the command line, the files of the system and its standard output are handed to [`tce_top::tce`], which
-//! does all the rest. The exit status is that of its answer.
+//! knows all commands and does all the rest. The exit status is that of its answer.
 #![tactic(auto)]
+
+ghost use Rattle.std.specs.Prelude.{◌≡◌};
+ghost use Rattle.std.specs.Process.{exit_status};
+ghost use Rattle.tce_command.specs.Report.{code_of};
 
 mod disk;
 mod kept;
@@ -12,12 +16,12 @@ mod tests;
 
 use disk::FileDisk;
 use sink::OutSink;
-use std::alloc::AllocError;
+use std::alloc::{AllocError, Global};
 use std::env;
 use std::fs::File;
 use std::io::ErrorKind;
 use std::process::ExitCode;
-use std::rt::Env;
+use std::rt::{Env, Files};
 use tce_outside::Sink;
 use tce_top::{Status, tce};
 use tce_words::HeapRoom;
@@ -26,9 +30,9 @@ use tce_words::HeapRoom;
 const NO_FILE: &str = "/dev/null";
 
 // The words after the program's name. Where the system does not give them as text there are none, which are no command.
-fn words_of<R: Env + AllocGlobal>(rt: &R) -> Result<Vec<String>, AllocError> {
-    let mut words = Vec::new(rt.alloc());
-    let args = match env::args(rt) {
+fn words_of<R: Env>(alloc: Global, env: &R) -> Result<Vec<String>, AllocError> {
+    let mut words = Vec::new(alloc);
+    let args = match env::args(&(env, alloc)) {
         Ok(args) => args,
         Err(error) if error.kind() == ErrorKind::OutOfMemory => return Err(AllocError),
         Err(_) => return Ok(words),
@@ -37,6 +41,25 @@ fn words_of<R: Env + AllocGlobal>(rt: &R) -> Result<Vec<String>, AllocError> {
         words.push(word)?;
     }
     Ok(words)
+}
+
+// The exit status of an answer.
+fn exit_of(status: Status) -> ExitCode
+    ensures { exit_status result ≡ code_of status }
+{
+    ExitCode::from(status.code())
+}
+
+// Does what the words say over the files of the system.
+fn answer<R: Files<File = File>, K: Sink>(
+    alloc: Global,
+    words: &[String],
+    files: &R,
+    out: &mut K,
+) -> ExitCode {
+    let mut disk = FileDisk::new(alloc, files);
+    let mut room = HeapRoom::new(alloc);
+    exit_of(tce(alloc, words, &mut disk, out, &mut room))
 }
 
 fn main(rt: HostRuntime) -> ExitCode {
@@ -48,11 +71,9 @@ fn main(rt: HostRuntime) -> ExitCode {
         File::open(&rt, NO_FILE),
     ];
     let mut out = OutSink::new(&rt);
-    let Ok(words) = words_of(&rt) else {
+    let Ok(words) = words_of(alloc, &rt) else {
         let _ = out.put(b"error 10: want of memory\n");
-        return ExitCode::from(Status::WantOfMemory.code());
+        return exit_of(Status::WantOfMemory);
     };
-    let mut disk = FileDisk::new(alloc, &rt);
-    let mut room = HeapRoom::new(alloc);
-    ExitCode::from(tce(alloc, &words, &mut disk, &mut out, &mut room).code())
+    answer(alloc, &words, &rt, &mut out)
 }

@@ -1,13 +1,17 @@
-use crate::disk::FileDisk;
+use crate::disk::{FileDisk, is_filled, is_written};
 use crate::sink::OutSink;
+use crate::{answer, words_of};
+use std::cell::Cell;
+use std::env::FillError;
 use std::fmt::Display;
 use std::fs::File;
 use std::io::{ErrorKind, PipeWriter, Read, Write};
+use std::os::unix::fs::FileExt;
 use std::process::Abort;
-use std::rt::Files;
+use std::rt::{Env, Files};
 use std::test::Fail;
 use std::{env, fs, io, process};
-use tce_outside::{Disk, Failed, OutFault, Sink};
+use tce_outside::{Disk, Failed, MemSink, OutFault, Sink};
 
 fn keeps_bytes<R: Files<File = File> + AllocGlobal + Abort>(
     rt: &R,
@@ -28,6 +32,21 @@ fn keeps_bytes<R: Files<File = File> + AllocGlobal + Abort>(
         disk.read_at(name, 9, &mut []).is_ok(),
         "no bytes are there everywhere"
     );
+    Ok(())
+}
+
+// Over a longer file of other bytes.
+fn makes_zeros<R: Files<File = File> + AllocGlobal + Abort>(
+    rt: &R,
+    disk: &mut FileDisk<'_, R>,
+    name: &str,
+) -> Result<(), Fail> {
+    fs::write(rt, name, "seventeen letters")?;
+    assert!(rt; disk.make(name, 5).is_ok() && disk.size(name) == Ok(Some(5)));
+    let mut out = [7u8; 5];
+    assert!(rt; disk.read_at(name, 0, &mut out).is_ok() && out == [0; 5]);
+    assert!(rt; fs::read(rt, name)?.as_slice() == out.as_slice());
+    fs::remove_file(rt, name)?;
     Ok(())
 }
 
@@ -113,6 +132,7 @@ fn the_disk_uses_real_files(rt: HostRuntime) -> Result<(), Fail> {
     fs::create_dir(&rt, folder.as_str())?;
     let name = format!(in alloc; "{folder}/a")?;
     let mut disk = FileDisk::new(alloc, &rt);
+    makes_zeros(&rt, &mut disk, &name)?;
     keeps_bytes(&rt, &mut disk, &name)?;
     keeps_files_open(&rt, &mut disk, &name)?;
     counts_faults(&rt, &mut disk, &name)?;
@@ -158,5 +178,130 @@ fn the_sink_writes_into_a_real_pipe(rt: HostRuntime) -> Result<(), Fail> {
     assert!(rt; out.put(b"").is_ok(), "no bytes need no reader");
     assert!(rt; out.put(b"more") == Err(OutFault::Failed));
     assert!(rt; out.faults() == 2);
+    Ok(())
+}
+
+// Three bytes, of which each call reads or writes one.
+#[derive(Drop)]
+struct Slow {
+    bytes: Cell<[u8; 3]>,
+}
+
+impl FileExt for Slow {
+    fn read_at(&self, buf: &mut [u8], offset: u64) -> io::Result<usize> {
+        if buf.is_empty() || offset >= 3 {
+            return Ok(0);
+        }
+        buf[0] = self.bytes.get()[offset as usize];
+        Ok(1)
+    }
+
+    fn write_at(&self, buf: &[u8], offset: u64) -> io::Result<usize> {
+        if buf.is_empty() || offset >= 3 {
+            return Ok(0);
+        }
+        let mut bytes = self.bytes.get();
+        bytes[offset as usize] = buf[0];
+        self.bytes.set(bytes);
+        Ok(1)
+    }
+}
+
+#[test]
+fn short_reads_and_writes_go_on(rt: HostRuntime) -> Result<(), Fail> {
+    let file = Slow {
+        bytes: Cell::new(*b"abc"),
+    };
+    let mut out = [0u8; 3];
+    assert!(rt; is_filled(&file, 0, &mut out) && out == *b"abc");
+    assert!(rt; is_written(&file, 1, b"xy") && file.bytes.get() == *b"axy");
+    assert!(rt; !is_filled(&file, 1, &mut out), "two bytes are left");
+    assert!(rt; !is_written(&file, 2, b"zz"), "one byte is left");
+    Ok(())
+}
+
+// The words of a command line.
+#[derive(Drop)]
+struct Line(&'static [&'static str]);
+
+impl Env for Line {
+    fn arg(&self, i: usize, buf: &mut [u8]) -> Result<usize, FillError> {
+        let Some(word) = self.0.get(i) else {
+            return Err(FillError::NotPresent);
+        };
+        let bytes = word.as_bytes();
+        if buf.len() < bytes.len() {
+            return Err(FillError::TooLong);
+        }
+        buf[..bytes.len()].copy_from_slice(bytes);
+        Ok(bytes.len())
+    }
+
+    fn var(&self, _name: &str, _buf: &mut [u8]) -> Result<usize, FillError> {
+        Err(FillError::NotPresent)
+    }
+
+    fn var_at(&self, _i: usize, _buf: &mut [u8]) -> Result<usize, FillError> {
+        Err(FillError::NotPresent)
+    }
+}
+
+// Words, what is printed, and the exit status.
+const ANSWERS: [(&[&str], &str, &str); 6] = [
+    (
+        &["tce", "demo", "1", "1", "1"],
+        "tce demo 1\nmemory 5\ntiles 5\nsum 168\n",
+        "ExitCode(unix_exit_status(0))",
+    ),
+    (
+        &["tce", "run", "demo.tce", "16384", "more"],
+        "error 1: bad words\n",
+        "ExitCode(unix_exit_status(1))",
+    ),
+    (
+        &["tce", "unpack", "bad.tce", "demoS", "s.flat"],
+        "error 2: line 1: bad text\n",
+        "ExitCode(unix_exit_status(2))",
+    ),
+    (
+        &["tce", "pack", "demo.tce", "demoA", "a.flat"],
+        "error 3: no file a.flat\n",
+        "ExitCode(unix_exit_status(3))",
+    ),
+    (
+        &["tce", "check", "demo.tce", "bad.cert"],
+        "error 7: line 1: bad text\n",
+        "ExitCode(unix_exit_status(7))",
+    ),
+    (
+        &["tce", "unpack", "demo.tce", "demoS", "s.flat"],
+        "tce unpack 1\nwrote s.flat 8\n",
+        "ExitCode(unix_exit_status(0))",
+    ),
+];
+
+// In a folder of its own, whose files are left by one command to the next.
+#[test]
+fn commands_end_with_their_status(rt: HostRuntime) -> Result<(), Fail> {
+    let alloc = rt.alloc();
+    let temporary = env::temp_dir(&rt)?;
+    let folder = format!(in alloc;
+        "{}/tce-status-{}",
+        temporary.as_str(),
+        process::id(rt.process())
+    )?;
+    fs::create_dir(&rt, folder.as_str())?;
+    env::set_current_dir(&rt, folder.as_str())?;
+    fs::write(&rt, "bad.tce", "bad\n")?;
+    fs::write(&rt, "bad.cert", "bad\n")?;
+    for (line, printed, status) in ANSWERS {
+        let words = words_of(alloc, &Line(line))?;
+        let mut out = MemSink::new(alloc);
+        let code = answer(alloc, &words, &rt, &mut out);
+        assert_eq!(rt; out.bytes(), printed.as_bytes());
+        assert_eq!(rt; format!(in alloc; "{code:?}")?.as_str(), status);
+    }
+    assert!(rt; fs::read(&rt, "s.flat")?.as_slice() == b"\xa8\0\0\0\0\0\0\0".as_slice());
+    fs::remove_dir_all(&rt, folder.as_str())?;
     Ok(())
 }

@@ -8,7 +8,7 @@ use Rattle.std.proofs.lemmas.Fmt.{decimal_injective, decimal_digit}
 use Rattle.tce_array.specs.declared.form.Form.{Form}
 use Rattle.tce_array.specs.declared.form.Form.TheVariants.{One, Narrow, Wide}
 use Rattle.tce_array.specs.Forms.{width}
-use Rattle.tce_command.specs.Command.{Command, run, plan, cert, check, pack, unpack, convert, demo, IsBetween, IsCommand, IsNoCommand, NamesSpec, NamesCertificate, NamesTensor, NamesFlat, verb_of, arguments_of}
+use Rattle.tce_command.specs.Command.{Command, run, plan, cert, check, pack, unpack, convert, expand, demo, IsBetween, IsCommand, IsNoCommand, NamesSpec, NamesCertificate, NamesTensor, NamesFlat, verb_of, arguments_of}
 
 -- the words of a list, where it has two, three or four
 pub two_words : (ws : List (String Global)) (a b : String Global) → 2 ≤ length ws → length ws < 3 → a ≡ get_or ws 0 a → b ≡ get_or ws 1 b
@@ -44,6 +44,7 @@ command_length words (check spec file) h = let e : length words ≡ 3 = ap lengt
 command_length words (pack spec tensor flat) h = let e : length words ≡ 4 = ap length h.words_are in (omega arith, omega arith)
 command_length words (unpack spec tensor flat) h = let e : length words ≡ 4 = ap length h.words_are in (omega arith, omega arith)
 command_length words (convert spec tensor form) h = let e : length words ≡ 4 = ap length h.words_are in (omega arith, omega arith)
+command_length words (expand spec tensor) h = let e : length words ≡ 3 = ap length h.words_are in (omega arith, omega arith)
 command_length words (demo seed v o) h = let e : length words ≡ 4 = ap length h.words_are in (omega arith, omega arith)
 
 -- so that other numbers of words are those of no command
@@ -74,6 +75,7 @@ none_of_two verb spec refused (check s f) h = let e : 2 ≡ 3 = ap length h.word
 none_of_two verb spec refused (pack s t f) h = let e : 2 ≡ 4 = ap length h.words_are in absurd (omega (arith, e))
 none_of_two verb spec refused (unpack s t f) h = let e : 2 ≡ 4 = ap length h.words_are in absurd (omega (arith, e))
 none_of_two verb spec refused (convert s t f) h = let e : 2 ≡ 4 = ap length h.words_are in absurd (omega (arith, e))
+none_of_two verb spec refused (expand s t) h = let e : 2 ≡ 3 = ap length h.words_are in absurd (omega (arith, e))
 none_of_two verb spec refused (demo x v o) h = let e : 2 ≡ 4 = ap length h.words_are in absurd (omega (arith, e))
 
 -- what the rules say of three words, by their verb
@@ -81,6 +83,7 @@ pub record NoneOfThree (verb spec last : List ℕ) : Type 0 where
   pub run : verb ≡ codes "run" → NamesSpec spec → (n : ℕ) → n ≤ 2 ^ 40 → last ≡ decimal n → ⊥
   pub cert : verb ≡ codes "cert" → NamesSpec spec → NamesCertificate last → ⊥
   pub check : verb ≡ codes "check" → NamesSpec spec → NamesCertificate last → ⊥
+  pub expand : verb ≡ codes "expand" → NamesSpec spec → NamesTensor last → ⊥
 
 pub none_of_three : (verb spec last : List ℕ) → NoneOfThree verb spec last → IsNoCommand (verb ∷ spec ∷ last ∷ [])
 none_of_three verb spec last refused (run s b) h =
@@ -89,6 +92,8 @@ none_of_three verb spec last refused (cert s f) h =
     refused.cert (word_at 0 _ _ h.words_are) (subst NamesSpec (sym (word_at 1 _ _ h.words_are)) h.rules.0) (subst NamesCertificate (sym (word_at 2 _ _ h.words_are)) h.rules.1)
 none_of_three verb spec last refused (check s f) h =
     refused.check (word_at 0 _ _ h.words_are) (subst NamesSpec (sym (word_at 1 _ _ h.words_are)) h.rules.0) (subst NamesCertificate (sym (word_at 2 _ _ h.words_are)) h.rules.1)
+none_of_three verb spec last refused (expand s t) h =
+    refused.expand (word_at 0 _ _ h.words_are) (subst NamesSpec (sym (word_at 1 _ _ h.words_are)) h.rules.0) (subst NamesTensor (sym (word_at 2 _ _ h.words_are)) h.rules.1)
 none_of_three verb spec last refused (plan s) h = let e : 3 ≡ 2 = ap length h.words_are in absurd (omega (arith, e))
 none_of_three verb spec last refused (pack s t f) h = let e : 3 ≡ 4 = ap length h.words_are in absurd (omega (arith, e))
 none_of_three verb spec last refused (unpack s t f) h = let e : 3 ≡ 4 = ap length h.words_are in absurd (omega (arith, e))
@@ -106,6 +111,7 @@ pub none_of_four : (verb spec tensor last : List ℕ) → NoneOfFour verb spec t
 none_of_four verb spec tensor last refused (run s b) h = let e : 4 ≡ 3 = ap length h.words_are in absurd (omega (arith, e))
 none_of_four verb spec tensor last refused (cert s f) h = let e : 4 ≡ 3 = ap length h.words_are in absurd (omega (arith, e))
 none_of_four verb spec tensor last refused (check s f) h = let e : 4 ≡ 3 = ap length h.words_are in absurd (omega (arith, e))
+none_of_four verb spec tensor last refused (expand s t) h = let e : 4 ≡ 3 = ap length h.words_are in absurd (omega (arith, e))
 none_of_four verb spec tensor last refused (plan s) h = let e : 4 ≡ 2 = ap length h.words_are in absurd (omega (arith, e))
 none_of_four verb spec tensor last refused (pack s t f) h =
     refused.pack (word_at 0 _ _ h.words_are) (subst NamesSpec (sym (word_at 1 _ _ h.words_are)) h.rules.0)
@@ -128,6 +134,15 @@ no_demo seed v o refused = none_of_four (codes "demo") seed v o (record {
   unpack = λ e. let k : 100 ≡ 117 = ap (λ w. get_or w 0 0) e in absurd (omega (arith, k));
   convert = λ e. let k : 100 ≡ 99 = ap (λ w. get_or w 0 0) e in absurd (omega (arith, k));
   demo = λ e. refused;
+})
+
+-- the words of an expansion, where its tensor has no name
+pub no_expand : (spec tensor : List ℕ) → (NamesTensor tensor → ⊥) → IsNoCommand (codes "expand" ∷ spec ∷ tensor ∷ [])
+no_expand spec tensor refused = none_of_three (codes "expand") spec tensor (record {
+  run = λ e. let k : 101 ≡ 114 = ap (λ w. get_or w 0 0) e in absurd (omega (arith, k));
+  cert = λ e. let k : 101 ≡ 99 = ap (λ w. get_or w 0 0) e in absurd (omega (arith, k));
+  check = λ e. let k : 101 ≡ 99 = ap (λ w. get_or w 0 0) e in absurd (omega (arith, k));
+  expand = λ e names. refused;
 })
 
 -- Words are those of one command.
@@ -186,6 +201,11 @@ one_command words (convert s t f) (convert u v g) h k =
     let tensors : t ≡ v = word_at 2 _ _ e in
     let forms : f ≡ g = same_form f g h.rules.2 k.rules.2 (word_at 3 _ _ e) in
     cc
+one_command words (expand s t) (expand u v) h k =
+    let e = sym h.words_are ∙ k.words_are in
+    let specs : s ≡ u = word_at 1 _ _ e in
+    let tensors : t ≡ v = word_at 2 _ _ e in
+    cc
 one_command words (demo x v o) (demo y w p) h k =
     let e = sym h.words_are ∙ k.words_are in
     let seeds : x ≡ y = same_small x y 2147483646 (omega arith) h.rules.0 k.rules.0 (word_at 1 _ _ e) in
@@ -198,6 +218,12 @@ one_command words (cert s f) (run u b) h k = let e : 99 ≡ 114 = verb_byte 0 _ 
 one_command words (check s f) (run u b) h k = let e : 99 ≡ 114 = verb_byte 0 _ _ (sym h.words_are ∙ k.words_are) in absurd (omega (arith, e))
 one_command words (cert s f) (check u g) h k = let e : 101 ≡ 104 = verb_byte 1 _ _ (sym h.words_are ∙ k.words_are) in absurd (omega (arith, e))
 one_command words (check s f) (cert u g) h k = let e : 104 ≡ 101 = verb_byte 1 _ _ (sym h.words_are ∙ k.words_are) in absurd (omega (arith, e))
+one_command words (expand s t) (run u g) h k = let e : 101 ≡ 114 = verb_byte 0 _ _ (sym h.words_are ∙ k.words_are) in absurd (omega (arith, e))
+one_command words (run s f) (expand u v) h k = let e : 114 ≡ 101 = verb_byte 0 _ _ (sym h.words_are ∙ k.words_are) in absurd (omega (arith, e))
+one_command words (expand s t) (cert u g) h k = let e : 101 ≡ 99 = verb_byte 0 _ _ (sym h.words_are ∙ k.words_are) in absurd (omega (arith, e))
+one_command words (cert s f) (expand u v) h k = let e : 99 ≡ 101 = verb_byte 0 _ _ (sym h.words_are ∙ k.words_are) in absurd (omega (arith, e))
+one_command words (expand s t) (check u g) h k = let e : 101 ≡ 99 = verb_byte 0 _ _ (sym h.words_are ∙ k.words_are) in absurd (omega (arith, e))
+one_command words (check s f) (expand u v) h k = let e : 99 ≡ 101 = verb_byte 0 _ _ (sym h.words_are ∙ k.words_are) in absurd (omega (arith, e))
 one_command words (pack s t f) (unpack u v g) h k = let e : 112 ≡ 117 = verb_byte 0 _ _ (sym h.words_are ∙ k.words_are) in absurd (omega (arith, e))
 one_command words (unpack s t f) (pack u v g) h k = let e : 117 ≡ 112 = verb_byte 0 _ _ (sym h.words_are ∙ k.words_are) in absurd (omega (arith, e))
 one_command words (pack s t f) (convert u v g) h k = let e : 112 ≡ 99 = verb_byte 0 _ _ (sym h.words_are ∙ k.words_are) in absurd (omega (arith, e))

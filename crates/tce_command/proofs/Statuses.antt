@@ -1,16 +1,18 @@
--- Statuses of refusals have lines that name no index.
-use Rattle.std.proofs.Common.{◌≡◌, sym, ◌∙◌, ◌⊎◌, inl, inr, Bool, true, false, if◌then◌else◌}
-use Rattle.tce_space.specs.Space.{IndexSpace}
+-- Statuses of refusals, and their lines.
+use Rattle.std.proofs.Common.{◌≡◌, refl, sym, ap, ◌∙◌, ◌⊎◌, inl, inr, ◌++◌, Bool, true, false, if◌then◌else◌, codes, arith}
 use Rattle.tce_command.specs.Outcome.{HasLine}
 use Rattle.tce_command.specs.Refusals.{IsFree, SameRefusal}
-use Rattle.tce_command.specs.CommandRefusals.{EndsAlike, MayReplace}
-use Rattle.tce_command.specs.Report.{NamesNoIndex, error_text, line_over, status_of, wants_memory}
+use Rattle.tce_command.specs.CommandRefusals.{EndsAlike, HasNames, MayReplace}
+use Rattle.tce_command.specs.Report.{LineNames, NamesNoIndex, NamesNothing, code_of, einsum_status, error_text, line_over, refusal_line, status_of, sym_line, wants_memory}
 use Rattle.tce_declarations.specs.declared.fault.SpecFault.{SpecFault}
+use Rattle.tce_command.specs.declared.trouble.EinsumTrouble.{EinsumTrouble}
+use Rattle.tce_command.specs.declared.trouble.EinsumTrouble.TheVariants as einsums
+use Rattle.tce_command.specs.declared.trouble.SymTrouble.{SymTrouble}
 use Rattle.tce_command.specs.declared.refusal.Refusal.{Refusal}
 use Rattle.tce_command.specs.declared.refusal.Refusal.TheVariants as refusals
 use Rattle.tce_command.specs.declared.command_refusal.CommandRefusal.TheVariants.{Common}
 use Rattle.tce_command.specs.declared.status.Status.{Status}
-use Rattle.tce_command.specs.declared.status.Status.TheVariants.{Done, BadWords, SpecRefused, NoFile, ArrayRefused, BudgetTooSmall, IntermediatesTooLarge, CertRefused, DiskFault, SinkFault, WantOfMemory, FlatRefused, UnknownTensor, DoesNotFit}
+use Rattle.tce_command.specs.declared.status.Status.TheVariants.{Done, BadWords, SpecRefused, NoFile, ArrayRefused, BudgetTooSmall, IntermediatesTooLarge, CertRefused, DiskFault, SinkFault, WantOfMemory, FlatRefused, UnknownTensor, DoesNotFit, EinsumRefused, SymRefused}
 
 -- what a refusal's status has
 pub record IsPlain (status : Status) : Type 0 where
@@ -21,6 +23,16 @@ by_memory : (fault : SpecFault) (b : Bool) → IsPlain (if b then WantOfMemory e
 by_memory fault true = record { line = tt; plain = tt }
 by_memory fault false = record { line = tt; plain = tt }
 
+by_einsum : (fault : SpecFault) (b : Bool) → IsPlain (if b then WantOfMemory else EinsumRefused (einsums.Spec fault))
+by_einsum fault true = record { line = tt; plain = tt }
+by_einsum fault false = record { line = tt; plain = tt }
+
+of_einsum : (trouble : EinsumTrouble) → IsPlain (einsum_status trouble)
+of_einsum einsums.BadText = record { line = tt; plain = tt }
+of_einsum (einsums.BadSize label) = record { line = tt; plain = tt }
+of_einsum (einsums.BadPath item) = record { line = tt; plain = tt }
+of_einsum (einsums.Spec fault) = by_einsum fault (wants_memory fault)
+
 pub is_plain : (refusal : Refusal) → IsPlain (status_of refusal)
 is_plain (refusals.Specification fault) = by_memory fault (wants_memory fault)
 is_plain (refusals.Missing name) = record { line = tt; plain = tt }
@@ -30,30 +42,117 @@ is_plain (refusals.Intermediates memory) = record { line = tt; plain = tt }
 is_plain (refusals.Flat len) = record { line = tt; plain = tt }
 is_plain (refusals.Tensor name) = record { line = tt; plain = tt }
 is_plain (refusals.Misfit place) = record { line = tt; plain = tt }
+is_plain (refusals.Einsum trouble) = of_einsum trouble
+is_plain (refusals.Symmetry tensor trouble) = record { line = tt; plain = tt }
 is_plain refusals.Disk = record { line = tt; plain = tt }
 is_plain refusals.Memory = record { line = tt; plain = tt }
 
--- whatever the names of indexes
-pub over : (space : IndexSpace) (status : Status) → NamesNoIndex status → error_text status ≡ line_over space status
-over space Done plain = λ i. error_text Done
-over space BadWords plain = λ i. error_text BadWords
-over space (SpecRefused fault) plain = λ i. error_text (SpecRefused fault)
-over space (NoFile name) plain = λ i. error_text (NoFile name)
-over space (ArrayRefused tensor fault) plain = λ i. error_text (ArrayRefused tensor fault)
-over space (BudgetTooSmall least) plain = λ i. error_text (BudgetTooSmall least)
-over space (IntermediatesTooLarge memory) plain = λ i. error_text (IntermediatesTooLarge memory)
-over space (CertRefused trouble) plain = absurd plain
-over space DiskFault plain = λ i. error_text DiskFault
-over space SinkFault plain = λ i. error_text SinkFault
-over space WantOfMemory plain = λ i. error_text WantOfMemory
-over space (FlatRefused len) plain = λ i. error_text (FlatRefused len)
-over space (UnknownTensor name) plain = λ i. error_text (UnknownTensor name)
-over space (DoesNotFit place) plain = λ i. error_text (DoesNotFit place)
+-- what a line names is all that it says beside its status
+pub over : (names : LineNames) (status : Status) → NamesNothing status → error_text status ≡ line_over names status
+over names Done plain = refl
+over names BadWords plain = refl
+over names (SpecRefused fault) plain = refl
+over names (NoFile name) plain = refl
+over names (ArrayRefused tensor fault) plain = refl
+over names (BudgetTooSmall least) plain = refl
+over names (IntermediatesTooLarge memory) plain = refl
+over names (CertRefused trouble) plain = absurd plain
+over names DiskFault plain = refl
+over names SinkFault plain = refl
+over names WantOfMemory plain = refl
+over names (FlatRefused len) plain = refl
+over names (UnknownTensor name) plain = refl
+over names (DoesNotFit place) plain = refl
+over names (EinsumRefused trouble) plain = refl
+over names (SymRefused trouble) plain = absurd plain
+
+-- what the line of a status names beside it: nothing, an index, or a tensor that is stored in pairs
+kind_of : (status : Status) → NamesNoIndex status → NamesNothing status ⊎ ((trouble : SymTrouble) × (status ≡ SymRefused trouble))
+kind_of Done plain = inl tt
+kind_of BadWords plain = inl tt
+kind_of (SpecRefused fault) plain = inl tt
+kind_of (NoFile name) plain = inl tt
+kind_of (ArrayRefused tensor fault) plain = inl tt
+kind_of (BudgetTooSmall least) plain = inl tt
+kind_of (IntermediatesTooLarge memory) plain = inl tt
+kind_of (CertRefused trouble) plain = absurd plain
+kind_of DiskFault plain = inl tt
+kind_of SinkFault plain = inl tt
+kind_of WantOfMemory plain = inl tt
+kind_of (FlatRefused len) plain = inl tt
+kind_of (UnknownTensor name) plain = inl tt
+kind_of (DoesNotFit place) plain = inl tt
+kind_of (EinsumRefused trouble) plain = inl tt
+kind_of (SymRefused trouble) plain = inr (trouble, refl)
+
+-- another exit status than that of stored pairs
+other_code : (status : Status) → NamesNothing status → code_of status ≡ 16 → ⊥
+other_code Done nothing e = let n : 0 ≡ 16 = e in absurd (omega (arith, n))
+other_code BadWords nothing e = let n : 1 ≡ 16 = e in absurd (omega (arith, n))
+other_code (SpecRefused fault) nothing e = let n : 2 ≡ 16 = e in absurd (omega (arith, n))
+other_code (NoFile name) nothing e = let n : 3 ≡ 16 = e in absurd (omega (arith, n))
+other_code (ArrayRefused tensor fault) nothing e = let n : 4 ≡ 16 = e in absurd (omega (arith, n))
+other_code (BudgetTooSmall least) nothing e = let n : 5 ≡ 16 = e in absurd (omega (arith, n))
+other_code (IntermediatesTooLarge memory) nothing e = let n : 6 ≡ 16 = e in absurd (omega (arith, n))
+other_code (CertRefused trouble) nothing e = nothing
+other_code DiskFault nothing e = let n : 8 ≡ 16 = e in absurd (omega (arith, n))
+other_code SinkFault nothing e = let n : 9 ≡ 16 = e in absurd (omega (arith, n))
+other_code WantOfMemory nothing e = let n : 10 ≡ 16 = e in absurd (omega (arith, n))
+other_code (FlatRefused len) nothing e = let n : 11 ≡ 16 = e in absurd (omega (arith, n))
+other_code (UnknownTensor name) nothing e = let n : 12 ≡ 16 = e in absurd (omega (arith, n))
+other_code (DoesNotFit place) nothing e = let n : 13 ≡ 16 = e in absurd (omega (arith, n))
+other_code (EinsumRefused trouble) nothing e = let n : 14 ≡ 16 = e in absurd (omega (arith, n))
+other_code (SymRefused trouble) nothing e = nothing
+
+with_trouble : (names : LineNames) (s t : Status) (x y : SymTrouble) → s ≡ SymRefused x → t ≡ SymRefused y → error_text s ≡ error_text t → line_over names s ≡ line_over names t
+with_trouble names s t x y a b text =
+    ap (line_over names) a ∙ ap (λ told. codes "error 16: " ++ names.tensor ++ codes ".sym: " ++ told ++ codes "\n") (sym (ap error_text a) ∙ text ∙ ap error_text b) ∙ sym (ap (line_over names) b)
+
+-- statuses that say the same and have one exit status have one line
+over_alike : (names : LineNames) (s t : Status) → NamesNoIndex s → NamesNoIndex t → code_of s ≡ code_of t → error_text s ≡ error_text t → line_over names s ≡ line_over names t
+over_alike names s t plain other code text =
+    by_kinds (kind_of s plain) (kind_of t other)
+  where
+    by_kinds : NamesNothing s ⊎ ((trouble : SymTrouble) × (s ≡ SymRefused trouble)) → NamesNothing t ⊎ ((trouble : SymTrouble) × (t ≡ SymRefused trouble)) → line_over names s ≡ line_over names t
+    by_kinds (inl a) (inl b) = sym (over names s a) ∙ text ∙ over names t b
+    by_kinds (inl a) (inr y) = absurd (other_code s a (code ∙ ap code_of y.1))
+    by_kinds (inr x) (inl b) = absurd (other_code t b (sym code ∙ ap code_of x.1))
+    by_kinds (inr x) (inr y) = with_trouble names s t x.0 y.0 x.1 y.1 text
 
 -- refusals that users cannot tell apart end alike
 alike : (a b : Refusal) → SameRefusal a b → EndsAlike (Common a) (Common b)
-alike a b same = (same.0, λ space. sym (over space (status_of a) (is_plain a).plain) ∙ same.1 ∙ over space (status_of b) (is_plain b).plain)
+alike a b same = (same.0, λ names. over_alike names (status_of a) (status_of b) (is_plain a).plain (is_plain b).plain same.0 same.1)
 
 pub or_alike : (a b : Refusal) → IsFree a ⊎ SameRefusal a b → MayReplace (Common a) ⊎ EndsAlike (Common a) (Common b)
 or_alike a b (inl free) = inl free
 or_alike a b (inr same) = inr (alike a b same)
+
+-- the line of a refusal that names this tensor, if any
+by_fault : (names : LineNames) (fault : SpecFault) (b : Bool) → error_text (if b then WantOfMemory else SpecRefused fault) ≡ line_over names (if b then WantOfMemory else SpecRefused fault)
+by_fault names fault true = refl
+by_fault names fault false = refl
+
+by_einsum_fault : (names : LineNames) (fault : SpecFault) (b : Bool)
+    → error_text (if b then WantOfMemory else EinsumRefused (einsums.Spec fault)) ≡ line_over names (if b then WantOfMemory else EinsumRefused (einsums.Spec fault))
+by_einsum_fault names fault true = refl
+by_einsum_fault names fault false = refl
+
+by_trouble : (names : LineNames) (trouble : EinsumTrouble) → error_text (einsum_status trouble) ≡ line_over names (einsum_status trouble)
+by_trouble names einsums.BadText = refl
+by_trouble names (einsums.BadSize label) = refl
+by_trouble names (einsums.BadPath item) = refl
+by_trouble names (einsums.Spec fault) = by_einsum_fault names fault (wants_memory fault)
+
+pub written : (names : LineNames) (refusal : Refusal) → HasNames names (Common refusal) → refusal_line refusal ≡ line_over names (status_of refusal)
+written names (refusals.Specification fault) is = by_fault names fault (wants_memory fault)
+written names (refusals.Missing name) is = refl
+written names (refusals.Array tensor fault) is = refl
+written names (refusals.Budget least) is = refl
+written names (refusals.Intermediates memory) is = refl
+written names (refusals.Flat len) is = refl
+written names (refusals.Tensor name) is = refl
+written names (refusals.Misfit place) is = refl
+written names (refusals.Einsum trouble) is = by_trouble names trouble
+written names (refusals.Symmetry tensor trouble) is = ap (λ bytes. sym_line bytes trouble) is
+written names refusals.Disk is = refl
+written names refusals.Memory is = refl

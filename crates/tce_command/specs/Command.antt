@@ -17,6 +17,7 @@ pub data Command : Type 0 where
   pack : List ℕ → List ℕ → List ℕ → Command
   unpack : List ℕ → List ℕ → List ℕ → Command
   convert : List ℕ → List ℕ → Form → Command
+  expand : List ℕ → List ℕ → Command
   demo : ℕ → ℕ → ℕ → Command
 
 -- the first word of a command, and the words behind it
@@ -28,6 +29,7 @@ verb_of (check spec file) = codes "check"
 verb_of (pack spec tensor flat) = codes "pack"
 verb_of (unpack spec tensor flat) = codes "unpack"
 verb_of (convert spec tensor form) = codes "convert"
+verb_of (expand spec tensor) = codes "expand"
 verb_of (demo seed v o) = codes "demo"
 
 abbrev pub arguments_of : Command → List (List ℕ)
@@ -38,6 +40,7 @@ arguments_of (check spec file) = spec ∷ file ∷ []
 arguments_of (pack spec tensor flat) = spec ∷ tensor ∷ flat ∷ []
 arguments_of (unpack spec tensor flat) = spec ∷ tensor ∷ flat ∷ []
 arguments_of (convert spec tensor form) = spec ∷ tensor ∷ decimal (width form) ∷ []
+arguments_of (expand spec tensor) = spec ∷ tensor ∷ []
 arguments_of (demo seed v o) = decimal seed ∷ decimal v ∷ decimal o ∷ []
 
 -- a byte that may stand in the name of a file: a letter, a digit, or one of `_`, `-`, `.` and `/`
@@ -75,6 +78,7 @@ KeepsRules (check spec file) = NamesSpec spec × NamesCertificate file
 KeepsRules (pack spec tensor flat) = NamesSpec spec × NamesTensor tensor × NamesFlat flat
 KeepsRules (unpack spec tensor flat) = NamesSpec spec × NamesTensor tensor × NamesFlat flat
 KeepsRules (convert spec tensor form) = NamesSpec spec × NamesTensor tensor × (form ≢ One)
+KeepsRules (expand spec tensor) = NamesSpec spec × NamesTensor tensor
 KeepsRules (demo seed v o) = IsBetween 1 2147483646 seed × IsBetween 1 32 v × IsBetween 1 32 o
 
 -- the words are those of this command

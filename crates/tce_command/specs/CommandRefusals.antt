@@ -2,22 +2,28 @@
 use Rattle.std.specs.Prelude.{◌≡◌, ⊤}
 use Rattle.tce_space.specs.Space.{IndexSpace}
 use Rattle.tce_command.specs.Refusals.{IsFree}
-use Rattle.tce_command.specs.Report.{code_of, ending_of, line_over}
-use Rattle.tce_command.specs.declared.status.Status.TheVariants.{CertRefused}
+use Rattle.tce_command.specs.Report.{LineNames, cert_line, code_of, ending_of, line_over}
 use Rattle.tce_command.specs.declared.trouble.CertTrouble.{CertTrouble}
 use Rattle.tce_command.specs.declared.refusal.Refusal.{Refusal}
+use Rattle.tce_command.specs.declared.refusal.Refusal.TheVariants.{Symmetry}
 use Rattle.tce_command.specs.declared.command_refusal.CommandRefusal.{CommandRefusal}
 use Rattle.tce_command.specs.declared.command_refusal.CommandRefusal.TheVariants.{Common, Certificate}
 
 -- the refusal is that of a certificate with this trouble, and its line names indexes by this space
 abbrev pub IsOfCertificate : IndexSpace → CertTrouble → CommandRefusal → Type 0
-IsOfCertificate space trouble (Certificate kept line) = (kept ≡ trouble) × (line.text.bytes ≡ line_over space (CertRefused trouble))
+IsOfCertificate space trouble (Certificate kept line) = (kept ≡ trouble) × (line.text.bytes ≡ cert_line space trouble)
 IsOfCertificate space trouble (Common refusal) = ⊥
 
 -- the line of the refusal, if it names indexes, names them by this space
 abbrev pub IsWrittenOver : IndexSpace → CommandRefusal → Type 0
-IsWrittenOver space (Certificate trouble line) = line.text.bytes ≡ line_over space (CertRefused trouble)
+IsWrittenOver space (Certificate trouble line) = line.text.bytes ≡ cert_line space trouble
 IsWrittenOver space (Common refusal) = ⊤
+
+-- what the line of the refusal names is this
+abbrev pub HasNames : LineNames → CommandRefusal → Type 0
+HasNames names (Certificate trouble line) = line.text.bytes ≡ cert_line names.space trouble
+HasNames names (Common (Symmetry tensor trouble)) = tensor.bytes ≡ names.tensor
+HasNames names (Common refusal) = ⊤
 
 -- the disk failed or memory was wanting
 abbrev pub MayReplace : CommandRefusal → Type 0
@@ -29,6 +35,6 @@ abbrev pub OnCommon : (Refusal → Type 0) → CommandRefusal → Type 0
 OnCommon P (Common refusal) = P refusal
 OnCommon P (Certificate trouble line) = ⊥
 
--- the same exit status and, whatever the names of indexes, the same line
+-- the same exit status and, whatever lines name, the same line
 abbrev pub EndsAlike : CommandRefusal → CommandRefusal → Type 0
-EndsAlike a b = (code_of (ending_of a) ≡ code_of (ending_of b)) × ((space : IndexSpace) → line_over space (ending_of a) ≡ line_over space (ending_of b))
+EndsAlike a b = (code_of (ending_of a) ≡ code_of (ending_of b)) × ((names : LineNames) → line_over names (ending_of a) ≡ line_over names (ending_of b))

@@ -1,9 +1,8 @@
 -- What a command leaves on the sink.
 use Rattle.std.specs.Prelude.{◌≡◌, ◌⊎◌, ⊤, ℕ, List, ◌++◌, take, Option}
-use Rattle.tce_space.specs.Space.{IndexSpace}
 use Rattle.std.specs.Option.{option_map}
 use Rattle.tce_outside.specs.Fault.{Rose}
-use Rattle.tce_command.specs.Report.{code_of, line_over}
+use Rattle.tce_command.specs.Report.{LineNames, code_of, line_over}
 use Rattle.tce_command.specs.declared.status.Status.{Status}
 use Rattle.tce_command.specs.declared.status.Status.TheVariants.{Done, DiskFault, SinkFault, WantOfMemory}
 
@@ -30,7 +29,7 @@ HasLine status = ⊤
 
 -- the status is the one that is due, or a fault
 abbrev pub Answers : Status → Status → Type 0
-Answers status due = IsFault status ⊎ ((code_of status ≡ code_of due) × ((space : IndexSpace) → line_over space status ≡ line_over space due))
+Answers status due = IsFault status ⊎ ((code_of status ≡ code_of due) × ((names : LineNames) → line_over names status ≡ line_over names due))
 
 -- a status is kept, or there was no memory for its line; a failing disk is always told
 abbrev pub IsKept : Status → Status → Type 0
@@ -44,6 +43,6 @@ abbrev pub GrewWithin : List ℕ → Option (List ℕ) → Option (List ℕ) →
 GrewWithin text before after = (k : ℕ) × Grew (take k text) before after
 
 -- the sink grew by a part of the error line from the front, and by the whole of it where the status is no fault and the count of faults did not rise
-pub record HasErrorLine (space : IndexSpace) (status : Status) (before after : Option (List ℕ)) (faults faults_after : ℕ) : Type 0 where
-  pub part : GrewWithin (line_over space status) before after
-  pub whole : IsRefusal status → Grew (line_over space status) before after ⊎ Rose faults faults_after
+pub record HasErrorLine (names : LineNames) (status : Status) (before after : Option (List ℕ)) (faults faults_after : ℕ) : Type 0 where
+  pub part : GrewWithin (line_over names status) before after
+  pub whole : IsRefusal status → Grew (line_over names status) before after ⊎ Rose faults faults_after

@@ -15,7 +15,7 @@ IsFree Disk = ⊤
 IsFree Memory = ⊤
 IsFree refusal = ⊥
 
--- the same exit status and the same line
+-- the same exit status and the same line, up to the tensor that is stored in pairs: one command names one
 abbrev pub SameRefusal : Refusal → Refusal → Type 0
 SameRefusal a b = (code_of (status_of a) ≡ code_of (status_of b)) × (error_text (status_of a) ≡ error_text (status_of b))
 

@@ -1,5 +1,5 @@
 -- The exit status of each status, and the line of each refusal.
-use Rattle.std.specs.Prelude.{⊤, ℕ, Bool, true, false, if◌then◌else◌, List, [], ◌++◌, codes}
+use Rattle.std.specs.Prelude.{⊤, ℕ, Bool, true, false, if◌then◌else◌, nat_lt, List, [], ◌∷◌, ◌++◌, codes}
 use Rattle.std.specs.Fmt.{decimal}
 use Rattle.std.specs.List.{All}
 use Rattle.tce_space.specs.Space.{IndexSpace, IsDeclared}
@@ -18,9 +18,13 @@ use Rattle.tce_declarations.specs.declared.fault.SpecFault.TheVariants.{TooLong,
 use Rattle.tce_array.specs.declared.fault.ArrayFault.{ArrayFault}
 use Rattle.tce_array.specs.declared.fault.ArrayFault.TheVariants as arrays
 use Rattle.tce_command.specs.declared.status.Status.{Status}
-use Rattle.tce_command.specs.declared.status.Status.TheVariants.{Done, BadWords, SpecRefused, NoFile, ArrayRefused, BudgetTooSmall, IntermediatesTooLarge, CertRefused, DiskFault, SinkFault, WantOfMemory, FlatRefused, UnknownTensor, DoesNotFit}
+use Rattle.tce_command.specs.declared.status.Status.TheVariants.{Done, BadWords, SpecRefused, NoFile, ArrayRefused, BudgetTooSmall, IntermediatesTooLarge, CertRefused, DiskFault, SinkFault, WantOfMemory, FlatRefused, UnknownTensor, DoesNotFit, EinsumRefused, SymRefused}
 use Rattle.tce_command.specs.declared.trouble.CertTrouble.{CertTrouble}
 use Rattle.tce_command.specs.declared.trouble.CertTrouble.TheVariants as troubles
+use Rattle.tce_command.specs.declared.trouble.EinsumTrouble.{EinsumTrouble}
+use Rattle.tce_command.specs.declared.trouble.EinsumTrouble.TheVariants as einsums
+use Rattle.tce_command.specs.declared.trouble.SymTrouble.{SymTrouble}
+use Rattle.tce_command.specs.declared.trouble.SymTrouble.TheVariants as pairs
 use Rattle.tce_command.specs.declared.refusal.Refusal.{Refusal}
 use Rattle.tce_command.specs.declared.refusal.Refusal.TheVariants as refusals
 use Rattle.tce_command.specs.declared.command_refusal.CommandRefusal.{CommandRefusal}
@@ -42,6 +46,8 @@ code_of WantOfMemory = 10
 code_of (FlatRefused len) = 11
 code_of (UnknownTensor name) = 12
 code_of (DoesNotFit place) = 13
+code_of (EinsumRefused trouble) = 14
+code_of (SymRefused trouble) = 16
 
 -- the line of the specification at which the fault stands
 abbrev pub at_line : ℕ → List ℕ
@@ -102,7 +108,25 @@ array_text (arrays.BadLength len) = codes "length " ++ decimal len ++ []
 array_text (arrays.BadHeader place) = codes "head byte " ++ decimal place ++ []
 array_text arrays.Disk = codes "disk fault"
 
--- the line of a refusal, but for that of a certificate
+-- what is wrong with an einsum; a label is a letter, and no other byte is told
+abbrev pub label_text : ℕ → List ℕ
+label_text label = codes "size of " ++ (if nat_lt label 128 then label ∷ [] else [])
+
+abbrev pub einsum_text : EinsumTrouble → List ℕ
+einsum_text einsums.BadText = codes "bad text"
+einsum_text (einsums.BadSize label) = label_text label
+einsum_text (einsums.BadPath item) = codes "path item " ++ decimal item ++ []
+einsum_text (einsums.Spec fault) = place_text fault ++ fault_text fault
+
+-- what is wrong with a file of elements that are stored once for each pair, and the line that names its tensor
+abbrev pub sym_text : SymTrouble → List ℕ
+sym_text (pairs.BadLength len) = codes "length " ++ decimal len ++ []
+sym_text (pairs.BadHeader place) = codes "head byte " ++ decimal place ++ []
+
+abbrev pub sym_line : List ℕ → SymTrouble → List ℕ
+sym_line tensor trouble = codes "error 16: " ++ tensor ++ codes ".sym: " ++ sym_text trouble ++ codes "\n"
+
+-- what the status alone says: the line of a refusal, but for that of a certificate; and of a file of stored pairs what is wrong with it
 abbrev pub error_text : Status → List ℕ
 error_text Done = []
 error_text BadWords = codes "error 1: bad words\n"
@@ -118,6 +142,8 @@ error_text WantOfMemory = codes "error 10: want of memory\n"
 error_text (FlatRefused len) = codes "error 11: flat length " ++ decimal len ++ codes "\n"
 error_text (UnknownTensor name) = codes "error 12: no tensor " ++ name.bytes ++ codes "\n"
 error_text (DoesNotFit place) = codes "error 13: element " ++ decimal place ++ codes " does not fit\n"
+error_text (EinsumRefused trouble) = codes "error 14: " ++ einsum_text trouble ++ codes "\n"
+error_text (SymRefused trouble) = sym_text trouble
 
 -- what is wrong with the text of a certificate
 abbrev pub cert_text : CertFault → List ℕ
@@ -150,15 +176,31 @@ abbrev pub NamesDeclared : IndexSpace → CertTrouble → Type 0
 NamesDeclared space (troubles.Verdict (verdicts.NotCovered v fused classes cost)) = IsDeclared space fused × All (IsDeclared space) classes
 NamesDeclared space trouble = ⊤
 
--- the line of each refusal; that of a certificate names indexes by the space of the specification
-abbrev pub line_over : IndexSpace → Status → List ℕ
-line_over space (CertRefused trouble) = codes "error 7: " ++ trouble_text space trouble ++ codes "\n"
-line_over space status = error_text status
+-- the line of a refused certificate, which names indexes by this space
+abbrev pub cert_line : IndexSpace → CertTrouble → List ℕ
+cert_line space trouble = codes "error 7: " ++ trouble_text space trouble ++ codes "\n"
+
+-- what a line names beside what its status holds: indexes by the space of the specification, and the tensor of the words
+pub record LineNames : Type 0 where
+  pub space : IndexSpace
+  pub tensor : List ℕ
+
+-- the line of each status
+abbrev pub line_over : LineNames → Status → List ℕ
+line_over names (CertRefused trouble) = cert_line names.space trouble
+line_over names (SymRefused trouble) = sym_line names.tensor trouble
+line_over names status = error_text status
 
 -- the line of the status names no index
 abbrev pub NamesNoIndex : Status → Type 0
 NamesNoIndex (CertRefused trouble) = ⊥
 NamesNoIndex status = ⊤
+
+-- the line names nothing beside what the status holds
+abbrev pub NamesNothing : Status → Type 0
+NamesNothing (CertRefused trouble) = ⊥
+NamesNothing (SymRefused trouble) = ⊥
+NamesNothing status = ⊤
 
 -- whether a fault is want of memory
 abbrev pub wants_memory : SpecFault → Bool
@@ -167,6 +209,10 @@ wants_memory (Tree line trees.Memory) = true
 wants_memory fault = false
 
 -- the status of a command that is refused so
+abbrev pub einsum_status : EinsumTrouble → Status
+einsum_status (einsums.Spec fault) = if wants_memory fault then WantOfMemory else EinsumRefused (einsums.Spec fault)
+einsum_status trouble = EinsumRefused trouble
+
 abbrev pub status_of : Refusal → Status
 status_of (refusals.Specification fault) = if wants_memory fault then WantOfMemory else SpecRefused fault
 status_of (refusals.Missing name) = NoFile name
@@ -176,8 +222,15 @@ status_of (refusals.Intermediates memory) = IntermediatesTooLarge memory
 status_of (refusals.Flat len) = FlatRefused len
 status_of (refusals.Tensor name) = UnknownTensor name
 status_of (refusals.Misfit place) = DoesNotFit place
+status_of (refusals.Einsum trouble) = einsum_status trouble
+status_of (refusals.Symmetry tensor trouble) = SymRefused trouble
 status_of refusals.Disk = DiskFault
 status_of refusals.Memory = WantOfMemory
+
+-- the line of a refusal; its status leaves out the tensor that is stored in pairs
+abbrev pub refusal_line : Refusal → List ℕ
+refusal_line (refusals.Symmetry tensor trouble) = sym_line tensor.bytes trouble
+refusal_line refusal = error_text (status_of refusal)
 
 abbrev pub ending_of : CommandRefusal → Status
 ending_of (commands.Common refusal) = status_of refusal

@@ -41,6 +41,11 @@ pub enum Command<'a> {
         tensor: &'a str,
         form: Form,
     },
+    /// Makes the whole array file of a tensor that is stored once for each pair.
+    Expand {
+        spec: &'a str,
+        tensor: &'a str,
+    },
     /// Makes an example, whose elements come from the number `seed`, and runs it. Its ranges have the extents `v` and `o`.
     Demo {
         seed: u64,

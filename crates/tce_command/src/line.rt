@@ -3,7 +3,7 @@ ghost use Rattle.std.specs.Prelude.{◌≡◌, ◌+◌, ◌≤◌, ◌++◌, len
 ghost use Rattle.std.specs.Fmt.{decimal};
 ghost use Rattle.tce_command.specs.Report as reports;
 
-use crate::Status;
+use crate::{EinsumTrouble, Status, SymTrouble};
 use arrayvec::ArrayString;
 use tce_array::ArrayFault;
 use tce_declarations::{Limit, SpecFault};
@@ -13,7 +13,8 @@ use tce_tree::TreeFault;
 
 pub(crate) type Line = ArrayString<256>;
 
-// The line of a status that names no index; `Done` and `SinkFault` have none.
+// The line of a status that names no index; `Done` and `SinkFault` have none. Of a file of stored pairs it is what is wrong
+// with it: that line names a tensor too.
 pub(crate) fn error_line(status: &Status) -> Line
     requires { reports.NamesNoIndex status.now }
     ensures { result.bytes ≡ reports.error_text status.now }
@@ -34,6 +35,8 @@ pub(crate) fn error_line(status: &Status) -> Line
         Status::DoesNotFit(place) => {
             numbered("error 13: element ", *place as u128, " does not fit\n")
         }
+        Status::EinsumRefused(trouble) => einsum_line(trouble),
+        Status::SymRefused(trouble) => sym_text(*trouble),
     }
 }
 
@@ -171,6 +174,64 @@ fn array_line(tensor: &Name, fault: ArrayFault) -> Line
     line.push_str(array_text(fault).as_str());
     line.push_str("\n");
     line
+}
+
+// The line of a refused einsum.
+fn einsum_line(trouble: &EinsumTrouble) -> Line
+    ensures { result.bytes ≡ reports.error_text (Status.EinsumRefused trouble.now) }
+{
+    let mut line = fixed("error 14: ");
+    line.push_str(einsum_text(trouble).as_str());
+    line.push_str("\n");
+    line
+}
+
+fn einsum_text(trouble: &EinsumTrouble) -> Line
+    ensures text { result.bytes ≡ reports.einsum_text trouble.now }
+    ensures len { length result.bytes ≤ 150 }
+{
+    match trouble {
+        EinsumTrouble::BadText => fixed("bad text"),
+        EinsumTrouble::BadSize(label) => label_text(*label),
+        EinsumTrouble::BadPath(item) => numbered("path item ", *item as u128, ""),
+        EinsumTrouble::Spec(fault) => {
+            let mut line = place_text(fault);
+            line.push_str(fault_text(fault).as_str());
+            line
+        }
+    }
+}
+
+// A label is a letter; no other byte is told.
+fn label_text(label: u8) -> Line
+    ensures text { result.bytes ≡ reports.label_text label }
+    ensures len { length result.bytes ≤ 9 }
+{
+    let mut line = fixed("size of ");
+    if label < 128 {
+        line.push(label as char);
+    }
+    line
+}
+
+// The line of a file in which a tensor is stored once for each pair.
+pub(crate) fn symmetry_line(tensor: &Name, trouble: SymTrouble) -> Line
+    ensures { result.bytes ≡ reports.sym_line tensor.now.bytes trouble }
+{
+    let mut line = named("error 16: ", tensor, ".sym: ");
+    line.push_str(sym_text(trouble).as_str());
+    line.push_str("\n");
+    line
+}
+
+fn sym_text(trouble: SymTrouble) -> Line
+    ensures text { result.bytes ≡ reports.sym_text trouble }
+    ensures len { length result.bytes ≤ 60 }
+{
+    match trouble {
+        SymTrouble::BadLength(len) => numbered("length ", len as u128, ""),
+        SymTrouble::BadHeader(place) => numbered("head byte ", place as u128, ""),
+    }
 }
 
 fn array_text(fault: ArrayFault) -> Line

@@ -5,7 +5,7 @@ ghost use Rattle.std.specs.List.{list_all};
 ghost use Rattle.std.specs.Fmt.{decimal};
 ghost use Rattle.tce_array.specs.declared.form.Form.{Form as FormOfFile};
 ghost use Rattle.tce_array.specs.Forms.{width};
-ghost use Rattle.tce_command.specs.Command.{is_file_byte, is_file_word, IsBetween, IsCommand, IsNoCommand};
+ghost use Rattle.tce_command.specs.Command.{is_file_byte, is_file_word, IsBetween, IsCommand, IsNoCommand, NamesSpec};
 ghost use Rattle.tce_command.specs.CommandCode.{command_of};
 
 use crate::command::Command;
@@ -58,6 +58,9 @@ fn read_with_one<'a>(verb: &str, spec: &'a str, last: &'a str) -> Option<Command
         let budget = read_between(last.as_bytes(), 0, MAX_BUDGET)?;
         return Some(Command::Run { spec, budget });
     }
+    if verb == "expand" {
+        return read_expand(spec, last);
+    }
     if !may_name_file(".cert", last) {
         return None;
     }
@@ -69,6 +72,16 @@ fn read_with_one<'a>(verb: &str, spec: &'a str, last: &'a str) -> Option<Command
     } else {
         None
     }
+}
+
+fn read_expand<'a>(spec: &'a str, tensor: &'a str) -> Option<Command<'a>>
+    requires { NamesSpec spec.now }
+    ensures { MatchOption result (IsNoCommand (codes "expand" ∷ spec.now ∷ tensor.now ∷ [])) (λ command. IsCommand (codes "expand" ∷ spec.now ∷ tensor.now ∷ []) (command_of command)) }
+{
+    if !is_name(tensor.as_bytes()) {
+        return None;
+    }
+    Some(Command::Expand { spec, tensor })
 }
 
 // A number from the least to the most.

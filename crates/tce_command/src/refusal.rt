@@ -1,9 +1,11 @@
 // Why a command is refused.
 ghost use Rattle.std.specs.Prelude.{◌≡◌, ◌≤◌, length};
 ghost use Rattle.tce_command.specs.Refusals.{NamesFile};
-ghost use Rattle.tce_command.specs.Report.{status_of, wants_memory};
+ghost use Rattle.tce_command.specs.Report.{einsum_status, refusal_line, status_of, wants_memory};
 
 use crate::Status;
+use crate::line::{Line, error_line, symmetry_line};
+use crate::trouble::{EinsumTrouble, SymTrouble};
 use tce_array::ArrayFault;
 use tce_declarations::SpecFault;
 use tce_space::{FileName, Name};
@@ -28,6 +30,10 @@ pub enum Refusal {
     Tensor(Name),
     /// The element at this place in row-major order is the first that cannot be stored in the form.
     Misfit(u64),
+    /// The einsum text, its sizes or its path is refused.
+    Einsum(EinsumTrouble),
+    /// The file in which this tensor is stored once for each pair is refused.
+    Symmetry(Name, SymTrouble),
     /// The disk failed.
     Disk,
     /// There was no memory.
@@ -42,6 +48,16 @@ fn wants_memory(fault: &SpecFault) -> bool
         fault,
         SpecFault::Memory | SpecFault::Tree(_, TreeFault::Memory)
     )
+}
+
+// The status of an einsum that is refused so.
+fn einsum_status(trouble: &EinsumTrouble) -> Status
+    ensures { result ≡ einsum_status trouble.now }
+{
+    match trouble {
+        EinsumTrouble::Spec(fault) if wants_memory(fault) => Status::WantOfMemory,
+        _ => Status::EinsumRefused(*trouble),
+    }
 }
 
 impl Refusal {
@@ -69,8 +85,30 @@ impl Refusal {
             Refusal::Flat(len) => Status::FlatRefused(*len),
             Refusal::Tensor(name) => Status::UnknownTensor(*name),
             Refusal::Misfit(place) => Status::DoesNotFit(*place),
+            Refusal::Einsum(trouble) => einsum_status(trouble),
+            Refusal::Symmetry(_, trouble) => Status::SymRefused(*trouble),
             Refusal::Disk => Status::DiskFault,
             Refusal::Memory => Status::WantOfMemory,
+        }
+    }
+
+    // The line of a command that is refused so.
+    pub(crate) fn line(&self) -> Line
+        ensures { result.bytes ≡ refusal_line self.now }
+    {
+        match self {
+            Refusal::Symmetry(tensor, trouble) => symmetry_line(tensor, *trouble),
+            Refusal::Specification(_)
+            | Refusal::Missing(_)
+            | Refusal::Array(_, _)
+            | Refusal::Budget(_)
+            | Refusal::Intermediates(_)
+            | Refusal::Flat(_)
+            | Refusal::Tensor(_)
+            | Refusal::Misfit(_)
+            | Refusal::Einsum(_)
+            | Refusal::Disk
+            | Refusal::Memory => error_line(&self.status()),
         }
     }
 }

@@ -1,10 +1,9 @@
 // What is put on the sink.
 ghost use Rattle.std.specs.Prelude.{◌≡◌, ◌⊎◌};
 ghost use Rattle.tce_outside.specs.Fault.{HasCause};
-ghost use Rattle.tce_space.specs.Space.{IndexSpace};
 ghost use Rattle.tce_command.specs.Outcome.{Grew, GrewWithin, HasErrorLine, HasLine, IsKept};
-ghost use Rattle.tce_command.specs.CommandRefusals.{IsWrittenOver};
-ghost use Rattle.tce_command.specs.Report.{NamesNoIndex, ending_of, line_over};
+ghost use Rattle.tce_command.specs.CommandRefusals.{HasNames};
+ghost use Rattle.tce_command.specs.Report.{LineNames, ending_of, line_over};
 
 use crate::line::error_line;
 use crate::{CommandRefusal, Status};
@@ -14,11 +13,14 @@ use tce_outside::{OutFault, Sink};
 /// the refusal where the sink has no memory for the line, but never in the place of `DiskFault`.
 pub fn refuse<K: Sink>(refusal: CommandRefusal, out: &mut K) -> Status
     ensures kept { IsKept (ending_of refusal) result }
-    ensures line { (space : IndexSpace) → IsWrittenOver space refusal → HasErrorLine space result (K.bytes out.old) (K.bytes out.new) (K.faults out.old) (K.faults out.new) }
+    ensures line { (names : LineNames) → HasNames names refusal → HasErrorLine names result (K.bytes out.old) (K.bytes out.new) (K.faults out.old) (K.faults out.new) }
     ensures cause { HasCause (K.faults out.old) (K.faults out.new) ⊥ }
 {
     match refusal {
-        CommandRefusal::Common(refusal) => refuse_as(refusal.status(), out),
+        CommandRefusal::Common(refusal) => {
+            let line = refusal.line();
+            put_line(refusal.status(), line.as_str(), out)
+        }
         CommandRefusal::Certificate(trouble, line) => {
             put_line(Status::CertRefused(trouble), line.text.as_str(), out)
         }
@@ -29,29 +31,18 @@ pub fn refuse<K: Sink>(refusal: CommandRefusal, out: &mut K) -> Status
 /// or `WantOfMemory` where the sink has no memory for the line.
 pub fn refuse_words<K: Sink>(out: &mut K) -> Status
     ensures kept { IsKept Status.BadWords result }
-    ensures line { (space : IndexSpace) → HasErrorLine space result (K.bytes out.old) (K.bytes out.new) (K.faults out.old) (K.faults out.new) }
+    ensures line { (names : LineNames) → HasErrorLine names result (K.bytes out.old) (K.bytes out.new) (K.faults out.old) (K.faults out.new) }
     ensures cause { HasCause (K.faults out.old) (K.faults out.new) ⊥ }
 {
-    refuse_as(Status::BadWords, out)
-}
-
-// Puts the line of a status that names no index.
-fn refuse_as<K: Sink>(status: Status, out: &mut K) -> Status
-    requires line { HasLine status }
-    requires plain { NamesNoIndex status }
-    ensures kept { IsKept status result }
-    ensures line { (space : IndexSpace) → HasErrorLine space result (K.bytes out.old) (K.bytes out.new) (K.faults out.old) (K.faults out.new) }
-    ensures cause { HasCause (K.faults out.old) (K.faults out.new) ⊥ }
-{
-    let line = error_line(&status);
-    put_line(status, line.as_str(), out)
+    let line = error_line(&Status::BadWords);
+    put_line(Status::BadWords, line.as_str(), out)
 }
 
 // Puts the line of a status.
 fn put_line<K: Sink>(status: Status, line: &str, out: &mut K) -> Status
     requires { HasLine status }
     ensures kept { IsKept status result }
-    ensures line { (space : IndexSpace) → line.now ≡ line_over space status → HasErrorLine space result (K.bytes out.old) (K.bytes out.new) (K.faults out.old) (K.faults out.new) }
+    ensures line { (names : LineNames) → line.now ≡ line_over names status → HasErrorLine names result (K.bytes out.old) (K.bytes out.new) (K.faults out.old) (K.faults out.new) }
     ensures cause { HasCause (K.faults out.old) (K.faults out.new) ⊥ }
 {
     match out.put(line.as_bytes()) {

@@ -2,7 +2,7 @@
 ghost use Rattle.std.specs.Prelude.{◌≡◌};
 ghost use Rattle.tce_command.specs.Report.{code_of};
 
-use crate::trouble::CertTrouble;
+use crate::trouble::{CertTrouble, EinsumTrouble, SymTrouble};
 use tce_array::ArrayFault;
 use tce_declarations::SpecFault;
 use tce_space::{FileName, Name};
@@ -38,6 +38,10 @@ pub enum Status {
     UnknownTensor(Name),
     /// The element at this place in row-major order is the first that cannot be stored in the form.
     DoesNotFit(u64),
+    /// The einsum text, its sizes or its path is refused.
+    EinsumRefused(EinsumTrouble),
+    /// The file in which the tensor is stored once for each pair is refused.
+    SymRefused(SymTrouble),
 }
 
 impl Status {
@@ -60,6 +64,8 @@ impl Status {
             Status::FlatRefused(_) => 11,
             Status::UnknownTensor(_) => 12,
             Status::DoesNotFit(_) => 13,
+            Status::EinsumRefused(_) => 14,
+            Status::SymRefused(_) => 16,
         }
     }
 }

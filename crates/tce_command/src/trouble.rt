@@ -1,6 +1,7 @@
-// What is wrong with certificates.
+// What is wrong with certificates, with einsum texts and with files of stored pairs.
 use tce_cert::CertFault;
 use tce_check::Verdict;
+use tce_declarations::SpecFault;
 
 /// Why a certificate is refused.
 #[derive(Debug, Drop)]
@@ -9,4 +10,27 @@ pub enum CertTrouble {
     Text(CertFault),
     /// The plan breaks this rule.
     Verdict(Verdict),
+}
+
+/// Why an einsum text that is contracted along a path is refused.
+#[derive(Clone, Copy, Debug, PartialEq, Eq)]
+pub enum EinsumTrouble {
+    /// The text has not the form of operands, an output and sizes.
+    BadText,
+    /// This label, a letter in ASCII, has not exactly one size, or has one and stands nowhere.
+    BadSize(u8),
+    /// This item of the path, counted from 0, names no entries that it may join; or the path has this number of items, and
+    /// more than one entry is left.
+    BadPath(u64),
+    /// The text that is written is no specification.
+    Spec(SpecFault),
+}
+
+/// Why a file of elements that are stored once for each pair is refused.
+#[derive(Clone, Copy, Debug, PartialEq, Eq)]
+pub enum SymTrouble {
+    /// The file has this length in bytes, which is not that of its positions and its sign.
+    BadLength(u64),
+    /// The head of the file is wrong at this byte place.
+    BadHeader(u64),
 }

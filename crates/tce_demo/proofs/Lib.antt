@@ -1,3 +1,4 @@
 pub mod Affordable
 pub mod Operands
 pub mod Ran
+pub mod AsRun

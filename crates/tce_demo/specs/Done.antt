@@ -16,6 +16,9 @@ use Rattle.tce_result.specs.TensorFiles.{file_of}
 use Rattle.tce_takings.specs.Takings.{tile_take}
 use Rattle.tce_job.specs.Prepared.{taking_of, HasTaken}
 use Rattle.tce_job.specs.Refusals.{CanRun}
+use Rattle.tce_job.specs.declared.fault.JobFault.{JobFault}
+use Rattle.tce_command.specs.declared.refusal.Refusal.{Refusal}
+use Rattle.tce_run.specs.Told.{IsToldAs}
 use Rattle.tce_example.specs.Specification.{IsDemoOf}
 use Rattle.tce_example.specs.Files.{with_input, with_demo}
 
@@ -30,6 +33,14 @@ report_text memory tiles sum = codes "tce demo 1\nmemory " ++ (decimal memory ++
 -- the sum of the result's elements, modulo 2 ^ 64
 abbrev pub result_sum : Specification → Files → ℕ
 result_sum s files = wrapping_sum (in_order (shape_of s s.result) (cell One (shape_of s s.result) (contents files (file_of s s.result))))
+
+-- a refusal that a run of the specification has for one of its faults
+abbrev pub IsOfRun : Specification → Refusal → Type 0
+IsOfRun s refusal = (fault : JobFault) × IsToldAs s fault refusal
+
+-- a refusal that a run of the example has
+abbrev pub IsDemoRefusal : ℕ → ℕ → Refusal → Type 0
+IsDemoRefusal v o refusal = (s : Specification) × IsDemoOf v o s × IsOfRun s refusal
 
 -- the six files are there, one taking was made, that of a least plan and of tiles within the budget, and the report tells both and the sum
 pub record IsRunOf (s : Specification) (seed : ℕ) (text : List ℕ) (before after : Option Files) (takings takings_after : List (ℕ × ℕ)) (report : List ℕ) : Type 0 where

@@ -7,7 +7,7 @@ ghost use Rattle.tce_command.specs.Refusals.{IsFree};
 ghost use Rattle.tce_job.specs.Prepared.{HasTaken};
 ghost use Rattle.tce_example.specs.Specification.{IsDemo};
 ghost use Rattle.tce_example.specs.Files.{IsSeed, DemoOthersStay, with_input};
-ghost use Rattle.tce_demo.specs.Done.{demo_budget, IsRunOf, IsDemonstrated, IsDemoTaking};
+ghost use Rattle.tce_demo.specs.Done.{demo_budget, IsRunOf, IsDemonstrated, IsDemoTaking, IsDemoRefusal, IsOfRun};
 
 use crate::report::report;
 use crate::running::run_example;
@@ -46,6 +46,7 @@ fn demonstrate<D: Disk, R: Room>(
     requires seed { IsSeed seed }
     ensures done { IfOk result (λ report. IsRunOf made.now.spec seed made.now.text.items (D.files disk.old) (D.files disk.new) (R.takings room.old) (R.takings room.new) (string_bytes report)) }
     ensures refused { IfErr result (λ refusal. ForSome (D.files disk.old) (λ _. IsFree refusal)) }
+    ensures as_run { IfErr result (IsOfRun made.now.spec) }
     ensures takings { IfErr result (λ refusal. (IsFree refusal × HasTaken made.now.spec demo_budget (R.takings room.old) (R.takings room.new)) ⊎ (R.takings room.new ≡ R.takings room.old)) }
     ensures others { DemoOthersStay (D.files disk.old) (D.files disk.new) }
     ensures cause { HasCause (D.faults disk.old) (D.faults disk.new) (result ≡ Err Refusal.Disk) }
@@ -64,7 +65,7 @@ fn demonstrate<D: Disk, R: Room>(
 /// Makes the example with these extents and the numbers drawn after the seed, runs it, and gives the report.
 ///
 /// The tiles of the run take at most 16,384 words. Over a disk that tells its files only want of memory and failures of
-/// the disk are refused; over another an array may be refused too. After each refusal the six files may hold anything or
+/// the disk are refused; over another a run may be refused for an array too, as a run is. After each refusal the six files may hold anything or
 /// be absent, and the takings are as they were, or have that of the run.
 pub fn demo<D: Disk, R: Room>(
     alloc: Global,
@@ -79,6 +80,7 @@ pub fn demo<D: Disk, R: Room>(
     requires o { (1 ≤ o) × (o ≤ 32) }
     ensures done { IfOk result (λ report. IsDemonstrated (D.files disk.old) (D.files disk.new) (R.takings room.old) (R.takings room.new) seed v o (string_bytes report)) }
     ensures refused { IfErr result (λ refusal. ForSome (D.files disk.old) (λ _. IsFree refusal)) }
+    ensures as_run { IfErr result (IsDemoRefusal v o) }
     ensures takings { IfErr result (λ refusal. (IsFree refusal × IsDemoTaking v o (R.takings room.old) (R.takings room.new)) ⊎ (R.takings room.new ≡ R.takings room.old)) }
     ensures others { DemoOthersStay (D.files disk.old) (D.files disk.new) }
     ensures cause { HasCause (D.faults disk.old) (D.faults disk.new) (result ≡ Err Refusal.Disk) }

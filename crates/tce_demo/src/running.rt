@@ -11,32 +11,28 @@ ghost use Rattle.tce_job.specs.Prepared.{HasTaken};
 ghost use Rattle.tce_job.specs.Run.{IsReported};
 ghost use Rattle.tce_job.specs.Refusals.{NamesDeclared, IsFree as IsFreeFault};
 ghost use Rattle.tce_example.specs.Specification.{IsDemo};
-ghost use Rattle.tce_demo.specs.Done.{demo_budget};
+ghost use Rattle.tce_run.specs.Told.{IsToldAs};
+ghost use Rattle.tce_demo.specs.Done.{demo_budget, IsOfRun};
 
 use std::alloc::Global;
 use tce_command::Refusal;
 use tce_job::{JobFault, RunReport, run_job};
 use tce_outside::Disk;
+use tce_run::refusal_of;
 use tce_spec::Spec;
 use tce_words::Room;
 
 // The words that tiles may take.
 const BUDGET: u64 = 16384;
 
-// The refusal of a command whose run is refused.
-fn refusal_of(spec: &Spec, fault: JobFault) -> Refusal
+// The refusal of a command whose run is refused: that which the run itself has.
+fn run_refusal(spec: &Spec, fault: JobFault) -> Refusal
     requires { NamesDeclared spec.now fault }
+    ensures told { IsToldAs spec.now fault result }
     ensures free { IsFreeFault fault → IsFree result }
-    ensures disk { fault ≡ JobFault.Disk → result ≡ Refusal.Disk }
     ensures disk_alone { result ≡ Refusal.Disk → fault ≡ JobFault.Disk }
 {
-    match fault {
-        JobFault::BudgetTooSmall(least) => Refusal::Budget(least),
-        JobFault::IntermediatesTooLarge(memory) => Refusal::Intermediates(memory),
-        JobFault::Array(t, fault) => Refusal::Array(spec.tensor(t).name, fault),
-        JobFault::Disk => Refusal::Disk,
-        JobFault::Memory => Refusal::Memory,
-    }
+    refusal_of(spec, fault)
 }
 
 /// Runs an example whose operands have their arrays. Where the disk tells that they have them, only the disk and memory
@@ -53,11 +49,12 @@ pub fn run_example<D: Disk, R: Room>(
     ensures reported { IfOk result (IsReported spec.now demo_budget (R.takings room.old) (R.takings room.new)) }
     ensures refused { IfErr result (λ refusal. ForSome (D.files disk.old) (λ _. IsFree refusal)) }
     ensures takings { IfErr result (λ refusal. (IsFree refusal × HasTaken spec.now demo_budget (R.takings room.old) (R.takings room.new)) ⊎ (R.takings room.new ≡ R.takings room.old)) }
+    ensures as_run { IfErr result (IsOfRun spec.now) }
     ensures others { others (file_of spec.now spec.now.result) (D.files disk.new) ≡ others (file_of spec.now spec.now.result) (D.files disk.old) }
     ensures cause { HasCause (D.faults disk.old) (D.faults disk.new) (result ≡ Err Refusal.Disk) }
 {
     match run_job(alloc, spec, BUDGET, disk, room) {
         Ok(report) => Ok(report),
-        Err(fault) => Err(refusal_of(spec, fault)),
+        Err(fault) => Err(run_refusal(spec, fault)),
     }
 }

@@ -17,12 +17,12 @@ use Rattle.tce_tools.specs.Answers.{IsFirstMisfit, IsRefused, HasFlat, HasArray,
 use Rattle.tce_command.specs.Report.{array_text}
 use Rattle.tce_command.specs.Refusals.{SameRefusal}
 use Rattle.tce_command.specs.declared.refusal.Refusal.{Refusal}
-use Rattle.tce_command.specs.declared.refusal.Refusal.TheVariants.{Specification, Missing, Array, Budget, Intermediates, Flat, Tensor, Misfit, Disk, Memory}
+use Rattle.tce_command.specs.declared.refusal.Refusal.TheVariants.{Specification, Missing, Array, Budget, Intermediates, Flat, Tensor, Misfit, Einsum, Symmetry, Disk, Memory}
 use Rattle.tce_flat.specs.Tensors.{array_file}
 use Rattle.tce_flat.specs.Refusals.{IsFlatRefusal, IsArrayRefusal, IsFormRefusal}
 use Rattle.tce_flat.proofs.Lines.{Says, say_alike, say_same}
 
-not_absent : (P : List ℕ → Type 0) (found : Option (List ℕ)) → IsSomeAnd found P → found ≡ None → ⊥
+pub not_absent : (P : List ℕ → Type 0) (found : Option (List ℕ)) → IsSomeAnd found P → found ≡ None → ⊥
 not_absent P found p e = subst (λ x. IsSomeAnd x P) e p
 
 abbrev pub missing_line : List ℕ → List ℕ
@@ -48,6 +48,8 @@ flat_cases files flat shape (Budget x) p = absurd p
 flat_cases files flat shape (Intermediates x) p = absurd p
 flat_cases files flat shape (Tensor x) p = absurd p
 flat_cases files flat shape (Misfit x) p = absurd p
+flat_cases files flat shape (Einsum x) p = absurd p
+flat_cases files flat shape (Symmetry x u) p = absurd p
 flat_cases files flat shape Disk p = absurd p
 flat_cases files flat shape Memory p = absurd p
 
@@ -98,6 +100,8 @@ array_cases files tensor shape (Budget x) p = absurd p
 array_cases files tensor shape (Intermediates x) p = absurd p
 array_cases files tensor shape (Tensor x) p = absurd p
 array_cases files tensor shape (Misfit x) p = absurd p
+array_cases files tensor shape (Einsum x) p = absurd p
+array_cases files tensor shape (Symmetry x u) p = absurd p
 array_cases files tensor shape Disk p = absurd p
 array_cases files tensor shape Memory p = absurd p
 
@@ -172,6 +176,8 @@ form_cases files tensor form shape (Specification x) p = inl p
 form_cases files tensor form shape (Budget x) p = inl p
 form_cases files tensor form shape (Intermediates x) p = inl p
 form_cases files tensor form shape (Tensor x) p = inl p
+form_cases files tensor form shape (Einsum x) p = inl p
+form_cases files tensor form shape (Symmetry x u) p = inl p
 form_cases files tensor form shape Disk p = inl p
 form_cases files tensor form shape Memory p = inl p
 

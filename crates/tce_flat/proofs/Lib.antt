@@ -3,3 +3,5 @@ pub mod Stages
 pub mod Inputs
 pub mod Tools
 pub mod Names
+pub mod SymFiles
+pub mod SymInputs

@@ -13,7 +13,7 @@ use Rattle.tce_tools.specs.Answers.{IsPackAnswer, IsUnpackAnswer, IsConvertAnswe
 use Rattle.tce_tools.specs.declared.fault.ToolFault.{ToolFault}
 use Rattle.tce_tools.specs.declared.fault.ToolFault.TheVariants as tool
 use Rattle.tce_command.specs.declared.refusal.Refusal.{Refusal}
-use Rattle.tce_command.specs.declared.refusal.Refusal.TheVariants.{Specification, Missing, Array, Budget, Intermediates, Flat, Tensor, Misfit, Disk, Memory}
+use Rattle.tce_command.specs.declared.refusal.Refusal.TheVariants.{Specification, Missing, Array, Budget, Intermediates, Flat, Tensor, Misfit, Einsum, Symmetry, Disk, Memory}
 use Rattle.tce_command.specs.Refusals.{IsFree, NamesFile}
 use Rattle.tce_flat.specs.Tensors.{HasTensor, array_file}
 use Rattle.tce_flat.specs.Refusals.{Refuses, IsFlatRefusal, IsArrayRefusal, IsFormRefusal, IsRefusedFor}
@@ -29,6 +29,8 @@ gone_flat files flat shape (Intermediates x) p gone = absurd p
 gone_flat files flat shape (Flat x) p gone = absurd p
 gone_flat files flat shape (Tensor x) p gone = absurd p
 gone_flat files flat shape (Misfit x) p gone = absurd p
+gone_flat files flat shape (Einsum x) p gone = absurd p
+gone_flat files flat shape (Symmetry x u) p gone = absurd p
 gone_flat files flat shape Disk p gone = absurd p
 gone_flat files flat shape Memory p gone = absurd p
 
@@ -41,6 +43,8 @@ gone_array files tensor shape (Intermediates x) p gone = absurd p
 gone_array files tensor shape (Flat x) p gone = absurd p
 gone_array files tensor shape (Tensor x) p gone = absurd p
 gone_array files tensor shape (Misfit x) p gone = absurd p
+gone_array files tensor shape (Einsum x) p gone = absurd p
+gone_array files tensor shape (Symmetry x u) p gone = absurd p
 gone_array files tensor shape Disk p gone = absurd p
 gone_array files tensor shape Memory p gone = absurd p
 
@@ -57,6 +61,8 @@ kept_array files tensor shape fault (Intermediates x) p there wrong = absurd p
 kept_array files tensor shape fault (Flat x) p there wrong = absurd p
 kept_array files tensor shape fault (Tensor x) p there wrong = absurd p
 kept_array files tensor shape fault (Misfit x) p there wrong = absurd p
+kept_array files tensor shape fault (Einsum x) p there wrong = absurd p
+kept_array files tensor shape fault (Symmetry x u) p there wrong = absurd p
 kept_array files tensor shape fault Disk p there wrong = absurd p
 kept_array files tensor shape fault Memory p there wrong = absurd p
 
@@ -102,6 +108,8 @@ form_refusal files tensor form shape (Budget x) p = absurd p
 form_refusal files tensor form shape (Intermediates x) p = absurd p
 form_refusal files tensor form shape (Tensor x) p = absurd p
 form_refusal files tensor form shape (Misfit x) p = absurd p
+form_refusal files tensor form shape (Einsum x) p = absurd p
+form_refusal files tensor form shape (Symmetry x u) p = absurd p
 form_refusal files tensor form shape Disk p = absurd p
 form_refusal files tensor form shape Memory p = absurd p
 
@@ -127,6 +135,8 @@ found_refusal refuses files spec tensor shape (Budget x) there (inl p) = absurd 
 found_refusal refuses files spec tensor shape (Intermediates x) there (inl p) = absurd p
 found_refusal refuses files spec tensor shape (Tensor x) there (inl p) = absurd p
 found_refusal refuses files spec tensor shape (Misfit x) there (inl p) = absurd p
+found_refusal refuses files spec tensor shape (Einsum x) there (inl p) = absurd p
+found_refusal refuses files spec tensor shape (Symmetry x u) there (inl p) = absurd p
 
 -- what holds of an answer holds of it otherwise
 pub if_ok : {A E : Type 0} {P Q : A → Type 0} (r : Result A E) → ((x : A) → P x → Q x) → IfOk r P → IfOk r Q

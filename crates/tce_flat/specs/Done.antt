@@ -1,6 +1,6 @@
 -- What the commands on flat files leave and report.
 use Rattle.std.specs.Prelude.{◌≡◌, ℕ, List, ◌++◌, Option, codes}
-use Rattle.std.specs.Option.{ForSome}
+use Rattle.std.specs.Option.{ForSome, IsSomeAnd}
 use Rattle.std.specs.Fmt.{decimal}
 use Rattle.tce_outside.specs.Files.{Files, file}
 use Rattle.tce_space.specs.Tiling.{Tiling}
@@ -10,7 +10,9 @@ use Rattle.tce_array.specs.Forms.{form_len, form_bytes, array_bytes}
 use Rattle.tce_tools.specs.Flat.{flat_bytes, flat_len, flat_element, array_element, contents}
 use Rattle.tce_tools.specs.Answers.{HasFlat, HasArray, HasFitting}
 use Rattle.tce_tools.specs.Storage.{holding_by}
-use Rattle.tce_flat.specs.Tensors.{HasTensor, array_file, converted_file}
+use Rattle.tce_sym.specs.declared.symmetry.Symmetry.{Symmetry}
+use Rattle.tce_sym.specs.Storage.{IsStored, full_cell}
+use Rattle.tce_flat.specs.Tensors.{HasTensor, array_file, converted_file, sym_file}
 
 -- the report: the file that was written, and its length in bytes
 abbrev pub report_text : List ℕ → List ℕ → ℕ → List ℕ
@@ -49,3 +51,15 @@ pub record IsConverted (before after : Option Files) (spec tensor : List ℕ) (f
   pub shape : Tiling
   pub tensor_is : ForSome before (λ files. HasTensor files spec tensor shape)
   pub converting : IsConverting before after shape tensor form report
+
+-- the array file of a tensor of this shape has all elements of which one is stored for each pair
+pub record IsExpanding (before after : Option Files) (shape : Tiling) (tensor report : List ℕ) : Type 0 where
+  pub symmetry : Symmetry
+  pub found : ForSome before (λ files. IsSomeAnd (file files (sym_file tensor)) (λ bytes. IsStored shape.extents symmetry bytes))
+  pub written : after ≡ holding_by (array_file tensor) (λ files. array_bytes shape (full_cell shape.extents symmetry (contents files (sym_file tensor)))) before
+  pub reported : report ≡ report_text (codes "expand") (array_file tensor) (form_len One shape)
+
+pub record IsExpanded (before after : Option Files) (spec tensor report : List ℕ) : Type 0 where
+  pub shape : Tiling
+  pub tensor_is : ForSome before (λ files. HasTensor files spec tensor shape)
+  pub expanding : IsExpanding before after shape tensor report

@@ -1,5 +1,5 @@
 -- Why the commands on flat files are refused: the tensor is not found, or else its input is not what the command needs.
-use Rattle.std.specs.Prelude.{◌≡◌, ◌≢◌, ◌⊎◌, ℕ, List, length, None}
+use Rattle.std.specs.Prelude.{◌≡◌, ◌≢◌, ◌⊎◌, ℕ, List, length, Option, None}
 use Rattle.std.specs.Option.{IsSomeAnd}
 use Rattle.tce_outside.specs.Files.{Files, file}
 use Rattle.tce_space.specs.Tiling.{Tiling}
@@ -10,9 +10,14 @@ use Rattle.tce_array.specs.Forms.{IsArray}
 use Rattle.tce_tools.specs.Flat.{flat_len, array_element}
 use Rattle.tce_tools.specs.Answers.{IsFirstMisfit, IsRefused, HasFlat, HasArray, HasFitting}
 use Rattle.tce_command.specs.declared.refusal.Refusal.{Refusal}
-use Rattle.tce_command.specs.declared.refusal.Refusal.TheVariants.{Missing, Array, Flat, Tensor, Misfit}
+use Rattle.tce_command.specs.declared.refusal.Refusal.TheVariants.{Missing, Array, Flat, Tensor, Misfit, Symmetry}
+use Rattle.tce_command.specs.declared.trouble.SymTrouble.TheVariants as trouble
+use Rattle.tce_sym.specs.declared.symmetry.Symmetry.{Symmetry as Exchange}
+use Rattle.tce_sym.specs.declared.fault.SymFault.TheVariants as sym
+use Rattle.tce_sym.specs.Storage.{IsStored}
+use Rattle.tce_sym.specs.Faults as sym_faults
 use Rattle.tce_source.specs.Source.{IsSourceRefusal}
-use Rattle.tce_flat.specs.Tensors.{HasTensor, LacksTensor, array_file}
+use Rattle.tce_flat.specs.Tensors.{HasTensor, LacksTensor, array_file, sym_file}
 
 -- the refusal names the tensor
 abbrev pub NamesTensor : List ℕ → Refusal → Type 0
@@ -76,3 +81,20 @@ CanConvert files spec tensor form = IsReadyFor (λ shape. HasFitting form shape 
 
 abbrev pub IsConvertRefusal : Files → List ℕ → List ℕ → Form → Refusal → Type 0
 IsConvertRefusal files spec tensor form refusal = IsRefusedFor (IsFormRefusal files tensor form) files spec tensor refusal
+
+-- a file of stored elements of this shape is there
+abbrev pub HasPairs : Tiling → Option (List ℕ) → Type 0
+HasPairs shape found = (s : Exchange) × IsSomeAnd found (λ bytes. IsStored shape.extents s bytes)
+
+-- why the file in which a tensor is stored once for each pair is refused
+abbrev pub IsSymRefusal : Files → List ℕ → Refuses
+IsSymRefusal files tensor shape (Missing name) = (name.bytes ≡ sym_file tensor) × (file files (sym_file tensor) ≡ None)
+IsSymRefusal files tensor shape (Symmetry name (trouble.BadLength n)) = (name.bytes ≡ tensor) × sym_faults.IsFault shape.extents (file files (sym_file tensor)) (sym.BadLength n)
+IsSymRefusal files tensor shape (Symmetry name (trouble.BadHeader p)) = (name.bytes ≡ tensor) × sym_faults.IsFault shape.extents (file files (sym_file tensor)) (sym.BadHeader p)
+IsSymRefusal files tensor shape refusal = ⊥
+
+abbrev pub CanExpand : Files → List ℕ → List ℕ → Type 0
+CanExpand files spec tensor = IsReadyFor (λ shape. HasPairs shape (file files (sym_file tensor))) files spec tensor
+
+abbrev pub IsExpandRefusal : Files → List ℕ → List ℕ → Refusal → Type 0
+IsExpandRefusal files spec tensor refusal = IsRefusedFor (IsSymRefusal files tensor) files spec tensor refusal

@@ -27,3 +27,7 @@ array_file tensor = tensor ++ codes ".tca"
 
 abbrev pub converted_file : List ℕ → List ℕ
 converted_file tensor = tensor ++ codes ".v2.tca"
+
+-- the name of the file in which a tensor is stored once for each pair
+abbrev pub sym_file : List ℕ → List ℕ
+sym_file tensor = tensor ++ codes ".sym"

@@ -7,9 +7,10 @@ ghost use Rattle.tce_outside.specs.Fault.{HasCause};
 ghost use Rattle.tce_command.specs.Command as commands;
 ghost use Rattle.tce_command.specs.Command.{KeepsRules};
 ghost use Rattle.tce_flat.specs.Tensors.{array_file, converted_file};
-ghost use Rattle.tce_flat.specs.Refusals.{IsPackRefusal, IsUnpackRefusal, IsConvertRefusal};
-ghost use Rattle.tce_flat.specs.Done.{IsPacked, IsUnpacked, IsConverted};
+ghost use Rattle.tce_flat.specs.Refusals.{IsPackRefusal, IsUnpackRefusal, IsConvertRefusal, IsExpandRefusal};
+ghost use Rattle.tce_flat.specs.Done.{IsPacked, IsUnpacked, IsConverted, IsExpanded};
 
+use crate::expanding::expand_tensor;
 use crate::moving::{convert_tensor, pack_tensor, unpack_tensor};
 use crate::tensor::find_tensor;
 use std::alloc::Global;
@@ -81,5 +82,27 @@ pub fn convert<D: Disk>(
 {
     let found = find_tensor(alloc, spec, tensor, disk)?;
     let moved = convert_tensor(alloc, found.shape(), tensor, form, disk);
+    moved
+}
+
+/// Makes the array file of a tensor of the file in which it is stored once for each pair of exchanged coordinates, and
+/// gives the report.
+///
+/// All memory but the disk's own is taken before the file is made.
+pub fn expand<D: Disk>(
+    alloc: Global,
+    spec: &str,
+    tensor: &str,
+    disk: &mut D,
+) -> Result<String, Refusal>
+    requires { KeepsRules (commands.expand spec.now tensor.now) }
+    ensures done { IfOk result (λ report. IsExpanded (D.files disk.old) (D.files disk.new) spec.now tensor.now (string_bytes report)) }
+    ensures refused { IfErr result (λ refusal. ForSome (D.files disk.old) (λ files. IsExpandRefusal files spec.now tensor.now refusal)) }
+    ensures unchanged { IfErr result (λ refusal. refusal ≢ Refusal.Disk → D.files disk.new ≡ D.files disk.old) }
+    ensures others { others (array_file tensor.now) (D.files disk.new) ≡ others (array_file tensor.now) (D.files disk.old) }
+    ensures cause { HasCause (D.faults disk.old) (D.faults disk.new) (result ≡ Err Refusal.Disk) }
+{
+    let found = find_tensor(alloc, spec, tensor, disk)?;
+    let moved = expand_tensor(alloc, found.shape(), tensor, disk);
     moved
 }

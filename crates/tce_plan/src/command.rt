@@ -1,7 +1,7 @@
 // The command.
 ghost use Rattle.std.specs.Prelude.{◌≡◌, Err, IfOk, IfErr};
 ghost use Rattle.std.specs.Option.{ForSome};
-ghost use Rattle.tce_outside.specs.Fault.{HasCause};
+ghost use Rattle.tce_outside.specs.Fault.{HasCause, TellsFaults};
 ghost use Rattle.tce_command.specs.Command as commands;
 ghost use Rattle.tce_command.specs.Command.{KeepsRules};
 ghost use Rattle.tce_plan.specs.Done.{IsPlanReport, IsPlanned};
@@ -24,6 +24,7 @@ pub fn plan<D: Disk>(alloc: Global, spec: &str, disk: &mut D) -> Result<Vec<u8>,
     ensures refused { IfErr result (λ refusal. ForSome (D.files disk.old) (λ files. IsPlanRefusal files spec.now refusal)) }
     ensures unchanged { D.files disk.new ≡ D.files disk.old }
     ensures cause { HasCause (D.faults disk.old) (D.faults disk.new) (result ≡ Err Refusal.Disk) }
+    ensures told { TellsFaults (D.faults disk.old) (D.faults disk.new) (result ≡ Err Refusal.Disk) }
 {
     let source = read_source(alloc, disk, spec)?;
     match least_report(alloc, &source) {

@@ -20,7 +20,7 @@ fn operand_refusal(spec: &Spec, t: u8, fault: ArrayFault) -> Refusal
     }
 }
 
-/// The refusal that tells a fault of a run.
+/// The refusal that tells a fault of a run: of an operand by its file where that is not there, else by its name.
 pub fn refusal_of(spec: &Spec, fault: JobFault) -> Refusal
     requires { NamesDeclared spec.now fault }
     ensures { IsToldAs spec.now fault result }

@@ -8,7 +8,7 @@ use Rattle.tce_declarations.specs.FaultCode.{Shows}
 use Rattle.tce_declarations.specs.declared.fault.SpecFault.{SpecFault}
 use Rattle.tce_command.specs.Refusals.{IsFree, SameRefusal}
 use Rattle.tce_command.specs.declared.refusal.Refusal.{Refusal}
-use Rattle.tce_command.specs.declared.refusal.Refusal.TheVariants.{Specification, Missing, Array, Budget, Intermediates, Flat, Tensor, Misfit, Disk, Memory}
+use Rattle.tce_command.specs.declared.refusal.Refusal.TheVariants.{Specification, Missing, Array, Budget, Intermediates, Flat, Tensor, Misfit, Einsum, Symmetry, Disk, Memory}
 use Rattle.tce_source.specs.Source.{Specifies, HasFault, HasSpecification, IsSourceRefusal}
 use Rattle.tce_source.proofs.Faults.{told}
 
@@ -44,12 +44,16 @@ one_refusal name found (Intermediates x) b p q free = absurd p
 one_refusal name found (Flat x) b p q free = absurd p
 one_refusal name found (Tensor x) b p q free = absurd p
 one_refusal name found (Misfit x) b p q free = absurd p
+one_refusal name found (Einsum x) b p q free = absurd p
+one_refusal name found (Symmetry x u) b p q free = absurd p
 one_refusal name found a (Array y v) p q free = absurd q
 one_refusal name found a (Budget y) p q free = absurd q
 one_refusal name found a (Intermediates y) p q free = absurd q
 one_refusal name found a (Flat y) p q free = absurd q
 one_refusal name found a (Tensor y) p q free = absurd q
 one_refusal name found a (Misfit y) p q free = absurd q
+one_refusal name found a (Einsum y) p q free = absurd q
+one_refusal name found a (Symmetry y v) p q free = absurd q
 one_refusal name found a Disk p q free = absurd (free tt)
 one_refusal name found a Memory p q free = absurd (free tt)
 one_refusal name found (Missing x) (Missing y) p q free = inr (refl, ap (λ bytes. codes "error 3: no file " ++ bytes ++ codes "\n") (p.0 ∙ sym q.0))
@@ -74,3 +78,5 @@ not_both files spec s (Intermediates n) p q = absurd q
 not_both files spec s (Flat n) p q = absurd q
 not_both files spec s (Tensor name) p q = absurd q
 not_both files spec s (Misfit n) p q = absurd q
+not_both files spec s (Einsum trouble) p q = absurd q
+not_both files spec s (Symmetry name trouble) p q = absurd q

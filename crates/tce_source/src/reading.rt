@@ -2,7 +2,7 @@
 ghost use Rattle.std.specs.Prelude.{◌≡◌, ◌≤◌, ◌↔◌, IsTrue, length, Some, Err, IfOk, IfErr};
 ghost use Rattle.std.specs.Option.{ForSome, IsSomeAnd};
 ghost use Rattle.tce_outside.specs.Files.{file};
-ghost use Rattle.tce_outside.specs.Fault.{HasCause};
+ghost use Rattle.tce_outside.specs.Fault.{HasCause, TellsFaults};
 ghost use Rattle.tce_declarations.specs.Declarations.{HaveNames};
 ghost use Rattle.tce_source.specs.Source.{HasSpecification, IsSourceRefusal};
 
@@ -24,6 +24,7 @@ pub fn read_source<D: Disk>(alloc: Global, disk: &mut D, name: &str) -> Result<S
     ensures refused { IfErr result (λ refusal. ForSome (D.files disk.old) (λ files. IsSourceRefusal name.now (file files name.now) refusal)) }
     ensures same { D.files disk.new ≡ D.files disk.old }
     ensures cause { HasCause (D.faults disk.old) (D.faults disk.new) (result ≡ Err Refusal.Disk) }
+    ensures told { TellsFaults (D.faults disk.old) (D.faults disk.new) (result ≡ Err Refusal.Disk) }
 {
     let text = read_text(alloc, disk, name)?;
     match read_spec(alloc, &text) {
@@ -47,6 +48,7 @@ fn read_text<D: Disk>(alloc: Global, disk: &mut D, name: &str) -> Result<Vec<u8>
     ensures refused { IfErr result (λ refusal. ForSome (D.files disk.old) (λ files. IsSourceRefusal name.now (file files name.now) refusal)) }
     ensures same { D.files disk.new ≡ D.files disk.old }
     ensures cause { HasCause (D.faults disk.old) (D.faults disk.new) (result ≡ Err Refusal.Disk) }
+    ensures told { TellsFaults (D.faults disk.old) (D.faults disk.new) (result ≡ Err Refusal.Disk) }
 {
     let Ok(size) = disk.size(name) else {
         return Err(Refusal::Disk);

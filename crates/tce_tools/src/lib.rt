@@ -4,7 +4,8 @@
 //! A flat file has the elements of an array alone, in row-major order, eight bytes each, the lowest first. An array
 //! file has them tile by tile behind a head, as `tce_array` says. Elements move between files in bands: at most 32,768
 //! that follow each other in row-major order, and that stand in an array file in pieces of one length at equal distances.
-//! The buffers are of fixed length, so a call needs no memory of its own, however large the files are.
+//! The buffers are of fixed length, so a call needs no memory of its own, however large the files are. Other crates write
+//! an array file in this way by [`band_at`] and [`write_band`].
 #![tactic(auto)]
 
 mod band;
@@ -21,9 +22,14 @@ mod storage;
 mod sum;
 mod transfer;
 
+pub use band::{Band, LONGEST_BAND, band_at};
+pub use banding::write_band;
 pub use conversion::convert;
 pub use demo::{demo_array, demo_spec};
 pub use fault::ToolFault;
 pub use laws::flat_files_hold_their_elements;
 pub use packing::{pack, unpack};
+pub use run::coords_at;
+pub use storage::Storage;
 pub use sum::cell_sum;
+pub use transfer::read_words;

@@ -3,26 +3,28 @@ use Rattle.std.proofs.Common.{◌≡◌, refl, sym, ap, subst, ◌∙◌, ◌⊎
 use Rattle.std.specs.Option.{ForSome}
 use Rattle.tce_outside.specs.Files.{Files, file}
 use Rattle.tce_declarations.specs.declared.fault.SpecFault.{SpecFault}
-use Rattle.tce_command.specs.Command.{Command, run, plan, cert, check, pack, unpack, convert, demo}
+use Rattle.tce_command.specs.Command.{Command, run, plan, cert, check, pack, unpack, convert, expand, demo}
 use Rattle.tce_command.specs.Report.{status_of, ending_of, code_of, line_over, wants_memory}
 use Rattle.tce_command.specs.Refusals.{IsFree, SameRefusal}
 use Rattle.tce_command.specs.CommandRefusals.{EndsAlike, MayReplace, OnCommon}
 use Rattle.tce_command.proofs.Statuses.{or_alike}
 use Rattle.tce_command.specs.Outcome.{Answers, IsFault}
 use Rattle.tce_command.specs.declared.refusal.Refusal.{Refusal}
-use Rattle.tce_command.specs.declared.refusal.Refusal.TheVariants.{Specification, Missing, Array, Budget, Intermediates, Flat, Tensor, Misfit, Disk, Memory}
+use Rattle.tce_command.specs.declared.refusal.Refusal.TheVariants.{Specification, Missing, Array, Budget, Intermediates, Flat, Tensor, Misfit, Einsum, Symmetry, Disk, Memory}
 use Rattle.tce_command.specs.declared.command_refusal.CommandRefusal.{CommandRefusal}
 use Rattle.tce_command.specs.declared.command_refusal.CommandRefusal.TheVariants.{Common, Certificate}
+use Rattle.tce_command.specs.declared.trouble.EinsumTrouble.TheVariants as einsums
 use Rattle.tce_command.specs.declared.status.Status.{Status}
-use Rattle.tce_command.specs.declared.status.Status.TheVariants.{Done, SpecRefused, DiskFault, SinkFault, WantOfMemory}
+use Rattle.tce_command.specs.declared.status.Status.TheVariants.{Done, SpecRefused, EinsumRefused, DiskFault, SinkFault, WantOfMemory}
 use Rattle.tce_source.proofs.Outcomes.{not_both, one_refusal as one_source_refusal}
 use Rattle.tce_run.proofs.Reasons as runs
 use Rattle.tce_verify.proofs.OneAnswer as verifications
 use Rattle.tce_tools.specs.Answers.{HasFlat, HasArray, HasFitting}
-use Rattle.tce_flat.specs.Tensors.{array_file}
-use Rattle.tce_flat.specs.Refusals.{IsFlatRefusal, IsArrayRefusal, IsFormRefusal}
+use Rattle.tce_flat.specs.Tensors.{array_file, sym_file}
+use Rattle.tce_flat.specs.Refusals.{HasPairs, IsFlatRefusal, IsArrayRefusal, IsFormRefusal, IsSymRefusal}
 use Rattle.tce_flat.proofs.Stages.{same_refusal, ready_not_refused}
 use Rattle.tce_flat.proofs.Inputs.{one_flat_refusal, flat_not_refused, one_array_refusal, array_not_refused, one_form_refusal, form_not_refused}
+use Rattle.tce_flat.proofs.SymInputs.{one_sym_refusal, sym_not_refused}
 use Rattle.tce_top.specs.Performed.{CanDo, IsCommandRefusal, IsDone, MayTake}
 use Rattle.tce_top.specs.Cause.{IsCause, HasRefusal}
 
@@ -49,6 +51,8 @@ one_refusal files (unpack spec tensor flat) a b p q free =
     common_alone _ (λ x y. same_refusal files spec tensor (IsArrayRefusal files tensor) x y (λ shape. one_array_refusal files tensor shape x y)) a b p q free
 one_refusal files (convert spec tensor form) a b p q free =
     common_alone _ (λ x y. same_refusal files spec tensor (IsFormRefusal files tensor form) x y (λ shape. one_form_refusal files tensor form shape x y)) a b p q free
+one_refusal files (expand spec tensor) a b p q free =
+    common_alone _ (λ x y. same_refusal files spec tensor (IsSymRefusal files tensor) x y (λ shape. one_sym_refusal files tensor shape x y)) a b p q free
 one_refusal files (demo seed v o) a b p q free = inl (common_free IsFree (λ x free. free) a p)
 
 can_free : (files : Files) (command : Command) (a : CommandRefusal) → CanDo files command → IsCommandRefusal files command a → MayReplace a
@@ -63,6 +67,8 @@ can_free files (unpack spec tensor flat) a can p =
 can_free files (convert spec tensor form) a can p =
     common_free _
     (λ x. ready_not_refused files spec tensor (λ shape. HasFitting form shape (file files (array_file tensor))) (IsFormRefusal files tensor form) x (λ shape. form_not_refused files tensor form shape x) can) a p
+can_free files (expand spec tensor) a can p =
+    common_free _ (λ x. ready_not_refused files spec tensor (λ shape. HasPairs shape (file files (sym_file tensor))) (IsSymRefusal files tensor) x (λ shape. sym_not_refused files tensor shape x) can) a p
 can_free files (demo seed v o) a can p = common_free IsFree (λ x free. free) a p
 
 -- what is done could be done, and took what it may take
@@ -75,6 +81,8 @@ done_can (check spec name) before after taken taken_after report done = λ files
 done_can (pack spec tensor flat) before after taken taken_after report done = λ files told. (done.0.shape, done.0.tensor_is files told, done.0.packing.found files told)
 done_can (unpack spec tensor flat) before after taken taken_after report done = λ files told. (done.0.shape, done.0.tensor_is files told, done.0.unpacking.found files told)
 done_can (convert spec tensor form) before after taken taken_after report done = λ files told. (done.0.shape, done.0.tensor_is files told, done.0.converting.found files told)
+done_can (expand spec tensor) before after taken taken_after report done =
+    λ files told. (done.0.shape, done.0.tensor_is files told, (done.0.expanding.symmetry, done.0.expanding.found files told))
 done_can (demo seed v o) before after taken taken_after report done = λ files told. tt
 
 pub done_takes : (command : Command) (before after : Option Files) (taken taken_after : List (ℕ × ℕ)) (report : List ℕ) → IsDone command before after taken taken_after report
@@ -87,6 +95,7 @@ done_takes (check spec name) before after taken taken_after report done = done.2
 done_takes (pack spec tensor flat) before after taken taken_after report done = done.1
 done_takes (unpack spec tensor flat) before after taken taken_after report done = done.1
 done_takes (convert spec tensor form) before after taken taken_after report done = done.1
+done_takes (expand spec tensor) before after taken taken_after report done = done.1
 done_takes (demo seed v o) before after taken taken_after report done =
     inr (record { specification = done.specification; specified = done.specified; able = done.able; taking = record { plan = done.run.plan; least = done.run.least; taken = done.run.taken } })
 
@@ -103,6 +112,8 @@ free_of (Intermediates memory) f = absurd f
 free_of (Flat len) f = absurd f
 free_of (Tensor name) f = absurd f
 free_of (Misfit place) f = absurd f
+free_of (Einsum trouble) f = absurd f
+free_of (Symmetry tensor trouble) f = absurd f
 
 pub free_fault : (r : CommandRefusal) → MayReplace r → IsFault (ending_of r)
 free_fault (Common r) f = free_of r f
@@ -115,6 +126,12 @@ cause_by : (files : Files) (command : Command) (fault : SpecFault) (b : Bool) �
 cause_by files command fault true e p = tt
 cause_by files command fault false e p = record { refusal = Common (Specification fault); cause = p; same = ap (λ c. if c then WantOfMemory else SpecRefused fault) (sym e) }
 
+einsum_by : (files : Files) (command : Command) (fault : SpecFault) (b : Bool) → wants_memory fault ≡ b → IsCommandRefusal files command (Common (Einsum (einsums.Spec fault)))
+    → IsCause files command (if b then WantOfMemory else EinsumRefused (einsums.Spec fault))
+einsum_by files command fault true e p = tt
+einsum_by files command fault false e p =
+    record { refusal = Common (Einsum (einsums.Spec fault)); cause = p; same = ap (λ c. if c then WantOfMemory else EinsumRefused (einsums.Spec fault)) (sym e) }
+
 cause_of : (files : Files) (command : Command) (r : CommandRefusal) → IsCommandRefusal files command r → IsCause files command (ending_of r)
 cause_of files command (Common (Specification fault)) p = cause_by files command fault (wants_memory fault) refl p
 cause_of files command (Common (Missing name)) p = record { refusal = Common (Missing name); cause = p; same = refl }
@@ -124,6 +141,11 @@ cause_of files command (Common (Intermediates memory)) p = record { refusal = Co
 cause_of files command (Common (Flat len)) p = record { refusal = Common (Flat len); cause = p; same = refl }
 cause_of files command (Common (Tensor name)) p = record { refusal = Common (Tensor name); cause = p; same = refl }
 cause_of files command (Common (Misfit place)) p = record { refusal = Common (Misfit place); cause = p; same = refl }
+cause_of files command (Common (Einsum (einsums.Spec fault))) p = einsum_by files command fault (wants_memory fault) refl p
+cause_of files command (Common (Einsum einsums.BadText)) p = record { refusal = Common (Einsum einsums.BadText); cause = p; same = refl }
+cause_of files command (Common (Einsum (einsums.BadSize label))) p = record { refusal = Common (Einsum (einsums.BadSize label)); cause = p; same = refl }
+cause_of files command (Common (Einsum (einsums.BadPath item))) p = record { refusal = Common (Einsum (einsums.BadPath item)); cause = p; same = refl }
+cause_of files command (Common (Symmetry tensor trouble)) p = record { refusal = Common (Symmetry tensor trouble); cause = p; same = refl }
 cause_of files command (Common Disk) p = tt
 cause_of files command (Common Memory) p = tt
 cause_of files command (Certificate trouble line) p = record { refusal = Certificate trouble line; cause = p; same = refl }

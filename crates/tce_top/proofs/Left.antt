@@ -1,24 +1,28 @@
 -- What commands leave, by how they end.
-use Rattle.std.proofs.Common.{◌≡◌, refl, sym, ap, subst, ◌∙◌, ◌⊎◌, inl, inr, ℕ, List, ◌++◌, Option, Some}
+use Rattle.std.proofs.Common.{◌≡◌, refl, sym, ap, subst, ◌∙◌, ◌⊎◌, inl, inr, ℕ, List, [], ◌++◌, Option, Some}
 use Rattle.std.specs.Option.{ForSome, option_map}
 use Rattle.tce_outside.specs.Files.{Files}
 use Rattle.tce_outside.specs.Fault.{Rose}
 use Rattle.tce_space.specs.Space.{IndexSpace}
-use Rattle.tce_command.specs.Command.{Command, run, plan, cert, check, pack, unpack, convert, demo, IsCommand}
-use Rattle.tce_command.specs.Report.{NamesNoIndex, ending_of, line_over}
-use Rattle.tce_command.specs.CommandRefusals.{IsWrittenOver, MayReplace}
+use Rattle.tce_command.specs.Command.{Command, run, plan, cert, check, pack, unpack, convert, expand, demo, IsCommand}
+use Rattle.tce_command.specs.Report.{LineNames, NamesNoIndex, NamesNothing, cert_line, ending_of, line_over}
+use Rattle.tce_command.specs.CommandRefusals.{HasNames, MayReplace}
 use Rattle.tce_command.proofs.Statuses.{is_plain, over}
 use Rattle.tce_command.specs.Outcome.{Grew, GrewWithin, HasErrorLine, IsFault, IsRefusal}
 use Rattle.tce_command.specs.declared.trouble.CertTrouble.{CertTrouble}
-use Rattle.tce_command.specs.declared.refusal.Refusal.TheVariants.{Disk}
+use Rattle.tce_command.specs.declared.trouble.SymTrouble.{SymTrouble}
+use Rattle.tce_command.specs.declared.trouble_line.TroubleLine.{TroubleLine}
+use Rattle.arrayvec.specs.ArrayString.{ArrayString}
+use Rattle.tce_command.specs.declared.refusal.Refusal.TheVariants.{Specification, Missing, Array, Budget, Intermediates, Flat, Tensor, Misfit, Einsum, Symmetry, Disk, Memory}
 use Rattle.tce_command.specs.declared.command_refusal.CommandRefusal.{CommandRefusal}
 use Rattle.tce_command.specs.declared.command_refusal.CommandRefusal.TheVariants.{Common, Certificate}
 use Rattle.tce_command.specs.declared.status.Status.{Status}
-use Rattle.tce_command.specs.declared.status.Status.TheVariants.{Done, BadWords, SpecRefused, NoFile, ArrayRefused, BudgetTooSmall, IntermediatesTooLarge, CertRefused, DiskFault, SinkFault, WantOfMemory, FlatRefused, UnknownTensor, DoesNotFit}
-use Rattle.tce_top.specs.Performed.{HasIndexes, IsDone, MayLeaveOther, NamesItsIndexes}
+use Rattle.tce_command.specs.declared.status.Status.TheVariants.{Done, BadWords, SpecRefused, NoFile, ArrayRefused, BudgetTooSmall, IntermediatesTooLarge, CertRefused, DiskFault, SinkFault, WantOfMemory, FlatRefused, UnknownTensor, DoesNotFit, EinsumRefused, SymRefused}
+use Rattle.tce_top.specs.Performed.{HasIndexes, IsCommandRefusal, IsDone, MayLeaveOther, NamesItsIndexes}
 use Rattle.tce_command.proofs.Commands.{one_command}
-use Rattle.tce_top.specs.Outcome.{AreNamed, IsDemonstration, IsWholeRun}
+use Rattle.tce_top.specs.Outcome.{AreNamed, IsDemonstration, IsTensorOf, IsWholeRun}
 use Rattle.tce_top.proofs.Joined.{Kept, free_fault}
+use Rattle.tce_top.proofs.Expansions.{words_tensor}
 
 -- Files and takings.
 
@@ -38,6 +42,8 @@ no_refusal (CertRefused x) f r = f
 no_refusal (FlatRefused x) f r = f
 no_refusal (UnknownTensor x) f r = f
 no_refusal (DoesNotFit x) f r = f
+no_refusal (EinsumRefused x) f r = f
+no_refusal (SymRefused x) f r = f
 
 -- a refusal that may come in the place of others does not end with a refusal's status
 pub not_free : (r : CommandRefusal) (status : Status) → Kept r status → IsRefusal status → MayReplace r → ⊥
@@ -53,6 +59,7 @@ leaves (check spec file) r e = subst MayReplace (sym e) tt
 leaves (pack spec tensor flat) r e = subst MayReplace (sym e) tt
 leaves (unpack spec tensor flat) r e = subst MayReplace (sym e) tt
 leaves (convert spec tensor form) r e = subst MayReplace (sym e) tt
+leaves (expand spec tensor) r e = subst MayReplace (sym e) tt
 leaves (demo seed v o) r free = free
 
 pub unchanged : (command : Command) (r : CommandRefusal) (status : Status) (A : Type 0) → Kept r status → IsRefusal status → MayLeaveOther command r ⊎ A → A
@@ -78,6 +85,7 @@ without_memory words (check spec file) r status A is kept memory (inl disk) = ab
 without_memory words (pack spec tensor flat) r status A is kept memory (inl disk) = absurd (no_disk r status kept memory disk)
 without_memory words (unpack spec tensor flat) r status A is kept memory (inl disk) = absurd (no_disk r status kept memory disk)
 without_memory words (convert spec tensor form) r status A is kept memory (inl disk) = absurd (no_disk r status kept memory disk)
+without_memory words (expand spec tensor) r status A is kept memory (inl disk) = absurd (no_disk r status kept memory disk)
 without_memory words (demo seed v o) r status A is kept memory (inl free) = inr (seed, v, o, is)
 
 pub or_demonstration : (A B C : Type 0) → A ⊎ C → A ⊎ (B ⊎ C)
@@ -86,27 +94,69 @@ or_demonstration A B C (inr c) = inr (inr c)
 
 -- Lines.
 
--- a line that names no index is the same whatever the names of indexes
-any_space : (a b : IndexSpace) (status : Status) (before after : Option (List ℕ)) (faults faults_after : ℕ) → NamesNoIndex status → HasErrorLine a status before after faults faults_after
+-- a line that names nothing is the same whatever lines name
+any_names : (a b : LineNames) (status : Status) (before after : Option (List ℕ)) (faults faults_after : ℕ) → NamesNothing status → HasErrorLine a status before after faults faults_after
     → HasErrorLine b status before after faults faults_after
-any_space a b status before after faults faults_after plain h =
-    let e : line_over a status ≡ line_over b status = sym (over a status plain) ∙ over b status plain in
+any_names a b status before after faults faults_after nothing h =
+    let e : line_over a status ≡ line_over b status = sym (over a status nothing) ∙ over b status nothing in
     record {
       part = subst (λ t. GrewWithin t before after) e h.part;
       whole = λ refused. subst (λ t. Grew t before after ⊎ Rose faults faults_after) e (h.whole refused);
     }
 
-pub plain_line : (command : Command) (told : Option Files) (r : CommandRefusal) (status : Status) (before after : Option (List ℕ)) (faults faults_after : ℕ) → NamesItsIndexes command told r
-    → ((space : IndexSpace) → IsWrittenOver space r → HasErrorLine space status before after faults faults_after) → NamesNoIndex status → (space : IndexSpace)
-    → HasErrorLine space status before after faults faults_after
-plain_line command told (Common r) status before after faults faults_after names line plain space = line space tt
-plain_line command told (Certificate trouble text) status before after faults faults_after names line plain space =
-    any_space names.0 space status before after faults faults_after plain (line names.0 names.2)
+no_memory_names : (a b : LineNames) (status : Status) (before after : Option (List ℕ)) (faults faults_after : ℕ) → status ≡ WantOfMemory → HasErrorLine a status before after faults faults_after
+    → HasErrorLine b status before after faults faults_after
+no_memory_names a b status before after faults faults_after memory h = any_names a b status before after faults faults_after (subst NamesNothing (sym memory) tt) h
+
+-- what is put for a refusal, by what its line names
+abbrev PutFor : CommandRefusal → Status → Option (List ℕ) → Option (List ℕ) → ℕ → ℕ → Type 0
+PutFor r status before after faults faults_after = (names : LineNames) → HasNames names r → HasErrorLine names status before after faults faults_after
+
+pair_line : (words : List (List ℕ)) (told : Option Files) (command : Command) (tensor : ArrayString) (trouble : SymTrouble) (status : Status) (before after : Option (List ℕ)) (faults faults_after : ℕ) → IsCommand words command
+    → ForSome told (λ files. IsCommandRefusal files command (Common (Symmetry tensor trouble))) → PutFor (Common (Symmetry tensor trouble)) status before after faults faults_after → Kept (Common (Symmetry tensor trouble)) status
+    → (names : LineNames) → IsTensorOf words told status names.tensor → HasErrorLine names status before after faults faults_after
+pair_line words told command tensor trouble status before after faults faults_after is refused line (inl kept) names of =
+    let due : IsTensorOf words told (SymRefused trouble) names.tensor = subst (λ s. IsTensorOf words told s names.tensor) kept of in
+    line names (words_tensor words told command names.tensor tensor trouble is refused due)
+pair_line words told command tensor trouble status before after faults faults_after is refused line (inr memory) names of =
+    let put : LineNames = record { space = names.space; tensor = tensor.bytes } in
+    no_memory_names put names status before after faults faults_after memory.0 (line put refl)
+
+-- a certificate's refusal whose status names no index is want of memory
+not_kept : (trouble : CertTrouble) (status : Status) (A : Type 0) → NamesNoIndex status → status ≡ CertRefused trouble → A
+not_kept trouble status A plain kept = absurd (subst NamesNoIndex kept plain)
+
+certificate_line : (space : IndexSpace) (trouble : CertTrouble) (text : TroubleLine) (status : Status) (before after : Option (List ℕ)) (faults faults_after : ℕ) → text.text.bytes ≡ cert_line space trouble
+    → PutFor (Certificate trouble text) status before after faults faults_after → NamesNoIndex status → Kept (Certificate trouble text) status → (names : LineNames)
+    → HasErrorLine names status before after faults faults_after
+certificate_line space trouble text status before after faults faults_after is line plain (inl kept) names = not_kept trouble status _ plain kept
+certificate_line space trouble text status before after faults faults_after is line plain (inr memory) names =
+    let own : LineNames = record { space = space; tensor = [] } in
+    no_memory_names own names status before after faults faults_after memory.0 (line own is)
+
+pub plain_line : (words : List (List ℕ)) (command : Command) (told : Option Files) (r : CommandRefusal) (status : Status) (before after : Option (List ℕ)) (faults faults_after : ℕ)
+    → IsCommand words command → ForSome told (λ files. IsCommandRefusal files command r) → NamesItsIndexes command told r → PutFor r status before after faults faults_after → NamesNoIndex status → Kept r status
+    → (names : LineNames) → IsTensorOf words told status names.tensor → HasErrorLine names status before after faults faults_after
+plain_line words command told (Certificate trouble text) status before after faults faults_after is refused own line plain kept names of =
+    certificate_line own.0 trouble text status before after faults faults_after own.2 line plain kept names
+plain_line words command told (Common (Symmetry tensor trouble)) status before after faults faults_after is refused own line plain kept names of =
+    pair_line words told command tensor trouble status before after faults faults_after is refused line kept names of
+plain_line words command told (Common (Specification fault)) status before after faults faults_after is refused own line plain kept names of = line names tt
+plain_line words command told (Common (Missing name)) status before after faults faults_after is refused own line plain kept names of = line names tt
+plain_line words command told (Common (Array name fault)) status before after faults faults_after is refused own line plain kept names of = line names tt
+plain_line words command told (Common (Budget n)) status before after faults faults_after is refused own line plain kept names of = line names tt
+plain_line words command told (Common (Intermediates n)) status before after faults faults_after is refused own line plain kept names of = line names tt
+plain_line words command told (Common (Flat n)) status before after faults faults_after is refused own line plain kept names of = line names tt
+plain_line words command told (Common (Tensor name)) status before after faults faults_after is refused own line plain kept names of = line names tt
+plain_line words command told (Common (Misfit n)) status before after faults faults_after is refused own line plain kept names of = line names tt
+plain_line words command told (Common (Einsum trouble)) status before after faults faults_after is refused own line plain kept names of = line names tt
+plain_line words command told (Common Disk) status before after faults faults_after is refused own line plain kept names of = line names tt
+plain_line words command told (Common Memory) status before after faults faults_after is refused own line plain kept names of = line names tt
 
 -- the line of a refused certificate
 abbrev CertLine : Command → Option Files → Status → Option (List ℕ) → Option (List ℕ) → ℕ → ℕ → Type 0
 CertLine command told status before after faults faults_after =
-    (space : IndexSpace) × ForSome told (λ files. HasIndexes files command space) × HasErrorLine space status before after faults faults_after
+    (names : LineNames) × ForSome told (λ files. HasIndexes files command names.space) × HasErrorLine names status before after faults faults_after
 
 no_cert : (r : CommandRefusal) (trouble : CertTrouble) → NamesNoIndex (ending_of r) → ending_of r ≡ CertRefused trouble → ⊥
 no_cert r trouble plain e = subst NamesNoIndex e plain
@@ -115,17 +165,18 @@ kept_cert : (r : CommandRefusal) (status : Status) (trouble : CertTrouble) → K
 kept_cert r status trouble (inl kept) e = sym kept ∙ e
 kept_cert r status trouble (inr memory) e = let f : WantOfMemory ≡ CertRefused trouble = sym memory.0 ∙ e in absurd (cc)
 
-pub cert_line : (command : Command) (told : Option Files) (r : CommandRefusal) (status : Status) (trouble : CertTrouble) (before after : Option (List ℕ)) (faults faults_after : ℕ) → NamesItsIndexes command told r
-    → ((space : IndexSpace) → IsWrittenOver space r → HasErrorLine space status before after faults faults_after) → Kept r status → status ≡ CertRefused trouble
-    → CertLine command told status before after faults faults_after
-cert_line command told (Common r) status trouble before after faults faults_after names line kept e =
+pub cert_lines : (command : Command) (told : Option Files) (r : CommandRefusal) (status : Status) (trouble : CertTrouble) (before after : Option (List ℕ)) (faults faults_after : ℕ) → NamesItsIndexes command told r
+    → PutFor r status before after faults faults_after → Kept r status → status ≡ CertRefused trouble → CertLine command told status before after faults faults_after
+cert_lines command told (Common r) status trouble before after faults faults_after own line kept e =
     absurd (no_cert (Common r) trouble (is_plain r).plain (kept_cert (Common r) status trouble kept e))
-cert_line command told (Certificate own text) status trouble before after faults faults_after names line kept e = (names.0, names.1, line names.0 names.2)
+cert_lines command told (Certificate held text) status trouble before after faults faults_after own line kept e =
+    let names : LineNames = record { space = own.0; tensor = [] } in
+    (names, own.1, line names own.2)
 
 pub named_line : (words : List (List ℕ)) (command : Command) (told : Option Files) (status : Status) (before after : Option (List ℕ)) (faults faults_after : ℕ) → IsCommand words command
-    → CertLine command told status before after faults faults_after → (space : IndexSpace) × AreNamed words told space × HasErrorLine space status before after faults faults_after
+    → CertLine command told status before after faults faults_after → (names : LineNames) × AreNamed words told names.space × HasErrorLine names status before after faults faults_after
 named_line words command told status before after faults faults_after is line =
-    (line.0, (λ other words_are files tells. subst (λ k. HasIndexes files k line.0) (sym (one_command words command other is words_are)) (line.1 files tells)), line.2)
+    (line.0, (λ other words_are files tells. subst (λ k. HasIndexes files k line.0.space) (sym (one_command words command other is words_are)) (line.1 files tells)), line.2)
 
 -- A run, whole.
 

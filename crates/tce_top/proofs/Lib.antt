@@ -1,3 +1,4 @@
 pub mod Joined
 pub mod Demonstrations
 pub mod Left
+pub mod Expansions

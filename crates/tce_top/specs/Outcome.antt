@@ -1,5 +1,5 @@
 -- What the program leaves.
-use Rattle.std.specs.Prelude.{◌≡◌, ◌≤◌, ℕ, List, [], ◌∷◌, ◌++◌, Option}
+use Rattle.std.specs.Prelude.{◌≡◌, ◌≤◌, ⊤, ℕ, List, [], ◌∷◌, ◌++◌, Option, Some}
 use Rattle.tce_outside.specs.Files.{Files, with_file}
 use Rattle.tce_space.specs.Space.{IndexSpace}
 use Rattle.tce_array.specs.declared.form.Form.TheVariants.{One}
@@ -14,7 +14,9 @@ use Rattle.tce_result.specs.TensorFiles.{file_of}
 use Rattle.tce_result.specs.ResultBytes.{result_bytes}
 use Rattle.tce_takings.specs.Takings.{tile_take}
 use Rattle.tce_source.specs.Source.{HasSpecification}
-use Rattle.tce_command.specs.Command.{Command, demo, IsCommand}
+use Rattle.tce_command.specs.Command.{Command, demo, expand, IsCommand}
+use Rattle.tce_command.specs.declared.status.Status.{Status}
+use Rattle.tce_command.specs.declared.status.Status.TheVariants.{SymRefused}
 use Rattle.tce_top.specs.Performed.{IsDone, HasIndexes}
 use Rattle.tce_top.specs.Cause.{Told}
 
@@ -35,6 +37,11 @@ pub record IsWholeRun (spec : List ℕ) (budget : ℕ) (files after : Files) (ta
       ≡ put ++ run_text specification.declarations.space specification.tree (stated plan) (tile_take specification budget) (file_of specification specification.result) (form_len One (shape_of specification specification.result))
   pub taken_is : taken_after ≡ taken ++ (plan.memory, tile_take specification budget) ∷ []
   pub within : tile_take specification budget ≤ budget
+
+-- where the status is that of a refused file of stored pairs, the disk tells its files and the words are those of the expansion of this tensor
+abbrev pub IsTensorOf : List (List ℕ) → Option Files → Status → List ℕ → Type 0
+IsTensorOf words told (SymRefused trouble) tensor = ((files : Files) × (told ≡ Some files)) × ((spec : List ℕ) × IsCommand words (expand spec tensor))
+IsTensorOf words told status tensor = ⊤
 
 -- the words are those of a demonstration
 abbrev pub IsDemonstration : List (List ℕ) → Type 0

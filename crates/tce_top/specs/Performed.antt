@@ -5,11 +5,10 @@ use Rattle.tce_outside.specs.Files.{Files, others}
 use Rattle.tce_space.specs.Space.{IndexSpace}
 use Rattle.tce_spec.specs.Specification.{Specification}
 use Rattle.tce_source.specs.Source.{HasSpecification}
-use Rattle.tce_command.specs.Command.{Command, run, plan, cert, check, pack, unpack, convert, demo}
-use Rattle.tce_command.specs.Report.{line_over}
+use Rattle.tce_command.specs.Command.{Command, run, plan, cert, check, pack, unpack, convert, expand, demo}
+use Rattle.tce_command.specs.Report.{cert_line}
 use Rattle.tce_command.specs.Refusals.{IsFree}
 use Rattle.tce_command.specs.CommandRefusals.{MayReplace, OnCommon}
-use Rattle.tce_command.specs.declared.status.Status.TheVariants.{CertRefused}
 use Rattle.tce_command.specs.declared.refusal.Refusal.TheVariants.{Disk}
 use Rattle.tce_command.specs.declared.command_refusal.CommandRefusal.{CommandRefusal}
 use Rattle.tce_command.specs.declared.command_refusal.CommandRefusal.TheVariants.{Common, Certificate}
@@ -22,8 +21,8 @@ use Rattle.tce_certify.specs.Refusals.{CanCertify, IsCertifyRefusal}
 use Rattle.tce_verify.specs.Done.{CanVerify, IsVerified}
 use Rattle.tce_verify.specs.Refusals.{IsVerifyRefusal}
 use Rattle.tce_flat.specs.Tensors.{array_file, converted_file}
-use Rattle.tce_flat.specs.Refusals.{CanPack, CanUnpack, CanConvert, IsPackRefusal, IsUnpackRefusal, IsConvertRefusal}
-use Rattle.tce_flat.specs.Done.{IsPacked, IsUnpacked, IsConverted}
+use Rattle.tce_flat.specs.Refusals.{CanPack, CanUnpack, CanConvert, CanExpand, IsPackRefusal, IsUnpackRefusal, IsConvertRefusal, IsExpandRefusal}
+use Rattle.tce_flat.specs.Done.{IsPacked, IsUnpacked, IsConverted, IsExpanded}
 use Rattle.tce_example.specs.Files.{DemoOthersStay}
 use Rattle.tce_demo.specs.Done.{IsDemonstrated, IsDemoTaking}
 
@@ -36,6 +35,7 @@ CanDo files (check spec file) = CanVerify files spec file
 CanDo files (pack spec tensor flat) = CanPack files spec tensor flat
 CanDo files (unpack spec tensor flat) = CanUnpack files spec tensor
 CanDo files (convert spec tensor form) = CanConvert files spec tensor form
+CanDo files (expand spec tensor) = CanExpand files spec tensor
 CanDo files (demo seed v o) = ⊤
 
 -- why the command is refused; a demonstration is refused where the disk fails or memory is wanting alone
@@ -47,6 +47,7 @@ IsCommandRefusal files (check spec file) refusal = IsVerifyRefusal files spec fi
 IsCommandRefusal files (pack spec tensor flat) refusal = OnCommon (IsPackRefusal files spec tensor flat) refusal
 IsCommandRefusal files (unpack spec tensor flat) refusal = OnCommon (IsUnpackRefusal files spec tensor) refusal
 IsCommandRefusal files (convert spec tensor form) refusal = OnCommon (IsConvertRefusal files spec tensor form) refusal
+IsCommandRefusal files (expand spec tensor) refusal = OnCommon (IsExpandRefusal files spec tensor) refusal
 IsCommandRefusal files (demo seed v o) refusal = OnCommon IsFree refusal
 
 -- the command is done, with this report
@@ -58,6 +59,7 @@ IsDone (check spec file) before after taken taken_after report = ForSome before 
 IsDone (pack spec tensor flat) before after taken taken_after report = IsPacked before after spec tensor flat report × (taken_after ≡ taken)
 IsDone (unpack spec tensor flat) before after taken taken_after report = IsUnpacked before after spec tensor flat report × (taken_after ≡ taken)
 IsDone (convert spec tensor form) before after taken taken_after report = IsConverted before after spec tensor form report × (taken_after ≡ taken)
+IsDone (expand spec tensor) before after taken taken_after report = IsExpanded before after spec tensor report × (taken_after ≡ taken)
 IsDone (demo seed v o) before after taken taken_after report = IsDemonstrated before after taken taken_after seed v o report
 
 -- all files stay but this one
@@ -73,6 +75,7 @@ OthersStay (check spec file) before after = after ≡ before
 OthersStay (pack spec tensor flat) before after = StayBut (array_file tensor) before after
 OthersStay (unpack spec tensor flat) before after = StayBut flat before after
 OthersStay (convert spec tensor form) before after = StayBut (converted_file tensor) before after
+OthersStay (expand spec tensor) before after = StayBut (array_file tensor) before after
 OthersStay (demo seed v o) before after = DemoOthersStay before after
 
 -- the takings are as they were, or a run or a demonstration took once
@@ -93,5 +96,5 @@ HasIndexes files command space = ⊥
 
 -- the line of a refused certificate names the indexes of that specification
 abbrev pub NamesItsIndexes : Command → Option Files → CommandRefusal → Type 0
-NamesItsIndexes command told (Certificate trouble line) = (space : IndexSpace) × ForSome told (λ files. HasIndexes files command space) × (line.text.bytes ≡ line_over space (CertRefused trouble))
+NamesItsIndexes command told (Certificate trouble line) = (space : IndexSpace) × ForSome told (λ files. HasIndexes files command space) × (line.text.bytes ≡ cert_line space trouble)
 NamesItsIndexes command told (Common refusal) = ⊤

@@ -2,11 +2,18 @@
 //!
 //! [`tce`] does all that the program does. Its contract says when each [`Status`] comes and what it leaves on the disk,
 //! on the sink and in the room. What a command needs, why it is refused and what it leaves stands for each command in
-//! `specs/Performed.antt`.
+//! `specs/Performed.antt`. All that a status holds is exported beside it.
 #![tactic(auto)]
 
 mod perform;
 mod top;
 
-pub use tce_command::Status;
+pub use tce_array::ArrayFault;
+pub use tce_cert::CertFault;
+pub use tce_check::Verdict;
+pub use tce_command::{CertTrouble, EinsumTrouble, Status, SymTrouble};
+pub use tce_declarations::{Limit, SpecFault};
+pub use tce_nesting::Nesting;
+pub use tce_space::{FileName, IndexSet, Name};
+pub use tce_tree::TreeFault;
 pub use top::tce;

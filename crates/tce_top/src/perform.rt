@@ -11,7 +11,7 @@ use std::alloc::Global;
 use tce_certify::certify;
 use tce_command::{Command, CommandRefusal, Refusal};
 use tce_demo::demo;
-use tce_flat::{convert, pack, unpack};
+use tce_flat::{convert, expand, pack, unpack};
 use tce_outside::Disk;
 use tce_plan::plan;
 use tce_run::run;
@@ -49,6 +49,7 @@ pub fn perform<D: Disk, R: Room>(
         Command::Convert { spec, tensor, form } => Ok(convert(
             alloc, spec, tensor, form, disk,
         )?.into_bytes()),
+        Command::Expand { spec, tensor } => Ok(expand(alloc, spec, tensor, disk)?.into_bytes()),
         Command::Demo { seed, v, o } => Ok(demo(alloc, seed, v, o, disk, room)?.into_bytes()),
     }
 }

@@ -1,16 +1,15 @@
 // The top call.
 ghost use Rattle.std.specs.Prelude.{◌≡◌, ◌⊎◌, ℕ, List, Some, map};
 ghost use Rattle.std.specs.String.{string_bytes};
-ghost use Rattle.tce_space.specs.Space.{IndexSpace};
 ghost use Rattle.tce_outside.specs.Fault.{HasCause};
 ghost use Rattle.tce_outside.specs.Files.{Files};
 ghost use Rattle.tce_command.specs.Command.{run, IsCommand, IsNoCommand};
-ghost use Rattle.tce_command.specs.Report.{NamesNoIndex};
+ghost use Rattle.tce_command.specs.Report.{LineNames, NamesNoIndex};
 ghost use Rattle.tce_command.specs.declared.trouble.CertTrouble.{CertTrouble};
 ghost use Rattle.tce_command.specs.Outcome.{Answers, Grew, GrewWithin, HasErrorLine, HasLine, IsFault, IsRefusal};
 ghost use Rattle.tce_top.specs.Performed.{MayTake, OthersStay};
 ghost use Rattle.tce_top.specs.Cause.{IsCause, OfCommand, Told};
-ghost use Rattle.tce_top.specs.Outcome.{AreNamed, IsDemonstration, IsFinished, IsWholeRun};
+ghost use Rattle.tce_top.specs.Outcome.{AreNamed, IsDemonstration, IsFinished, IsTensorOf, IsWholeRun};
 
 use crate::perform::perform;
 use std::alloc::Global;
@@ -50,9 +49,10 @@ pub fn tce<D: Disk, K: Sink, R: Room>(
     // What each outcome leaves.
     ensures unchanged { IsRefusal result → (D.files disk.new ≡ D.files disk.old) × (R.takings room.new ≡ R.takings room.old) }
     ensures untouched { IsNoCommand (map string_bytes words.now) → (D.files disk.new ≡ D.files disk.old) × (R.takings room.new ≡ R.takings room.old) }
-    ensures line { HasLine result → NamesNoIndex result → (space : IndexSpace) → HasErrorLine space result (K.bytes out.old) (K.bytes out.new) (K.faults out.old) (K.faults out.new) }
+    ensures line { HasLine result → NamesNoIndex result → (names : LineNames) → IsTensorOf (map string_bytes words.now) (D.files disk.old) result names.tensor
+        → HasErrorLine names result (K.bytes out.old) (K.bytes out.new) (K.faults out.old) (K.faults out.new) }
     ensures cert_line { (trouble : CertTrouble) → result ≡ Status.CertRefused trouble
-        → (space : IndexSpace) × AreNamed (map string_bytes words.now) (D.files disk.old) space × HasErrorLine space result (K.bytes out.old) (K.bytes out.new) (K.faults out.old) (K.faults out.new) }
+        → (names : LineNames) × AreNamed (map string_bytes words.now) (D.files disk.old) names.space × HasErrorLine names result (K.bytes out.old) (K.bytes out.new) (K.faults out.old) (K.faults out.new) }
     ensures cut_short { result ≡ Status.SinkFault → (report : List ℕ)
         × IsFinished (map string_bytes words.now) (D.files disk.old) (D.files disk.new) (R.takings room.old) (R.takings room.new) report
         × GrewWithin report (K.bytes out.old) (K.bytes out.new) }

@@ -1,8 +1,8 @@
 -- What is answered to two files.
-use Rattle.std.proofs.Common.{◌≡◌, sym, ap, subst, ◌∙◌, ◌≤◌, inl, inr, ℕ, List, Option, Some, Result, Err, arith}
+use Rattle.std.proofs.Common.{◌≡◌, sym, ap, subst, ◌∙◌, ◌≤◌, inl, inr, ℕ, List, Option, Some, Result, Ok, Err, arith}
 use Rattle.std.specs.Option.{ForSome}
 use Rattle.tce_outside.specs.Files.{Files, file}
-use Rattle.tce_outside.specs.Fault.{Rose, HasCause}
+use Rattle.tce_outside.specs.Fault.{Rose, HasCause, TellsFaults}
 use Rattle.tce_spec.specs.Specification.{Specification}
 use Rattle.tce_source.specs.Source.{HasSpecification, IsSourceRefusal}
 use Rattle.tce_command.specs.declared.refusal.Refusal.{Refusal}
@@ -58,3 +58,16 @@ rose_since first middle last before (inr end) = inr end
 pub cause_since : (first middle last : ℕ) (A B : Type 0) → first ≤ middle → (B → A) → HasCause middle last A → HasCause first last B
 cause_since first middle last A B before from cause =
     record { later = omega (arith, before, cause.later); rose = λ failed. rose_since first middle last before (cause.rose (from failed)) }
+
+-- a later call tells its faults, and the first had none
+pub told_since : {A B : Type 0} (first middle last : ℕ) → middle ≡ first → TellsFaults middle last A → (A → B) → TellsFaults first last B
+told_since first middle last same told covers = λ none. told (λ a. none (covers a)) ∙ same
+
+pub as_disk : {T : Type 0} (r : Result T CommandRefusal) (y : CommandRefusal) (a : Refusal) → r ≡ Err y → y ≡ Common a → a ≡ Disk → r ≡ Err (Common Disk)
+as_disk r y a p q e = p ∙ ap Err (q ∙ ap Common e)
+
+pub is_err_disk : {U : Type 0} (a : Refusal) (given : Result U Refusal) → given ≡ Err a → given ≡ Err Disk → a ≡ Disk
+is_err_disk a given p q = let same : Err a ≡ Err Disk = sym p ∙ q in cc
+
+pub ok_no_disk : {U : Type 0} (x : U) (given : Result U Refusal) → given ≡ Ok x → given ≡ Err Disk → ⊥
+ok_no_disk x given p q = let same : Ok x ≡ Err Disk = sym p ∙ q in absurd (cc)

@@ -2,7 +2,7 @@
 ghost use Rattle.std.specs.Prelude.{◌≡◌, Err, IfOk, IfErr};
 ghost use Rattle.std.specs.Option.{ForSome};
 ghost use Rattle.std.specs.String.{string_bytes};
-ghost use Rattle.tce_outside.specs.Fault.{HasCause};
+ghost use Rattle.tce_outside.specs.Fault.{HasCause, TellsFaults};
 ghost use Rattle.tce_command.specs.Command.{NamesCertificate, NamesSpec};
 ghost use Rattle.tce_verify.specs.Done.{IsVerified, report_text};
 ghost use Rattle.tce_verify.specs.Refusals.{IsVerifyRefusal, IsWrittenFor};
@@ -31,6 +31,7 @@ pub fn verify<D: Disk>(
     ensures line { IfErr result (λ refusal. IsWrittenFor (D.files disk.old) spec.now refusal) }
     ensures unchanged { D.files disk.new ≡ D.files disk.old }
     ensures cause { HasCause (D.faults disk.old) (D.faults disk.new) (result ≡ Err (CommandRefusal.Common Refusal.Disk)) }
+    ensures told { TellsFaults (D.faults disk.old) (D.faults disk.new) (result ≡ Err (CommandRefusal.Common Refusal.Disk)) }
 {
     let source = read_source(alloc, disk, spec)?;
     let text = read_file(alloc, disk, cert)?;

@@ -2,7 +2,7 @@
 ghost use Rattle.std.specs.Prelude.{◌≡◌, ◌≤◌, length, Some, Err, IfOk, IfErr};
 ghost use Rattle.std.specs.Option.{ForSome};
 ghost use Rattle.tce_outside.specs.Files.{file};
-ghost use Rattle.tce_outside.specs.Fault.{HasCause};
+ghost use Rattle.tce_outside.specs.Fault.{HasCause, TellsFaults};
 ghost use Rattle.tce_verify.specs.Refusals.{IsUnread};
 
 use std::alloc::Global;
@@ -16,6 +16,7 @@ pub fn read_file<D: Disk>(alloc: Global, disk: &mut D, name: &str) -> Result<Vec
     ensures refused { IfErr result (λ refusal. ForSome (D.files disk.old) (λ files. IsUnread name.now (file files name.now) refusal)) }
     ensures same { D.files disk.new ≡ D.files disk.old }
     ensures cause { HasCause (D.faults disk.old) (D.faults disk.new) (result ≡ Err Refusal.Disk) }
+    ensures told { TellsFaults (D.faults disk.old) (D.faults disk.new) (result ≡ Err Refusal.Disk) }
 {
     let Ok(size) = disk.size(name) else {
         return Err(Refusal::Disk);

@@ -1,4 +1,5 @@
 use Rattle.std.specs.String.{string_bytes}
+use Rattle.tce_demo.proofs.AsRun.{all_of_demo, memory_of_demo}
 use Rattle.tce_demo.proofs.Ran.{all_done, demo_takings}
 use Rattle.tce_demo.proofs.command.demo.Goals as goal
 
@@ -10,3 +11,9 @@ returns-clause-done g c =
 pub returns-clause-takings : goal.returns-clause-takings
 returns-clause-takings g c =
     demo_takings c.demonstrate.result c.in-Ok.made.spec c.args.v c.args.o (g.R.Room.takings c.args.room.now) (g.R.Room.takings c.demonstrate.new.room) c.in-Ok.ensures.spec c.requires.v c.requires.o c.demonstrate.ensures.takings
+
+pub returns-in_default-clause-as_run : goal.returns-in_default-clause-as_run
+returns-in_default-clause-as_run g c = memory_of_demo c.args.v c.args.o c.requires.v c.requires.o
+
+pub returns-clause-as_run : goal.returns-clause-as_run
+returns-clause-as_run g c = all_of_demo c.demonstrate.result c.in-Ok.made.spec c.args.v c.args.o c.in-Ok.ensures.spec c.requires.v c.requires.o c.demonstrate.ensures.as_run

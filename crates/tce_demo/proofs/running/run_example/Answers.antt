@@ -3,11 +3,14 @@ use Rattle.tce_demo.proofs.Affordable.{affordable}
 use Rattle.tce_demo.proofs.Ran.{room_left}
 use Rattle.tce_demo.proofs.running.run_example.Goals as goal
 
-pub refusal_of-requires : goal.refusal_of-requires
-refusal_of-requires g c = names_declared (g.D.Disk.files c.args.disk.now) c.args.spec.now 16384 c.in-Err.fault c.in-Err.ensures.refused
+pub run_refusal-requires : goal.run_refusal-requires
+run_refusal-requires g c = names_declared (g.D.Disk.files c.args.disk.now) c.args.spec.now 16384 c.in-Err.fault c.in-Err.ensures.refused
 
 pub returns-in-Err-clause-refused : goal.returns-in-Err-clause-refused
-returns-in-Err-clause-refused g c = λ files told. c.refusal_of.ensures.free (c.in-Err.ensures.granted files told (record { affordable = affordable c.args.spec.now c.requires.spec; operands = c.requires.operands files told }))
+returns-in-Err-clause-refused g c = λ files told. c.run_refusal.ensures.free (c.in-Err.ensures.granted files told (record { affordable = affordable c.args.spec.now c.requires.spec; operands = c.requires.operands files told }))
+
+pub returns-in-Err-clause-as_run : goal.returns-in-Err-clause-as_run
+returns-in-Err-clause-as_run g c = (c.in-Err.fault, c.run_refusal.ensures.told)
 
 pub returns-in-Err-clause-takings : goal.returns-in-Err-clause-takings
-returns-in-Err-clause-takings g c = room_left c.in-Err.fault c.refusal_of.result c.args.spec.now 16384 _ _ c.refusal_of.ensures.free c.in-Err.ensures.takings
+returns-in-Err-clause-takings g c = room_left c.in-Err.fault c.run_refusal.result c.args.spec.now 16384 _ _ c.run_refusal.ensures.free c.in-Err.ensures.takings

@@ -7,6 +7,9 @@ use Rattle.tce_top.proofs.Joined.{done_can, done_takes, done_cause, done_answers
 use Rattle.tce_top.proofs.Left as left
 use Rattle.tce_top.proofs.top.tce.Goals as goal
 
+pub returns-in_default-clause-line : goal.returns-in_default-clause-line
+returns-in_default-clause-line g c = λ has plain names of. c.refuse_words.ensures.line names
+
 pub returns-in-Ok-clause-run : goal.returns-in-Ok-clause-run
 returns-in-Ok-clause-run g c = λ done spec budget is files put told sink.
     let same = one_command _ _ (run spec budget) c.in-Some.ensures is in
@@ -33,6 +36,11 @@ pub returns-in-Ok-clause-takings : goal.returns-in-Ok-clause-takings
 returns-in-Ok-clause-takings g c = λ command is.
     let same = one_command _ _ command c.in-Some.ensures is in
     subst (λ k. MayTake k (g.D.Disk.files c.args.disk.now) (g.R.Room.takings c.args.room.now) (g.R.Room.takings c.perform.new.room)) (sym same) (done_takes _ _ _ _ _ _ c.in-Ok.ensures.done)
+
+pub returns-in-Ok-clause-others : goal.returns-in-Ok-clause-others
+returns-in-Ok-clause-others g c = λ command is.
+    let same = one_command _ _ command c.in-Some.ensures is in
+    subst (λ k. OthersStay k (g.D.Disk.files c.args.disk.now) (g.D.Disk.files c.perform.new.disk)) (sym same) c.perform.ensures.others
 
 pub returns-in-Err-clause-cause : goal.returns-in-Err-clause-cause
 returns-in-Err-clause-cause g c = λ command is files told.
@@ -67,9 +75,9 @@ returns-in-Err-clause-others g c = λ command is.
     subst (λ k. OthersStay k (g.D.Disk.files c.args.disk.now) (g.D.Disk.files c.perform.new.disk)) (sym same) c.perform.ensures.others
 
 pub returns-in-Err-clause-line : goal.returns-in-Err-clause-line
-returns-in-Err-clause-line g c = λ has plain. left.plain_line _ _ c.in-Err.refusal c.refuse.result _ _ _ _ c.in-Err.ensures.line c.refuse.ensures.line plain
+returns-in-Err-clause-line g c = λ has plain. left.plain_line _ _ _ c.in-Err.refusal c.refuse.result _ _ _ _ c.in-Some.ensures c.in-Err.ensures.refused c.in-Err.ensures.line c.refuse.ensures.line plain c.refuse.ensures.kept
 
 pub returns-in-Err-clause-cert_line : goal.returns-in-Err-clause-cert_line
 returns-in-Err-clause-cert_line g c = λ trouble e.
     left.named_line _ _ _ _ _ _ _ _ c.in-Some.ensures
-    (left.cert_line _ _ c.in-Err.refusal c.refuse.result trouble _ _ _ _ c.in-Err.ensures.line c.refuse.ensures.line c.refuse.ensures.kept e)
+    (left.cert_lines _ _ c.in-Err.refusal c.refuse.result trouble _ _ _ _ c.in-Err.ensures.line c.refuse.ensures.line c.refuse.ensures.kept e)

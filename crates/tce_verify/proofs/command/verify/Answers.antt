@@ -1,8 +1,8 @@
-use Rattle.std.proofs.Common.{◌∙◌, ap, sym, subst, inr, ℕ, List, Err}
+use Rattle.std.proofs.Common.{refl, ◌∙◌, ap, sym, subst, inr, ℕ, List, Err}
 use Rattle.std.proofs.lemmas.Result.{err_from_is_err_and}
 use Rattle.tce_command.specs.declared.command_refusal.CommandRefusal.{CommandRefusal}
 use Rattle.tce_verify.specs.Judging.{IsAcceptedText, IsJudgement}
-use Rattle.tce_verify.proofs.Judged.{judged, written_for, verified, no_fault, is_disk, is_given, cause_since}
+use Rattle.tce_verify.proofs.Judged.{judged, written_for, verified, no_fault, is_disk, is_given, cause_since, told_since, as_disk, is_err_disk, ok_no_disk}
 use Rattle.tce_verify.proofs.command.verify.Goals as goal
 
 pub returns-in_err-text-clause-refused : goal.returns-in_err-text-clause-refused
@@ -19,6 +19,12 @@ pub returns-in_err-text-clause-cause : goal.returns-in_err-text-clause-cause
 returns-in_err-text-clause-cause g c =
     let p = err_from_is_err_and c.from_residual-in_err-text.result c.from_residual-in_err-text.ensures.1 in
     cause_since _ _ _ _ _ c.in_ok-source.ensures.cause.later (λ failed. ap Err (is_disk c.from_residual-in_err-text.result p.0 _ p.1 p.2 failed)) c.in_err-text.ensures.cause
+
+pub returns-in_err-text-clause-told : goal.returns-in_err-text-clause-told
+returns-in_err-text-clause-told g c =
+    let p = err_from_is_err_and c.from_residual-in_err-text.result c.from_residual-in_err-text.ensures.1 in
+    told_since _ _ _ (c.in_ok-source.ensures.told (ok_no_disk _ _ refl)) c.in_err-text.ensures.told
+    (λ e. as_disk c.from_residual-in_err-text.result p.0 _ p.1 p.2 (is_err_disk _ _ refl e))
 
 pub returns-in_err-memory-clause-refused : goal.returns-in_err-memory-clause-refused
 returns-in_err-memory-clause-refused g c =

@@ -1,0 +1,66 @@
+// A tensor of a known shape, expanded from the elements that are stored once for each pair.
+ghost use Rattle.std.specs.Prelude.{◌≡◌, ◌≢◌, ◌⊎◌, ◌≤◌, Err, IfOk, IfErr, length};
+ghost use Rattle.std.specs.Option.{ForSome};
+ghost use Rattle.std.specs.String.{string_bytes};
+ghost use Rattle.tce_outside.specs.Files.{others};
+ghost use Rattle.tce_outside.specs.Fault.{HasCause};
+ghost use Rattle.tce_command.specs.Refusals.{IsFree};
+ghost use Rattle.tce_flat.specs.Tensors.{array_file, sym_file};
+ghost use Rattle.tce_flat.specs.Refusals.{IsSymRefusal};
+ghost use Rattle.tce_flat.specs.Done.{IsExpanding};
+ghost use Rattle.tce_flat.specs.Tools.{SymStands};
+
+use crate::naming::{file_of, report};
+use std::alloc::Global;
+use tce_array::{Form, form_len};
+use tce_command::{Refusal, SymTrouble};
+use tce_outside::{Disk, OutFault};
+use tce_space::{Name, Shape};
+use tce_sym::{SymFault, open_sym};
+
+// The refusal of a tensor whose stored elements are refused.
+fn sym_refusal(fault: SymFault, tensor: &str, packed: &str) -> Refusal
+    requires tensor { length tensor.now ≤ 16 }
+    requires packed { packed.now ≡ sym_file tensor.now }
+    ensures { SymStands tensor.now fault result }
+{
+    let mut name = Name::new();
+    name.push_str(tensor);
+    match fault {
+        SymFault::NoFile => Refusal::missing(packed),
+        SymFault::BadLength(len) => Refusal::Symmetry(name, SymTrouble::BadLength(len)),
+        SymFault::BadHeader(place) => Refusal::Symmetry(name, SymTrouble::BadHeader(place)),
+        SymFault::Disk => Refusal::Disk,
+    }
+}
+
+/// Expands a tensor.
+pub fn expand_tensor<D: Disk>(
+    alloc: Global,
+    shape: &Shape,
+    tensor: &str,
+    disk: &mut D,
+) -> Result<String, Refusal>
+    requires { length tensor.now ≤ 16 }
+    ensures done { IfOk result (λ report. IsExpanding (D.files disk.old) (D.files disk.new) shape.now tensor.now (string_bytes report)) }
+    ensures refused { IfErr result (λ refusal. ForSome (D.files disk.old) (λ files. IsFree refusal ⊎ IsSymRefusal files tensor.now shape.now refusal)) }
+    ensures unchanged { IfErr result (λ refusal. refusal ≢ Refusal.Disk → D.files disk.new ≡ D.files disk.old) }
+    ensures others { others (array_file tensor.now) (D.files disk.new) ≡ others (array_file tensor.now) (D.files disk.old) }
+    ensures cause { HasCause (D.faults disk.old) (D.faults disk.new) (result ≡ Err Refusal.Disk) }
+{
+    let packed = file_of(tensor, ".sym");
+    let array = file_of(tensor, ".tca");
+    let len = form_len(Form::One, shape);
+    let Ok(text) = report(alloc, "expand", array.as_str(), len) else {
+        return Err(Refusal::Memory);
+    };
+    let s = match open_sym(disk, packed.as_str(), shape) {
+        Ok(s) => s,
+        Err(fault) => return Err(sym_refusal(fault, tensor, packed.as_str())),
+    };
+    match tce_sym::expand(disk, shape, &s, packed.as_str(), array.as_str()) {
+        Ok(()) => Ok(text),
+        Err(OutFault::Failed) => Err(Refusal::Disk),
+        Err(OutFault::Memory) => Err(Refusal::Memory),
+    }
+}

@@ -1,0 +1,4 @@
+pub mod Storage
+pub mod Faults
+pub mod Laws
+pub mod Lines
