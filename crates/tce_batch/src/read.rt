@@ -1,0 +1,104 @@
+//! The reader of several formulas.
+
+ghost use Rattle.std.specs.Prelude.{◌≡◌, ◌+◌, ◌<◌, ◌^◌, ◌∷◌, ◌++◌, List, map, All, IfOk, IfErr, OnOk, Result, length};
+ghost use Rattle.tce_grammar.specs.Lines.{lines};
+ghost use Rattle.tce_grammar.specs.Reading.{line_of};
+ghost use Rattle.tce_declarations.specs.Faults.{Fault};
+ghost use Rattle.tce_declarations.specs.FaultCode.{Shows};
+ghost use Rattle.tce_declarations.specs.Text.{closing_fault};
+ghost use Rattle.tce_declarations.specs.TextCode.{AnswersFault, fault_in};
+ghost use Rattle.tce_spec.specs.Specification.{Specification};
+ghost use Rattle.tce_spec.specs.SpecCode.{specification_of, IsKept};
+ghost use Rattle.tce_batch.specs.Outcome.{IsBatchOutcome, together};
+ghost use Rattle.tce_batch.specs.Reading.{without_formulas, of_lines, as_found, as_list};
+ghost use Rattle.tce_batch.specs.BatchCode.{Answers};
+
+use crate::batch::Batch;
+use crate::line::{contraction_of, may_follow, read_next};
+use std::alloc::{AllocError, Global};
+use tce_declarations::{Declarations, SpecFault, read_head};
+use tce_formula::Contraction;
+use tce_grammar::first_line;
+
+/// Checks that each line behind a formula is skipped or a further formula line. The first that is neither is `BadText`;
+/// `first_number` is the number of the first.
+fn check_behind(alloc: Global, first_number: u64, text: &[u8]) -> Result<(), SpecFault>
+    requires { first_number + length text.now < 2 ^ 64 }
+    ensures { AnswersFault (closing_fault first_number (without_formulas (map line_of (lines text.now)))) result }
+{
+    let mut number = first_number;
+    let mut rest = text;
+    while let Some((first, behind)) = first_line(rest) {
+        if !may_follow(alloc, first)? {
+            return Err(SpecFault::BadText(number));
+        }
+        number += 1;
+        rest = behind;
+    }
+    Ok(())
+}
+
+/// Puts what a formula line computes behind the others.
+fn keep(contractions: &mut Vec<Contraction>, next: Option<Contraction>) -> Result<(), AllocError>
+    ensures { OnOk result (contractions.new.items ≡ contractions.old.items ++ as_list next) }
+{
+    if let Some(contraction) = next {
+        contractions.push(contraction)?;
+    }
+    Ok(())
+}
+
+/// Reads the further formula lines, behind what the first computes. `first_number` is the number of the first line of
+/// the text.
+fn read_further(
+    alloc: Global,
+    declarations: &Declarations,
+    first: Contraction,
+    first_number: u64,
+    text: &[u8],
+) -> Result<Vec<Contraction>, SpecFault>
+    requires kept { IsKept declarations.now first }
+    requires few { first_number + length text.now < 2 ^ 64 }
+    ensures kept { IfOk result (λ cs. All (IsKept declarations.now) cs.items) }
+    ensures read { IfOk result (λ cs. Ok (specification_of declarations.now first) ∷ of_lines first_number declarations.now (map line_of (lines text.now)) ≡ as_found declarations.now cs.items) }
+    ensures fault { IfErr result (Shows (fault_in (together (of_lines first_number declarations.now (map line_of (lines text.now)))))) }
+{
+    let mut contractions = Vec::new(alloc);
+    keep(&mut contractions, Some(first))?;
+    let mut number = first_number;
+    let mut rest = text;
+    while let Some((next, behind)) = first_line(rest) {
+        let read = read_next(alloc, declarations, number, next)?;
+        keep(&mut contractions, read)?;
+        number += 1;
+        rest = behind;
+    }
+    Ok(contractions)
+}
+
+/// Reads a text with one formula line or more.
+///
+/// For each formula line the text is taken with the content of every other formula line dropped, and must be a
+/// specification; all declarations stand in front of the first formula line. `TooLong` where the text has more than
+/// 65,536 bytes. Else the fault is that of the first of these texts that has one: so a line that has none of the four
+/// forms, or a declaration behind a formula, comes before every fault of the second formula. Without a formula line the
+/// text is refused as one specification is. The text is read in time linear in its length.
+pub fn read_batch(alloc: Global, text: &[u8]) -> Result<Batch, SpecFault>
+    ensures { (found : Result (List Specification) Fault) → IsBatchOutcome text.now found → Answers found result }
+{
+    let head = read_head(alloc, text)?;
+    let first = contraction_of(
+        alloc,
+        head.line,
+        &head.declarations,
+        head.result,
+        head.indexes.as_slice(),
+        &head.formula,
+    )?;
+    check_behind(alloc, head.line + 1, head.rest)?;
+    let contractions = read_further(alloc, &head.declarations, first, head.line + 1, head.rest)?;
+    Ok(Batch {
+        declarations: head.declarations,
+        contractions,
+    })
+}

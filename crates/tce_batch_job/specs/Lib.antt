@@ -1,0 +1,4 @@
+pub mod Files
+pub mod Reports
+pub mod Refusals
+pub mod Left

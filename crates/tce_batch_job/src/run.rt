@@ -1,0 +1,128 @@
+// The formulas in turn.
+ghost use Rattle.std.specs.Prelude.{◌≡◌, ◌<◌, ◌≤◌, ◌^◌, IfOk, IfErr, OnOk, IsErrAnd, Err, Some, length, slice_get, ◌⊎◌};
+ghost use Rattle.tce_spec.specs.Specification.{Specification};
+ghost use Rattle.tce_outside.specs.Files.{others};
+ghost use Rattle.tce_result.specs.TensorFiles.{file_of};
+ghost use Rattle.tce_result.specs.ResultBytes.{with_result};
+ghost use Rattle.tce_job.specs.Refusals.{IsCause, IsFree, MayBeRefused};
+ghost use Rattle.tce_job.specs.Run.{IsReported};
+ghost use Rattle.tce_job.specs.Prepared.{IsRoomLeft as IsRoomLeftByOne};
+ghost use Rattle.std.specs.Option.{ForSome, option_map};
+ghost use Rattle.tce_outside.specs.Fault.{HasCause};
+ghost use Rattle.tce_job.specs.declared.fault.JobFault.{JobFault as Fault};
+ghost use Rattle.tce_batch_job.specs.Files.{files_after};
+ghost use Rattle.tce_batch_job.specs.Reports.{HasRun};
+ghost use Rattle.tce_batch_job.specs.Refusals.{AffordableBelow, SourcesBelow, IsBatchCause, IsExact};
+ghost use Rattle.tce_batch_job.specs.Left.{IsLeft, IsRoomLeft};
+
+use crate::costs::check_costs;
+use crate::fault::BatchFault;
+use crate::report::{BatchReport, first_line, push_section};
+use crate::sources::open_sources;
+use std::alloc::Global;
+use tce_batch::Batch;
+use tce_job::{Bytes, JobFault, RunReport, run_job};
+use tce_outside::Disk;
+use tce_words::Room;
+
+// Runs a formula by its number, from 0, and puts its lines behind the others.
+fn run_formula<D: Disk, R: Room>(
+    alloc: Global,
+    batch: &Batch,
+    number: usize,
+    budget: u64,
+    disk: &mut D,
+    room: &mut R,
+) -> Result<RunReport, JobFault>
+    requires number { number < length batch.now }
+    requires budget { budget ≤ 2 ^ 40 }
+    ensures told { OnOk result ((s : Specification) → slice_get batch.now number ≡ Some s → D.files disk.new ≡ option_map (with_result s) (D.files disk.old)) }
+    ensures reported { IfOk result (λ report. (s : Specification) → slice_get batch.now number ≡ Some s → IsReported s budget (R.takings room.old) (R.takings room.new) report) }
+    ensures refused { IfErr result (λ fault. (s : Specification) → slice_get batch.now number ≡ Some s → IsCause (MayBeRefused (D.files disk.old) s) s budget fault) }
+    ensures unchanged { IfErr result (λ fault. (fault ≡ Fault.Disk) ⊎ (D.files disk.new ≡ D.files disk.old)) }
+    ensures takings { IfErr result (λ fault. (s : Specification) → slice_get batch.now number ≡ Some s → IsRoomLeftByOne fault s budget (R.takings room.old) (R.takings room.new)) }
+    ensures others { (s : Specification) → slice_get batch.now number ≡ Some s → others (file_of s s.result) (D.files disk.new) ≡ others (file_of s s.result) (D.files disk.old) }
+    ensures cause { HasCause (D.faults disk.old) (D.faults disk.new) (result ≡ Err Fault.Disk) }
+{
+    let Ok(spec) = batch.spec(alloc, number) else {
+        return Err(JobFault::Memory);
+    };
+    run_job(alloc, &spec, budget, disk, room)
+}
+
+// Runs all formulas in turn.
+fn run_all<D: Disk, R: Room>(
+    alloc: Global,
+    batch: &Batch,
+    budget: u64,
+    disk: &mut D,
+    room: &mut R,
+) -> Result<Vec<u8>, BatchFault>
+    requires budget { budget ≤ 2 ^ 40 }
+    requires affordable { AffordableBelow batch.now budget (length batch.now) }
+    requires sources { ForSome (D.files disk.old) (λ files. SourcesBelow files batch.now (length batch.now)) }
+    ensures told { OnOk result (D.files disk.new ≡ option_map (files_after batch.now) (D.files disk.old)) }
+    ensures reported { IfOk result (λ text. HasRun batch.now budget (R.takings room.old) (R.takings room.new) text.items) }
+    ensures refused { IfErr result (IsBatchCause (D.files disk.old) batch.now budget) }
+    ensures free { IfErr result (λ refused. ForSome (D.files disk.old) (λ _. IsFree refused.fault)) }
+    ensures left { IfErr result (λ refused. IsLeft (D.files disk.old) (D.files disk.new) batch.now refused) }
+    ensures takings { IfErr result (λ refused. IsRoomLeft (R.takings room.old) (R.takings room.new) batch.now budget refused) }
+    ensures cause { HasCause (D.faults disk.old) (D.faults disk.new) (IsErrAnd result (λ refused. refused.fault ≡ Fault.Disk)) }
+{
+    let count = batch.len();
+    let Ok(mut text) = first_line(alloc) else {
+        return Err(BatchFault {
+            formula: 1,
+            fault: JobFault::Memory,
+        });
+    };
+    for number in 0..count {
+        let formula = number as u64 + 1;
+        match run_formula(alloc, batch, number, budget, disk, room) {
+            Ok(report) => {
+                let Ok(()) = push_section(alloc, &mut text, formula, report.text.as_slice()) else {
+                    return Err(BatchFault {
+                        formula,
+                        fault: JobFault::Memory,
+                    });
+                };
+            }
+            Err(fault) => return Err(BatchFault { formula, fault }),
+        }
+    }
+    Ok(text)
+}
+
+/// Runs several formulas in order, each as `run_job` runs one: a result may be an operand of a later formula.
+///
+/// The budget, in words, is for the tiles of each run; it is at most 2^40. Before any file is touched, the first formula
+/// with a fault decides: for all formulas in turn `BudgetTooSmall` and then `IntermediatesTooLarge`, and after that for
+/// all formulas in turn `Array` with the first operand by first use that is no earlier result and is refused. A failure
+/// of the disk, or want of memory, before the first run is told of formula 1. After `Disk` or `Memory` at a formula the
+/// results of the formulas in front of it are complete.
+pub fn run_batch<D: Disk, R: Room>(
+    alloc: Global,
+    batch: &Batch,
+    budget: u64,
+    disk: &mut D,
+    room: &mut R,
+) -> Result<BatchReport, BatchFault>
+    requires { budget ≤ 2 ^ 40 }
+    ensures told { OnOk result (D.files disk.new ≡ option_map (files_after batch.now) (D.files disk.old)) }
+    ensures reported { IfOk result (λ report. HasRun batch.now budget (R.takings room.old) (R.takings room.new) report.text) }
+    ensures affordable { OnOk result (AffordableBelow batch.now budget (length batch.now)) }
+    ensures sources { OnOk result (ForSome (D.files disk.old) (λ files. SourcesBelow files batch.now (length batch.now))) }
+    ensures refused { IfErr result (IsBatchCause (D.files disk.old) batch.now budget) }
+    ensures exactly { IsExact (D.files disk.old) batch.now budget result }
+    ensures left { IfErr result (λ refused. IsLeft (D.files disk.old) (D.files disk.new) batch.now refused) }
+    ensures takings { IfErr result (λ refused. IsRoomLeft (R.takings room.old) (R.takings room.new) batch.now budget refused) }
+    ensures tested { IfErr result (λ refused. ForSome (D.files disk.old) (λ _. (IsFree refused.fault → ⊥) → R.takings room.new ≡ R.takings room.old)) }
+    ensures cause { HasCause (D.faults disk.old) (D.faults disk.new) (IsErrAnd result (λ refused. refused.fault ≡ Fault.Disk)) }
+{
+    check_costs(alloc, batch, budget)?;
+    open_sources(alloc, batch, disk)?;
+    let text = run_all(alloc, batch, budget, disk, room)?;
+    Ok(BatchReport {
+        text: Bytes::of(text),
+    })
+}

@@ -1,0 +1,26 @@
+//! Specifications from einsum texts: the labels of each operand, those of the output, a size for each label, and a path
+//! that says in which order the operands are multiplied.
+//!
+//! The grammar of a text is `specs/Text.antt`.
+#![tactic(auto)]
+
+mod fault;
+mod input;
+mod laws;
+mod missized;
+mod parts;
+mod path;
+mod read_error;
+mod size;
+mod text;
+
+pub use fault::EinsumFault;
+pub use input::{Input, read_input};
+pub use laws::{
+    products_associate, products_commute, reading_is_the_grammar, sums_exchange,
+    sums_have_no_order, sums_join, sums_move_out_of_left_operands, sums_move_out_of_right_operands,
+    texts_have_one_reading,
+};
+pub use path::Item;
+pub use size::Size;
+pub use text::Einsum;
