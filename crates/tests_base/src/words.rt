@@ -1,0 +1,226 @@
+ghost use Rattle.std.specs.Prelude.{◌≡◌, ◌<◌, ◌≤◌, length, IfOk};
+
+use std::alloc::AllocError;
+use std::process::Abort;
+use std::test::Fail;
+use tce_words::{HeapRoom, RefusingRoom, Room, Words};
+
+// The run out begins at 0, a at 200 and b at 400: each has at most 67 places, at most 3 apart.
+const LEN: usize = 602;
+
+// Words without a pattern.
+fn noise(seed: u64) -> [u64; LEN] {
+    let mut made = [0; LEN];
+    let mut word = seed;
+    for k in 0..LEN {
+        word = word
+            .wrapping_mul(6364136223846793005)
+            .wrapping_add(1442695040888963407);
+        made[k] = word;
+    }
+    made
+}
+
+fn block_of(room: &mut HeapRoom, from: &[u64; LEN]) -> Result<Words, AllocError>
+    ensures { IfOk result (λ words. length words ≡ 602) }
+{
+    let mut words = room.take(602, 0)?;
+    for k in 0..LEN {
+        words.put(k as u64, from[k]);
+    }
+    Ok(words)
+}
+
+#[derive(Clone, Copy)]
+enum Join {
+    Mul,
+    MulAdd,
+    Plus,
+    Minus,
+}
+
+impl Join {
+    fn of(self, old: u64, a: u64, b: u64) -> u64 {
+        match self {
+            Join::Mul => a.wrapping_mul(b),
+            Join::MulAdd => old.wrapping_add(a.wrapping_mul(b)),
+            Join::Plus => a.wrapping_add(b),
+            Join::Minus => a.wrapping_sub(b),
+        }
+    }
+
+    #[tactic(auto, using(crate::proofs::TestPlaces::reach))]
+    fn run(self, words: &mut Words, out_step: u64, a_step: u64, b_step: u64, n: u64)
+        requires length { length words.old ≡ 602 }
+        requires out { (0 < out_step) × (out_step ≤ 3) }
+        requires a { a_step ≤ 3 }
+        requires b { b_step ≤ 3 }
+        requires n { n ≤ 67 }
+        ensures { length words.new ≡ 602 }
+    {
+        match self {
+            Join::Mul => words.mul_run(0, out_step, 200, a_step, 400, b_step, n),
+            Join::MulAdd => words.mul_add_run(0, out_step, 200, a_step, 400, b_step, n),
+            Join::Plus => words.plus_run(0, out_step, 200, a_step, 400, b_step, n),
+            Join::Minus => words.minus_run(0, out_step, 200, a_step, 400, b_step, n),
+        }
+    }
+
+    #[tactic(auto, using(crate::proofs::TestPlaces::reach))]
+    fn run_plainly(
+        self,
+        words: &mut [u64; LEN],
+        out_step: usize,
+        a_step: usize,
+        b_step: usize,
+        n: usize,
+    )
+        requires out { out_step ≤ 3 }
+        requires a { a_step ≤ 3 }
+        requires b { b_step ≤ 3 }
+        requires n { n ≤ 67 }
+    {
+        for t in 0..n {
+            let (a, b) = (words[200 + t * a_step], words[400 + t * b_step]);
+            words[t * out_step] = self.of(words[t * out_step], a, b);
+        }
+    }
+}
+
+fn expect_words<R: Abort>(rt: &R, words: &Words, plain: &[u64; LEN], at: &str)
+    requires { length words.now ≡ 602 }
+{
+    for k in 0..LEN {
+        assert_eq!(rt; words.get(k as u64), plain[k], "{at} {k}");
+    }
+}
+
+// The steps of a case below 48.
+fn steps_of(case: u64) -> (u64, u64, u64)
+    ensures out { (0 < result.0) × (result.0 ≤ 3) }
+    ensures a { result.1 ≤ 3 }
+    ensures b { result.2 ≤ 3 }
+{
+    (1 + case % 3, case / 3 % 4, case / 12 % 4)
+}
+
+#[test]
+fn joining_runs_equal_plain_loops(rt: HostRuntime) -> Result<(), Fail> {
+    let mut room = HeapRoom::new(rt.alloc());
+    let old = noise(1);
+    for n in 0..68u64 {
+        for case in 0..48 {
+            let (out, a, b) = steps_of(case);
+            for join in [Join::Mul, Join::MulAdd, Join::Plus, Join::Minus] {
+                let mut words = block_of(&mut room, &old)?;
+                join.run(&mut words, out, a, b, n);
+                let mut plain = old;
+                join.run_plainly(&mut plain, out as usize, a as usize, b as usize, n as usize);
+                expect_words(&rt, &words, &plain, "join");
+            }
+        }
+    }
+    Ok(())
+}
+
+// The three runs that take no second run, over a of a block.
+#[tactic(auto, using(crate::proofs::TestPlaces::reach))]
+fn sum_into(words: &mut Words, out_step: u64, a_step: u64, b_step: u64, n: u64)
+    requires length { length words.old ≡ 602 }
+    requires out { (0 < out_step) × (out_step ≤ 3) }
+    requires a { a_step ≤ 3 }
+    requires b { b_step ≤ 3 }
+    requires n { n ≤ 67 }
+    ensures { length words.new ≡ 602 }
+{
+    words.add_run(0, out_step, 200, a_step, n);
+    words.dot_run(600, 200, a_step, 400, b_step, n);
+    words.sum_run(601, 400, b_step, n);
+}
+
+#[tactic(auto, using(crate::proofs::TestPlaces::reach))]
+fn sum_plainly(words: &mut [u64; LEN], out_step: usize, a_step: usize, b_step: usize, n: usize)
+    requires out { out_step ≤ 3 }
+    requires a { a_step ≤ 3 }
+    requires b { b_step ≤ 3 }
+    requires n { n ≤ 67 }
+{
+    for t in 0..n {
+        let (a, b) = (words[200 + t * a_step], words[400 + t * b_step]);
+        words[t * out_step] = words[t * out_step].wrapping_add(a);
+        words[600] = words[600].wrapping_add(a.wrapping_mul(b));
+        words[601] = words[601].wrapping_add(b);
+    }
+}
+
+#[test]
+fn summing_runs_equal_plain_loops(rt: HostRuntime) -> Result<(), Fail> {
+    let mut room = HeapRoom::new(rt.alloc());
+    let old = noise(2);
+    for n in 0..68u64 {
+        for case in 0..48 {
+            let (out, a, b) = steps_of(case);
+            let mut words = block_of(&mut room, &old)?;
+            sum_into(&mut words, out, a, b, n);
+            let mut plain = old;
+            sum_plainly(&mut plain, out as usize, a as usize, b as usize, n as usize);
+            expect_words(&rt, &words, &plain, "sum");
+        }
+    }
+    Ok(())
+}
+
+#[test]
+fn bytes_are_little_endian(rt: HostRuntime) -> Result<(), Fail> {
+    let bytes = [
+        0x01, 0x02, 0x03, 0x04, 0x05, 0x06, 0x07, 0x88, 0xff, 0xff, 0xff, 0x7f, 0x00, 0x00, 0x00,
+        0x80,
+    ];
+    let mut room = HeapRoom::new(rt.alloc());
+    let mut words = room.take(0, 6)?;
+    assert!(rt; words.len() == 6);
+    words.put(5, 7);
+    words.load(1, &bytes);
+    let wide = [0, 0x8807_0605_0403_0201, 0x8000_0000_7fff_ffff, 0, 0, 7];
+    for k in 0..6 {
+        assert_eq!(rt; words.get(k as u64), wide[k], "wide {k}");
+    }
+    let mut back = [0; 16];
+    words.store(1, &mut back);
+    assert_eq!(rt; back, bytes);
+    words.load_narrow(1, &bytes);
+    let narrow = [
+        0,
+        0x0403_0201,
+        0xffff_ffff_8807_0605,
+        0x7fff_ffff,
+        0xffff_ffff_8000_0000,
+        7,
+    ];
+    for k in 0..6 {
+        assert_eq!(rt; words.get(k as u64), narrow[k], "narrow {k}");
+    }
+    words.fill_zero(2, 3);
+    let cleared = [0, 0x0403_0201, 0, 0, 0, 7];
+    for k in 0..6 {
+        assert_eq!(rt; words.get(k as u64), cleared[k], "cleared {k}");
+    }
+    Ok(())
+}
+
+#[test]
+fn rooms_note_their_takings(rt: HostRuntime) -> Result<(), Fail> {
+    let mut room = HeapRoom::new(rt.alloc());
+    let words = room.take(2, 3)?;
+    assert_eq!(rt; words.len(), 5);
+    let none = room.take(0, 0)?;
+    assert_eq!(rt; none.len(), 0);
+    assert!(rt; room.takings() == [(2, 3), (0, 0)].as_slice());
+    let mut refusing = RefusingRoom::new(rt.alloc(), 1);
+    assert!(rt; refusing.take(1, 4)?.len() == 5);
+    assert!(rt; refusing.take(1, 1).is_err());
+    assert!(rt; refusing.takings() == [(1, 4)].as_slice());
+    assert!(rt; refusing.take(0, 2)?.len() == 2);
+    assert!(rt; refusing.takings() == [(1, 4), (0, 2)].as_slice());
+    Ok(())
+}

@@ -1,0 +1,5 @@
+//! Tests of several formulas in order.
+#![tactic(auto)]
+
+#[cfg(test)]
+mod formulas;

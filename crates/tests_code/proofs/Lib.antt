@@ -1,0 +1,6 @@
+mod WorkedBlock
+mod WorkedBlockwise
+mod WorkedCode
+mod WorkedLayout
+mod WorkedResult
+mod WorkedTail

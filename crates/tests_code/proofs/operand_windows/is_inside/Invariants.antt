@@ -1,0 +1,5 @@
+use Rattle.std.proofs.Common.{ℕ, ◌<◌, get_or}
+use Rattle.tests_code.proofs.operand_windows.is_inside.Given as goal
+
+abbrev pub invariant-loop-d : goal.invariant-loop-d
+invariant-loop-d l = (k : ℕ) → k < l.d → get_or l.coordinates k 0 < get_or l.extents k 0

@@ -1,0 +1,18 @@
+//! Worked parts.
+ghost use Rattle.tce_blockwise.specs.Examples.{WorkedParts};
+
+use std::test::Fail;
+use tce_blockwise::{parts_keep_words, parts_make_tails};
+
+// What the definitions give for the worked parts.
+fn worked_parts()
+    ensures { WorkedParts }
+{}
+
+#[test]
+fn laws_of_parts(_rt: HostRuntime) -> Result<(), Fail> {
+    worked_parts();
+    parts_make_tails();
+    parts_keep_words();
+    Ok(())
+}

@@ -1,0 +1,272 @@
+// A plain run of code over small tensors, for the tests: each loop of the list turn by turn, each place of a node a word of a list.
+ghost use Rattle.std.specs.Prelude.{◌<◌, ◌≤◌};
+
+use arrayvec::ArrayVec;
+use std::alloc::Global;
+use std::test::Fail;
+use tce_code::Op;
+use tce_space::IndexSet;
+use tce_tree::{Fusion, Operand, Tree};
+
+// No worked code runs for so many operations.
+const LIMIT: u64 = 100_000;
+
+// A loop that is open: its index, and the position behind its `Open`.
+#[derive(Clone, Copy)]
+struct OpenLoop {
+    index: u8,
+    body: usize,
+}
+
+// The words of the tensors and of the nodes' places, in row-major order, and the numbers of the loops.
+#[derive(Drop)]
+pub(crate) struct Run {
+    extents: [u64; 10],
+    tensors: Vec<Vec<u64>>,
+    places: Vec<Vec<u64>>,
+    numbers: [u64; 10],
+}
+
+impl Run {
+    // The root's places are 0, and all others hold 7.
+    pub(crate) fn new(
+        alloc: Global,
+        tree: &Tree,
+        fusion: &Fusion,
+        extents: [u64; 10],
+        tensors: &[&[u64]],
+    ) -> Result<Run, Fail> {
+        Ok(Run {
+            extents,
+            tensors: copies_of(alloc, tensors)?,
+            places: first_places(alloc, tree, fusion, &extents)?,
+            numbers: [0; 10],
+        })
+    }
+
+    pub(crate) fn root_words(&self, tree: &Tree) -> Result<&[u64], Fail> {
+        match self.places.get(tree.count() as usize - 1) {
+            Some(words) => Ok(words.as_slice()),
+            None => Err(Fail::new("the root has no places")),
+        }
+    }
+
+    fn word_at(&self, words: &[u64], indexes: &[u8]) -> u64 {
+        let at = place(&self.extents, &self.numbers, indexes);
+        match words.get(at as usize) {
+            Some(word) => *word,
+            None => 0,
+        }
+    }
+
+    fn word_of(&self, tree: &Tree, fusion: &Fusion, v: u8) -> u64 {
+        match self.places.get(v as usize) {
+            Some(words) => self.word_at(words.as_slice(), kept(tree, fusion, v).as_slice()),
+            None => 0,
+        }
+    }
+
+    fn operand_word(&self, tree: &Tree, fusion: &Fusion, operand: &Operand) -> u64 {
+        match operand {
+            Operand::Leaf(leaf) => match self.tensors.get(leaf.tensor as usize) {
+                Some(words) => self.word_at(words.as_slice(), leaf.indexes.as_slice()),
+                None => 0,
+            },
+            Operand::Constant(number) => *number,
+            Operand::Node(u) => self.word_of(tree, fusion, *u),
+        }
+    }
+
+    fn left_word(&self, tree: &Tree, fusion: &Fusion, v: u8) -> u64 {
+        if v >= tree.count() {
+            return 0;
+        }
+        self.operand_word(tree, fusion, tree.left(v))
+    }
+
+    fn right_word(&self, tree: &Tree, fusion: &Fusion, v: u8) -> u64 {
+        if v >= tree.count() {
+            return 0;
+        }
+        match tree.right(v) {
+            Some(right) => self.operand_word(tree, fusion, right),
+            None => 0,
+        }
+    }
+
+    fn set_word(&mut self, tree: &Tree, fusion: &Fusion, v: u8, word: u64) {
+        let at = place(
+            &self.extents,
+            &self.numbers,
+            kept(tree, fusion, v).as_slice(),
+        );
+        if let Some(words) = self.places.get_mut(v as usize) {
+            if let Some(place) = words.get_mut(at as usize) {
+                *place = word;
+            }
+        }
+    }
+
+    fn clear(&mut self, v: u8) {
+        if let Some(words) = self.places.get_mut(v as usize) {
+            for word in words.iter_mut() {
+                *word = 0;
+            }
+        }
+    }
+
+    fn apply(&mut self, tree: &Tree, fusion: &Fusion, op: Op) {
+        match op {
+            Op::Open(_) => {}
+            Op::Close => {}
+            Op::Clear(v) => self.clear(v),
+            Op::Mul(v) => {
+                let word = self
+                    .left_word(tree, fusion, v)
+                    .wrapping_mul(self.right_word(tree, fusion, v));
+                self.set_word(tree, fusion, v, word);
+            }
+            Op::Add(v) => {
+                let word = self
+                    .left_word(tree, fusion, v)
+                    .wrapping_add(self.right_word(tree, fusion, v));
+                self.set_word(tree, fusion, v, word);
+            }
+            Op::Sub(v) => {
+                let word = self
+                    .left_word(tree, fusion, v)
+                    .wrapping_sub(self.right_word(tree, fusion, v));
+                self.set_word(tree, fusion, v, word);
+            }
+            Op::Acc(v) => {
+                let word = self
+                    .word_of(tree, fusion, v)
+                    .wrapping_add(self.left_word(tree, fusion, v));
+                self.set_word(tree, fusion, v, word);
+            }
+        }
+    }
+
+    // Begins the next turn of a loop, where there is one, and says where the run goes on.
+    fn turn(&mut self, open: OpenLoop) -> Option<usize> {
+        if open.index >= 10 {
+            return None;
+        }
+        let next = self.numbers[open.index as usize].wrapping_add(1);
+        if next >= self.extents[open.index as usize] {
+            return None;
+        }
+        self.numbers[open.index as usize] = next;
+        Some(open.body)
+    }
+
+    pub(crate) fn run(
+        &mut self,
+        alloc: Global,
+        tree: &Tree,
+        fusion: &Fusion,
+        ops: &[Op],
+    ) -> Result<(), Fail> {
+        let mut opened = Vec::new(alloc);
+        let mut at = 0;
+        for _ in 0..LIMIT {
+            if at >= ops.len() {
+                return Ok(());
+            }
+            let op = ops[at];
+            at += 1;
+            match op {
+                Op::Open(index) => {
+                    if index < 10 {
+                        self.numbers[index as usize] = 0;
+                    }
+                    opened.push(OpenLoop { index, body: at })?;
+                }
+                Op::Close => {
+                    let Some(open) = opened.pop() else {
+                        return Err(Fail::new("a loop is closed that is not open"));
+                    };
+                    if let Some(body) = self.turn(open) {
+                        opened.push(open)?;
+                        at = body;
+                    }
+                }
+                _ => self.apply(tree, fusion, op),
+            }
+        }
+        Err(Fail::new("the run does not end"))
+    }
+}
+
+fn copies_of(alloc: Global, tensors: &[&[u64]]) -> Result<Vec<Vec<u64>>, Fail> {
+    let mut copies = Vec::new(alloc);
+    for words in tensors {
+        copies.push(Vec::from_slice(alloc, *words)?)?;
+    }
+    Ok(copies)
+}
+
+fn first_places(
+    alloc: Global,
+    tree: &Tree,
+    fusion: &Fusion,
+    extents: &[u64; 10],
+) -> Result<Vec<Vec<u64>>, Fail> {
+    let mut places = Vec::new(alloc);
+    let count = tree.count();
+    for v in 0..count {
+        let size = volume(extents, kept(tree, fusion, v).as_slice());
+        places.push(repeated(alloc, if v + 1 == count { 0 } else { 7 }, size)?)?;
+    }
+    Ok(places)
+}
+
+fn repeated(alloc: Global, word: u64, size: u64) -> Result<Vec<u64>, Fail> {
+    let mut words = Vec::new(alloc);
+    for _ in 0..size.min(LIMIT) {
+        words.push(word)?;
+    }
+    Ok(words)
+}
+
+fn number(numbers: &[u64; 10], i: u8) -> u64 {
+    if i < 10 { numbers[i as usize] } else { 0 }
+}
+
+// How many places a box over the indexes has.
+fn volume(extents: &[u64; 10], indexes: &[u8]) -> u64 {
+    let mut product: u64 = 1;
+    for i in indexes {
+        product = product.wrapping_mul(number(extents, *i));
+    }
+    product
+}
+
+// The row-major place at the numbers of the indexes.
+fn place(extents: &[u64; 10], numbers: &[u64; 10], indexes: &[u8]) -> u64 {
+    let mut place: u64 = 0;
+    for i in indexes {
+        place = place
+            .wrapping_mul(number(extents, *i))
+            .wrapping_add(number(numbers, *i));
+    }
+    place
+}
+
+// The indexes of a node's places, ascending.
+fn kept(tree: &Tree, fusion: &Fusion, v: u8) -> ArrayVec<u8, 24> {
+    let mut list = ArrayVec::new();
+    if v >= tree.count() {
+        return list;
+    }
+    let Some(fused) = fusion.0.get(v as usize) else {
+        return list;
+    };
+    let dims = tree.dims(v).minus(*fused);
+    for i in 0..24 {
+        if dims.has(i) {
+            let _pushed = list.try_push(i);
+        }
+    }
+    list
+}

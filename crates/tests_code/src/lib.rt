@@ -1,0 +1,33 @@
+//! Tests of codes, of runs of a block, and of what a run takes.
+#![tactic(auto)]
+
+#[cfg(test)]
+mod arrays;
+#[cfg(test)]
+mod block;
+#[cfg(test)]
+mod blockwise;
+#[cfg(test)]
+mod code;
+#[cfg(test)]
+mod code_plain_run;
+#[cfg(test)]
+mod given;
+#[cfg(test)]
+mod layout;
+#[cfg(test)]
+mod operand_windows;
+#[cfg(test)]
+mod operands;
+#[cfg(test)]
+mod result;
+#[cfg(test)]
+mod strides;
+#[cfg(test)]
+mod tail;
+#[cfg(test)]
+mod takings;
+#[cfg(test)]
+mod walk;
+#[cfg(test)]
+mod windows;

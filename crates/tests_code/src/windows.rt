@@ -1,0 +1,192 @@
+//! Small blocks, with results by hand.
+ghost use Rattle.std.specs.Prelude.{◌≡◌, ◌+◌, ◌<◌, length, IfOk};
+
+use std::alloc::AllocError;
+use std::process::Abort;
+use std::test::Fail;
+use tce_strides::Operation;
+use tce_windows::{LoopSequence, Window, compute, grow, grow_by_products, laws};
+use tce_words::{HeapRoom, Room, Words};
+
+// The loops of a product of matrices: rows, columns and what is between them.
+const ROW: u8 = 4;
+
+const COLUMN: u8 = 0;
+
+const BETWEEN: u8 = 23;
+
+// Matrices of 2 by 3 words and of 3 by 2, and their product.
+const LEFT: Window = Window {
+    first: 0,
+    steps: [
+        0, 0, 0, 0, 3, 0, 0, 0, 0, 0, 0, 0, 0, 0, 0, 0, 0, 0, 0, 0, 0, 0, 0, 1,
+    ],
+};
+
+const RIGHT: Window = Window {
+    first: 6,
+    steps: [
+        1, 0, 0, 0, 0, 0, 0, 0, 0, 0, 0, 0, 0, 0, 0, 0, 0, 0, 0, 0, 0, 0, 0, 2,
+    ],
+};
+
+const PRODUCT: Window = Window {
+    first: 12,
+    steps: [
+        1, 0, 0, 0, 2, 0, 0, 0, 0, 0, 0, 0, 0, 0, 0, 0, 0, 0, 0, 0, 0, 0, 0, 0,
+    ],
+};
+
+// Sums of rows, and the last product in each row.
+const SUMS: Window = Window {
+    first: 16,
+    steps: [
+        0, 0, 0, 0, 1, 0, 0, 0, 0, 0, 0, 0, 0, 0, 0, 0, 0, 0, 0, 0, 0, 0, 0, 0,
+    ],
+};
+
+const LAST: Window = Window {
+    first: 18,
+    steps: [
+        0, 0, 0, 0, 1, 0, 0, 0, 0, 0, 0, 0, 0, 0, 0, 0, 0, 0, 0, 0, 0, 0, 0, 0,
+    ],
+};
+
+// The differences of the rows of the first matrix.
+const SECOND_ROW: Window = Window {
+    first: 3,
+    steps: [
+        0, 0, 0, 0, 0, 0, 0, 0, 0, 0, 0, 0, 0, 0, 0, 0, 0, 0, 0, 0, 0, 0, 0, 1,
+    ],
+};
+
+const DIFFERENCES: Window = Window {
+    first: 20,
+    steps: [
+        0, 0, 0, 0, 0, 0, 0, 0, 0, 0, 0, 0, 0, 0, 0, 0, 0, 0, 0, 0, 0, 0, 0, 1,
+    ],
+};
+
+// The words at the front of a block of 24.
+fn block_of(room: &mut HeapRoom, from: &[u64; 12]) -> Result<Words, AllocError>
+    ensures { IfOk result (λ words. length words ≡ 24) }
+{
+    let mut words = room.take(24, 0)?;
+    for k in 0..12usize {
+        words.put(k as u64, from[k]);
+    }
+    Ok(words)
+}
+
+fn expect_words<R: Abort>(rt: &R, words: &Words, from: u64, expected: &[u64])
+    requires length { length words.now ≡ 24 }
+    requires within { from + length expected.now < 25 }
+{
+    for k in 0..expected.len() {
+        assert_eq!(rt; words.get(from + k as u64), expected[k]);
+    }
+}
+
+// Twice the product of the matrices, with its loops in two sequences.
+fn multiply(words: &mut Words)
+    requires { length words.old ≡ 24 }
+    ensures { length words.new ≡ 24 }
+{
+    let mut sequence = LoopSequence::of(
+        &[ROW, COLUMN, BETWEEN],
+        &[1, 1, 9],
+        &PRODUCT,
+        &LEFT,
+        &RIGHT,
+    );
+    grow_by_products(
+        words,
+        &mut sequence,
+        &[ROW, COLUMN, BETWEEN],
+        &[2, 2, 3],
+        &PRODUCT,
+        &LEFT,
+        &RIGHT,
+    );
+    let mut other = LoopSequence::of(&[BETWEEN, ROW, COLUMN], &[3, 2, 2], &PRODUCT, &LEFT, &RIGHT);
+    grow_by_products(
+        words,
+        &mut other,
+        &[BETWEEN, ROW, COLUMN],
+        &[3, 2, 2],
+        &PRODUCT,
+        &LEFT,
+        &RIGHT,
+    );
+}
+
+// The sums of the rows of the first matrix, and its first word once more.
+fn sum_rows(words: &mut Words)
+    requires { length words.old ≡ 24 }
+    ensures { length words.new ≡ 24 }
+{
+    let mut sequence = LoopSequence::of(&[BETWEEN, ROW], &[3, 2], &SUMS, &LEFT, &LEFT);
+    grow(words, &mut sequence, &[BETWEEN, ROW], &[3, 2], &SUMS, &LEFT);
+    let mut none = LoopSequence::of(&[], &[], &SUMS, &LEFT, &LEFT);
+    grow(words, &mut none, &[], &[], &SUMS, &LEFT);
+}
+
+// The last products in the rows, and the differences of the rows.
+fn put_results(words: &mut Words)
+    requires { length words.old ≡ 24 }
+    ensures { length words.new ≡ 24 }
+{
+    let mut sequence = LoopSequence::of(&[BETWEEN, ROW], &[3, 2], &LAST, &LEFT, &RIGHT);
+    compute(
+        words,
+        Operation::Multiply,
+        &mut sequence,
+        &[BETWEEN, ROW],
+        &[3, 2],
+        &LAST,
+        &LEFT,
+        &RIGHT,
+    );
+    let mut alone = LoopSequence::of(&[BETWEEN], &[3], &DIFFERENCES, &SECOND_ROW, &LEFT);
+    compute(
+        words,
+        Operation::Subtract,
+        &mut alone,
+        &[BETWEEN],
+        &[3],
+        &DIFFERENCES,
+        &SECOND_ROW,
+        &LEFT,
+    );
+}
+
+#[test]
+fn blocks_run(rt: HostRuntime) -> Result<(), Fail> {
+    let mut room = HeapRoom::new(rt.alloc());
+    let mut words = block_of(&mut room, &[1, 2, 3, 4, 5, 6, 7, 8, 9, 10, 11, 12])?;
+    multiply(&mut words);
+    expect_words(&rt, &words, 12, &[2 * 58, 2 * 64, 2 * 139, 2 * 154]);
+    sum_rows(&mut words);
+    expect_words(&rt, &words, 16, &[6 + 1, 15]);
+    put_results(&mut words);
+    expect_words(&rt, &words, 18, &[3 * 11, 6 * 11]);
+    expect_words(&rt, &words, 20, &[3, 3, 3, 0]);
+    expect_words(&rt, &words, 0, &[1, 2, 3, 4, 5, 6, 7, 8, 9, 10, 11, 12]);
+    Ok(())
+}
+
+#[test]
+fn laws_of_windows(_rt: HostRuntime) -> Result<(), Fail> {
+    laws::coordinates_are_turns();
+    laws::turns_are_within();
+    laws::turns_are_apart();
+    laws::others_stay();
+    laws::turns_grow();
+    laws::turns_set();
+    laws::parts_are_within();
+    laws::parts_are_apart();
+    laws::grow_leaves();
+    laws::products_leave();
+    laws::compute_leaves();
+    Ok(())
+}

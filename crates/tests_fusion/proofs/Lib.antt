@@ -1,0 +1,4 @@
+mod WorkedCovers
+mod WorkedFusion
+mod WorkedStates
+mod WorkedTree

@@ -1,0 +1,63 @@
+//! Texts that were written by hand, read and printed.
+
+use crate::given::{joined, part};
+use std::alloc::Global;
+use std::test::Fail;
+use tce_canonical::print_lines;
+use tce_declarations::{Head, read_head};
+use tce_formula::read_formula;
+
+/// Five lines of declarations.
+const DECLARED: &[u8] = b"range N 2\nindex N i j k\ntensor A[N]\ntensor B[N]\ntensor C[N]\n";
+
+/// What is printed of the head of a text.
+fn printed(alloc: Global, text: &[u8]) -> Result<Vec<u8>, Fail> {
+    let Ok(head) = read_head(alloc, text) else {
+        return Err(Fail::new("the declarations are refused"));
+    };
+    let found = read_formula(
+        alloc,
+        head.line,
+        &head.declarations,
+        head.result,
+        head.indexes.as_slice(),
+        &head.formula,
+    );
+    match found {
+        Ok(found) => Ok(print_lines(alloc, &head.declarations, &found.result, &found.expr)?),
+        Err(_) => Err(Fail::new("the formula is refused")),
+    }
+}
+
+// Each row is a formula, and how it is printed.
+const FORMULAS: &str = "\
+C[i]=((A[i]*B[i])*A[i])|C[i] = A[i] * B[i] * A[i]
+C[i] = A[i] * (B[i] * (A[i]))|C[i] = A[i] * (B[i] * A[i])
+C[i] = (A[i] + B[i]) * (A[i] - B[i])|C[i] = (A[i] + B[i]) * (A[i] - B[i])
+C[i] = (A[i] - (B[i] + 1)) - ((20 * A[i]) - B[i])|C[i] = A[i] - (B[i] + 1) - (20 * A[i] - B[i])
+C[i] = (A[i] + B[i]) + (0 * A[i])|C[i] = A[i] + B[i] + 0 * A[i]
+C[i] = (sum{k}((A[i]*B[k])))*(sum{j,k}(B[j]+B[k]))|C[i] = sum{k}(A[i] * B[k]) * sum{j,k}(B[j] + B[k])";
+
+#[test]
+fn formulas_keep_the_parentheses_that_they_need(rt: HostRuntime) -> Result<(), Fail> {
+    let alloc = rt.alloc();
+    for row in FORMULAS.split('\n') {
+        let text = joined(alloc, DECLARED, part(row, 0).as_bytes())?;
+        let mut whole = joined(alloc, DECLARED, part(row, 1).as_bytes())?;
+        whole.push(b'\n')?;
+        let found = printed(alloc, text.as_slice())?;
+        assert_eq!(rt; found.as_slice(), whole.as_slice(), "{row}");
+    }
+    Ok(())
+}
+
+#[test]
+fn declarations_stand_by_kind_in_order(rt: HostRuntime) -> Result<(), Fail> {
+    let text: &[u8] =
+        b"# a note\r\nrange V 40 tile 8\nrange O 7 tile 1\nindex V a\ntensor A[V,O]\nindex V b c\nindex O i\n\nindex V d\ntensor S []\nindex V e\nrange P 3\ntensor B[]\nS[]=sum{a,i}(A[a,i])";
+    let want: &[u8] =
+        b"range V 40 tile 8\nrange O 7\nrange P 3\nindex V a b c\nindex O i\nindex V d e\ntensor A[V,O]\ntensor S[]\ntensor B[]\nS[] = sum{a,i}(A[a,i])\n";
+    let found = printed(rt.alloc(), text)?;
+    assert_eq!(rt; found.as_slice(), want);
+    Ok(())
+}

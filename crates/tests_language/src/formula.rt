@@ -1,0 +1,256 @@
+//! Formula lines that were judged by hand, behind some declarations.
+
+ghost use Rattle.std.specs.Prelude.{IsTrue, map};
+ghost use Rattle.tce_grammar.specs.Code.{names, formula};
+ghost use Rattle.tce_grammar.specs.Grammar.{AreNames};
+ghost use Rattle.tce_formula.specs.Places.{IsNamed};
+
+use crate::given::{joined, part, told_fault};
+use std::alloc::{AllocError, Global};
+use std::process::Abort;
+use std::test::Fail;
+use tce_declarations::{Head, read_head};
+use tce_formula::{Contraction, read_formula};
+use tce_grammar::Formula;
+use tce_space::is_name;
+use tce_tree::{Expr, Leaf};
+
+fn are_names(words: &[&[u8]]) -> bool
+    ensures { IsTrue result → AreNames (names words.now) }
+{
+    match words {
+        [] => true,
+        [first, rest @ ..] => is_name(*first) && are_names(rest),
+    }
+}
+
+fn has_names(written: &Formula) -> bool
+    ensures { IsTrue result → IsNamed (formula written.now) }
+{
+    match written {
+        Formula::Tensor { name, indexes } => is_name(*name) && are_names(indexes.as_slice()),
+        Formula::Constant(_) => true,
+        Formula::Sum { indexes, operand } => {
+            !indexes.is_empty() && are_names(indexes.as_slice()) && has_names(operand)
+        }
+        Formula::Binary { left, right, .. } => has_names(left) && has_names(right),
+    }
+}
+
+/// 18 lines, so that a formula behind them stands in line 19. The tensors are numbered from 0 in this order.
+const DECLARED: &[u8] =
+    b"range N 2\nrange M 3\nrange L 4294967295\nrange O 1\nindex N i j k\nindex M m\nindex L x y z\nindex O a b c d e f g h p q r\ntensor A[N,N]\ntensor B[N]\ntensor C[N,N]\ntensor D[N]\ntensor E[N]\ntensor S[]\ntensor V[M]\ntensor X[L]\ntensor O[O,O,O,O,O,O,O,O]\ntensor P[O,O,O]\n";
+
+fn push_indexes(text: &mut Vec<u8>, indexes: &[u8]) -> Result<(), AllocError> {
+    for index in indexes {
+        text.push(b'a'.saturating_add(*index))?;
+    }
+    Ok(())
+}
+
+/// A tensor by its digit, and its indexes by letters: `a` is index 0.
+fn push_leaf(text: &mut Vec<u8>, leaf: &Leaf) -> Result<(), AllocError> {
+    text.push(b'0'.saturating_add(leaf.tensor))?;
+    push_indexes(text, leaf.indexes.as_slice())
+}
+
+/// An operation on two operands in parentheses, a sum in `<` and `>` with its indexes in front.
+fn push_expr(alloc: Global, text: &mut Vec<u8>, expr: &Expr) -> Result<(), AllocError> {
+    match expr {
+        Expr::Leaf(leaf) => return push_leaf(text, leaf),
+        Expr::Constant(number) => {
+            let digits = format!(in alloc; "{number}")?;
+            return text.extend_from_slice(digits.as_str().as_bytes());
+        }
+        Expr::Product(left, right) => {
+            text.extend_from_slice(b"(")?;
+            push_expr(alloc, text, left)?;
+            text.extend_from_slice(b" * ")?;
+            push_expr(alloc, text, right)?;
+        }
+        Expr::Add(left, right) => {
+            text.extend_from_slice(b"(")?;
+            push_expr(alloc, text, left)?;
+            text.extend_from_slice(b" + ")?;
+            push_expr(alloc, text, right)?;
+        }
+        Expr::Sub(left, right) => {
+            text.extend_from_slice(b"(")?;
+            push_expr(alloc, text, left)?;
+            text.extend_from_slice(b" - ")?;
+            push_expr(alloc, text, right)?;
+        }
+        Expr::Sum(indexes, operand) => {
+            text.extend_from_slice(b"sum(")?;
+            push_indexes(text, indexes.as_slice())?;
+            text.extend_from_slice(b": ")?;
+            push_expr(alloc, text, operand)?;
+        }
+    }
+    text.extend_from_slice(b")")
+}
+
+/// The contraction as a text: the result, and the expression behind a colon.
+fn told(alloc: Global, found: &Contraction) -> Result<Vec<u8>, AllocError> {
+    let mut text = Vec::new(alloc);
+    push_leaf(&mut text, &found.result)?;
+    text.extend_from_slice(b": ")?;
+    push_expr(alloc, &mut text, &found.expr)?;
+    Ok(text)
+}
+
+/// The text `S[] = 1 + 1 + ..` with so many additions.
+fn added_ones(alloc: Global, count: u32) -> Result<Vec<u8>, AllocError> {
+    let mut text = Vec::new(alloc);
+    text.extend_from_slice(b"S[] = 1")?;
+    for _ in 0..count {
+        text.extend_from_slice(b" + 1")?;
+    }
+    Ok(text)
+}
+
+/// What is told of the formula of a text.
+fn told_of_head(alloc: Global, head: &Head) -> Result<Vec<u8>, Fail> {
+    let indexes = head.indexes.as_slice();
+    if is_name(head.result) && are_names(indexes) && has_names(&head.formula) {
+        let answer = read_formula(
+            alloc,
+            head.line,
+            &head.declarations,
+            head.result,
+            indexes,
+            &head.formula,
+        );
+        return match answer {
+            Ok(found) => Ok(told(alloc, &found)?),
+            Err(fault) => Ok(told_fault(alloc, &fault)?),
+        };
+    }
+    Err(Fail::new("no name stands where a name does"))
+}
+
+/// What is told of a formula line behind the declarations.
+fn told_of_line(alloc: Global, line: &[u8]) -> Result<Vec<u8>, Fail> {
+    let mut text = Vec::new(alloc);
+    text.extend_from_slice(DECLARED)?;
+    text.extend_from_slice(line)?;
+    match read_head(alloc, text.as_slice()) {
+        Ok(head) => told_of_head(alloc, &head),
+        Err(_) => Err(Fail::new("the declarations are refused")),
+    }
+}
+
+// Each row is a line behind the declarations, and what is told of it.
+fn expect_rows(rt: &impl Abort, alloc: Global, rows: &str) -> Result<(), Fail> {
+    for row in rows.split('\n') {
+        let told = told_of_line(alloc, part(row, 0).as_bytes())?;
+        assert_eq!(rt; told.as_slice(), part(row, 1).as_bytes(), "{row}");
+    }
+    Ok(())
+}
+
+const COMPUTED: &str = "\
+C[i,j] = B[i] * E[j]|2ab: (1a * 4b)
+C[j,i] = B[i] + E[j]|2ba: (1a + 4b)
+C[i,j] = sum{k}(A[i,k] * A[k,j])|2ab: sum(c: (0ac * 0cb))
+S[] = sum{i}(A[i,i])|5: sum(a: 0aa)
+S[] = sum{j,i}(A[i,j])|5: sum(ba: 0ab)
+D[i] = 2 * B[i] - E[i] + 1|3a: (((2 * 1a) - 4a) + 1)
+D[i] = B[i] - (E[i] - 10)|3a: (1a - (4a - 10))
+D[i] = B[i] - E[i] - B[i]|3a: ((1a - 4a) - 1a)
+S[] = 2 + 3|5: (2 + 3)
+S[] = 0 + 18446744073709551615|5: (0 + 18446744073709551615)
+C[i,j] = sum{k}(A[i,k]) * sum{k}(A[k,j])|2ab: (sum(c: 0ac) * sum(c: 0cb))
+C[i,j] = ((B[i]) * (E[j]))|2ab: (1a * 4b)";
+
+#[test]
+fn lines_without_fault_are_computed(rt: HostRuntime) -> Result<(), Fail> {
+    expect_rows(&rt, rt.alloc(), COMPUTED)
+}
+
+// A name that is not declared: the result first, then from the left.
+const UNKNOWN: &str = "\
+Z[w] = Y[i] * 07|unknown 19 Z
+C[i,w] = Z[i] * 2|unknown 19 w
+S[] = sum{i,w}(Z[v])|unknown 19 w
+S[] = 2 * (Z[w] + Y[])|unknown 19 Z
+S[] = B[N] + Z[]|unknown 19 N
+S[i] = B[i,j] * 07 * Z[]|unknown 19 Z";
+
+// Constants, before any rank.
+const NUMBERS: &str = "\
+D[i] = 07 * B[i,j]|number 19
+S[] = 1 + 00|number 19
+S[] = sum{i}(B[i] * 18446744073709551616)|number 19";
+
+// Ranks, before any range.
+const RANKS: &str = "\
+S[i] = B[i,j] * V[i]|rank differs 19 S
+C[i,m] = V[i] * B[i,j]|rank differs 19 B
+D[i] = S[i] * 2|rank differs 19 S";
+
+// Ranges, before any index twice.
+const RANGES: &str = "\
+C[i,m] = V[i] * B[i]|range differs 19 m
+C[i,i] = A[j,m] * V[k]|range differs 19 m
+S[] = sum{i,i}(V[i])|range differs 19 i";
+
+// An index twice, by the second place, before the result as an operand.
+const TWICE: &str = "\
+C[j,j] = sum{i,i}(C[i,i])|index twice 19 j
+S[] = sum{i,j,j,i}(A[i,j])|index twice 19 j
+S[] = B[i] + sum{i,j,i}(S[])|index twice 19 i";
+
+// The result as an operand, before the tree.
+const OPERAND: &str = "\
+C[i,j] = B[i] * sum{k}(C[i,j])|operand 19 C";
+
+// The tree, before the indexes of the result.
+const TREES: &str = "\
+S[] = 3|no operation 19
+D[j] = B[i]|no operation 19
+D[j] = sum{k}(B[i])|absent 19 k
+S[] = sum{i}(3)|absent 19 i
+D[j] = sum{i}(sum{i}(A[i,j]))|absent 19 i
+S[] = O[a,b,c,d,e,f,g,h] * P[p,q,r]|loops 0
+S[] = sum{x,y,z}((X[x] * X[y]) * X[z])|volume 1";
+
+// The indexes of the result, last.
+const INDICES: &str = "\
+D[i] = B[i] * E[j]|indices 19
+C[i,j] = B[i] * E[i]|indices 19
+D[i] = sum{i}(B[i])|indices 19
+S[] = B[i] + 1|indices 19";
+
+#[test]
+fn the_first_fault_of_a_line_decides(rt: HostRuntime) -> Result<(), Fail> {
+    let alloc = rt.alloc();
+    expect_rows(&rt, alloc, UNKNOWN)?;
+    expect_rows(&rt, alloc, NUMBERS)?;
+    expect_rows(&rt, alloc, RANKS)?;
+    expect_rows(&rt, alloc, RANGES)?;
+    expect_rows(&rt, alloc, TWICE)?;
+    expect_rows(&rt, alloc, OPERAND)?;
+    expect_rows(&rt, alloc, TREES)?;
+    expect_rows(&rt, alloc, INDICES)
+}
+
+// A long formula is refused before anything goes as deep as it does.
+fn expect_many(rt: &impl Abort, alloc: Global, count: u32, behind: &[u8]) -> Result<(), Fail> {
+    let text = joined(alloc, added_ones(alloc, count)?.as_slice(), behind)?;
+    let told = told_of_line(alloc, text.as_slice())?;
+    assert_eq!(rt; told.as_slice(), b"many nodes 19".as_slice());
+    Ok(())
+}
+
+#[test]
+fn formulas_have_up_to_thirty_two_operations(rt: HostRuntime) -> Result<(), Fail> {
+    let alloc = rt.alloc();
+    expect_many(&rt, alloc, 33, b"")?;
+    expect_many(&rt, alloc, 33, b" + Z[w] * 07")?;
+    expect_many(&rt, alloc, 10_000, b"")?;
+    let longest = added_ones(alloc, 32)?;
+    let told = told_of_line(alloc, longest.as_slice())?;
+    assert!(rt; told.as_slice().starts_with(b"5: ((((("));
+    Ok(())
+}

@@ -1,0 +1,15 @@
+//! Tests of the search, of the check of a plan, and of reports and certificates.
+#![tactic(auto)]
+
+#[cfg(test)]
+mod cert;
+#[cfg(test)]
+mod cert_lines;
+#[cfg(test)]
+mod check;
+#[cfg(test)]
+mod given;
+#[cfg(test)]
+mod report;
+#[cfg(test)]
+mod search;

@@ -1,0 +1,7 @@
+//! Tests of symmetric storage.
+#![tactic(auto)]
+
+#[cfg(test)]
+mod given;
+#[cfg(test)]
+mod symmetric;

@@ -1,0 +1,5 @@
+//! Tests of the commands, through the one call of the program. Expected numbers and texts were worked out by hand.
+#![tactic(auto)]
+
+#[cfg(test)]
+mod top;

@@ -1,0 +1,11 @@
+//! The commands, through the one call of the program. Expected numbers and texts were worked out by hand.
+
+mod certificates;
+mod demonstrations;
+mod failing;
+mod flat_files;
+mod given;
+mod plans;
+mod refused;
+mod runs;
+mod stored_pairs;
