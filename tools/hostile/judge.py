@@ -19,6 +19,7 @@ REPORTS = {
     b"pack": WROTE,
     b"unpack": WROTE,
     b"convert": WROTE,
+    b"expand": WROTE,
     b"demo": rb"memory " + NUMBER + rb"\ntiles " + NUMBER + rb"\nsum " + NUMBER + rb"\n",
 }
 

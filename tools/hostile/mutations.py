@@ -270,6 +270,7 @@ CHANGES = {
     "cert": TEXT + 4 * TOKENS,
     "tca": BINARY + 3 * [head_word, head_byte, second_version, large_element],
     "flat": BINARY + 2 * [large_element],
+    "sym": BINARY + 2 * [large_element],
 }
 
 

@@ -131,7 +131,7 @@ def few_open_files(command):
 
 # What stands in the place of a file that is read.
 
-NO_FILE_OF_ITS_KIND = {"tce": {2}, "tca": {4}, "flat": {11}, "cert": {7}}
+NO_FILE_OF_ITS_KIND = {"tce": {2}, "tca": {4}, "flat": {11}, "cert": {7}, "sym": {16}}
 
 
 def bad_inputs(name):

@@ -57,6 +57,7 @@ LINES = {
     11: rb"flat length " + NUMBER,
     12: rb"no tensor " + NAME,
     13: rb"element " + NUMBER + rb" does not fit",
+    16: NAME + rb"\.sym: (?:length|head byte) " + NUMBER,
 }
 
 # What a process may have: bytes of stack, bytes of address space, seconds of processor time.

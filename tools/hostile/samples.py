@@ -50,6 +50,7 @@ FILES = {
     "tiled.tce": TILED,
     "p.flat": words(1, 2, 3, 4, 5),
     "P.tca": array([5], [2], [1, 2, 3, 4, 5, 0]),
+    "H.sym": b"TCSYMM01" + words(0, 1, 0, 1, 2, 3),
     "other.txt": b"a file that no command names\n",
 }
 
@@ -136,6 +137,14 @@ COMMANDS = [
         b"tce convert 1\nwrote P.v2.tca 64\n",
         "P.v2.tca",
         b"TCARRAY2" + words(1, 4, 5, 2) + struct.pack("<6I", 1, 2, 3, 4, 5, 0),
+    ),
+    Command(
+        "expand",
+        (b"expand", b"sum.tce", b"H"),
+        ("sum.tce", "H.sym"),
+        b"tce expand 1\nwrote H.tca 80\n",
+        "H.tca",
+        array([2, 2], [1, 1], [1, 2, 2, 3]),
     ),
     Command(
         "demo",
