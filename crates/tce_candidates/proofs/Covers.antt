@@ -2,13 +2,12 @@
 use Rattle.std.proofs.Common.{◌≡◌, ℕ, ◌+◌, ◌<◌, ◌⊎◌, inl, inr, sym, subst, List, length, get_or}
 use Rattle.std.specs.List.{All, AllWithin, Contains}
 use Rattle.std.proofs.lemmas.List.Elements.{All-weaker, All-contains}
-use Rattle.tce_states.specs.Relation.{above, HasNoConflict}
-use Rattle.tce_states.specs.Row.{Row, rows_joined}
+use Rattle.tce_states.specs.Relation.{above}
+use Rattle.tce_states.specs.Row.{Row}
 use Rattle.tce_nesting.specs.Classes.{restricted}
 use Rattle.tce_nesting.specs.declared.choice.Choice.{Choice}
-use Rattle.tce_steps.specs.Steps.{IsRowJoin}
 use Rattle.tce_candidates.specs.declared.candidate.Candidate.{Candidate}
-use Rattle.tce_candidates.specs.Candidates.{StandForAll, ChoiceCovered, PairCovered, IsStep, IsStepOf}
+use Rattle.tce_candidates.specs.Candidates.{StandForAll, ChoiceCovered, PairCovered}
 
 pub choice_later : (outer : ℕ) (joined : Row) (old new : List Candidate) (choice : Choice) → StandForAll outer old new → ChoiceCovered outer joined old choice → ChoiceCovered outer joined new choice
 choice_later outer joined old new choice later covered allowed = later (above (restricted joined.classes choice.fused)) (joined.cost + choice.size) (covered allowed)
@@ -43,7 +42,3 @@ read_contains xs k x low is = (k, low, sym is)
 -- what all elements have, at one that was read
 pub item_of : {X : Type 0} (P : X → Type 0) (xs : List X) (k : ℕ) (x : X) → k < length xs → x ≡ get_or xs k x → All P xs → P x
 item_of P xs k x low is all = subst P (sym is) (all k x low)
-
-pub step_of : (loops : ℕ) (choices : List Choice) (left right : Candidate) (joined : Row) (choice : Choice) → HasNoConflict loops (rows_joined left.row right.row)
-    → IsRowJoin loops left.row right.row joined → Contains choices choice → (x : Candidate) → IsStep joined left right choice x → IsStepOf loops choices left right x
-step_of loops choices left right joined choice quiet joins chosen x step = record { joined = joined; choice = choice; quiet = quiet; joins = joins; chosen = chosen; step = step }

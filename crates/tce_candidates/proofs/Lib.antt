@@ -1,7 +1,10 @@
 pub mod Agreeing
 pub mod Covers
+pub mod Existing
 pub mod Grouping
 pub mod Growing
+pub mod Joining
+pub mod Marks
 pub mod Parts
 pub mod Quantifiers
 pub mod ReachedStates

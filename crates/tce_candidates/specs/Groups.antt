@@ -1,11 +1,12 @@
 -- Groups of candidates by upper parts of the outer loops.
 use Rattle.std.specs.Prelude.{◌≡◌, ℕ, ◌<◌, ◌≤◌, ◌%◌, List, [], length, slice_index_or}
-use Rattle.std.specs.List.{Contains}
+use Rattle.std.specs.List.{All, Contains}
+use Rattle.tce_space.specs.IndexSet.{IsWithin}
 use Rattle.tce_states.specs.Relation.{Relation, above}
 use Rattle.tce_candidates.specs.declared.candidate.Candidate.{Candidate}
 use Rattle.tce_candidates.specs.declared.groups.Entry.{Entry}
 use Rattle.tce_candidates.specs.Candidates.{Stands}
-use Rattle.tce_candidates.specs.Parts.{IsUpperPart}
+use Rattle.tce_candidates.specs.Parts.{IsUpperPart, AreMarksOf}
 
 -- candidates that are compared on outer loops
 pub record Listed : Type 0 where
@@ -18,22 +19,27 @@ LeavesOpen outer x y = Stands outer (above y.row.classes) y.row.cost x → ⊥
 
 -- the entries of the group of a set of loops
 abbrev pub group_of : List (List Entry) → ℕ → List Entry
-group_of groups part = slice_index_or groups (part % 251) []
+group_of groups part = slice_index_or groups (part % 1021) []
 
--- the candidate has an entry in the group of one of its upper parts
+-- the candidate has an entry in the group of one of its upper parts, with the marks of some of them
 pub record IsEntered (outer : ℕ) (groups : List (List Entry)) (place : ℕ) (candidate : Candidate) : Type 0 where
+  pub parts : List ℕ
   pub part : ℕ
-  pub upper : IsUpperPart outer (above candidate.row.classes) part
-  pub entered : Contains (group_of groups part) (record { cost = candidate.row.cost; place = place })
+  pub marks : ℕ
+  pub upper : All (IsUpperPart outer (above candidate.row.classes)) parts
+  pub among : Contains parts part
+  pub marked : AreMarksOf parts marks
+  pub entered : Contains (group_of groups part) (record { cost = candidate.row.cost; place = place; marks = marks })
 
 -- so does each
 abbrev pub AreEntered : ℕ → List (List Entry) → List Candidate → Type 0
 AreEntered outer groups candidates =
     (k : ℕ) (d : Candidate) → k < length candidates → IsEntered outer groups k (slice_index_or candidates k d)
 
--- the candidate at the entry's place stands for a state, and the entry's cost is no more
-pub record StandsAt (outer : ℕ) (relation : Relation) (limit : ℕ) (candidates : List Candidate) (entry : Entry) : Type 0 where
+-- the candidate at the entry's place stands for a state, the entry's cost is no more, and its marks are among those of the state
+pub record StandsAt (outer : ℕ) (relation : Relation) (limit marks : ℕ) (candidates : List Candidate) (entry : Entry) : Type 0 where
   pub cheap : entry.cost ≤ limit
+  pub marked : IsWithin entry.marks marks
   pub candidate : Candidate
   pub inside : entry.place < length candidates
   pub is : slice_index_or candidates entry.place candidate ≡ candidate

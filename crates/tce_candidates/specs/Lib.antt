@@ -1,5 +1,6 @@
 pub mod Candidates
 pub mod Groups
+pub mod Joins
 pub mod Laws
 pub mod Parts
 pub mod Reached

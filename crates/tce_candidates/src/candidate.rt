@@ -26,10 +26,10 @@ pub(crate) fn at_limit(limit: u128) -> Candidate
     }
 }
 
-/// The sets of the left operand's nodes, then those of the right one's, then the node's own. There are at most 32.
-pub fn joined_sets(left: &[IndexSet], right: &[IndexSet], own: IndexSet) -> ArrayVec<IndexSet, 32>
+// The sets of the left operand's nodes, then those of the right one's.
+pub(crate) fn both_sets(left: &[IndexSet], right: &[IndexSet]) -> ArrayVec<IndexSet, 32>
     requires { length left.now + length right.now < 32 }
-    ensures { result.items ≡ left.now ++ (right.now ++ own ∷ []) }
+    ensures { result.items ≡ left.now ++ right.now }
 {
     let mut sets = ArrayVec::<IndexSet, 32>::new();
     for set in left {
@@ -38,6 +38,27 @@ pub fn joined_sets(left: &[IndexSet], right: &[IndexSet], own: IndexSet) -> Arra
     for set in right {
         sets.push(*set);
     }
-    sets.push(own);
     sets
+}
+
+// The sets with one more.
+pub(crate) fn with_set(sets: &[IndexSet], own: IndexSet) -> ArrayVec<IndexSet, 32>
+    requires { length sets.now < 32 }
+    ensures { result.items ≡ sets.now ++ own ∷ [] }
+{
+    let mut all = ArrayVec::<IndexSet, 32>::new();
+    for set in sets {
+        all.push(*set);
+    }
+    all.push(own);
+    all
+}
+
+#[tactic(auto, using(std::proofs::lemmas::List::append_assoc))]
+/// The sets of the left operand's nodes, then those of the right one's, then the node's own. There are at most 32.
+pub fn joined_sets(left: &[IndexSet], right: &[IndexSet], own: IndexSet) -> ArrayVec<IndexSet, 32>
+    requires { length left.now + length right.now < 32 }
+    ensures { result.items ≡ left.now ++ (right.now ++ own ∷ []) }
+{
+    with_set(both_sets(left, right).as_slice(), own)
 }

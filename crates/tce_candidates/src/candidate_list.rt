@@ -6,7 +6,7 @@ ghost use Rattle.tce_candidates.specs.Groups.{StandsAt, group_of};
 
 use crate::candidate::Candidate;
 use crate::groups::{Entry, Groups};
-use crate::upper::upper_parts;
+use crate::upper::{marks_of, upper_parts};
 use std::alloc::{AllocError, Global};
 use std::marker::Model;
 use tce_nesting::Row;
@@ -56,10 +56,12 @@ impl CandidateList {
     pub(crate) fn covers(&self, state: &Row) -> bool
         ensures { IsTrue result ↔ Any (Stands self.now.outer (above state.now.classes) state.now.cost) self.now.candidates }
     {
+        let parts = upper_parts(&state.classes, self.outer);
         some_group_covers(
             self.candidates.as_slice(),
             &self.groups,
-            upper_parts(&state.classes, self.outer).as_slice(),
+            parts.as_slice(),
+            marks_of(parts.as_slice()),
             state,
             self.outer,
         )
@@ -75,6 +77,7 @@ impl CandidateList {
         let entry = Entry {
             cost: candidate.row.cost,
             place: self.count(),
+            marks: marks_of(parts.as_slice()),
         };
         self.groups.push(part, entry)?;
         self.candidates.push(candidate)?;
@@ -110,29 +113,42 @@ fn some_group_covers(
     candidates: &[Candidate],
     groups: &Groups,
     parts: &[IndexSet],
+    marks: IndexSet,
     state: &Row,
     outer: IndexSet,
 ) -> bool
-    ensures { IsTrue result ↔ Any (λ part. Any (StandsAt outer (above state.now.classes) state.now.cost candidates.now) (group_of groups.now part)) parts.now }
+    ensures { IsTrue result ↔ Any (λ part. Any (StandsAt outer (above state.now.classes) state.now.cost marks candidates.now) (group_of groups.now part)) parts.now }
 {
-    parts.iter().any(|part| group_covers(candidates, groups.of(*part), state, outer))
+    parts.iter().any(|part| group_covers(candidates, groups.of(*part), marks, state, outer))
 }
 
 // Whether some candidate of a group stands for the state. What came last is asked first: it mostly costs least.
-fn group_covers(candidates: &[Candidate], group: &[Entry], state: &Row, outer: IndexSet) -> bool
-    ensures { IsTrue result ↔ Any (StandsAt outer (above state.now.classes) state.now.cost candidates.now) group.now }
+fn group_covers(
+    candidates: &[Candidate],
+    group: &[Entry],
+    marks: IndexSet,
+    state: &Row,
+    outer: IndexSet,
+) -> bool
+    ensures { IsTrue result ↔ Any (StandsAt outer (above state.now.classes) state.now.cost marks candidates.now) group.now }
 {
     group
         .iter()
         .rev()
-        .any(|entry| stands_at(candidates, entry, state, outer))
+        .any(|entry| stands_at(candidates, entry, marks, state, outer))
 }
 
-// Whether there is a candidate at the entry's place that stands for the state, and the entry's cost is no more.
-fn stands_at(candidates: &[Candidate], entry: &Entry, state: &Row, outer: IndexSet) -> bool
-    ensures { IsTrue result ↔ StandsAt outer (above state.now.classes) state.now.cost candidates.now entry.now }
+// Whether there is a candidate at the entry's place that stands for the state, the entry's cost is no more, and its marks are among those of the state.
+fn stands_at(
+    candidates: &[Candidate],
+    entry: &Entry,
+    marks: IndexSet,
+    state: &Row,
+    outer: IndexSet,
+) -> bool
+    ensures { IsTrue result ↔ StandsAt outer (above state.now.classes) state.now.cost marks candidates.now entry.now }
 {
-    if state.cost < entry.cost {
+    if state.cost < entry.cost || !entry.marks.within(marks) {
         return false;
     }
     match candidates.get(entry.place) {

@@ -8,13 +8,14 @@ use std::marker::Model;
 use tce_space::IndexSet;
 
 // A prime, so that parts which differ in few loops mostly have different groups.
-const GROUPS: usize = 251;
+const GROUPS: usize = 1021;
 
-/// The place of a candidate in its list, and its cost.
+/// The place of a candidate in its list, its cost, and the marks of its upper parts.
 #[derive(Clone, Copy)]
 pub(crate) struct Entry {
     pub(crate) cost: u128,
     pub(crate) place: usize,
+    pub(crate) marks: IndexSet,
 }
 
 /// Lists of entries, one for each remainder of a set of loops as a number.
@@ -31,13 +32,13 @@ impl Model for Groups {
 
     ghost view = { λ g. map (λ list. list.items) g.lists.items };
 
-    ghost invariant = { λ g. length g.lists.items ≡ 251 };
+    ghost invariant = { λ g. length g.lists.items ≡ 1021 };
 }
 
 impl Groups {
     /// No entries.
     pub(crate) fn new(alloc: Global) -> Result<Groups, AllocError>
-        ensures { IfOk result (λ groups. groups ≡ replicate 251 []) }
+        ensures { IfOk result (λ groups. groups ≡ replicate 1021 []) }
     {
         let mut lists = Vec::with_capacity(alloc, GROUPS)?;
         for _ in 0..GROUPS {

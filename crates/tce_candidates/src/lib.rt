@@ -4,8 +4,10 @@
 mod candidate;
 mod candidate_list;
 mod groups;
+mod joins;
 mod laws;
 mod table;
+mod thinned;
 mod upper;
 
 pub use candidate::{Candidate, joined_sets};

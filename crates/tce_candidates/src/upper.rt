@@ -1,11 +1,14 @@
 // Parts of the outer loops that a state puts above the others.
 ghost use Rattle.std.specs.Prelude.{ℕ, ◌<◌, length, All, Contains};
 ghost use Rattle.tce_states.specs.Relation.{above};
-ghost use Rattle.tce_candidates.specs.Parts.{IsUpperPart};
+ghost use Rattle.tce_candidates.specs.Parts.{IsUpperPart, AreMarksOf};
 
 use arrayvec::ArrayVec;
 use tce_nesting::Nesting;
 use tce_space::IndexSet;
+
+// The greatest prime for which all remainders are indexes.
+const MARKS: u32 = 23;
 
 // The upper parts of the outer loops, smallest first. What is coarser on these loops has no others.
 pub(crate) fn upper_parts(classes: &Nesting, outer: IndexSet) -> ArrayVec<IndexSet, 11>
@@ -25,4 +28,15 @@ pub(crate) fn upper_parts(classes: &Nesting, outer: IndexSet) -> ArrayVec<IndexS
         parts.push(reached);
     }
     parts
+}
+
+// The marks of parts: a set in which each of them has one of few members. Where parts are among others, their marks are among the marks of these, which is known at once.
+pub(crate) fn marks_of(parts: &[IndexSet]) -> IndexSet
+    ensures { AreMarksOf parts.now result }
+{
+    let mut marks = IndexSet::empty();
+    for part in parts {
+        marks = marks.with((part.bits() % MARKS) as u8);
+    }
+    marks
 }

@@ -1,82 +1,75 @@
-use Rattle.std.proofs.Common.{◌≡◌, ◌⊎◌, ◌<◌, ◌∙◌, inl, subst}
-use Rattle.std.specs.List.{All, AllPairs, Contains}
-use Rattle.std.proofs.lemmas.List.Elements.{AllWithin-more, All-from_all_within, All-weaker, All-contains, at_read, AllWithin-upto}
+use Rattle.std.proofs.Common.{◌≡◌, ◌⊎◌, ◌∙◌, ◌∷◌, [], ◌++◌, List, inl, inr, sym, ap, ap₂, subst}
+use Rattle.std.specs.List.{All, AllPairs, Any, Contains}
+use Rattle.std.proofs.lemmas.List.Elements.{All-weaker, All-contains}
 use Rattle.tce_states.specs.Relation.{none}
 use Rattle.tce_candidates.specs.declared.candidate.Candidate.{Candidate}
-use Rattle.tce_candidates.specs.Candidates.{StandForAll, AreApart, PairCovered, IsStepOf, IsReachedBelow, limit_candidate}
-use Rattle.tce_candidates.specs.Groups.{LeavesOpen}
-use Rattle.tce_candidates.proofs.Covers.{pair_later, pairs_later, from_earlier, read_contains}
+use Rattle.tce_candidates.specs.Candidates.{StandForAll, AreApart, ChoiceCovered, IsReachedBelow, limit_candidate}
+use Rattle.tce_candidates.specs.Groups.{Listed, LeavesOpen}
+use Rattle.tce_candidates.specs.Joins.{IsSomeJoinBelow, IsSomeStepFrom, HasNext}
+use Rattle.tce_candidates.proofs.Covers.{pairs_later}
+use Rattle.tce_candidates.proofs.Joining.{pairs_from_joins, joins_placed, step_reached, limit_stands, limit_alone, all_at_limit}
 use Rattle.tce_candidates.proofs.table.candidates_of.Goals as goal
 
-pub loop-right-preserved : goal.loop-right-preserved
-loop-right-preserved c =
-    let here = c.in_ok-add_steps.ensures in
-    let outer = c.args.outer in
-    let same = c.loop-right.invariant.outer in
-    let old = c.loop-right.list.candidates in
-    let new = c.add_steps.new.list.candidates in
-    let later = subst (λ o. StandForAll o old new) same here.others in
-    let left = c.left-item.result in
-    let right = c.right-item.result in
-    let lefts = c.args.lefts.now in
-    let rights = c.args.rights.now in
-    let choices = c.args.choices.now in
-    let lifted = pair_later c.args.loops outer choices old new in
-    let covers = PairCovered c.args.loops outer choices new left in
-    record {
-      outer = here.outer ∙ same;
-      earlier = λ k d from low. λ m e inner. lifted _ _ later (c.loop-right.invariant.earlier k d from low m e inner);
-      here = AllWithin-more covers rights 0 c.loop-right.right-index
-          (λ m e from low. lifted _ _ later (c.loop-right.invariant.here m e from low))
-          (at_read rights covers c.loop-right.right-index right c.loop-right-test.true c.right-item.is (subst (λ o. PairCovered c.args.loops o choices new left right) same here.covered));
-      limit = later none c.args.limit c.loop-right.invariant.limit;
-      reached = from_earlier (λ (x : Candidate). IsReachedBelow c.args.limit c.args.loops choices lefts rights x ⊎ (x ≡ limit_candidate c.args.limit))
-          (λ (x : Candidate). IsStepOf c.args.loops choices left right x × (x.row.cost < c.args.limit)) old new here.origin
-          (λ x s. inl (record {
-            reached = record {
-              left = left;
-              right = right;
-              from_left = read_contains lefts c.loop-left.left-index left c.loop-left-test.true c.left-item.is;
-              from_right = read_contains rights c.loop-right.right-index right c.loop-right-test.true c.right-item.is;
-              step = s.0;
-            };
-            cheap = s.1;
-          }))
-          c.loop-right.invariant.reached;
-      later = subst (λ o. AllPairs (LeavesOpen o) old → AllPairs (LeavesOpen o) new) same here.later c.loop-right.invariant.later;
-    }
+pub add_all_steps-requires-clause-limit : goal.add_all_steps-requires-clause-limit
+add_all_steps-requires-clause-limit c =
+    limit_stands c.push.new.self.outer c.args.limit c.push.new.self.candidates
+    (c.in_ok-push.ensures.candidates ∙ ap₂ (λ (xs : List Candidate) x. xs ++ x ∷ []) (ap (λ (l : Listed). l.candidates) c.in_ok-list.ensures) c.at_limit.ensures)
 
-pub loop-left-preserved : goal.loop-left-preserved
-loop-left-preserved c =
-    let rows = c.loop-right.list.candidates in
-    let rights = c.args.rights.now in
-    let pairs = PairCovered c.args.loops c.args.outer c.args.choices.now rows c.left-item.result in
-    let covers = λ (left : Candidate). All (PairCovered c.args.loops c.args.outer c.args.choices.now rows left) rights in
-    record {
-      outer = c.loop-right.invariant.outer;
-      covered = AllWithin-more covers c.args.lefts.now 0 c.loop-left.left-index c.loop-right.invariant.earlier
-          (at_read c.args.lefts.now covers c.loop-left.left-index c.left-item.result c.loop-left-test.true c.left-item.is
-          (All-from_all_within pairs rights (AllWithin-upto pairs rights 0 c.loop-right.right-index _ c.loop-right-test.false c.loop-right.invariant.here)));
-      limit = c.loop-right.invariant.limit;
-      reached = c.loop-right.invariant.reached;
-      later = c.loop-right.invariant.later;
-    }
+pub add_all_steps-requires-clause-next : goal.add_all_steps-requires-clause-next
+add_all_steps-requires-clause-next c = subst (All HasNext) (sym c.as_slice.ensures.value) c.in_ok-joins.ensures.next
+
+pub thinned-requires : goal.thinned-requires
+thinned-requires c =
+    let start = c.push.new.self in
+    let is = c.in_ok-push.ensures.candidates ∙ ap₂ (λ (xs : List Candidate) x. xs ++ x ∷ []) (ap (λ (l : Listed). l.candidates) c.in_ok-list.ensures) c.at_limit.ensures in
+    subst (λ o. AllPairs (LeavesOpen o) c.add_all_steps.new.list.candidates) (sym c.in_ok-add_all_steps.ensures.outer)
+    (c.in_ok-add_all_steps.ensures.later (limit_alone start.outer c.args.limit start.candidates is))
 
 pub returns-clause-covered : goal.returns-clause-covered
 returns-clause-covered c =
     let outer = c.args.outer in
-    let old = c.loop-left.list.candidates in
-    let new = c.in_ok-table.table.items in
+    let limit = c.args.limit in
+    let loops = c.args.loops in
+    let choices = c.args.choices.now in
+    let lefts = c.args.lefts.now in
     let rights = c.args.rights.now in
-    let covers = λ (left : Candidate). All (PairCovered c.args.loops outer c.args.choices.now old left) rights in
-    let all = All-from_all_within covers c.args.lefts.now (AllWithin-upto covers c.args.lefts.now 0 c.loop-left.left-index _ c.loop-left-test.false c.loop-left.invariant.covered) in
-    pairs_later c.args.loops outer c.args.choices.now old new c.args.lefts.now rights (subst (λ o. StandForAll o old new) c.loop-left.invariant.outer c.in_ok-table.ensures.others) all
+    let start = c.push.new.self in
+    let joins = c.in_ok-joins.joins.items in
+    let mid = c.add_all_steps.new.list.candidates in
+    let new = c.in_ok-table.table.items in
+    let here = c.in_ok-add_all_steps.ensures in
+    let same = c.in_ok-push.ensures.outer ∙ ap (λ (l : Listed). l.outer) c.in_ok-list.ensures in
+    let is = c.in_ok-push.ensures.candidates ∙ ap₂ (λ (xs : List Candidate) x. xs ++ x ∷ []) (ap (λ (l : Listed). l.candidates) c.in_ok-list.ensures) c.at_limit.ensures in
+    let each = subst (λ js. All (λ (join : Candidate). All (ChoiceCovered outer join.row mid) choices) js) c.as_slice.ensures.value
+    (subst (λ o. All (λ (join : Candidate). All (ChoiceCovered o join.row mid) choices) c.as_slice.result.now) same here.covered) in
+    let at_limit = subst (λ o. StandForAll o start.candidates mid) same here.others none limit (limit_stands outer limit start.candidates is) in
+    let covered = pairs_from_joins limit loops outer choices mid joins c.bits-number.ensures.bounded
+    (joins_placed limit loops lefts rights joins c.in_ok-joins.ensures.joins) each at_limit lefts rights c.in_ok-joins.ensures.covered in
+    pairs_later loops outer choices mid new lefts rights (subst (λ o. StandForAll o mid new) (here.outer ∙ same) c.in_ok-table.ensures.others) covered
 
 pub returns-clause-reached : goal.returns-clause-reached
 returns-clause-reached c =
-    let old = c.loop-left.list.candidates in
-    let reached = λ (x : Candidate). IsReachedBelow c.args.limit c.args.loops c.args.choices.now c.args.lefts.now c.args.rights.now x ⊎ (x ≡ limit_candidate c.args.limit) in
-    All-weaker (Contains old) reached (λ x inn. All-contains reached old x c.loop-left.invariant.reached inn) c.in_ok-table.table.items c.in_ok-table.ensures.origin
+    let limit = c.args.limit in
+    let loops = c.args.loops in
+    let choices = c.args.choices.now in
+    let lefts = c.args.lefts.now in
+    let rights = c.args.rights.now in
+    let start = c.push.new.self in
+    let joins = c.in_ok-joins.joins.items in
+    let mid = c.add_all_steps.new.list.candidates in
+    let is = c.in_ok-push.ensures.candidates ∙ ap₂ (λ (xs : List Candidate) x. xs ++ x ∷ []) (ap (λ (l : Listed). l.candidates) c.in_ok-list.ensures) c.at_limit.ensures in
+    let reached = λ (x : Candidate). IsReachedBelow limit loops choices lefts rights x ⊎ (x ≡ limit_candidate limit) in
+    let from = λ (x : Candidate). Contains start.candidates x ⊎ Any (λ (join : Candidate). IsSomeStepFrom limit choices join x) joins in
+    let origin : All from mid = subst (λ js. All (λ (x : Candidate). Contains start.candidates x ⊎ Any (λ (join : Candidate). IsSomeStepFrom limit choices join x) js) mid) c.as_slice.ensures.value c.in_ok-add_all_steps.ensures.origin in
+    let all : All reached mid = All-weaker from reached
+    (λ x h. elim h [
+      | inl there ↦ inr (all_at_limit c.args.outer limit start.candidates is x there)
+      | inr found ↦ inl (step_reached limit loops choices lefts rights found.1 x
+          (All-contains (IsSomeJoinBelow limit loops lefts rights) joins found.1 c.in_ok-joins.ensures.joins (found.0, found.2, found.3)) found.4)
+    ]) mid origin in
+    All-weaker (Contains mid) reached (λ x inn. All-contains reached mid x all inn) c.in_ok-table.table.items c.in_ok-table.ensures.origin
 
 pub returns-clause-apart : goal.returns-clause-apart
-returns-clause-apart c = subst (λ o. AllPairs (AreApart o) c.in_ok-table.table.items) c.loop-left.invariant.outer c.in_ok-table.ensures.apart
+returns-clause-apart c =
+    let same = c.in_ok-push.ensures.outer ∙ ap (λ (l : Listed). l.outer) c.in_ok-list.ensures in
+    subst (λ o. AllPairs (AreApart o) c.in_ok-table.table.items) (c.in_ok-add_all_steps.ensures.outer ∙ same) c.in_ok-table.ensures.apart

@@ -1,12 +1,16 @@
 use Rattle.std.proofs.Common.{◌∙◌, sym, ap, subst, length}
 use Rattle.std.specs.List.{All, Contains}
-use Rattle.std.proofs.lemmas.List.Elements.{All-contains}
 use Rattle.tce_states.specs.Relation.{above}
 use Rattle.tce_candidates.specs.declared.candidate.Candidate.{Candidate}
-use Rattle.tce_candidates.specs.Parts.{IsUpperPart}
+use Rattle.tce_candidates.specs.Parts.{IsUpperPart, AreMarksOf}
 use Rattle.tce_candidates.specs.Groups.{Listed, AreEntered, group_of}
 use Rattle.tce_candidates.proofs.Grouping.{entered_later, entered_last}
 use Rattle.tce_candidates.proofs.candidate_list.CandidateList.push.Goals as goal
+
+pub invariant_of-self : goal.invariant_of-self
+invariant_of-self c =
+    let inside = c.self.inside in
+    entered_later inside.outer inside.groups c.push.new.self inside.candidates.items c.in_err-push.ensures.kept c.self.invariant
 
 pub invariant_of-self-in_err-push-2 : goal.invariant_of-self-in_err-push-2
 invariant_of-self-in_err-push-2 c =
@@ -22,9 +26,10 @@ invariant_of-self-2 c =
     let same = ap (λ (x : Candidate). x.row.classes) c.candidate.view_is in
     let each = subst (λ cs. All (IsUpperPart inside.outer (above cs)) parts) same c.upper_parts-parts.ensures.each in
     let inn = subst (λ xs. Contains xs part) c.as_slice.ensures.value c.last_of-part.ensures in
-    entered_last inside.outer c.push.new.self inside.candidates.items c.push-2.new.self.items c.args.candidate part c.count.result
+    let marked = subst (λ ps. AreMarksOf ps c.marks_of.result) c.as_slice-2.ensures.value c.marks_of.ensures in
+    entered_last inside.outer c.push.new.self inside.candidates.items c.push-2.new.self.items c.args.candidate parts part c.marks_of.result c.count.result
     (entered_later inside.outer inside.groups c.push.new.self inside.candidates.items c.in_ok-push.ensures.kept c.self.invariant)
     c.in_ok-push-2.ensures.items
-    (All-contains (IsUpperPart inside.outer (above c.args.candidate.row.classes)) parts part each inn)
+    each inn marked
     (c.count.ensures ∙ ap (λ (l : Listed). length l.candidates) (sym c.self.view_is))
-    (subst (λ (x : Candidate). Contains (group_of c.push.new.self part) (record { cost = x.row.cost; place = c.count.result })) c.candidate.view_is c.in_ok-push.ensures.added)
+    (subst (λ (x : Candidate). Contains (group_of c.push.new.self part) (record { cost = x.row.cost; place = c.count.result; marks = c.marks_of.result })) c.candidate.view_is c.in_ok-push.ensures.added)

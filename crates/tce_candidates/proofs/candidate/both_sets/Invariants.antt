@@ -1,5 +1,5 @@
 use Rattle.std.proofs.Common.{◌≡◌, ◌++◌, take}
-use Rattle.tce_candidates.proofs.candidate.joined_sets.Given as goal
+use Rattle.tce_candidates.proofs.candidate.both_sets.Given as goal
 
 abbrev pub invariant-loop-set : goal.invariant-loop-set
 invariant-loop-set l = l.sets.items ≡ take l.set-index l.left

@@ -1,6 +1,6 @@
 use Rattle.std.proofs.Common.{◌≡◌, length}
 use Rattle.tce_candidates.proofs.Thinning.{IsThinned}
-use Rattle.tce_candidates.proofs.table.thinned.Given as goal
+use Rattle.tce_candidates.proofs.thinned.thinned.Given as goal
 
 abbrev pub decreases-loop-candidate : goal.decreases-loop-candidate
 decreases-loop-candidate l = length l.rest.items

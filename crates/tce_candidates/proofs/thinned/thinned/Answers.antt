@@ -7,7 +7,7 @@ use Rattle.tce_states.specs.Relation.{above}
 use Rattle.tce_candidates.specs.Candidates.{Stands}
 use Rattle.tce_candidates.specs.Groups.{Listed}
 use Rattle.tce_candidates.proofs.Thinning.{IsThinned, thinned_none, thinned_drop, thinned_keep, thinned_others, thinned_origin}
-use Rattle.tce_candidates.proofs.table.thinned.Goals as goal
+use Rattle.tce_candidates.proofs.thinned.thinned.Goals as goal
 
 pub loop-candidate-init : goal.loop-candidate-init
 loop-candidate-init c =

@@ -1,0 +1,79 @@
+use Rattle.std.proofs.Common.{◌⊎◌, ◌∙◌, subst, get_or}
+use Rattle.std.specs.List.{All, AllPairs, Contains}
+use Rattle.std.proofs.lemmas.List.Elements.{AllWithin-more, All-from_all_within, All-weaker, All-contains, at_read, AllWithin-upto}
+use Rattle.tce_candidates.specs.declared.candidate.Candidate.{Candidate}
+use Rattle.tce_candidates.specs.Candidates.{StandForAll}
+use Rattle.tce_candidates.specs.Groups.{LeavesOpen}
+use Rattle.tce_candidates.specs.Joins.{IsJoinBelow, IsSomeJoinBelow, JoinCovered, HasNext}
+use Rattle.tce_candidates.proofs.Covers.{from_earlier, read_contains}
+use Rattle.tce_candidates.proofs.Joining.{join_later, joins_later, joins_next}
+use Rattle.tce_candidates.proofs.joins.joins_of.Goals as goal
+
+pub loop-right-preserved : goal.loop-right-preserved
+loop-right-preserved c =
+    let here = c.in_ok-add_join.ensures in
+    let limit = c.args.limit in
+    let loops = c.args.loops in
+    let same = c.loop-right.invariant.outer in
+    let old = c.loop-right.list.candidates in
+    let new = c.add_join.new.list.candidates in
+    let later = subst (λ o. StandForAll o old new) same here.others in
+    let left = c.left-item.result in
+    let right = c.right-item.result in
+    let lefts = c.args.lefts.now in
+    let rights = c.args.rights.now in
+    let covers = JoinCovered limit loops new left in
+    record {
+      outer = here.outer ∙ same;
+      earlier = λ k d from low. λ m e inner. join_later limit loops old new (get_or lefts k d) (get_or rights m e) later (c.loop-right.invariant.earlier k d from low m e inner);
+      here = AllWithin-more covers rights 0 c.loop-right.right-index
+          (λ m e from low. join_later limit loops old new left (get_or rights m e) later (c.loop-right.invariant.here m e from low))
+          (at_read rights covers c.loop-right.right-index right c.loop-right-test.true c.right-item.is (subst (λ o. JoinCovered limit o new left right) same here.covered));
+      joins = from_earlier (IsSomeJoinBelow limit loops lefts rights) (IsJoinBelow limit loops left right) old new
+          (subst (λ o. All (λ x. Contains old x ⊎ IsJoinBelow limit o left right x) new) same here.origin)
+          (λ x s. record {
+            left = left;
+            right = right;
+            from_left = read_contains lefts c.loop-left.left-index left c.loop-left-test.true c.left-item.is;
+            from_right = read_contains rights c.loop-right.right-index right c.loop-right-test.true c.right-item.is;
+            join = s;
+          })
+          c.loop-right.invariant.joins;
+      later = subst (λ o. AllPairs (LeavesOpen o) old → AllPairs (LeavesOpen o) new) same here.later c.loop-right.invariant.later;
+    }
+
+pub loop-left-preserved : goal.loop-left-preserved
+loop-left-preserved c =
+    let rows = c.loop-right.list.candidates in
+    let rights = c.args.rights.now in
+    let pairs = JoinCovered c.args.limit c.args.loops rows c.left-item.result in
+    let covers = λ (left : Candidate). All (JoinCovered c.args.limit c.args.loops rows left) rights in
+    record {
+      outer = c.loop-right.invariant.outer;
+      covered = AllWithin-more covers c.args.lefts.now 0 c.loop-left.left-index c.loop-right.invariant.earlier
+          (at_read c.args.lefts.now covers c.loop-left.left-index c.left-item.result c.loop-left-test.true c.left-item.is
+          (All-from_all_within pairs rights (AllWithin-upto pairs rights 0 c.loop-right.right-index _ c.loop-right-test.false c.loop-right.invariant.here)));
+      joins = c.loop-right.invariant.joins;
+      later = c.loop-right.invariant.later;
+    }
+
+pub returns-clause-covered : goal.returns-clause-covered
+returns-clause-covered c =
+    let old = c.loop-left.list.candidates in
+    let new = c.in_ok-joins.joins.items in
+    let rights = c.args.rights.now in
+    let covers = λ (left : Candidate). All (JoinCovered c.args.limit c.args.loops old left) rights in
+    let all = All-from_all_within covers c.args.lefts.now (AllWithin-upto covers c.args.lefts.now 0 c.loop-left.left-index _ c.loop-left-test.false c.loop-left.invariant.covered) in
+    joins_later c.args.limit c.args.loops old new c.args.lefts.now rights (subst (λ o. StandForAll o old new) c.loop-left.invariant.outer c.in_ok-joins.ensures.others) all
+
+pub returns-clause-joins : goal.returns-clause-joins
+returns-clause-joins c =
+    let old = c.loop-left.list.candidates in
+    let is_join = IsSomeJoinBelow c.args.limit c.args.loops c.args.lefts.now c.args.rights.now in
+    All-weaker (Contains old) is_join (λ x inn. All-contains is_join old x c.loop-left.invariant.joins inn) c.in_ok-joins.joins.items c.in_ok-joins.ensures.origin
+
+pub returns-clause-next : goal.returns-clause-next
+returns-clause-next c =
+    let old = c.loop-left.list.candidates in
+    let next = joins_next c.args.limit c.args.loops c.args.lefts.now c.args.rights.now old c.requires.lefts c.requires.rights c.requires.room c.loop-left.invariant.joins in
+    All-weaker (Contains old) HasNext (λ x inn. All-contains HasNext old x next inn) c.in_ok-joins.joins.items c.in_ok-joins.ensures.origin

@@ -1,0 +1,22 @@
+use Rattle.std.proofs.Common.{◌≡◌}
+use Rattle.std.specs.List.{All, AllWithin, AllPairs}
+use Rattle.tce_candidates.specs.Groups.{LeavesOpen}
+use Rattle.tce_candidates.specs.Joins.{IsSomeJoinBelow, JoinCovered}
+use Rattle.tce_candidates.proofs.joins.joins_of.Given as goal
+
+abbrev pub invariant-loop-left : goal.invariant-loop-left
+invariant-loop-left l = record {
+  outer : l.list.outer ≡ l.fn.loops;
+  covered : AllWithin (λ left. All (JoinCovered l.fn.limit l.fn.loops l.list.candidates left) l.fn.rights) l.fn.lefts 0 l.left-index;
+  joins : All (IsSomeJoinBelow l.fn.limit l.fn.loops l.fn.lefts l.fn.rights) l.list.candidates;
+  later : AllPairs (LeavesOpen l.fn.loops) l.list.candidates;
+}
+
+abbrev pub invariant-loop-right : goal.invariant-loop-right
+invariant-loop-right l = record {
+  outer : l.list.outer ≡ l.fn.loops;
+  earlier : AllWithin (λ left. All (JoinCovered l.fn.limit l.fn.loops l.list.candidates left) l.fn.rights) l.fn.lefts 0 l.left-index;
+  here : AllWithin (JoinCovered l.fn.limit l.fn.loops l.list.candidates l.left) l.fn.rights 0 l.right-index;
+  joins : All (IsSomeJoinBelow l.fn.limit l.fn.loops l.fn.lefts l.fn.rights) l.list.candidates;
+  later : AllPairs (LeavesOpen l.fn.loops) l.list.candidates;
+}

@@ -1,0 +1,52 @@
+-- What two candidates of a node's operands are together, and which of it candidates stand for.
+use Rattle.std.specs.Prelude.{◌≡◌, ℕ, ◌+◌, ◌<◌, ◌^◌, List, [], ◌∷◌, ◌++◌, length}
+use Rattle.std.specs.List.{Any, Contains}
+use Rattle.tce_states.specs.Relation.{above, HasNoConflict}
+use Rattle.tce_states.specs.Row.{rows_joined}
+use Rattle.tce_nesting.specs.Classes.{AllowsSet}
+use Rattle.tce_nesting.specs.declared.choice.Choice.{Choice}
+use Rattle.tce_steps.specs.Steps.{IsRowJoin, IsRestricted}
+use Rattle.tce_candidates.specs.declared.candidate.Candidate.{Candidate}
+use Rattle.tce_candidates.specs.Candidates.{Stands}
+
+-- the joined row of two candidates without conflict, with the sets of both
+pub record IsJoin (loops : ℕ) (left right candidate : Candidate) : Type 0 where
+  pub quiet : HasNoConflict loops (rows_joined left.row right.row)
+  pub joins : IsRowJoin loops left.row right.row candidate.row
+  pub sets : candidate.sets.items ≡ left.sets.items ++ right.sets.items
+
+-- so joined, and it costs less than a limit
+pub record IsJoinBelow (limit loops : ℕ) (left right candidate : Candidate) : Type 0 where
+  pub join : IsJoin loops left right candidate
+  pub cheap : candidate.row.cost < limit
+
+-- of some two of the operands' candidates
+pub record IsSomeJoinBelow (limit loops : ℕ) (lefts rights : List Candidate) (candidate : Candidate) : Type 0 where
+  pub left : Candidate
+  pub right : Candidate
+  pub from_left : Contains lefts left
+  pub from_right : Contains rights right
+  pub join : IsJoinBelow limit loops left right candidate
+
+-- where two candidates have no conflict and together cost less than a limit, some candidate is coarser on the loops than both together, and costs no more
+abbrev pub JoinCovered : ℕ → ℕ → List Candidate → Candidate → Candidate → Type 0
+JoinCovered limit loops joins left right =
+    HasNoConflict loops (rows_joined left.row right.row) → left.row.cost + right.row.cost < limit
+    → Any (Stands loops (rows_joined left.row right.row) (left.row.cost + right.row.cost)) joins
+
+-- what is left of a joined candidate where the choice's set is fused, with its sets and this one
+pub record IsStepFrom (join : Candidate) (choice : Choice) (candidate : Candidate) : Type 0 where
+  pub allowed : AllowsSet (above join.row.classes) choice.fused
+  pub row : IsRestricted join.row choice candidate.row
+  pub sets : candidate.sets.items ≡ join.sets.items ++ choice.fused ∷ []
+
+-- with one of the choices, where it costs less than a limit
+pub record IsSomeStepFrom (limit : ℕ) (choices : List Choice) (join candidate : Candidate) : Type 0 where
+  pub choice : Choice
+  pub chosen : Contains choices choice
+  pub step : IsStepFrom join choice candidate
+  pub cheap : candidate.row.cost < limit
+
+-- the candidate's cost is within twice the limit of a plan's numbers, and its sets leave room for one more
+abbrev pub HasNext : Candidate → Type 0
+HasNext join = (join.row.cost < 2 ^ 97) × (length join.sets.items < 32)
