@@ -193,6 +193,7 @@ pub record AreExchanged (s : Symmetry) (ns xs : List ℕ) : Type 0 where
   pub inside : IsInside ns (exchanged s xs)
   pub first : at_first s (exchanged s xs) ≡ at_second s xs
   pub second : at_second s (exchanged s xs) ≡ at_first s xs
+  pub others : at_others s (exchanged s xs) ≡ at_others s xs
 
 pub are_exchanged : (s : Symmetry) (ns xs : List ℕ) → s.first < s.second → s.second < length ns → at_first s ns ≡ at_second s ns → IsInside ns xs → AreExchanged s ns xs
 are_exchanged s ns xs h l same inside =
@@ -211,4 +212,5 @@ are_exchanged s ns xs h l same inside =
           (inside_joined (before s ns) (at_first s ns ∷ (between s ns ++ at_second s ns ∷ behind s ns)) us (at_second s xs ∷ (vs ++ at_first s xs ∷ ws)) i.front (omega (arith, i.second), deep)));
       first = ap (at_first s) e ∙ parts.first;
       second = ap (at_second s) e ∙ parts.second;
+      others = ap (at_others s) e ∙ parts.others;
     }

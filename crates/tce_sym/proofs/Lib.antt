@@ -4,4 +4,7 @@ pub mod StoredPlaces
 pub mod OneAnswer
 pub mod Sizes
 pub mod HeldLines
-pub mod Cells
+pub mod FullCells
+pub mod Moved
+pub mod WordCoords
+pub mod Pieces

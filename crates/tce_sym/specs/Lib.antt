@@ -2,3 +2,5 @@ pub mod Storage
 pub mod Faults
 pub mod Laws
 pub mod Lines
+pub mod Cells
+pub mod TileRows

@@ -3,9 +3,9 @@ use Rattle.std.specs.Prelude.{◌≡◌, ℕ, ◌+◌, ◌*◌, ◌<◌, List, l
 use Rattle.tce_sym.specs.declared.lines.Lines.{Lines}
 use Rattle.tce_sym.specs.Storage.{stored_word}
 
--- each slot whose mark is one more than the number of a line has that line's words
+-- each slot whose mark is one more than a place has the words from there on
 pub record AreLines (count : ℕ) (bytes : List ℕ) (lines : Lines) : Type 0 where
-  pub words_len : length lines.words ≡ 32768
-  pub marks_len : length lines.marks ≡ 2048
-  pub held : (slot line k : ℕ) → slot < 2048 → k < 16 → slice_index lines.marks slot ≡ line + 1 → line * 16 + k < count
-      → slice_index lines.words (slot * 16 + k) ≡ stored_word bytes (line * 16 + k)
+  pub words_len : length lines.words ≡ 131072
+  pub marks_len : length lines.marks ≡ 4096
+  pub held : (slot start k : ℕ) → slot < 4096 → k < 32 → slice_index lines.marks slot ≡ start + 1 → start + k < count
+      → slice_index lines.words (slot * 32 + k) ≡ stored_word bytes (start + k)

@@ -1,66 +1,38 @@
 // Whole arrays from stored elements.
-ghost use Rattle.std.specs.Prelude.{◌≡◌, ◌≢◌, ◌+◌, ◌<◌, ◌≤◌, ◌^◌, length, IfOk, OnOk, IsErr, IsErrOf};
+ghost use Rattle.std.specs.Prelude.{◌≡◌, ◌≢◌, ◌+◌, ◌<◌, ◌≤◌, ◌^◌, length, replicate, OnOk, IsErr, IsErrOf};
 ghost use Rattle.std.specs.Option.{ForSome, IsSomeAnd};
-ghost use Rattle.tce_space.specs.Box.{IsInside};
-ghost use Rattle.tce_space.specs.Tiling.{elements};
+ghost use Rattle.tce_space.specs.Tiling.{padded_words};
 ghost use Rattle.tce_outside.specs.Files.{file, others};
-ghost use Rattle.tce_outside.specs.Fault.{HasCause};
+ghost use Rattle.tce_outside.specs.Fault.{HasCause, TellsFaults};
 ghost use Rattle.tce_array.specs.Forms.{array_bytes};
 ghost use Rattle.tce_tools.specs.Flat.{contents};
-ghost use Rattle.tce_tools.specs.Runs.{AreElements};
 ghost use Rattle.tce_tools.specs.Storage.{holding_by};
 ghost use Rattle.tce_sym.specs.Storage.{AreRight, IsStored, full_cell, stored_count};
 ghost use Rattle.tce_sym.specs.Lines.{AreLines};
+ghost use Rattle.tce_sym.specs.TileRows.{AreWords};
 
-use crate::lines::{Lines, no_lines, word_at};
-use crate::symmetry::{Symmetry, exchanged, signed, stored_count, stored_place};
+use crate::cells::triangles_of;
+use crate::lines::{Lines, no_lines};
+use crate::rows::{read_row, row_of};
+use crate::symmetry::Symmetry;
+use crate::tile_rows::tile_row_at;
 use tce_array::{Form, create};
 use tce_outside::{Disk, Failed, OutFault};
 use tce_space::Shape;
-use tce_tools::{LONGEST_BAND, Storage, band_at, coords_at, write_band};
+use tce_tools::write_words;
 
-// An element of the whole array.
-fn full_cell<D: Disk>(
-    disk: &mut D,
-    shape: &Shape,
-    s: &Symmetry,
-    packed: &str,
-    lines: &mut Lines,
-    coords: &[u64],
-) -> Result<u64, Failed>
-    requires right { AreRight shape.now.extents s.now }
-    requires inside { IsInside shape.now.extents coords.now }
-    requires file { ForSome (D.files disk.old) (λ fs. IsSomeAnd (file fs packed.now) (λ bytes. IsStored shape.now.extents s.now bytes)) }
-    requires lines { ForSome (D.files disk.old) (λ fs. AreLines (stored_count shape.now.extents s.now) (contents fs packed.now) lines.old) }
-    ensures cell { IfOk result (λ cell. ForSome (D.files disk.old) (λ fs. cell ≡ full_cell shape.now.extents s.now (contents fs packed.now) coords.now)) }
-    ensures lines { OnOk result (ForSome (D.files disk.old) (λ fs. AreLines (stored_count shape.now.extents s.now) (contents fs packed.now) lines.new)) }
-    ensures same { D.files disk.new ≡ D.files disk.old }
-    ensures cause { HasCause (D.faults disk.old) (D.faults disk.new) (IsErr result) }
+// The most words that are written at once.
+const LONGEST_PIECE: usize = 8192;
+
+// Makes each word 0.
+fn clear(words: &mut [u64])
+    ensures { words.new ≡ replicate (length words.old) 0 }
 {
-    let count = stored_count(shape, s);
-    let first = coords[s.first as usize];
-    let second = coords[s.second as usize];
-    if first < second {
-        let here = stored_place(shape, s, coords);
-        let stored = word_at(disk, packed, count, lines, here)?;
-        return Ok(stored);
-    }
-    if second < first {
-        let turned = exchanged(s, coords);
-        let there = stored_place(shape, s, turned.as_slice());
-        let mirrored = word_at(disk, packed, count, lines, there)?;
-        return Ok(signed(s.negated, mirrored));
-    }
-    if s.negated {
-        return Ok(0);
-    }
-    let between = stored_place(shape, s, coords);
-    let diagonal = word_at(disk, packed, count, lines, between)?;
-    Ok(diagonal)
+    words.fill(0);
 }
 
-// The elements of the whole array from one on, in row-major order.
-fn read_elements<D: Disk>(
+// The words of the array file from one on: elements, and zeros for the padding.
+fn read_piece<D: Disk>(
     disk: &mut D,
     shape: &Shape,
     s: &Symmetry,
@@ -70,19 +42,28 @@ fn read_elements<D: Disk>(
     words: &mut [u64],
 ) -> Result<(), Failed>
     requires right { AreRight shape.now.extents s.now }
-    requires inside { start + length words.old ≤ elements shape.now }
+    requires inside { start + length words.old ≤ padded_words shape.now }
     requires fits { start + length words.old < 2 ^ 64 }
     requires file { ForSome (D.files disk.old) (λ fs. IsSomeAnd (file fs packed.now) (λ bytes. IsStored shape.now.extents s.now bytes)) }
     requires lines { ForSome (D.files disk.old) (λ fs. AreLines (stored_count shape.now.extents s.now) (contents fs packed.now) lines.old) }
-    ensures read { OnOk result (ForSome (D.files disk.old) (λ fs. AreElements shape.now (full_cell shape.now.extents s.now (contents fs packed.now)) start words.new)) }
+    ensures read { OnOk result (ForSome (D.files disk.old) (λ fs. AreWords shape.now (full_cell shape.now.extents s.now (contents fs packed.now)) start (length words.old) words.new)) }
     ensures lines { OnOk result (ForSome (D.files disk.old) (λ fs. AreLines (stored_count shape.now.extents s.now) (contents fs packed.now) lines.new)) }
     ensures len { length words.new ≡ length words.old }
     ensures same { D.files disk.new ≡ D.files disk.old }
     ensures cause { HasCause (D.faults disk.old) (D.faults disk.new) (IsErr result) }
+    ensures told { TellsFaults (D.faults disk.old) (D.faults disk.new) (IsErr result) }
 {
-    for k in 0..words.len() {
-        let coords = coords_at(shape, start + k as u64);
-        words[k] = full_cell(disk, shape, s, packed, lines, coords.as_slice())?;
+    let triangles = triangles_of(shape, s);
+    clear(words);
+    let mut filled = 0;
+    while filled < words.len() {
+        let tile_row = tile_row_at(shape, start + filled as u64);
+        let row = row_of(shape, s, &tile_row);
+        let len = tile_row.len.min((words.len() - filled) as u64) as usize;
+        let used = tile_row.used.min(len as u64) as usize;
+        let part = &mut words[filled..filled + used];
+        read_row(disk, packed, &triangles, lines, &row, part)?;
+        filled += len;
     }
     Ok(())
 }
@@ -90,8 +71,8 @@ fn read_elements<D: Disk>(
 /// Makes the array file, in the first form, of the whole tensor of which `packed` stores one element for each pair.
 ///
 /// For want of memory (`Memory`) no file changes. Where the disk fails (`Failed`), the array file may hold anything or be
-/// absent. All other files stay in every case. The stored words are read in lines and the array is written in bands, so
-/// that the call needs no memory of its own, however large the files are.
+/// absent. All other files stay in every case. The stored words are read in lines, and the array is written in pieces, tile
+/// by tile, so that the call needs no memory of its own, however large the files are.
 pub fn expand<D: Disk>(
     disk: &mut D,
     shape: &Shape,
@@ -106,33 +87,25 @@ pub fn expand<D: Disk>(
     ensures memory { IsErrOf result OutFault.Memory → D.files disk.new ≡ D.files disk.old }
     ensures others { others array.now (D.files disk.new) ≡ others array.now (D.files disk.old) }
     ensures cause { HasCause (D.faults disk.old) (D.faults disk.new) (IsErrOf result OutFault.Failed) }
+    ensures told { TellsFaults (D.faults disk.old) (D.faults disk.new) (IsErrOf result OutFault.Failed) }
 {
     create(disk, array, Form::One, shape)?;
     let mut lines = no_lines();
-    let mut bytes = [0; 8 * LONGEST_BAND];
-    let mut tiled = [0; LONGEST_BAND];
-    let mut buffer = [0; LONGEST_BAND];
-    let elements = shape.elements();
+    let mut bytes = [0; 8 * LONGEST_PIECE];
+    let mut buffer = [0; LONGEST_PIECE];
+    let head = Form::One.head_len(shape);
+    let padded = shape.padded_words();
     let mut done = 0;
-    while done < elements {
-        let band = band_at(shape, done);
-        let words = &mut buffer[..band.len as usize];
-        let Ok(()) = read_elements(disk, shape, s, packed, &mut lines, done, words) else {
+    while done < padded {
+        let len = (padded - done).min(LONGEST_PIECE as u64);
+        let words = &mut buffer[..len as usize];
+        let Ok(()) = read_piece(disk, shape, s, packed, &mut lines, done, words) else {
             return Err(OutFault::Failed);
         };
-        let Ok(()) = write_band(
-            disk,
-            array,
-            Storage::Array(Form::One),
-            shape,
-            band,
-            &mut bytes,
-            &mut tiled,
-            words,
-        ) else {
+        let Ok(()) = write_words(disk, array, Form::One, head + 8 * done, &mut bytes, words) else {
             return Err(OutFault::Failed);
         };
-        done += band.len;
+        done += len;
     }
     Ok(())
 }

@@ -10,12 +10,15 @@
 //! answers. The function of `laws.rt` does nothing: its contract is a law of these definitions.
 #![tactic(auto)]
 
+mod cells;
 mod expansion;
 mod fault;
 mod laws;
 mod lines;
 mod opening;
+mod rows;
 mod symmetry;
+mod tile_rows;
 
 pub use expansion::expand;
 pub use fault::SymFault;

@@ -3,7 +3,7 @@ ghost use Rattle.std.specs.Prelude.{◌≡◌, ◌+◌, ◌^◌, ◌<◌, ◌≤
 ghost use Rattle.arrayvec.specs.ArrayVec.{array_vec_len};
 ghost use Rattle.tce_space.specs.Box.{IsInside};
 ghost use Rattle.tce_space.specs.Tiling.{elements};
-ghost use Rattle.tce_sym.specs.Storage.{AreRight, IsPair, at_first, at_second, at_others, exchanged, pairs, stored_place, stored_count, turned};
+ghost use Rattle.tce_sym.specs.Storage.{AreRight, IsPair, at_first, at_second, at_others, pairs, stored_place, stored_count, turned};
 
 use arrayvec::ArrayVec;
 use tce_space::{Shape, place};
@@ -19,8 +19,8 @@ pub struct Symmetry {
     pub negated: bool,
 }
 
-// What a list has at the other positions.
-fn at_others(s: &Symmetry, numbers: &[u64]) -> ArrayVec<u64, 8>
+/// What a list has at the other positions.
+pub(crate) fn at_others(s: &Symmetry, numbers: &[u64]) -> ArrayVec<u64, 8>
     requires ordered { s.now.first < s.now.second }
     requires inside { s.now.second < length numbers.now }
     requires short { length numbers.now ≤ 8 }
@@ -35,8 +35,8 @@ fn at_others(s: &Symmetry, numbers: &[u64]) -> ArrayVec<u64, 8>
     others
 }
 
-// Appends numbers.
-fn push_all(list: &mut ArrayVec<u64, 8>, numbers: &[u64])
+/// Appends numbers.
+pub(crate) fn push_all(list: &mut ArrayVec<u64, 8>, numbers: &[u64])
     requires { array_vec_len list.old + length numbers.now ≤ 8 }
     ensures items { list.new.items ≡ list.old.items ++ numbers.now }
     ensures len { array_vec_len list.new ≡ array_vec_len list.old + length numbers.now }
@@ -46,24 +46,8 @@ fn push_all(list: &mut ArrayVec<u64, 8>, numbers: &[u64])
     };
 }
 
-/// The coordinates with the two exchanged.
-pub(crate) fn exchanged(s: &Symmetry, coords: &[u64]) -> ArrayVec<u64, 8>
-    requires ordered { s.now.first < s.now.second }
-    requires inside { s.now.second < length coords.now }
-    requires short { length coords.now ≤ 8 }
-    ensures { result.items ≡ exchanged s.now coords.now }
-{
-    let first = s.first as usize;
-    let second = s.second as usize;
-    let mut turned = ArrayVec::new();
-    push_all(&mut turned, coords);
-    turned[first] = coords[second];
-    turned[second] = coords[first];
-    turned
-}
-
-// How many pairs there are whose coordinates are below a number.
-fn pairs(negated: bool, n: u64) -> u64
+/// How many pairs there are whose coordinates are below a number.
+pub(crate) fn pairs(negated: bool, n: u64) -> u64
     requires { n < 2 ^ 32 }
     ensures { result ≡ pairs negated n }
 {

@@ -6,7 +6,7 @@ use Rattle.tce_space.specs.Tiling.{Tiling, IsTiling, divided, remainders, tile_c
 use Rattle.tce_space.proofs.Boxes.{place-lt, place_injective, length_inside}
 use Rattle.tce_space.proofs.Tilings.{word_number-lt}
 use Rattle.tce_tools.specs.declared.run.Run.{Run}
-use Rattle.tce_tools.specs.Runs.{IsRun, IsRowMajor}
+use Rattle.tce_tools.specs.Runs.{IsRun, IsRowMajor, moved}
 
 abbrev pub last_of : List ℕ → ℕ
 last_of [] = 0
@@ -19,13 +19,7 @@ last_is (x ∷ []) i e = let none : i ≡ 0 = omega arith in ap (λ j. get_or (x
 last_is (x ∷ y ∷ ys) zero e = absurd (omega arith)
 last_is (x ∷ y ∷ ys) (suc i) e = last_is (y ∷ ys) i (omega arith)
 
--- the coordinates with the last one moved on
-abbrev pub moved : List ℕ → ℕ → List ℕ
-moved [] k = []
-moved (x ∷ []) k = (x + k) ∷ []
-moved (x ∷ y ∷ ys) k = x ∷ moved (y ∷ ys) k
-
-moved_inside : (ns xs : List ℕ) (k : ℕ) → IsInside ns xs → last_of xs + k < last_of ns → IsInside ns (moved xs k)
+pub moved_inside : (ns xs : List ℕ) (k : ℕ) → IsInside ns xs → last_of xs + k < last_of ns → IsInside ns (moved xs k)
 moved_inside [] [] k h l = tt
 moved_inside [] (x ∷ xs) k h l = absurd h
 moved_inside (n ∷ ns) [] k h l = absurd h
@@ -34,7 +28,7 @@ moved_inside (n ∷ []) (x ∷ y ∷ ys) k h l = absurd h.1
 moved_inside (n ∷ m ∷ ns) (x ∷ []) k h l = absurd h.1
 moved_inside (n ∷ m ∷ ns) (x ∷ y ∷ ys) k h l = (h.0, moved_inside (m ∷ ns) (y ∷ ys) k h.1 l)
 
-moved_place : (ns xs : List ℕ) (k : ℕ) → 0 < length ns → IsInside ns xs → place ns (moved xs k) ≡ place ns xs + k
+pub moved_place : (ns xs : List ℕ) (k : ℕ) → 0 < length ns → IsInside ns xs → place ns (moved xs k) ≡ place ns xs + k
 moved_place [] xs k l h = absurd (omega arith)
 moved_place (n ∷ ns) [] k l h = absurd h
 moved_place (n ∷ []) (x ∷ []) k l h = omega arith
@@ -71,7 +65,7 @@ moved_remainders (e ∷ []) (x ∷ y ∷ ys) k s l h = absurd (omega arith)
 moved_remainders (e ∷ d ∷ es) (x ∷ []) k s l h = absurd (omega arith)
 moved_remainders (e ∷ d ∷ es) (x ∷ y ∷ ys) k s l h = omega (arith, moved_remainders (d ∷ es) (y ∷ ys) k (omega arith) (omega arith) h)
 
-moved_number : (s : Tiling) (xs : List ℕ) (k : ℕ) → 0 < length s.edges → length xs ≡ length s.edges → last_of xs % last_of s.edges + k < last_of s.edges
+pub moved_number : (s : Tiling) (xs : List ℕ) (k : ℕ) → 0 < length s.edges → length xs ≡ length s.edges → last_of xs % last_of s.edges + k < last_of s.edges
     → word_number s (moved xs k) ≡ word_number s xs + k
 moved_number s xs k some l h =
     let inner = moved_remainders s.edges xs k some l h in

@@ -1,5 +1,5 @@
 -- Runs: elements that follow each other both in row-major order and tile by tile.
-use Rattle.std.specs.Prelude.{◌≡◌, ℕ, ◌+◌, ◌<◌, ◌≤◌, List, length, slice_index}
+use Rattle.std.specs.Prelude.{◌≡◌, ℕ, ◌+◌, ◌<◌, ◌≤◌, List, [], ◌∷◌, length, slice_index}
 use Rattle.tce_space.specs.Box.{place, IsInside}
 use Rattle.tce_space.specs.Tiling.{Tiling, IsTiling, word_number, elements, padded_words}
 use Rattle.tce_tools.specs.declared.run.Run.{Run}
@@ -22,3 +22,9 @@ AreElements s element from values =
 -- word numbers are row-major places
 abbrev pub IsRowMajor : Tiling → Type 0
 IsRowMajor s = (xs : List ℕ) → IsInside s.extents xs → word_number s xs ≡ place s.extents xs
+
+-- the coordinates with the last one moved on
+abbrev pub moved : List ℕ → ℕ → List ℕ
+moved [] k = []
+moved (x ∷ []) k = (x + k) ∷ []
+moved (x ∷ y ∷ ys) k = x ∷ moved (y ∷ ys) k

@@ -2,7 +2,7 @@
 ghost use Rattle.std.specs.Prelude.{◌≡◌, ℕ, ◌+◌, ◌*◌, ◌<◌, ◌≤◌, List, length, Option, Some, OnOk, IsErr};
 ghost use Rattle.std.specs.Option.{ForSome};
 ghost use Rattle.tce_outside.specs.Files.{Files, file, others};
-ghost use Rattle.tce_outside.specs.Fault.{HasCause};
+ghost use Rattle.tce_outside.specs.Fault.{HasCause, TellsFaults};
 ghost use Rattle.tce_array.specs.Forms.{width, head_len};
 ghost use Rattle.tce_tools.specs.Flat.{contents};
 ghost use Rattle.tce_tools.specs.Storage.{element_in, stored_bytes, first_elements, holding_by, HasStored};
@@ -43,6 +43,7 @@ fn read_pieces<D: Disk>(
     ensures read { OnOk result (ForSome (D.files disk.old) (λ fs. AreTiled shape.now band (element_in (Storage.Array form) shape.now (contents fs name.now)) tiled.new)) }
     ensures same { D.files disk.new ≡ D.files disk.old }
     ensures cause { HasCause (D.faults disk.old) (D.faults disk.new) (IsErr result) }
+    ensures told { TellsFaults (D.faults disk.old) (D.faults disk.new) (IsErr result) }
 {
     for piece in 0..band.pieces {
         let from = (piece * band.piece_len) as usize;
@@ -80,6 +81,7 @@ fn write_pieces<D: Disk>(
         → D.files disk.new ≡ holding_by name.now (λ fs. stored_bytes (Storage.Array form) shape.now (first_elements shape.now (element fs) (band.start + band.len))) before) }
     ensures others { others name.now (D.files disk.new) ≡ others name.now (D.files disk.old) }
     ensures cause { HasCause (D.faults disk.old) (D.faults disk.new) (IsErr result) }
+    ensures told { TellsFaults (D.faults disk.old) (D.faults disk.new) (IsErr result) }
 {
     for piece in 0..band.pieces {
         let from = (piece * band.piece_len) as usize;
@@ -116,6 +118,7 @@ pub fn read_band<D: Disk>(
     ensures len { length words.new ≡ band.len }
     ensures same { D.files disk.new ≡ D.files disk.old }
     ensures cause { HasCause (D.faults disk.old) (D.faults disk.new) (IsErr result) }
+    ensures told { TellsFaults (D.faults disk.old) (D.faults disk.new) (IsErr result) }
 {
     match storage {
         Storage::Flat => read_words(disk, name, Form::One, 8 * band.start, bytes, words)?,
@@ -151,6 +154,7 @@ pub fn write_band<D: Disk>(
         → D.files disk.new ≡ holding_by name.now (λ fs. stored_bytes storage shape.now (first_elements shape.now (element fs) (band.start + band.len))) before) }
     ensures others { others name.now (D.files disk.new) ≡ others name.now (D.files disk.old) }
     ensures cause { HasCause (D.faults disk.old) (D.faults disk.new) (IsErr result) }
+    ensures told { TellsFaults (D.faults disk.old) (D.faults disk.new) (IsErr result) }
 {
     match storage {
         Storage::Flat => write_words(disk, name, Form::One, 8 * band.start, bytes, words)?,

@@ -3,7 +3,7 @@ ghost use Rattle.std.specs.Prelude.{◌≡◌, ◌≢◌, ℕ, ◌<◌, false, I
 ghost use Rattle.std.specs.Option.{ForSome};
 ghost use Rattle.tce_space.specs.Tiling.{elements};
 ghost use Rattle.tce_outside.specs.Files.{file, others};
-ghost use Rattle.tce_outside.specs.Fault.{HasCause};
+ghost use Rattle.tce_outside.specs.Fault.{HasCause, TellsFaults};
 ghost use Rattle.tce_array.specs.Forms.{Fits, form_bytes};
 ghost use Rattle.tce_tools.specs.Flat.{array_element, contents};
 ghost use Rattle.tce_tools.specs.Storage.{element_in, HasStored, holding_by};
@@ -51,6 +51,7 @@ fn find_misfit<D: Disk>(
     ensures some { (k : ℕ) → result ≡ Ok (Some k) → ForSome (D.files disk.old) (λ fs. IsFirstMisfit Form.Narrow shape.now (element_in (Storage.Array form) shape.now (contents fs name.now)) k) }
     ensures same { D.files disk.new ≡ D.files disk.old }
     ensures cause { HasCause (D.faults disk.old) (D.faults disk.new) (IsErr result) }
+    ensures told { TellsFaults (D.faults disk.old) (D.faults disk.new) (IsErr result) }
 {
     let mut bytes = [0; 8 * LONGEST_BAND];
     let mut tiled = [0; LONGEST_BAND];
@@ -91,6 +92,7 @@ fn misfit_for<D: Disk>(
     ensures some { (k : ℕ) → result ≡ Ok (Some k) → (wanted ≡ Form.Narrow) × ForSome (D.files disk.old) (λ fs. IsFirstMisfit wanted shape.now (element_in (Storage.Array form) shape.now (contents fs name.now)) k) }
     ensures same { D.files disk.new ≡ D.files disk.old }
     ensures cause { HasCause (D.faults disk.old) (D.faults disk.new) (IsErr result) }
+    ensures told { TellsFaults (D.faults disk.old) (D.faults disk.new) (IsErr result) }
 {
     match wanted {
         Form::One => Ok(None),
@@ -119,6 +121,7 @@ pub fn convert<D: Disk>(
     ensures refused { IfErr result (λ fault. fault ≢ ToolFault.Disk → D.files disk.new ≡ D.files disk.old) }
     ensures others { others to.now (D.files disk.new) ≡ others to.now (D.files disk.old) }
     ensures cause { HasCause (D.faults disk.old) (D.faults disk.new) (result ≡ Err ToolFault.Disk) }
+    ensures told { TellsFaults (D.faults disk.old) (D.faults disk.new) (result ≡ Err ToolFault.Disk) }
 {
     let found = match open(disk, array, shape) {
         Ok(found) => found,

@@ -2,7 +2,7 @@
 ghost use Rattle.std.specs.Prelude.{◌≡◌, ℕ, ◌+◌, ◌<◌, ◌≤◌, length, slice_index, OnOk, IfOk, IsErrOf};
 ghost use Rattle.tce_space.specs.Tiling.{elements};
 ghost use Rattle.tce_outside.specs.Files.{others, holding};
-ghost use Rattle.tce_outside.specs.Fault.{HasCause};
+ghost use Rattle.tce_outside.specs.Fault.{HasCause, TellsFaults};
 ghost use Rattle.tce_array.specs.Forms.{array_bytes};
 ghost use Rattle.std.specs.String.{string_bytes};
 ghost use Rattle.tce_tools.specs.Demo.{drawn, digit, demo_element, range_line, demo_text};
@@ -88,6 +88,7 @@ pub fn demo_array<D: Disk>(
     ensures memory { IsErrOf result OutFault.Memory → D.files disk.new ≡ D.files disk.old }
     ensures others { others array.now (D.files disk.new) ≡ others array.now (D.files disk.old) }
     ensures cause { HasCause (D.faults disk.old) (D.faults disk.new) (IsErrOf result OutFault.Failed) }
+    ensures told { TellsFaults (D.faults disk.old) (D.faults disk.new) (IsErrOf result OutFault.Failed) }
 {
     make(disk, array, Storage::Array(Form::One), shape)?;
     let mut bytes = [0; 8 * LONGEST_BAND];

@@ -2,7 +2,7 @@
 ghost use Rattle.std.specs.Prelude.{◌≡◌, ◌≢◌, Err, OnOk, IfErr};
 ghost use Rattle.std.specs.Option.{ForSome};
 ghost use Rattle.tce_outside.specs.Files.{file, others};
-ghost use Rattle.tce_outside.specs.Fault.{HasCause};
+ghost use Rattle.tce_outside.specs.Fault.{HasCause, TellsFaults};
 ghost use Rattle.tce_array.specs.Forms.{array_bytes};
 ghost use Rattle.tce_tools.specs.Flat.{flat_bytes, flat_element, array_element, contents};
 ghost use Rattle.tce_tools.specs.Storage.{holding_by};
@@ -28,6 +28,7 @@ pub fn pack<D: Disk>(disk: &mut D, shape: &Shape, flat: &str, array: &str) -> Re
     ensures refused { IfErr result (λ fault. fault ≢ ToolFault.Disk → D.files disk.new ≡ D.files disk.old) }
     ensures others { others array.now (D.files disk.new) ≡ others array.now (D.files disk.old) }
     ensures cause { HasCause (D.faults disk.old) (D.faults disk.new) (result ≡ Err ToolFault.Disk) }
+    ensures told { TellsFaults (D.faults disk.old) (D.faults disk.new) (result ≡ Err ToolFault.Disk) }
 {
     let Ok(size) = disk.size(flat) else {
         return Err(ToolFault::Disk);
@@ -69,6 +70,7 @@ pub fn unpack<D: Disk>(
     ensures refused { IfErr result (λ fault. fault ≢ ToolFault.Disk → D.files disk.new ≡ D.files disk.old) }
     ensures others { others flat.now (D.files disk.new) ≡ others flat.now (D.files disk.old) }
     ensures cause { HasCause (D.faults disk.old) (D.faults disk.new) (result ≡ Err ToolFault.Disk) }
+    ensures told { TellsFaults (D.faults disk.old) (D.faults disk.new) (result ≡ Err ToolFault.Disk) }
 {
     let form = match open(disk, array, shape) {
         Ok(form) => form,

@@ -1,7 +1,7 @@
 // The two ways in which a file stores the elements of an array.
 ghost use Rattle.std.specs.Prelude.{◌≡◌, OnOk, IsErrOf};
 ghost use Rattle.tce_outside.specs.Files.{others, holding};
-ghost use Rattle.tce_outside.specs.Fault.{HasCause};
+ghost use Rattle.tce_outside.specs.Fault.{HasCause, TellsFaults};
 ghost use Rattle.tce_tools.specs.Storage.{stored_bytes};
 
 use tce_array::{Form, create};
@@ -30,6 +30,7 @@ pub fn make<D: Disk>(
     ensures memory { IsErrOf result OutFault.Memory → D.files disk.new ≡ D.files disk.old }
     ensures others { others name.now (D.files disk.new) ≡ others name.now (D.files disk.old) }
     ensures cause { HasCause (D.faults disk.old) (D.faults disk.new) (IsErrOf result OutFault.Failed) }
+    ensures told { TellsFaults (D.faults disk.old) (D.faults disk.new) (IsErrOf result OutFault.Failed) }
 {
     match storage {
         Storage::Flat => disk.make(name, 8 * shape.elements()),

@@ -3,7 +3,7 @@ ghost use Rattle.std.specs.Prelude.{◌≡◌, IfOk, IsErr};
 ghost use Rattle.std.specs.Option.{ForSome, IsSomeAnd};
 ghost use Rattle.tce_base.specs.Word.{wrapping_sum};
 ghost use Rattle.tce_outside.specs.Files.{file};
-ghost use Rattle.tce_outside.specs.Fault.{HasCause};
+ghost use Rattle.tce_outside.specs.Fault.{HasCause, TellsFaults};
 ghost use Rattle.tce_array.specs.Forms.{IsForm, cell};
 ghost use Rattle.tce_tools.specs.Flat.{in_order, contents};
 
@@ -36,6 +36,7 @@ pub fn cell_sum<D: Disk>(
     ensures sum { IfOk result (λ n. ForSome (D.files disk.old) (λ fs. n ≡ wrapping_sum (in_order shape.now (cell form shape.now (contents fs array.now))))) }
     ensures same { D.files disk.new ≡ D.files disk.old }
     ensures cause { HasCause (D.faults disk.old) (D.faults disk.new) (IsErr result) }
+    ensures told { TellsFaults (D.faults disk.old) (D.faults disk.new) (IsErr result) }
 {
     let mut bytes = [0; 8 * LONGEST_BAND];
     let mut tiled = [0; LONGEST_BAND];

@@ -4,7 +4,7 @@ ghost use Rattle.std.specs.List.{flat_map};
 ghost use Rattle.std.specs.Option.{ForSome};
 ghost use Rattle.tce_base.specs.Word.{word_bytes, word_of_bytes, widened};
 ghost use Rattle.tce_outside.specs.Files.{file, written, others};
-ghost use Rattle.tce_outside.specs.Fault.{HasCause};
+ghost use Rattle.tce_outside.specs.Fault.{HasCause, TellsFaults};
 ghost use Rattle.tce_array.specs.Forms.{width, word_in};
 ghost use Rattle.tce_tools.specs.Flat.{contents};
 ghost use Rattle.tce_tools.specs.Storage.{HasWords};
@@ -82,6 +82,7 @@ pub fn read_words<D: Disk>(
     ensures read { OnOk result (ForSome (D.files disk.old) (λ fs. (k : ℕ) → k < length words.new → slice_index words.new k ≡ word_in form (drop (at + width form * k) (contents fs name.now)))) }
     ensures same { D.files disk.new ≡ D.files disk.old }
     ensures cause { HasCause (D.faults disk.old) (D.faults disk.new) (IsErr result) }
+    ensures told { TellsFaults (D.faults disk.old) (D.faults disk.new) (IsErr result) }
 {
     let piece = &mut bytes[..form.width() as usize * words.len()];
     disk.read_at(name, at, piece)?;
@@ -103,6 +104,7 @@ pub fn write_words<D: Disk>(
     ensures written { OnOk result (D.files disk.new ≡ written name.now at (flat_map (word_bytes (width form)) words.now) (D.files disk.old)) }
     ensures others { others name.now (D.files disk.new) ≡ others name.now (D.files disk.old) }
     ensures cause { HasCause (D.faults disk.old) (D.faults disk.new) (IsErr result) }
+    ensures told { TellsFaults (D.faults disk.old) (D.faults disk.new) (IsErr result) }
 {
     let piece = &mut bytes[..form.width() as usize * words.len()];
     encode(form, words, piece);

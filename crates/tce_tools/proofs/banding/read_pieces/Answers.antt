@@ -1,4 +1,4 @@
-use Rattle.std.proofs.Common.{◌∙◌, ◌+◌, ◌-◌, ◌*◌, ℕ, drop, arith}
+use Rattle.std.proofs.Common.{◌∙◌, ◌+◌, ◌-◌, ◌*◌, ℕ, drop, arith, rules}
 use Rattle.tce_tools.specs.Flat.{contents}
 use Rattle.tce_tools.proofs.PieceReads.{piece_read}
 use Rattle.tce_tools.proofs.PieceWrites.{piece_room, index_below}
@@ -19,7 +19,11 @@ loop-piece-preserved g c =
           (c.in_ok-read_words.ensures.read x (c.loop-piece.invariant.files ∙ told)) (c.loop-piece.invariant.read x told);
       files = c.in_ok-read_words.ensures.same ∙ c.loop-piece.invariant.files;
       later = omega (arith, c.in_ok-read_words.ensures.cause.later, c.loop-piece.invariant.later);
+      counted = c.in_ok-read_words.ensures.told (search rules) ∙ c.loop-piece.invariant.counted;
     }
 
 pub returns-clause-read : goal.returns-clause-read
 returns-clause-read g c = λ x told xs h index at. c.loop-piece.invariant.read x told xs h index at (index_below c.args.band c.loop-piece.piece _ index (omega (arith, c.loop-piece-test.false)) at)
+
+pub returns-clause-told : goal.returns-clause-told
+returns-clause-told g c = λ _. c.loop-piece.invariant.counted

@@ -13,4 +13,5 @@ invariant-loop-piece g l = record {
   read : ForSome (g.D.Disk.files l.fn.disk) (λ fs. (xs : List ℕ) → IsInside l.shape.extents xs → (index : ℕ) → IsAt l.band (word_number l.shape xs) index → index < l.piece * l.band.piece_len → slice_index l.tiled index ≡ element_in (Array l.form) l.shape (contents fs l.name) xs);
   files : g.D.Disk.files l.disk ≡ g.D.Disk.files l.fn.disk;
   later : g.D.Disk.faults l.fn.disk ≤ g.D.Disk.faults l.disk;
+  counted : g.D.Disk.faults l.disk ≡ g.D.Disk.faults l.fn.disk;
 }

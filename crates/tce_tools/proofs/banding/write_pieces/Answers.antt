@@ -1,4 +1,4 @@
-use Rattle.std.proofs.Common.{◌∙◌, ◌+◌, ◌-◌, ◌*◌, ◌≤◌, List, ℕ, length, take, drop, refl, arith}
+use Rattle.std.proofs.Common.{◌∙◌, ◌+◌, ◌-◌, ◌*◌, ◌≤◌, List, ℕ, length, take, drop, refl, arith, rules}
 use Rattle.std.specs.List.{flat_map}
 use Rattle.tce_base.specs.Word.{word_bytes}
 use Rattle.tce_space.specs.Tiling.{Tiling}
@@ -17,6 +17,7 @@ loop-piece-init g c = record {
   there = c.requires.file;
   others = refl;
   later = omega arith;
+  counted = refl;
 }
 
 pub loop-piece-preserved : goal.loop-piece-preserved
@@ -36,9 +37,13 @@ loop-piece-preserved g c =
           (piece_bytes_fit c.args.form s c.args.band t c.piece_place.result vs c.requires.band c.loop-piece-test.true copy.len c.piece_place.ensures);
       others = c.in_ok-write_words.ensures.others ∙ c.loop-piece.invariant.others;
       later = omega (arith, c.in_ok-write_words.ensures.cause.later, c.loop-piece.invariant.later);
+      counted = c.in_ok-write_words.ensures.told (search rules) ∙ c.loop-piece.invariant.counted;
     }
 
 pub returns-clause-written : goal.returns-clause-written
 returns-clause-written g c = λ before element is values.
     held_same before _ c.args.name.now (λ fs. stored_bytes (Array c.args.form) c.args.shape.now (after_pieces c.args.shape.now c.args.band (element fs) c.loop-piece.piece)) _ (c.loop-piece.invariant.written before element is values)
     (λ fs. all_pieces c.args.form c.args.shape.now c.args.band (element fs) c.loop-piece.piece c.requires.band (omega (arith, c.loop-piece-test.false)))
+
+pub returns-clause-told : goal.returns-clause-told
+returns-clause-told g c = λ _. c.loop-piece.invariant.counted

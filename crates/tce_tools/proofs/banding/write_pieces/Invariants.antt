@@ -16,4 +16,5 @@ invariant-loop-piece g l = record {
   there : ForSome (g.D.Disk.files l.disk) (λ fs. HasStored (Array l.form) l.shape (file fs l.name));
   others : others l.name (g.D.Disk.files l.disk) ≡ others l.name (g.D.Disk.files l.fn.disk);
   later : g.D.Disk.faults l.fn.disk ≤ g.D.Disk.faults l.disk;
+  counted : g.D.Disk.faults l.disk ≡ g.D.Disk.faults l.fn.disk;
 }

@@ -1,4 +1,4 @@
-use Rattle.std.proofs.Common.{◌≡◌, ◌∙◌, ◌+◌, subst, arith, List, ℕ}
+use Rattle.std.proofs.Common.{◌≡◌, ◌∙◌, ◌+◌, subst, arith, List, ℕ, rules}
 use Rattle.tce_space.specs.Tiling.{Tiling}
 use Rattle.tce_array.specs.declared.form.Form.TheVariants.{Narrow}
 use Rattle.tce_tools.specs.declared.storage.Storage.TheVariants.{Array}
@@ -31,4 +31,8 @@ loop-done-preserved g c =
           fit_more Narrow s f c.loop-done.done c.band_at-band.result.len c.read_band.new.words values (omega (arith, len)) (c.loop-done.invariant.fits x told) (λ k lt. c.in_default.ensures.none k (omega (arith, len)));
       files = c.in_ok-read_band.ensures.same ∙ c.loop-done.invariant.files;
       later = omega (arith, c.in_ok-read_band.ensures.cause.later, c.loop-done.invariant.later);
+      counted = c.in_ok-read_band.ensures.told (search rules) ∙ c.loop-done.invariant.counted;
     }
+
+pub returns-clause-told : goal.returns-clause-told
+returns-clause-told g c = λ _. c.loop-done.invariant.counted

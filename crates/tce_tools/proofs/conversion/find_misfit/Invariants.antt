@@ -13,6 +13,7 @@ invariant-loop-done g l = record {
   fits : ForSome (g.D.Disk.files l.fn.disk) (λ fs. FitBefore Narrow l.shape (element_in (Array l.form) l.shape (contents fs l.name)) l.done);
   files : g.D.Disk.files l.disk ≡ g.D.Disk.files l.fn.disk;
   later : g.D.Disk.faults l.fn.disk ≤ g.D.Disk.faults l.disk;
+  counted : g.D.Disk.faults l.disk ≡ g.D.Disk.faults l.fn.disk;
 }
 
 abbrev pub decreases-loop-done : goal.decreases-loop-done

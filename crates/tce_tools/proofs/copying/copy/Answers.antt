@@ -1,4 +1,4 @@
-use Rattle.std.proofs.Common.{◌≡◌, ◌∙◌, ◌+◌, sym, ap, subst, arith, List, ℕ, Option, Some}
+use Rattle.std.proofs.Common.{◌≡◌, ◌∙◌, ◌+◌, sym, ap, subst, arith, List, ℕ, Option, Some, rules}
 use Rattle.tce_space.specs.Tiling.{Tiling}
 use Rattle.tce_outside.specs.Files.{Files, others}
 use Rattle.tce_tools.specs.declared.band.Band.{Band}
@@ -16,6 +16,7 @@ loop-done-init g c = record {
       (λ fs. none_stored c.args.to c.args.shape.now c.elements-elements.ensures.limits (element_in c.args.from c.args.shape.now (contents fs c.args.source.now)));
   others = c.in_ok-make.ensures.others;
   later = c.in_ok-make.ensures.cause.later;
+  counted = c.in_ok-make.ensures.told (search rules);
 }
 
 pub read_band-requires-clause-file : goal.read_band-requires-clause-file
@@ -46,9 +47,13 @@ loop-done-preserved g c =
           values);
       others = c.in-Ok-write_band.ensures.others ∙ ap (others c.args.target.now) c.in-Ok.ensures.same ∙ c.loop-done.invariant.others;
       later = omega (arith, c.in-Ok.ensures.cause.later, c.in-Ok-write_band.ensures.cause.later, c.loop-done.invariant.later);
+      counted = c.in-Ok-write_band.ensures.told (search rules) ∙ c.in-Ok.ensures.told (search rules) ∙ c.loop-done.invariant.counted;
     }
 
 pub returns-clause-copied : goal.returns-clause-copied
 returns-clause-copied g c =
     held_same (g.D.Disk.files c.args.disk.now) _ c.args.target.now _ (λ fs. stored_bytes c.args.to c.args.shape.now (element_in c.args.from c.args.shape.now (contents fs c.args.source.now))) c.loop-done.invariant.files
     (λ fs. all_stored c.args.to c.args.shape.now c.elements-elements.ensures.limits (element_in c.args.from c.args.shape.now (contents fs c.args.source.now)) c.loop-done.done (omega (arith, c.loop-done-test.false, c.elements-elements.ensures.elements)))
+
+pub returns-clause-told : goal.returns-clause-told
+returns-clause-told g c = λ _. c.loop-done.invariant.counted

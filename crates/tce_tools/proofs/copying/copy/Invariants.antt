@@ -10,6 +10,7 @@ invariant-loop-done g l = record {
   files : g.D.Disk.files l.disk ≡ holding_by l.target (λ fs. stored_bytes l.to l.shape (first_elements l.shape (element_in l.from l.shape (contents fs l.source)) l.done)) (g.D.Disk.files l.fn.disk);
   others : others l.target (g.D.Disk.files l.disk) ≡ others l.target (g.D.Disk.files l.fn.disk);
   later : g.D.Disk.faults l.fn.disk ≤ g.D.Disk.faults l.disk;
+  counted : g.D.Disk.faults l.disk ≡ g.D.Disk.faults l.fn.disk;
 }
 
 abbrev pub decreases-loop-done : goal.decreases-loop-done

@@ -1,4 +1,4 @@
-use Rattle.std.proofs.Common.{◌≡◌, ◌∙◌, ◌+◌, sym, ap, subst, arith, length, List, ℕ, Option}
+use Rattle.std.proofs.Common.{◌≡◌, ◌∙◌, ◌+◌, sym, ap, subst, arith, length, List, ℕ, Option, rules}
 use Rattle.std.proofs.lemmas.List.{length-take-le}
 use Rattle.tce_space.specs.Tiling.{Tiling}
 use Rattle.tce_outside.specs.Files.{Files}
@@ -22,6 +22,7 @@ loop-done-init g c = record {
       (λ fs. none_stored (Array One) c.args.shape.now c.elements-elements.ensures.limits (demo_element c.args.shape.now c.args.x));
   others = c.in_ok-make.ensures.others;
   later = c.in_ok-make.ensures.cause.later;
+  counted = c.in_ok-make.ensures.told (search rules);
 }
 
 pub write_band-requires-clause-file : goal.write_band-requires-clause-file
@@ -48,9 +49,13 @@ loop-done-preserved g c =
           (c.in-Ok.ensures.written before (λ fs. element) (subst (λ n. g.D.Disk.files c.loop-done.disk ≡ holding_by c.args.array.now (stored n) before) (sym c.band_at-band.ensures.start) c.loop-done.invariant.files) (λ fs was. values));
       others = c.in-Ok.ensures.others ∙ c.loop-done.invariant.others;
       later = omega (arith, c.in-Ok.ensures.cause.later, c.loop-done.invariant.later);
+      counted = c.in-Ok.ensures.told (search rules) ∙ c.loop-done.invariant.counted;
     }
 
 pub returns-clause-made : goal.returns-clause-made
 returns-clause-made g c =
     held_same (g.D.Disk.files c.args.disk.now) _ c.args.array.now _ (λ fs. stored_bytes (Array One) c.args.shape.now (demo_element c.args.shape.now c.args.x)) c.loop-done.invariant.files
     (λ fs. all_stored (Array One) c.args.shape.now c.elements-elements.ensures.limits (demo_element c.args.shape.now c.args.x) c.loop-done.done (omega (arith, c.loop-done-test.false, c.elements-elements.ensures.elements)))
+
+pub returns-clause-told : goal.returns-clause-told
+returns-clause-told g c = λ _. c.loop-done.invariant.counted

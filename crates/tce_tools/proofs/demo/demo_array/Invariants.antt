@@ -14,6 +14,7 @@ invariant-loop-done g l = record {
   files : g.D.Disk.files l.disk ≡ holding_by l.array (λ fs. stored_bytes (Array One) l.shape (first_elements l.shape (demo_element l.shape l.x) l.done)) (g.D.Disk.files l.fn.disk);
   others : others l.array (g.D.Disk.files l.disk) ≡ others l.array (g.D.Disk.files l.fn.disk);
   later : g.D.Disk.faults l.fn.disk ≤ g.D.Disk.faults l.disk;
+  counted : g.D.Disk.faults l.disk ≡ g.D.Disk.faults l.fn.disk;
 }
 
 abbrev pub decreases-loop-done : goal.decreases-loop-done

@@ -1,4 +1,4 @@
-use Rattle.std.proofs.Common.{◌∙◌, refl, subst, arith, List, ℕ}
+use Rattle.std.proofs.Common.{◌∙◌, refl, subst, arith, List, ℕ, rules}
 use Rattle.tce_array.specs.Forms.{cell}
 use Rattle.tce_tools.specs.Flat.{contents}
 use Rattle.tce_tools.specs.Runs.{AreElements}
@@ -6,7 +6,7 @@ use Rattle.tce_tools.proofs.Sums.{sum_none, sum_of_run, sum_of_all}
 use Rattle.tce_tools.proofs.sum.cell_sum.Goals as goal
 
 pub loop-done-init : goal.loop-done-init
-loop-done-init g c = record { done = omega arith; sum = λ x told. sum_none; files = refl; later = omega arith }
+loop-done-init g c = record { done = omega arith; sum = λ x told. sum_none; files = refl; later = omega arith; counted = refl }
 
 pub loop-done-preserved : goal.loop-done-preserved
 loop-done-preserved g c = record {
@@ -18,8 +18,12 @@ loop-done-preserved g c = record {
       c.in_ok-read_band.ensures.len (omega (arith, c.band_at-band.ensures.band.inside, c.band_at-band.ensures.start)) (c.loop-done.invariant.sum x told) c.sum_of-total.ensures;
   files = c.in_ok-read_band.ensures.same ∙ c.loop-done.invariant.files;
   later = omega (arith, c.in_ok-read_band.ensures.cause.later, c.loop-done.invariant.later);
+  counted = c.in_ok-read_band.ensures.told (search rules) ∙ c.loop-done.invariant.counted;
 }
 
 pub returns-clause-sum : goal.returns-clause-sum
 returns-clause-sum g c = λ x told.
     sum_of_all c.args.shape.now (cell c.args.form c.args.shape.now (contents x c.args.array.now)) c.loop-done.done c.loop-done.total (omega (arith, c.loop-done-test.false, c.elements-elements.ensures.elements)) (c.loop-done.invariant.sum x told)
+
+pub returns-clause-told : goal.returns-clause-told
+returns-clause-told g c = λ _. c.loop-done.invariant.counted

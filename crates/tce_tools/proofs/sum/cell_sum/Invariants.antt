@@ -11,6 +11,7 @@ invariant-loop-done g l = record {
   sum : ForSome (g.D.Disk.files l.fn.disk) (λ fs. l.total ≡ wrapping_sum (take l.done (in_order l.shape (cell l.form l.shape (contents fs l.array)))));
   files : g.D.Disk.files l.disk ≡ g.D.Disk.files l.fn.disk;
   later : g.D.Disk.faults l.fn.disk ≤ g.D.Disk.faults l.disk;
+  counted : g.D.Disk.faults l.disk ≡ g.D.Disk.faults l.fn.disk;
 }
 
 abbrev pub decreases-loop-done : goal.decreases-loop-done

@@ -1,0 +1,53 @@
+-- Elements of the whole array, by the place of their other coordinates and the two.
+use Rattle.std.specs.Prelude.{◌≡◌, ℕ, ◌+◌, ◌*◌, ◌^◌, ◌<◌, ◌≤◌, Bool, nat_lt, if◌then◌else◌, List}
+use Rattle.tce_space.specs.Box.{product, place}
+use Rattle.tce_sym.specs.declared.symmetry.Symmetry.{Symmetry}
+use Rattle.tce_sym.specs.declared.cells.Triangles.{Triangles}
+use Rattle.tce_sym.specs.declared.cells.Pair.{Pair}
+use Rattle.tce_sym.specs.declared.rows.Row.{Row}
+use Rattle.tce_sym.specs.Storage.{at_first, at_second, at_others, pairs, stored_word, turned}
+
+pub record AreTriangles (t : Triangles) : Type 0 where
+  pub extent : t.extent < 2 ^ 32
+  pub pairs : t.pairs ≡ pairs t.negated t.extent
+  pub count : t.count ≡ t.others * t.pairs
+  pub small : t.count ≤ 2 ^ 48
+  pub few : t.others ≤ 2 ^ 48
+
+-- the triangles are those of a tensor
+pub record AreOf (extents : List ℕ) (s : Symmetry) (t : Triangles) : Type 0 where
+  pub negated : t.negated ≡ s.negated
+  pub extent : t.extent ≡ at_first s extents
+  pub others : t.others ≡ product (at_others s extents)
+
+-- the element is one of the array
+pub record IsAmong (t : Triangles) (pair : Pair) : Type 0 where
+  pub outer : pair.outer < t.others
+  pub first : pair.first < t.extent
+  pub second : pair.second < t.extent
+
+-- the place of a pair that is stored
+abbrev pub pair_place : Triangles → Pair → ℕ
+pair_place t pair = pair.outer * t.pairs + (pairs t.negated pair.second + pair.first)
+
+abbrev pub mirror : Pair → Pair
+mirror pair = record { outer = pair.outer; first = pair.second; second = pair.first }
+
+-- an element, of the word of its pair and that of the mirrored one
+abbrev pub cell_by : Bool → ℕ → ℕ → ℕ → ℕ → ℕ
+cell_by negated a b word mirrored = if nat_lt a b then word else if nat_lt b a then turned negated mirrored else (if negated then 0 else word)
+
+abbrev pub cell_of : Triangles → List ℕ → Pair → ℕ
+cell_of t bytes pair = cell_by t.negated pair.first pair.second (stored_word bytes (pair_place t pair)) (stored_word bytes (pair_place t (mirror pair)))
+
+-- the element with these coordinates
+pub record IsPairOf (extents : List ℕ) (s : Symmetry) (xs : List ℕ) (pair : Pair) : Type 0 where
+  pub outer : pair.outer ≡ place (at_others s extents) (at_others s xs)
+  pub first : pair.first ≡ at_first s xs
+  pub second : pair.second ≡ at_second s xs
+
+-- the element so many steps on in a row
+abbrev pub moved_pair : Row → ℕ → Pair
+moved_pair row k =
+    if row.is_second then record { outer = row.pair.outer; first = row.pair.first; second = row.pair.second + k }
+    else record { outer = row.pair.outer + k; first = row.pair.first; second = row.pair.second }
