@@ -4,3 +4,10 @@ pub mod OneReading
 pub mod Items
 pub mod Inputs
 pub mod ValueLaws
+pub mod Products
+pub mod Contractions
+pub mod Numbers
+pub mod LabelSets
+pub mod Nodes
+pub mod Places
+pub mod FewSizes

@@ -13,11 +13,11 @@ use Rattle.tce_tree.proofs.Lists.{among_first, among_later, distinct_first, dist
 use Rattle.tce_tree.proofs.Permutations.{without, among-without_other, among-without_same, distinct-without}
 use Rattle.tce_einsum.specs.ValueLaws.{LacksIndexes, SumsMoveOutOfLeftOperands, SumsMoveOutOfRightOperands, ProductsCommute, ProductsAssociate, SumsJoin, SumsExchange, SumsHaveNoOrder}
 
-mul_either : (x y : ℕ) → wrapping_mul x y ≡ wrapping_mul y x
+pub mul_either : (x y : ℕ) → wrapping_mul x y ≡ wrapping_mul y x
 unfolding wrapping_mul
 mul_either x y = ap (λ n. n % 2 ^ 64) (mul_comm x y)
 
-mul_grouped : (x y z : ℕ) → wrapping_mul (wrapping_mul x y) z ≡ wrapping_mul x (wrapping_mul y z)
+pub mul_grouped : (x y z : ℕ) → wrapping_mul (wrapping_mul x y) z ≡ wrapping_mul x (wrapping_mul y z)
 unfolding wrapping_mul
 mul_grouped x y z = mul-mod_first (x * y) z (2 ^ 64) ∙ ap (λ n. n % 2 ^ 64) (mul_assoc x y z) ∙ sym (mul-mod_second x (y * z) (2 ^ 64))
 
@@ -47,7 +47,7 @@ sum_times : (n : ℕ) (f : ℕ → ℕ) (w : ℕ) → wrapping_mul (sum_below n 
 sum_times zero f w = mul_zero w
 sum_times (suc n) f w = mul_shared (sum_below n f) (f n) w ∙ ap (λ s. wrapping_add s (wrapping_mul (f n) w)) (sum_times n f w)
 
-sum_over_times : (extent : ℕ → ℕ) (is : List ℕ) (f g : Assignment → ℕ) (a : Assignment)
+pub sum_over_times : (extent : ℕ → ℕ) (is : List ℕ) (f g : Assignment → ℕ) (a : Assignment)
     → ((b : Assignment) (i x : ℕ) → among is i ≡ true → g (with_number b i x) ≡ g b)
     → wrapping_mul (sum_over extent is f a) (g a) ≡ sum_over extent is (λ b. wrapping_mul (f b) (g b)) a
 sum_over_times extent [] f g a keeps = refl
@@ -57,7 +57,7 @@ sum_over_times extent (i ∷ rest) f g a keeps =
     ap (wrapping_mul (sum_over extent rest f (with_number a i x))) (sym (keeps a i x (among_first i rest)))
     ∙ sum_over_times extent rest f g (with_number a i x) (λ b j y m. keeps b j y (among_later i rest j m)))
 
-sum_over-same : (extent : ℕ → ℕ) (is : List ℕ) (f g : Assignment → ℕ) (a : Assignment) → ((b : Assignment) → f b ≡ g b) → sum_over extent is f a ≡ sum_over extent is g a
+pub sum_over-same : (extent : ℕ → ℕ) (is : List ℕ) (f g : Assignment → ℕ) (a : Assignment) → ((b : Assignment) → f b ≡ g b) → sum_over extent is f a ≡ sum_over extent is g a
 sum_over-same extent [] f g a same = same a
 sum_over-same extent (i ∷ rest) f g a same =
     sum_below-same (extent i) _ (λ x. sum_over extent rest g (with_number a i x)) (λ x l. sum_over-same extent rest f g (with_number a i x) same)
@@ -88,7 +88,7 @@ sums_move_out_of_right_operands e indexes left right a below lacks =
     ∙ sum_over-same e.extent indexes (λ b. wrapping_mul (value e right b) (value e left b)) (λ b. wrapping_mul (value e left b) (value e right b)) a
     (λ b. mul_either (value e right b) (value e left b))
 
-sum_over_joined : (extent : ℕ → ℕ) (outer inner : List ℕ) (f : Assignment → ℕ) (a : Assignment) → sum_over extent outer (sum_over extent inner f) a ≡ sum_over extent (outer ++ inner) f a
+pub sum_over_joined : (extent : ℕ → ℕ) (outer inner : List ℕ) (f : Assignment → ℕ) (a : Assignment) → sum_over extent outer (sum_over extent inner f) a ≡ sum_over extent (outer ++ inner) f a
 sum_over_joined extent [] inner f a = refl
 sum_over_joined extent (i ∷ rest) inner f a =
     sum_below-same (extent i) _ (λ x. sum_over extent (rest ++ inner) f (with_number a i x)) (λ x l. sum_over_joined extent rest inner f (with_number a i x))
@@ -156,7 +156,7 @@ listed_first extent i (x ∷ xs) f a m =
           ∙ ap (λ (rest : List ℕ). sum_over extent (i ∷ rest) f a) (sym (without_later i x xs not_here))
     ]
 
-sum_over_unordered : (extent : ℕ → ℕ) (is js : List ℕ) (f : Assignment → ℕ) (a : Assignment) → is_distinct is ≡ true → is_distinct js ≡ true
+pub sum_over_unordered : (extent : ℕ → ℕ) (is js : List ℕ) (f : Assignment → ℕ) (a : Assignment) → is_distinct is ≡ true → is_distinct js ≡ true
     → ((i : ℕ) → among is i ≡ among js i) → sum_over extent is f a ≡ sum_over extent js f a
 sum_over_unordered extent [] [] f a di dj same = refl
 sum_over_unordered extent (x ∷ xs) [] f a di dj same = absurd (let clash : true ≡ false = sym (among_first x xs) ∙ same x in cc)

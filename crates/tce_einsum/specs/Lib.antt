@@ -6,3 +6,8 @@ pub mod Code
 pub mod Laws
 pub mod Input
 pub mod ValueLaws
+pub mod Entries
+pub mod EinsumValue
+pub mod Numbered
+pub mod ContractionLaws
+pub mod EntriesCode

@@ -30,6 +30,11 @@ AreItems n [] (i ∷ is) m = ⊥
 AreItems n (text ∷ texts) [] m = ⊥
 AreItems n (text ∷ texts) (i ∷ is) m = (text ≡ item_text i) × Fits n i × AreItems (left_by n i) texts is m
 
+-- items that, one after the other, fit a list of `n` entries and leave `m`
+abbrev pub Leave : ℕ → List Item → ℕ → Type 0
+Leave n [] m = n ≡ m
+Leave n (i ∷ is) m = Fits n i × Leave (left_by n i) is m
+
 -- the text of each item, with semicolons between them; the empty path has one, which is empty
 abbrev pub item_texts : List ℕ → List (List ℕ)
 item_texts path = slice_split (λ b. b == 59) path

@@ -1,5 +1,13 @@
 //! Laws of the definitions. These functions do nothing: their contracts are the laws.
 
+ghost use Rattle.tce_einsum.specs.ContractionLaws.{
+  EveryPathHasTheValue,
+  EveryTextHasItsValue,
+  PathsLeaveOneEntry,
+  PathsLeaveTheirEntries,
+  ProductsHaveNoOrder,
+  SizesAreFew,
+};
 ghost use Rattle.tce_einsum.specs.Laws.{ReadingIsTheGrammar, TextsHaveOneReading};
 ghost use Rattle.tce_einsum.specs.ValueLaws.{
   ProductsAssociate,
@@ -54,4 +62,34 @@ pub fn sums_exchange()
 /// The indexes of a sum may be listed in any order.
 pub fn sums_have_no_order()
     ensures { SumsHaveNoOrder }
+{}
+
+/// A product of words does not depend on their order.
+pub fn products_have_no_order()
+    ensures { ProductsHaveNoOrder }
+{}
+
+/// A path leaves as many entries as its items say.
+pub fn paths_leave_their_entries()
+    ensures { PathsLeaveTheirEntries }
+{}
+
+/// The tree that a path leaves has the value of the einsum, for all contents of the operands, whatever the path.
+pub fn every_path_has_the_value()
+    ensures { EveryPathHasTheValue }
+{}
+
+/// A text and a path that are read give a tree with the value of the text's einsum, for all contents of the operands.
+pub fn every_text_has_its_value()
+    ensures { EveryTextHasItsValue }
+{}
+
+/// A text that is read has no more sizes than there are letters.
+pub fn sizes_are_few()
+    ensures { SizesAreFew }
+{}
+
+/// The items of a path that is read leave one entry of the operands.
+pub fn paths_leave_one_entry()
+    ensures { PathsLeaveOneEntry }
 {}

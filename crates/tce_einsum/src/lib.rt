@@ -4,10 +4,13 @@
 //! The grammar of a text is `specs/Text.antt`.
 #![tactic(auto)]
 
+mod entries;
 mod fault;
 mod input;
+mod label_set;
 mod laws;
 mod missized;
+mod numbering;
 mod parts;
 mod path;
 mod read_error;
@@ -17,9 +20,10 @@ mod text;
 pub use fault::EinsumFault;
 pub use input::{Input, read_input};
 pub use laws::{
-    products_associate, products_commute, reading_is_the_grammar, sums_exchange,
-    sums_have_no_order, sums_join, sums_move_out_of_left_operands, sums_move_out_of_right_operands,
-    texts_have_one_reading,
+    every_path_has_the_value, every_text_has_its_value, paths_leave_one_entry,
+    paths_leave_their_entries, products_associate, products_commute, products_have_no_order,
+    reading_is_the_grammar, sizes_are_few, sums_exchange, sums_have_no_order, sums_join,
+    sums_move_out_of_left_operands, sums_move_out_of_right_operands, texts_have_one_reading,
 };
 pub use path::Item;
 pub use size::Size;

@@ -1,0 +1,26 @@
+use Rattle.std.proofs.Common.{◌&&◌, not, ap, length, ◌∙◌, ℕ, List, ◌++◌, ◌∷◌, []}
+use Rattle.std.specs.List.{list_any}
+use Rattle.std.proofs.lemmas.List.{length-append}
+use Rattle.tce_space.specs.IndexSet.{has}
+use Rattle.tce_einsum.specs.declared.entries.Entry.{Entry}
+use Rattle.tce_einsum.specs.Entries as list
+use Rattle.tce_einsum.specs.EntriesCode.{tree_in, trees_in}
+use Rattle.tce_einsum.proofs.Nodes.{labels_are, entry_added}
+use Rattle.tce_einsum.proofs.entries.Entries.add.Goals as goal
+
+pub returns : goal.returns
+returns c =
+    let added = entry_added c.args.self.now.nodes.items c.summed.new.nodes.items c.args.self.now.entries.items c.push.new.self.items c.in_ok-entry.entry
+    (list.summed c.in_ok-labels.labels.items (tree_in c.args.self.now.nodes.items c.args.made)) c.requires.entries c.in_ok-entry.ensures.kept c.in_ok-entry.ensures.entry
+    c.in_ok-entry.ensures.tree c.in_ok-push.ensures.items in
+    record {
+      added = λ ls is.
+          added.0
+          ∙ ap (λ (labels : List ℕ). trees_in c.args.self.now ++ list.summed labels (tree_in c.args.self.now.nodes.items c.args.made) ∷ [])
+          (labels_are c.args.self.now.nodes.items c.args.self.now.entries.items c.args.made ls c.minus.result.bits c.args.kept.output.bits c.free_in.result.bits
+          c.args.kept.count c.in_ok-labels.labels.items c.requires.entries c.requires.made is.all is.output
+          (λ i. c.free_in.ensures i ∙ ap (list_any (λ (e : Entry). has e.free.bits i)) c.as_slice.ensures.value)
+          (λ i. c.minus.ensures i ∙ ap (λ b. has c.args.made.free.bits i && not b) (c.union-elsewhere.ensures i)) c.in_ok-labels.ensures.members);
+      entries = added.1;
+      longer = ap length c.in_ok-push.ensures.items ∙ length-append c.args.self.now.entries.items (c.in_ok-entry.entry ∷ []);
+    }

@@ -1,0 +1,34 @@
+use Rattle.std.proofs.Common.{◌≡◌, sym, ap, ap₂, ◌∙◌, subst, length, ℕ, ◌+◌, ◌-◌, arith}
+use Rattle.tce_tree.specs.ContractionTree.{binary, multiply}
+use Rattle.tce_einsum.specs.Code as code
+use Rattle.tce_einsum.specs.Path.{Fits, left_by}
+use Rattle.tce_einsum.specs.Entries as list
+use Rattle.tce_einsum.specs.EntriesCode.{trees_in}
+use Rattle.tce_einsum.proofs.Nodes.{one_left, two_left, entry_read}
+use Rattle.tce_einsum.proofs.entries.Entries.take.Goals as goal
+
+pub returns-in-One-clause-others : goal.returns-in-One-clause-others
+returns-in-One-clause-others c =
+    (one_left c.args.self.now.nodes.items c.args.self.now.entries.items c.remove.new.self.items c.in-One.p c.remove.ensures.items c.requires.entries).0
+    ∙ ap (λ s. list.others (trees_in c.args.self.now) (code.item s)) (sym c.in-One.is)
+
+two_fewer : (n m : ℕ) → n + 2 ≡ m → n + 1 ≡ m - 1
+two_fewer n m e = omega arith
+
+pub returns-in_ok-entry-in-Two : goal.returns-in_ok-entry-in-Two
+returns-in_ok-entry-in-Two c =
+    let fits = subst (λ s. Fits (length c.args.self.now.entries.items) (code.item s)) c.in-Two.is c.requires.fits in
+    let left = two_left c.args.self.now.nodes.items c.product.new.nodes.items c.args.self.now.entries.items c.take_two.new.entries.items c.in-Two.p c.in-Two.q
+    c.take_two.ensures.others c.in_ok-entry-in-Two.ensures.kept c.requires.entries in
+    record {
+      made = c.in_ok-entry-in-Two.ensures.tree
+          ∙ ap₂ (binary multiply)
+          (entry_read c.args.self.now.nodes.items c.args.self.now.entries.items c.in-Two.p c.take_two.result.0 fits.0 c.take_two.ensures.left)
+          (entry_read c.args.self.now.nodes.items c.args.self.now.entries.items c.in-Two.q c.take_two.result.1 fits.1 c.take_two.ensures.right)
+          ∙ ap (λ s. list.made (trees_in c.args.self.now) (code.item s)) (sym c.in-Two.is);
+      entry = c.in_ok-entry-in-Two.ensures.entry;
+      others = left.0 ∙ ap (λ s. list.others (trees_in c.args.self.now) (code.item s)) (sym c.in-Two.is);
+      entries = left.1;
+      left = two_fewer (length c.take_two.new.entries.items) (length c.args.self.now.entries.items) c.take_two.ensures.left_over
+          ∙ ap (λ s. left_by (length c.args.self.now.entries.items) (code.item s)) (sym c.in-Two.is);
+    }
