@@ -25,7 +25,7 @@ use Rattle.tce_batch_job.proofs.Files.{has_after, none_after}
 use Rattle.tce_batch_job.proofs.Reports.{taken_more, none_taken}
 
 -- what holds of each holds of the one at a place
-at_all : (P : Specification → Type 0) (batch : List Specification) (number : ℕ) (s : Specification) → All P batch → slice_get batch number ≡ Some s → P s
+pub at_all : (P : Specification → Type 0) (batch : List Specification) (number : ℕ) (s : Specification) → All P batch → slice_get batch number ≡ Some s → P s
 at_all P batch number s all at = subst P (get_or_from_slice_get batch number s s at) (All-get_or P batch number s (slice_get_within batch number s at) all)
 
 -- the operands of a formula are there when its turn comes

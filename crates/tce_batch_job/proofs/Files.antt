@@ -73,10 +73,10 @@ other_here x s files t rules here declared same differs has =
 eqb_same : (t u : ℕ) → t ≡ u → eqb t u ≡ true
 eqb_same t u is = eq-eqb t u is
 
-all_first : (P : Specification → Type 0) (x : Specification) (xs : List Specification) → All P (x ∷ xs) → P x
+pub all_first : (P : Specification → Type 0) (x : Specification) (xs : List Specification) → All P (x ∷ xs) → P x
 all_first P x xs all = all 0 x (omega arith)
 
-all_rest : (P : Specification → Type 0) (x : Specification) (xs : List Specification) → All P (x ∷ xs) → All P xs
+pub all_rest : (P : Specification → Type 0) (x : Specification) (xs : List Specification) → All P (x ∷ xs) → All P xs
 all_rest P x xs all k d less = all (suc k) d (omega (arith, less))
 
 -- a tensor has its file if a formula in front made it, or if it had it at the start

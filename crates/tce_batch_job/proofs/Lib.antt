@@ -4,3 +4,4 @@ pub mod Files
 pub mod Reports
 pub mod Ended
 pub mod Causes
+pub mod Others

@@ -13,7 +13,7 @@ ghost use Rattle.tce_job.specs.declared.fault.JobFault.{JobFault as Fault};
 ghost use Rattle.tce_batch_job.specs.Files.{files_after};
 ghost use Rattle.tce_batch_job.specs.Reports.{HasRun};
 ghost use Rattle.tce_batch_job.specs.Refusals.{AffordableBelow, SourcesBelow, IsBatchCause, IsExact};
-ghost use Rattle.tce_batch_job.specs.Left.{IsLeft, IsRoomLeft};
+ghost use Rattle.tce_batch_job.specs.Left.{IsLeft, IsRoomLeft, OnlyResultsDiffer};
 
 use crate::costs::check_costs;
 use crate::fault::BatchFault;
@@ -117,6 +117,7 @@ pub fn run_batch<D: Disk, R: Room>(
     ensures left { IfErr result (λ refused. IsLeft (D.files disk.old) (D.files disk.new) batch.now refused) }
     ensures takings { IfErr result (λ refused. IsRoomLeft (R.takings room.old) (R.takings room.new) batch.now budget refused) }
     ensures tested { IfErr result (λ refused. ForSome (D.files disk.old) (λ _. (IsFree refused.fault → ⊥) → R.takings room.new ≡ R.takings room.old)) }
+    ensures others { OnlyResultsDiffer batch.now (D.files disk.old) (D.files disk.new) }
     ensures cause { HasCause (D.faults disk.old) (D.faults disk.new) (IsErrAnd result (λ refused. refused.fault ≡ Fault.Disk)) }
 {
     check_costs(alloc, batch, budget)?;

@@ -8,7 +8,7 @@ use Rattle.std.proofs.lemmas.Fmt.{decimal_injective, decimal_digit}
 use Rattle.tce_array.specs.declared.form.Form.{Form}
 use Rattle.tce_array.specs.declared.form.Form.TheVariants.{One, Narrow, Wide}
 use Rattle.tce_array.specs.Forms.{width}
-use Rattle.tce_command.specs.Command.{Command, run, plan, cert, check, pack, unpack, convert, expand, demo, IsBetween, IsCommand, IsNoCommand, NamesSpec, NamesCertificate, NamesTensor, NamesFlat, verb_of, arguments_of}
+use Rattle.tce_command.specs.Command.{Command, run, batch, plan, cert, check, pack, unpack, convert, expand, demo, IsBetween, IsCommand, IsNoCommand, NamesSpec, NamesCertificate, NamesTensor, NamesFlat, verb_of, arguments_of}
 
 -- the words of a list, where it has two, three or four
 pub two_words : (ws : List (String Global)) (a b : String Global) → 2 ≤ length ws → length ws < 3 → a ≡ get_or ws 0 a → b ≡ get_or ws 1 b
@@ -38,6 +38,7 @@ four_words (x ∷ y ∷ z ∷ w ∷ v ∷ ws) a b c d l u ea eb ec ed = absurd (
 -- a command has two to four words
 pub command_length : (words : List (List ℕ)) (command : Command) → IsCommand words command → (2 ≤ length words) × (length words ≤ 4)
 command_length words (run spec budget) h = let e : length words ≡ 3 = ap length h.words_are in (omega arith, omega arith)
+command_length words (batch spec budget) h = let e : length words ≡ 3 = ap length h.words_are in (omega arith, omega arith)
 command_length words (plan spec) h = let e : length words ≡ 2 = ap length h.words_are in (omega arith, omega arith)
 command_length words (cert spec file) h = let e : length words ≡ 3 = ap length h.words_are in (omega arith, omega arith)
 command_length words (check spec file) h = let e : length words ≡ 3 = ap length h.words_are in (omega arith, omega arith)
@@ -69,6 +70,7 @@ word_at k xs ys e = ap (λ ws. get_or ws k []) e
 -- no command has these words, where that of their number and their verb does not
 pub none_of_two : (verb spec : List ℕ) → (verb ≡ codes "plan" → NamesSpec spec → ⊥) → IsNoCommand (verb ∷ spec ∷ [])
 none_of_two verb spec refused (run s b) h = let e : 2 ≡ 3 = ap length h.words_are in absurd (omega (arith, e))
+none_of_two verb spec refused (batch s b) h = let e : 2 ≡ 3 = ap length h.words_are in absurd (omega (arith, e))
 none_of_two verb spec refused (plan s) h = refused (word_at 0 _ _ h.words_are) (subst NamesSpec (sym (word_at 1 _ _ h.words_are)) h.rules)
 none_of_two verb spec refused (cert s f) h = let e : 2 ≡ 3 = ap length h.words_are in absurd (omega (arith, e))
 none_of_two verb spec refused (check s f) h = let e : 2 ≡ 3 = ap length h.words_are in absurd (omega (arith, e))
@@ -81,6 +83,7 @@ none_of_two verb spec refused (demo x v o) h = let e : 2 ≡ 4 = ap length h.wor
 -- what the rules say of three words, by their verb
 pub record NoneOfThree (verb spec last : List ℕ) : Type 0 where
   pub run : verb ≡ codes "run" → NamesSpec spec → (n : ℕ) → n ≤ 2 ^ 40 → last ≡ decimal n → ⊥
+  pub batch : verb ≡ codes "batch" → NamesSpec spec → (n : ℕ) → n ≤ 2 ^ 40 → last ≡ decimal n → ⊥
   pub cert : verb ≡ codes "cert" → NamesSpec spec → NamesCertificate last → ⊥
   pub check : verb ≡ codes "check" → NamesSpec spec → NamesCertificate last → ⊥
   pub expand : verb ≡ codes "expand" → NamesSpec spec → NamesTensor last → ⊥
@@ -88,6 +91,8 @@ pub record NoneOfThree (verb spec last : List ℕ) : Type 0 where
 pub none_of_three : (verb spec last : List ℕ) → NoneOfThree verb spec last → IsNoCommand (verb ∷ spec ∷ last ∷ [])
 none_of_three verb spec last refused (run s b) h =
     refused.run (word_at 0 _ _ h.words_are) (subst NamesSpec (sym (word_at 1 _ _ h.words_are)) h.rules.0) b h.rules.1 (word_at 2 _ _ h.words_are)
+none_of_three verb spec last refused (batch s b) h =
+    refused.batch (word_at 0 _ _ h.words_are) (subst NamesSpec (sym (word_at 1 _ _ h.words_are)) h.rules.0) b h.rules.1 (word_at 2 _ _ h.words_are)
 none_of_three verb spec last refused (cert s f) h =
     refused.cert (word_at 0 _ _ h.words_are) (subst NamesSpec (sym (word_at 1 _ _ h.words_are)) h.rules.0) (subst NamesCertificate (sym (word_at 2 _ _ h.words_are)) h.rules.1)
 none_of_three verb spec last refused (check s f) h =
@@ -109,6 +114,7 @@ pub record NoneOfFour (verb spec tensor last : List ℕ) : Type 0 where
 
 pub none_of_four : (verb spec tensor last : List ℕ) → NoneOfFour verb spec tensor last → IsNoCommand (verb ∷ spec ∷ tensor ∷ last ∷ [])
 none_of_four verb spec tensor last refused (run s b) h = let e : 4 ≡ 3 = ap length h.words_are in absurd (omega (arith, e))
+none_of_four verb spec tensor last refused (batch s b) h = let e : 4 ≡ 3 = ap length h.words_are in absurd (omega (arith, e))
 none_of_four verb spec tensor last refused (cert s f) h = let e : 4 ≡ 3 = ap length h.words_are in absurd (omega (arith, e))
 none_of_four verb spec tensor last refused (check s f) h = let e : 4 ≡ 3 = ap length h.words_are in absurd (omega (arith, e))
 none_of_four verb spec tensor last refused (expand s t) h = let e : 4 ≡ 3 = ap length h.words_are in absurd (omega (arith, e))
@@ -140,6 +146,7 @@ no_demo seed v o refused = none_of_four (codes "demo") seed v o (record {
 pub no_expand : (spec tensor : List ℕ) → (NamesTensor tensor → ⊥) → IsNoCommand (codes "expand" ∷ spec ∷ tensor ∷ [])
 no_expand spec tensor refused = none_of_three (codes "expand") spec tensor (record {
   run = λ e. let k : 101 ≡ 114 = ap (λ w. get_or w 0 0) e in absurd (omega (arith, k));
+  batch = λ e. let k : 101 ≡ 98 = ap (λ w. get_or w 0 0) e in absurd (omega (arith, k));
   cert = λ e. let k : 101 ≡ 99 = ap (λ w. get_or w 0 0) e in absurd (omega (arith, k));
   check = λ e. let k : 101 ≡ 99 = ap (λ w. get_or w 0 0) e in absurd (omega (arith, k));
   expand = λ e names. refused;
@@ -168,6 +175,11 @@ verb_byte k xs ys e = ap (λ ws. get_or (get_or ws 0 []) k 0) e
 
 pub one_command : (words : List (List ℕ)) (command other : Command) → IsCommand words command → IsCommand words other → other ≡ command
 one_command words (run s b) (run t c) h k =
+    let e = sym h.words_are ∙ k.words_are in
+    let specs : s ≡ t = word_at 1 _ _ e in
+    let budgets : b ≡ c = same_budget b c h.rules.1 k.rules.1 (word_at 2 _ _ e) in
+    cc
+one_command words (batch s b) (batch t c) h k =
     let e = sym h.words_are ∙ k.words_are in
     let specs : s ≡ t = word_at 1 _ _ e in
     let budgets : b ≡ c = same_budget b c h.rules.1 k.rules.1 (word_at 2 _ _ e) in
@@ -224,6 +236,14 @@ one_command words (expand s t) (cert u g) h k = let e : 101 ≡ 99 = verb_byte 0
 one_command words (cert s f) (expand u v) h k = let e : 99 ≡ 101 = verb_byte 0 _ _ (sym h.words_are ∙ k.words_are) in absurd (omega (arith, e))
 one_command words (expand s t) (check u g) h k = let e : 101 ≡ 99 = verb_byte 0 _ _ (sym h.words_are ∙ k.words_are) in absurd (omega (arith, e))
 one_command words (check s f) (expand u v) h k = let e : 99 ≡ 101 = verb_byte 0 _ _ (sym h.words_are ∙ k.words_are) in absurd (omega (arith, e))
+one_command words (batch s b) (run t c) h k = let e : 98 ≡ 114 = verb_byte 0 _ _ (sym h.words_are ∙ k.words_are) in absurd (omega (arith, e))
+one_command words (run s b) (batch t c) h k = let e : 114 ≡ 98 = verb_byte 0 _ _ (sym h.words_are ∙ k.words_are) in absurd (omega (arith, e))
+one_command words (batch s b) (cert u g) h k = let e : 98 ≡ 99 = verb_byte 0 _ _ (sym h.words_are ∙ k.words_are) in absurd (omega (arith, e))
+one_command words (cert s f) (batch t c) h k = let e : 99 ≡ 98 = verb_byte 0 _ _ (sym h.words_are ∙ k.words_are) in absurd (omega (arith, e))
+one_command words (batch s b) (check u g) h k = let e : 98 ≡ 99 = verb_byte 0 _ _ (sym h.words_are ∙ k.words_are) in absurd (omega (arith, e))
+one_command words (check s f) (batch t c) h k = let e : 99 ≡ 98 = verb_byte 0 _ _ (sym h.words_are ∙ k.words_are) in absurd (omega (arith, e))
+one_command words (batch s b) (expand u v) h k = let e : 98 ≡ 101 = verb_byte 0 _ _ (sym h.words_are ∙ k.words_are) in absurd (omega (arith, e))
+one_command words (expand s t) (batch u c) h k = let e : 101 ≡ 98 = verb_byte 0 _ _ (sym h.words_are ∙ k.words_are) in absurd (omega (arith, e))
 one_command words (pack s t f) (unpack u v g) h k = let e : 112 ≡ 117 = verb_byte 0 _ _ (sym h.words_are ∙ k.words_are) in absurd (omega (arith, e))
 one_command words (unpack s t f) (pack u v g) h k = let e : 117 ≡ 112 = verb_byte 0 _ _ (sym h.words_are ∙ k.words_are) in absurd (omega (arith, e))
 one_command words (pack s t f) (convert u v g) h k = let e : 112 ≡ 99 = verb_byte 0 _ _ (sym h.words_are ∙ k.words_are) in absurd (omega (arith, e))

@@ -3,8 +3,11 @@ use Rattle.std.proofs.Common.{◌≡◌, refl, sym, ap, ◌∙◌, ◌⊎◌, in
 use Rattle.tce_command.specs.Outcome.{HasLine}
 use Rattle.tce_command.specs.Refusals.{IsFree, SameRefusal}
 use Rattle.tce_command.specs.CommandRefusals.{EndsAlike, HasNames, MayReplace}
-use Rattle.tce_command.specs.Report.{LineNames, NamesNoIndex, NamesNothing, code_of, einsum_status, error_text, line_over, refusal_line, status_of, sym_line, wants_memory}
+use Rattle.tce_command.specs.Report.{LineNames, IsWellFormed, NamesNoIndex, NamesNothing, code_of, einsum_status, error_text, line_over, refusal_line, status_of, sym_line, wants_memory}
+use Rattle.tce_tree.specs.declared.fault.TreeFault.TheVariants as trees
 use Rattle.tce_declarations.specs.declared.fault.SpecFault.{SpecFault}
+use Rattle.tce_declarations.specs.declared.fault.SpecFault.TheVariants.{Memory, Tree}
+use Rattle.tce_command.specs.declared.trouble.ArrayTrouble.TheVariants as contents
 use Rattle.tce_command.specs.declared.trouble.EinsumTrouble.{EinsumTrouble}
 use Rattle.tce_command.specs.declared.trouble.EinsumTrouble.TheVariants as einsums
 use Rattle.tce_command.specs.declared.trouble.SymTrouble.{SymTrouble}
@@ -46,6 +49,25 @@ is_plain (refusals.Einsum trouble) = of_einsum trouble
 is_plain (refusals.Symmetry tensor trouble) = record { line = tt; plain = tt }
 is_plain refusals.Disk = record { line = tt; plain = tt }
 is_plain refusals.Memory = record { line = tt; plain = tt }
+
+-- and it holds no fault that is told by another one
+of_text : (fault : SpecFault) → IsWellFormed (if wants_memory fault then WantOfMemory else SpecRefused fault)
+of_text Memory = tt
+of_text (Tree line trees.Memory) = tt
+of_text fault = tt
+
+of_text_of_einsum : (fault : SpecFault) → IsWellFormed (if wants_memory fault then WantOfMemory else EinsumRefused (einsums.Spec fault))
+of_text_of_einsum Memory = tt
+of_text_of_einsum (Tree line trees.Memory) = tt
+of_text_of_einsum fault = tt
+
+pub well_formed : (refusal : Refusal) → IsWellFormed (status_of refusal)
+well_formed (refusals.Specification fault) = of_text fault
+well_formed (refusals.Array tensor (contents.BadLength len)) = tt
+well_formed (refusals.Array tensor (contents.BadHeader place)) = tt
+well_formed (refusals.Einsum (einsums.Spec fault)) = of_text_of_einsum fault
+well_formed (refusals.Einsum trouble) = tt
+well_formed refusal = tt
 
 -- what a line names is all that it says beside its status
 pub over : (names : LineNames) (status : Status) → NamesNothing status → error_text status ≡ line_over names status

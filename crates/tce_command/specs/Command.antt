@@ -11,6 +11,7 @@ use Rattle.tce_array.specs.Forms.{width}
 -- names of files and tensors, a budget in words, and a form of array files; the first name is that of the specification's file. A demonstration has the number from which its elements come, and the extents of its two ranges
 pub data Command : Type 0 where
   run : List ℕ → ℕ → Command
+  batch : List ℕ → ℕ → Command
   plan : List ℕ → Command
   cert : List ℕ → List ℕ → Command
   check : List ℕ → List ℕ → Command
@@ -23,6 +24,7 @@ pub data Command : Type 0 where
 -- the first word of a command, and the words behind it
 abbrev pub verb_of : Command → List ℕ
 verb_of (run spec budget) = codes "run"
+verb_of (batch spec budget) = codes "batch"
 verb_of (plan spec) = codes "plan"
 verb_of (cert spec file) = codes "cert"
 verb_of (check spec file) = codes "check"
@@ -34,6 +36,7 @@ verb_of (demo seed v o) = codes "demo"
 
 abbrev pub arguments_of : Command → List (List ℕ)
 arguments_of (run spec budget) = spec ∷ decimal budget ∷ []
+arguments_of (batch spec budget) = spec ∷ decimal budget ∷ []
 arguments_of (plan spec) = spec ∷ []
 arguments_of (cert spec file) = spec ∷ file ∷ []
 arguments_of (check spec file) = spec ∷ file ∷ []
@@ -72,6 +75,7 @@ IsBetween least most n = (least ≤ n) × (n ≤ most)
 -- what the words of a command keep: a budget is at most 2^40, files are converted to the second version of their format alone, and a demonstration has a number below 2^31 - 1 and extents of at most 32
 abbrev pub KeepsRules : Command → Type 0
 KeepsRules (run spec budget) = NamesSpec spec × (budget ≤ 2 ^ 40)
+KeepsRules (batch spec budget) = NamesSpec spec × (budget ≤ 2 ^ 40)
 KeepsRules (plan spec) = NamesSpec spec
 KeepsRules (cert spec file) = NamesSpec spec × NamesCertificate file
 KeepsRules (check spec file) = NamesSpec spec × NamesCertificate file

@@ -19,6 +19,8 @@ use Rattle.tce_array.specs.declared.fault.ArrayFault.{ArrayFault}
 use Rattle.tce_array.specs.declared.fault.ArrayFault.TheVariants as arrays
 use Rattle.tce_command.specs.declared.status.Status.{Status}
 use Rattle.tce_command.specs.declared.status.Status.TheVariants.{Done, BadWords, SpecRefused, NoFile, ArrayRefused, BudgetTooSmall, IntermediatesTooLarge, CertRefused, DiskFault, SinkFault, WantOfMemory, FlatRefused, UnknownTensor, DoesNotFit, EinsumRefused, SymRefused}
+use Rattle.tce_command.specs.declared.trouble.ArrayTrouble.{ArrayTrouble}
+use Rattle.tce_command.specs.declared.trouble.ArrayTrouble.TheVariants as contents
 use Rattle.tce_command.specs.declared.trouble.CertTrouble.{CertTrouble}
 use Rattle.tce_command.specs.declared.trouble.CertTrouble.TheVariants as troubles
 use Rattle.tce_command.specs.declared.trouble.EinsumTrouble.{EinsumTrouble}
@@ -83,7 +85,7 @@ tree_text trees.NoOperation = codes "no operation"
 tree_text (trees.SumOverAbsent name) = codes "sum over absent " ++ name.bytes ++ []
 tree_text (trees.TooManyLoops node) = codes "node " ++ decimal node ++ codes " has more than 10 loops"
 tree_text (trees.VolumeTooLarge node) = codes "node " ++ decimal node ++ codes " has too many iterations"
-tree_text trees.Memory = codes "want of memory"
+tree_text trees.Memory = []
 
 abbrev pub fault_text : SpecFault → List ℕ
 fault_text TooLong = codes "too long"
@@ -99,14 +101,14 @@ fault_text (IndexTwice line name) = codes "index " ++ name.bytes ++ codes " twic
 fault_text (ResultIsOperand line name) = [] ++ name.bytes ++ codes " is result and operand"
 fault_text (Tree line fault) = tree_text fault
 fault_text (ResultIndices line) = codes "result indexes differ"
-fault_text Memory = codes "want of memory"
+fault_text Memory = []
 
 -- what is wrong with the file of an array
 abbrev pub array_text : ArrayFault → List ℕ
-array_text arrays.NoFile = codes "no file"
+array_text arrays.NoFile = []
 array_text (arrays.BadLength len) = codes "length " ++ decimal len ++ []
 array_text (arrays.BadHeader place) = codes "head byte " ++ decimal place ++ []
-array_text arrays.Disk = codes "disk fault"
+array_text arrays.Disk = []
 
 -- what is wrong with an einsum; a label is a letter, and no other byte is told
 abbrev pub label_text : ℕ → List ℕ
@@ -202,11 +204,50 @@ NamesNothing (CertRefused trouble) = ⊥
 NamesNothing (SymRefused trouble) = ⊥
 NamesNothing status = ⊤
 
+-- a fault of a text: no want of memory
+abbrev pub IsOfTree : TreeFault → Type 0
+IsOfTree trees.Memory = ⊥
+IsOfTree fault = ⊤
+
+abbrev pub IsOfText : SpecFault → Type 0
+IsOfText Memory = ⊥
+IsOfText (Tree line fault) = IsOfTree fault
+IsOfText fault = ⊤
+
+abbrev pub IsOfEinsum : EinsumTrouble → Type 0
+IsOfEinsum (einsums.Spec fault) = IsOfText fault
+IsOfEinsum trouble = ⊤
+
+-- a fault of a file that is there: its length or its head is wrong
+abbrev pub IsOfContents : ArrayFault → Type 0
+IsOfContents (arrays.BadLength len) = ⊤
+IsOfContents (arrays.BadHeader place) = ⊤
+IsOfContents fault = ⊥
+
+-- something is wrong with the certificate: neither is memory wanting, nor is its plan accepted
+abbrev pub IsWrong : CertTrouble → Type 0
+IsWrong (troubles.Text certs.Memory) = ⊥
+IsWrong (troubles.Verdict verdicts.Accepted) = ⊥
+IsWrong trouble = ⊤
+
+-- the status holds no fault that is told by another one
+abbrev pub IsWellFormed : Status → Type 0
+IsWellFormed (SpecRefused fault) = IsOfText fault
+IsWellFormed (ArrayRefused tensor fault) = IsOfContents fault
+IsWellFormed (CertRefused trouble) = IsWrong trouble
+IsWellFormed (EinsumRefused trouble) = IsOfEinsum trouble
+IsWellFormed status = ⊤
+
 -- whether a fault is want of memory
 abbrev pub wants_memory : SpecFault → Bool
 wants_memory Memory = true
 wants_memory (Tree line trees.Memory) = true
 wants_memory fault = false
+
+-- the fault of an array with this trouble
+abbrev pub fault_of : ArrayTrouble → ArrayFault
+fault_of (contents.BadLength len) = arrays.BadLength len
+fault_of (contents.BadHeader place) = arrays.BadHeader place
 
 -- the status of a command that is refused so
 abbrev pub einsum_status : EinsumTrouble → Status
@@ -216,7 +257,7 @@ einsum_status trouble = EinsumRefused trouble
 abbrev pub status_of : Refusal → Status
 status_of (refusals.Specification fault) = if wants_memory fault then WantOfMemory else SpecRefused fault
 status_of (refusals.Missing name) = NoFile name
-status_of (refusals.Array tensor fault) = ArrayRefused tensor fault
+status_of (refusals.Array tensor trouble) = ArrayRefused tensor (fault_of trouble)
 status_of (refusals.Budget least) = BudgetTooSmall least
 status_of (refusals.Intermediates memory) = IntermediatesTooLarge memory
 status_of (refusals.Flat len) = FlatRefused len

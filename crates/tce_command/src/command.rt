@@ -9,6 +9,11 @@ pub enum Command<'a> {
         spec: &'a str,
         budget: u64,
     },
+    /// Runs several formulas in order, each with at most `budget` words of tiles at once.
+    Batch {
+        spec: &'a str,
+        budget: u64,
+    },
     /// Reports a fusion of a specification with the least memory.
     Plan {
         spec: &'a str,

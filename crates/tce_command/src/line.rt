@@ -16,7 +16,8 @@ pub(crate) type Line = ArrayString<256>;
 // The line of a status that names no index; `Done` and `SinkFault` have none. Of a file of stored pairs it is what is wrong
 // with it: that line names a tensor too.
 pub(crate) fn error_line(status: &Status) -> Line
-    requires { reports.NamesNoIndex status.now }
+    requires no_index { reports.NamesNoIndex status.now }
+    requires well_formed { reports.IsWellFormed status.now }
     ensures { result.bytes ≡ reports.error_text status.now }
 {
     match status {
@@ -72,6 +73,7 @@ pub(crate) fn numbered(before: &str, number: u128, after: &str) -> Line
 
 // The line of a text that is no specification.
 fn spec_line(fault: &SpecFault) -> Line
+    requires { reports.IsOfText fault.now }
     ensures { result.bytes ≡ reports.error_text (Status.SpecRefused fault.now) }
 {
     let mut line = fixed("error 2: ");
@@ -104,6 +106,7 @@ fn place_text(fault: &SpecFault) -> Line
 
 // What is wrong in the place.
 fn fault_text(fault: &SpecFault) -> Line
+    requires { reports.IsOfText fault.now }
     ensures text { result.bytes ≡ reports.fault_text fault.now }
     ensures len { length result.bytes ≤ 100 }
 {
@@ -121,7 +124,7 @@ fn fault_text(fault: &SpecFault) -> Line
         SpecFault::ResultIsOperand(_, name) => named("", name, " is result and operand"),
         SpecFault::Tree(_, fault) => tree_text(fault),
         SpecFault::ResultIndices(_) => fixed("result indexes differ"),
-        SpecFault::Memory => fixed("want of memory"),
+        SpecFault::Memory => unreachable!(),
     }
 }
 
@@ -148,6 +151,7 @@ fn limit_text(limit: Limit) -> &'static str
 }
 
 fn tree_text(fault: &TreeFault) -> Line
+    requires { reports.IsOfTree fault.now }
     ensures text { result.bytes ≡ reports.tree_text fault.now }
     ensures len { length result.bytes ≤ 100 }
 {
@@ -162,12 +166,13 @@ fn tree_text(fault: &TreeFault) -> Line
         TreeFault::VolumeTooLarge(node) => {
             numbered("node ", *node as u128, " has too many iterations")
         }
-        TreeFault::Memory => fixed("want of memory"),
+        TreeFault::Memory => unreachable!(),
     }
 }
 
 // The line of a file that is no array.
 fn array_line(tensor: &Name, fault: ArrayFault) -> Line
+    requires { reports.IsOfContents fault }
     ensures { result.bytes ≡ reports.error_text (Status.ArrayRefused tensor.now fault) }
 {
     let mut line = named("error 4: ", tensor, ".tca: ");
@@ -178,6 +183,7 @@ fn array_line(tensor: &Name, fault: ArrayFault) -> Line
 
 // The line of a refused einsum.
 fn einsum_line(trouble: &EinsumTrouble) -> Line
+    requires { reports.IsOfEinsum trouble.now }
     ensures { result.bytes ≡ reports.error_text (Status.EinsumRefused trouble.now) }
 {
     let mut line = fixed("error 14: ");
@@ -187,6 +193,7 @@ fn einsum_line(trouble: &EinsumTrouble) -> Line
 }
 
 fn einsum_text(trouble: &EinsumTrouble) -> Line
+    requires { reports.IsOfEinsum trouble.now }
     ensures text { result.bytes ≡ reports.einsum_text trouble.now }
     ensures len { length result.bytes ≤ 150 }
 {
@@ -235,13 +242,13 @@ fn sym_text(trouble: SymTrouble) -> Line
 }
 
 fn array_text(fault: ArrayFault) -> Line
+    requires { reports.IsOfContents fault }
     ensures text { result.bytes ≡ reports.array_text fault }
     ensures len { length result.bytes ≤ 60 }
 {
     match fault {
-        ArrayFault::NoFile => fixed("no file"),
         ArrayFault::BadLength(len) => numbered("length ", len as u128, ""),
         ArrayFault::BadHeader(place) => numbered("head byte ", place as u128, ""),
-        ArrayFault::Disk => fixed("disk fault"),
+        ArrayFault::NoFile | ArrayFault::Disk => unreachable!(),
     }
 }

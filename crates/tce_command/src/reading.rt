@@ -58,6 +58,10 @@ fn read_with_one<'a>(verb: &str, spec: &'a str, last: &'a str) -> Option<Command
         let budget = read_between(last.as_bytes(), 0, MAX_BUDGET)?;
         return Some(Command::Run { spec, budget });
     }
+    if verb == "batch" {
+        let budget = read_between(last.as_bytes(), 0, MAX_BUDGET)?;
+        return Some(Command::Batch { spec, budget });
+    }
     if verb == "expand" {
         return read_expand(spec, last);
     }

@@ -1,12 +1,11 @@
 // Why a command is refused.
 ghost use Rattle.std.specs.Prelude.{◌≡◌, ◌≤◌, length};
 ghost use Rattle.tce_command.specs.Refusals.{NamesFile};
-ghost use Rattle.tce_command.specs.Report.{einsum_status, refusal_line, status_of, wants_memory};
+ghost use Rattle.tce_command.specs.Report.{IsWellFormed, einsum_status, refusal_line, status_of, wants_memory};
 
 use crate::Status;
 use crate::line::{Line, error_line, symmetry_line};
-use crate::trouble::{EinsumTrouble, SymTrouble};
-use tce_array::ArrayFault;
+use crate::trouble::{ArrayTrouble, EinsumTrouble, SymTrouble};
 use tce_declarations::SpecFault;
 use tce_space::{FileName, Name};
 use tce_tree::TreeFault;
@@ -18,8 +17,8 @@ pub enum Refusal {
     Specification(SpecFault),
     /// This file is not there.
     Missing(FileName),
-    /// The file of this tensor is no array of the tensor's shape.
-    Array(Name, ArrayFault),
+    /// The file of this tensor is there, and no array of the tensor's shape.
+    Array(Name, ArrayTrouble),
     /// The budget is below this number of words.
     Budget(u64),
     /// The intermediates need this number of words, which is too many.
@@ -73,13 +72,14 @@ impl Refusal {
 
     /// The status of a command that is refused so.
     pub fn status(&self) -> Status
-        ensures { result ≡ status_of self.now }
+        ensures value { result ≡ status_of self.now }
+        ensures well_formed { IsWellFormed result }
     {
         match self {
             Refusal::Specification(fault) if wants_memory(fault) => Status::WantOfMemory,
             Refusal::Specification(fault) => Status::SpecRefused(*fault),
             Refusal::Missing(file) => Status::NoFile(*file),
-            Refusal::Array(tensor, fault) => Status::ArrayRefused(*tensor, *fault),
+            Refusal::Array(tensor, trouble) => Status::ArrayRefused(*tensor, trouble.fault()),
             Refusal::Budget(least) => Status::BudgetTooSmall(*least),
             Refusal::Intermediates(memory) => Status::IntermediatesTooLarge(*memory),
             Refusal::Flat(len) => Status::FlatRefused(*len),

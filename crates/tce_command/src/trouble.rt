@@ -1,7 +1,32 @@
-// What is wrong with certificates, with einsum texts and with files of stored pairs.
+// What is wrong with array files, certificates, einsum texts and files of stored pairs.
+ghost use Rattle.std.specs.Prelude.{◌≡◌};
+ghost use Rattle.tce_command.specs.Report.{fault_of};
+
+use tce_array::ArrayFault;
 use tce_cert::CertFault;
 use tce_check::Verdict;
 use tce_declarations::SpecFault;
+
+/// Why a file that is there is no array of a tensor's shape.
+#[derive(Clone, Copy, Debug, PartialEq, Eq)]
+pub enum ArrayTrouble {
+    /// The file has this length in bytes, which is not that of an array of the shape.
+    BadLength(u64),
+    /// The head of the file is wrong at this byte place.
+    BadHeader(u64),
+}
+
+impl ArrayTrouble {
+    /// The fault of the array, which is neither an absent file nor a failure of the disk.
+    pub fn fault(self) -> ArrayFault
+        ensures { result ≡ fault_of self }
+    {
+        match self {
+            ArrayTrouble::BadLength(len) => ArrayFault::BadLength(len),
+            ArrayTrouble::BadHeader(place) => ArrayFault::BadHeader(place),
+        }
+    }
+}
 
 /// Why a certificate is refused.
 #[derive(Debug, Drop)]

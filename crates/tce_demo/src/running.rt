@@ -11,7 +11,7 @@ ghost use Rattle.tce_job.specs.Prepared.{HasTaken};
 ghost use Rattle.tce_job.specs.Run.{IsReported};
 ghost use Rattle.tce_job.specs.Refusals.{NamesDeclared, IsFree as IsFreeFault};
 ghost use Rattle.tce_example.specs.Specification.{IsDemo};
-ghost use Rattle.tce_run.specs.Told.{IsToldAs};
+ghost use Rattle.tce_run.specs.Told.{IsOfFiles, IsToldAs};
 ghost use Rattle.tce_demo.specs.Done.{demo_budget, IsOfRun};
 
 use std::alloc::Global;
@@ -27,7 +27,8 @@ const BUDGET: u64 = 16384;
 
 // The refusal of a command whose run is refused: that which the run itself has.
 fn run_refusal(spec: &Spec, fault: JobFault) -> Refusal
-    requires { NamesDeclared spec.now fault }
+    requires declared { NamesDeclared spec.now fault }
+    requires of_files { IsOfFiles fault }
     ensures told { IsToldAs spec.now fault result }
     ensures free { IsFreeFault fault → IsFree result }
     ensures disk_alone { result ≡ Refusal.Disk → fault ≡ JobFault.Disk }

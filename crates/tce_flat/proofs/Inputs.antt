@@ -14,7 +14,9 @@ use Rattle.tce_array.specs.Forms.{IsArray, form_of}
 use Rattle.tce_array.proofs.OneAnswer.{agree}
 use Rattle.tce_tools.specs.Flat.{flat_len, array_element}
 use Rattle.tce_tools.specs.Answers.{IsFirstMisfit, IsRefused, HasFlat, HasArray, HasFitting, FitBefore}
-use Rattle.tce_command.specs.Report.{array_text}
+use Rattle.tce_command.specs.Report.{array_text, fault_of as fault_of_array}
+use Rattle.tce_command.specs.declared.trouble.ArrayTrouble.{ArrayTrouble}
+use Rattle.tce_command.specs.declared.trouble.ArrayTrouble.TheVariants as contents
 use Rattle.tce_command.specs.Refusals.{SameRefusal}
 use Rattle.tce_command.specs.declared.refusal.Refusal.{Refusal}
 use Rattle.tce_command.specs.declared.refusal.Refusal.TheVariants.{Specification, Missing, Array, Budget, Intermediates, Flat, Tensor, Misfit, Einsum, Symmetry, Disk, Memory}
@@ -84,15 +86,19 @@ pub record IsDamaged (tensor : List ℕ) (shape : Tiling) (found : Option (List 
   pub wrong : IsRefused shape found fault
   pub says : Says 4 (codes "error 4: " ++ tensor ++ codes ".tca: " ++ array_text fault ++ codes "\n") refusal
 
+not_absent_array : (trouble : ArrayTrouble) → fault_of_array trouble ≢ array_fault.NoFile
+not_absent_array (contents.BadLength n) e = absurd (cc)
+not_absent_array (contents.BadHeader n) e = absurd (cc)
+
 array_cases : (files : Files) (tensor : List ℕ) (shape : Tiling) (a : Refusal) → IsArrayRefusal files tensor shape a
     → IsGone (array_file tensor) (file files (array_file tensor)) a ⊎ IsDamaged tensor shape (file files (array_file tensor)) a
 array_cases files tensor shape (Missing name) p = inl (record { gone = p.1; says = record { code_is = refl; line_is = ap missing_line p.0 } })
-array_cases files tensor shape (Array name fault) p =
+array_cases files tensor shape (Array name trouble) p =
     inr (record {
-      fault = fault;
-      there = p.1;
-      wrong = p.2;
-      says = record { code_is = refl; line_is = ap (λ n. codes "error 4: " ++ n ++ codes ".tca: " ++ array_text fault ++ codes "\n") p.0 };
+      fault = fault_of_array trouble;
+      there = not_absent_array trouble;
+      wrong = p.1;
+      says = record { code_is = refl; line_is = ap (λ n. codes "error 4: " ++ n ++ codes ".tca: " ++ array_text (fault_of_array trouble) ++ codes "\n") p.0 };
     })
 array_cases files tensor shape (Flat x) p = absurd p
 array_cases files tensor shape (Specification x) p = absurd p

@@ -14,6 +14,7 @@ use Rattle.tce_tools.specs.declared.fault.ToolFault.{ToolFault}
 use Rattle.tce_tools.specs.declared.fault.ToolFault.TheVariants as tool
 use Rattle.tce_command.specs.declared.refusal.Refusal.{Refusal}
 use Rattle.tce_command.specs.declared.refusal.Refusal.TheVariants.{Specification, Missing, Array, Budget, Intermediates, Flat, Tensor, Misfit, Einsum, Symmetry, Disk, Memory}
+use Rattle.tce_command.specs.Report.{fault_of}
 use Rattle.tce_command.specs.Refusals.{IsFree, NamesFile}
 use Rattle.tce_flat.specs.Tensors.{HasTensor, array_file}
 use Rattle.tce_flat.specs.Refusals.{Refuses, IsFlatRefusal, IsArrayRefusal, IsFormRefusal, IsRefusedFor}
@@ -49,29 +50,29 @@ gone_array files tensor shape Disk p gone = absurd p
 gone_array files tensor shape Memory p gone = absurd p
 
 -- the refusal keeps the fault of an array file
-kept_array : (files : Files) (tensor : List ℕ) (shape : Tiling) (fault : ArrayFault) (a : Refusal) → KeepsFault tensor (tool.Array fault) a → fault ≢ array_fault.NoFile
+kept_array : (files : Files) (tensor : List ℕ) (shape : Tiling) (fault : ArrayFault) (a : Refusal) → KeepsFault tensor (tool.Array fault) a
     → IsRefused shape (file files (array_file tensor)) fault → IsArrayRefusal files tensor shape a
-kept_array files tensor shape fault (Array name kept) p there wrong =
-    let e : fault ≡ kept = let f = p.0 in cc in
-    (p.1, subst (λ f. f ≢ array_fault.NoFile) e there, subst (IsRefused shape (file files (array_file tensor))) e wrong)
-kept_array files tensor shape fault (Missing x) p there wrong = absurd p
-kept_array files tensor shape fault (Specification x) p there wrong = absurd p
-kept_array files tensor shape fault (Budget x) p there wrong = absurd p
-kept_array files tensor shape fault (Intermediates x) p there wrong = absurd p
-kept_array files tensor shape fault (Flat x) p there wrong = absurd p
-kept_array files tensor shape fault (Tensor x) p there wrong = absurd p
-kept_array files tensor shape fault (Misfit x) p there wrong = absurd p
-kept_array files tensor shape fault (Einsum x) p there wrong = absurd p
-kept_array files tensor shape fault (Symmetry x u) p there wrong = absurd p
-kept_array files tensor shape fault Disk p there wrong = absurd p
-kept_array files tensor shape fault Memory p there wrong = absurd p
+kept_array files tensor shape fault (Array name kept) p wrong =
+    let e : fault ≡ fault_of kept = let f = p.0 in cc in
+    (p.1, subst (IsRefused shape (file files (array_file tensor))) e wrong)
+kept_array files tensor shape fault (Missing x) p wrong = absurd p
+kept_array files tensor shape fault (Specification x) p wrong = absurd p
+kept_array files tensor shape fault (Budget x) p wrong = absurd p
+kept_array files tensor shape fault (Intermediates x) p wrong = absurd p
+kept_array files tensor shape fault (Flat x) p wrong = absurd p
+kept_array files tensor shape fault (Tensor x) p wrong = absurd p
+kept_array files tensor shape fault (Misfit x) p wrong = absurd p
+kept_array files tensor shape fault (Einsum x) p wrong = absurd p
+kept_array files tensor shape fault (Symmetry x u) p wrong = absurd p
+kept_array files tensor shape fault Disk p wrong = absurd p
+kept_array files tensor shape fault Memory p wrong = absurd p
 
 -- an array file is refused as the tools say
 array_refusal : (files : Files) (tensor : List ℕ) (shape : Tiling) (fault : ArrayFault) (a : Refusal)
     → Stands tensor (array_file tensor) (tool.Array fault) a → IsRefused shape (file files (array_file tensor)) fault → IsArrayRefusal files tensor shape a
 array_refusal files tensor shape array_fault.NoFile a stands p = gone_array files tensor shape a stands p.0
-array_refusal files tensor shape (array_fault.BadLength n) a stands p = kept_array files tensor shape (array_fault.BadLength n) a stands (λ e. absurd (cc)) p
-array_refusal files tensor shape (array_fault.BadHeader n) a stands p = kept_array files tensor shape (array_fault.BadHeader n) a stands (λ e. absurd (cc)) p
+array_refusal files tensor shape (array_fault.BadLength n) a stands p = kept_array files tensor shape (array_fault.BadLength n) a stands p
+array_refusal files tensor shape (array_fault.BadHeader n) a stands p = kept_array files tensor shape (array_fault.BadHeader n) a stands p
 array_refusal files tensor shape array_fault.Disk a stands p = absurd (p.1 refl)
 
 free_disk : (a : Refusal) → a ≡ Disk → IsFree a

@@ -5,10 +5,10 @@ use Rattle.tce_outside.specs.Files.{Files, file}
 use Rattle.tce_space.specs.Tiling.{Tiling}
 use Rattle.tce_array.specs.declared.form.Form.{Form}
 use Rattle.tce_array.specs.declared.form.Form.TheVariants.{Narrow}
-use Rattle.tce_array.specs.declared.fault.ArrayFault.TheVariants.{NoFile}
 use Rattle.tce_array.specs.Forms.{IsArray}
 use Rattle.tce_tools.specs.Flat.{flat_len, array_element}
 use Rattle.tce_tools.specs.Answers.{IsFirstMisfit, IsRefused, HasFlat, HasArray, HasFitting}
+use Rattle.tce_command.specs.Report.{fault_of}
 use Rattle.tce_command.specs.declared.refusal.Refusal.{Refusal}
 use Rattle.tce_command.specs.declared.refusal.Refusal.TheVariants.{Missing, Array, Flat, Tensor, Misfit, Symmetry}
 use Rattle.tce_command.specs.declared.trouble.SymTrouble.TheVariants as trouble
@@ -54,7 +54,7 @@ IsFlatRefusal files flat shape refusal = ⊥
 -- why the array file of a tensor is refused
 abbrev pub IsArrayRefusal : Files → List ℕ → Refuses
 IsArrayRefusal files tensor shape (Missing name) = (name.bytes ≡ array_file tensor) × (file files (array_file tensor) ≡ None)
-IsArrayRefusal files tensor shape (Array name fault) = (name.bytes ≡ tensor) × (fault ≢ NoFile) × IsRefused shape (file files (array_file tensor)) fault
+IsArrayRefusal files tensor shape (Array name trouble) = (name.bytes ≡ tensor) × IsRefused shape (file files (array_file tensor)) (fault_of trouble)
 IsArrayRefusal files tensor shape refusal = ⊥
 
 -- why it is not converted to a form

@@ -1,3 +1,5 @@
-pub mod Told
 pub mod Reasons
+pub mod Told
 pub mod Ran
+pub mod BatchReasons
+pub mod BatchRan

@@ -23,7 +23,7 @@ use Rattle.tce_run.proofs.Told.{told_cause}
 use Rattle.tce_run.proofs.Reasons.{cause_map}
 
 -- the words for tiles are within the budget
-within : (s : Specification) (budget : ℕ) → tile_take s budget ≤ budget
+pub within : (s : Specification) (budget : ℕ) → tile_take s budget ≤ budget
 within s budget =
     let frames : frame_count s budget ≤ budget / largest_tile s = omega arith in
     let words = mul-le-mul_left (largest_tile s) frames in

@@ -13,6 +13,7 @@ use Rattle.tce_job.proofs.Causes as causes
 use Rattle.tce_command.specs.Report.{status_of, code_of, error_text, array_text}
 use Rattle.tce_command.specs.Refusals.{IsFree, SameRefusal}
 use Rattle.tce_command.specs.declared.status.Status.TheVariants as statuses
+use Rattle.tce_command.specs.declared.trouble.ArrayTrouble.TheVariants as contents
 use Rattle.tce_command.specs.declared.refusal.Refusal.{Refusal}
 use Rattle.tce_command.specs.declared.refusal.Refusal.TheVariants.{Missing, Array, Budget, Intermediates, Disk, Memory}
 use Rattle.tce_source.proofs.Outcomes.{one, one_refusal, not_both}
@@ -54,21 +55,20 @@ reason files s budget (Missing name) (t, first, is) = record {
   code_is = refl;
   line_is = ap (λ n. codes "error 3: no file " ++ n ++ codes "\n") is;
 }
-reason files s budget (Array name (array_fault.BadLength n)) (t, first, real, is) = record {
+reason files s budget (Array name (contents.BadLength n)) (t, first, is) = record {
   fault = faults.Array t (array_fault.BadLength n);
   cause = (first.affordable, first.refused, λ e. absurd (cc));
   free = λ h. absurd h;
   code_is = refl;
   line_is = ap (λ x. codes "error 4: " ++ x ++ codes ".tca: " ++ array_text (array_fault.BadLength n) ++ codes "\n") is;
 }
-reason files s budget (Array name (array_fault.BadHeader n)) (t, first, real, is) = record {
+reason files s budget (Array name (contents.BadHeader n)) (t, first, is) = record {
   fault = faults.Array t (array_fault.BadHeader n);
   cause = (first.affordable, first.refused, λ e. absurd (cc));
   free = λ h. absurd h;
   code_is = refl;
   line_is = ap (λ x. codes "error 4: " ++ x ++ codes ".tca: " ++ array_text (array_fault.BadHeader n) ++ codes "\n") is;
 }
-reason files s budget (Array name fault) (t, first, real, is) = absurd real
 reason files s budget Disk p = record { fault = faults.Disk; cause = tt; free = λ h. tt; code_is = refl; line_is = refl }
 reason files s budget Memory p = record { fault = faults.Memory; cause = tt; free = λ h. tt; code_is = refl; line_is = refl }
 reason files s budget a p = absurd p

@@ -5,6 +5,7 @@ use Rattle.tce_outside.specs.Files.{Files}
 use Rattle.tce_array.specs.declared.fault.ArrayFault.{ArrayFault}
 use Rattle.tce_array.specs.declared.fault.ArrayFault.TheVariants as array_fault
 use Rattle.tce_spec.specs.Specification.{Specification}
+use Rattle.tce_arrays.specs.declared.opening.Refused.{Refused}
 use Rattle.tce_arrays.specs.Opened.{IsRefused}
 use Rattle.tce_job.specs.declared.fault.JobFault.{JobFault}
 use Rattle.tce_job.specs.declared.fault.JobFault.TheVariants as faults
@@ -15,14 +16,12 @@ use Rattle.tce_command.specs.declared.refusal.Refusal.TheVariants.{Missing, Arra
 use Rattle.tce_source.specs.Source.{HasSpecification}
 use Rattle.tce_run.specs.Refusals.{IsFirstRefused, IsJobRefusal}
 use Rattle.tce_run.specs.Done.{IsTaking, IsRoomLeft}
-use Rattle.tce_run.specs.Told.{TellsOperand, IsToldAs}
+use Rattle.tce_run.specs.Told.{TellsOperand, IsOfFiles, IsToldAs}
 
 told_operand : (files : Files) (s : Specification) (budget t : ℕ) (fault : ArrayFault) (a : Refusal) → TellsOperand s t fault a → IsFirstRefused files s budget t fault → fault ≢ array_fault.Disk → IsJobRefusal files s budget a
 told_operand files s budget t array_fault.NoFile (Missing name) told first real = (t, first, told)
-told_operand files s budget t (array_fault.BadLength n) (Array name fault) told first real =
-    subst (λ f. IsJobRefusal files s budget (Array name f)) (sym told.1) (t, first, tt, told.0)
-told_operand files s budget t (array_fault.BadHeader n) (Array name fault) told first real =
-    subst (λ f. IsJobRefusal files s budget (Array name f)) (sym told.1) (t, first, tt, told.0)
+told_operand files s budget t (array_fault.BadLength n) (Array name trouble) told first real = (t, subst (IsFirstRefused files s budget t) (sym told.1) first, told.0)
+told_operand files s budget t (array_fault.BadHeader n) (Array name trouble) told first real = (t, subst (IsFirstRefused files s budget t) (sym told.1) first, told.0)
 told_operand files s budget t array_fault.Disk a told first real = absurd (real refl)
 told_operand files s budget t fault a told first real = absurd told
 
@@ -33,6 +32,14 @@ told_cause files s budget (faults.IntermediatesTooLarge n) a told p = subst (IsJ
 told_cause files s budget (faults.Array t fault) a told p = told_operand files s budget t fault a told (record { affordable = p.0; refused = p.1 }) p.2
 told_cause files s budget faults.Disk a told p = subst (IsJobRefusal files s budget) (sym told) tt
 told_cause files s budget faults.Memory a told p = subst (IsJobRefusal files s budget) (sym told) tt
+
+-- an operand is refused for its file
+pub of_files : (P : Refused → Type 0) (s : Specification) (budget : ℕ) (f : JobFault) → IsCause P s budget f → IsOfFiles f
+of_files P s budget (faults.BudgetTooSmall n) p = tt
+of_files P s budget (faults.IntermediatesTooLarge n) p = tt
+of_files P s budget (faults.Array t fault) p = p.2
+of_files P s budget faults.Disk p = tt
+of_files P s budget faults.Memory p = tt
 
 -- it is that of a failure only where the disk failed
 operand_not_disk : (s : Specification) (t : ℕ) (fault : ArrayFault) → TellsOperand s t fault Disk → ⊥
@@ -47,7 +54,7 @@ told_disk s faults.Disk a told failed = refl
 told_disk s faults.Memory a told failed = absurd (cc)
 
 -- the refusal of an answer
-abbrev refusal_in : {A : Type 0} → Result A Refusal → Refusal
+abbrev pub refusal_in : {A : Type 0} → Result A Refusal → Refusal
 refusal_in (Ok answer) = Memory
 refusal_in (Err refusal) = refusal
 
@@ -74,9 +81,9 @@ one_taking before middle s spec budget taken after same specified (inr able) (in
 operand_room : (before : Option Files) (s : Specification) (spec : List ℕ) (budget t : ℕ) (fault : ArrayFault) (a : Refusal) (taken after : List (ℕ × ℕ)) → TellsOperand s t fault a → after ≡ taken
     → IsRoomLeft a before taken after spec budget
 operand_room before s spec budget t array_fault.NoFile (Missing name) taken after told same = same
-operand_room before s spec budget t (array_fault.BadLength n) (Array name fault) taken after told same = same
-operand_room before s spec budget t (array_fault.BadHeader n) (Array name fault) taken after told same = same
-operand_room before s spec budget t array_fault.Disk (Array name fault) taken after told same = same
+operand_room before s spec budget t (array_fault.BadLength n) (Array name trouble) taken after told same = same
+operand_room before s spec budget t (array_fault.BadHeader n) (Array name trouble) taken after told same = same
+operand_room before s spec budget t array_fault.Disk (Array name trouble) taken after told same = same
 operand_room before s spec budget t fault a taken after told same = absurd told
 
 pub told_room : (before middle : Option Files) (s : Specification) (spec : List ℕ) (budget : ℕ) (f : JobFault) (a : Refusal) (taken after : List (ℕ × ℕ)) → middle ≡ before

@@ -2,3 +2,5 @@ pub mod Refusals
 pub mod Done
 pub mod Laws
 pub mod Told
+pub mod BatchDone
+pub mod BatchRefusals

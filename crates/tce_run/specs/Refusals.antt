@@ -2,12 +2,13 @@
 use Rattle.std.specs.Prelude.{◌≡◌, ◌⊎◌, ⊤, ℕ, ◌<◌, ◌≤◌, ◌^◌, List}
 use Rattle.tce_outside.specs.Files.{Files, file}
 use Rattle.tce_array.specs.declared.fault.ArrayFault.{ArrayFault}
-use Rattle.tce_array.specs.declared.fault.ArrayFault.TheVariants.{NoFile, BadLength, BadHeader}
+use Rattle.tce_array.specs.declared.fault.ArrayFault.TheVariants.{NoFile}
 use Rattle.tce_spec.specs.Specification.{Specification}
 use Rattle.tce_result.specs.TensorFiles.{name_of, file_of}
 use Rattle.tce_takings.specs.Takings.{least_budget}
 use Rattle.tce_arrays.specs.Opened.{IsRefused}
 use Rattle.tce_job.specs.Refusals.{IsLeastMemory, IsAffordable, CanRun}
+use Rattle.tce_command.specs.Report.{fault_of}
 use Rattle.tce_command.specs.declared.refusal.Refusal.{Refusal}
 use Rattle.tce_command.specs.declared.refusal.Refusal.TheVariants.{Missing, Array, Budget, Intermediates, Disk, Memory}
 use Rattle.tce_source.specs.Source.{HasSpecification, IsSourceRefusal}
@@ -21,18 +22,12 @@ pub record IsFirstRefused (files : Files) (s : Specification) (budget t : ℕ) (
   pub affordable : IsAffordable s budget
   pub refused : IsRefused files s (record { tensor = t; fault = fault })
 
--- a file is there, and its length or its head is wrong
-abbrev pub IsOfContents : ArrayFault → Type 0
-IsOfContents (BadLength len) = ⊤
-IsOfContents (BadHeader place) = ⊤
-IsOfContents fault = ⊥
-
 -- why a specification is refused under this budget: an operand that is not there is told by its file, one that is no array of its shape by its name. The disk may fail, and memory be wanting, at any place
 abbrev pub IsJobRefusal : Files → Specification → ℕ → Refusal → Type 0
 IsJobRefusal files s budget (Budget least) = (least ≡ least_budget s) × (budget < least)
 IsJobRefusal files s budget (Intermediates memory) = (least_budget s ≤ budget) × IsLeastMemory s memory × (2 ^ 40 < memory)
 IsJobRefusal files s budget (Missing missing) = (t : ℕ) × IsFirstRefused files s budget t NoFile × (missing.bytes ≡ file_of s t)
-IsJobRefusal files s budget (Array tensor fault) = (t : ℕ) × IsFirstRefused files s budget t fault × IsOfContents fault × (tensor.bytes ≡ name_of s t)
+IsJobRefusal files s budget (Array tensor trouble) = (t : ℕ) × IsFirstRefused files s budget t (fault_of trouble) × (tensor.bytes ≡ name_of s t)
 IsJobRefusal files s budget Disk = ⊤
 IsJobRefusal files s budget Memory = ⊤
 IsJobRefusal files s budget refusal = ⊥

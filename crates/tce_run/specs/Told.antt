@@ -1,24 +1,30 @@
 -- How a fault of a run is told to a user.
-use Rattle.std.specs.Prelude.{◌≡◌, ℕ, List}
+use Rattle.std.specs.Prelude.{◌≡◌, ◌≢◌, ⊤, ℕ, List}
 use Rattle.tce_array.specs.declared.fault.ArrayFault.{ArrayFault}
-use Rattle.tce_array.specs.declared.fault.ArrayFault.TheVariants.{NoFile}
+use Rattle.tce_array.specs.declared.fault.ArrayFault.TheVariants as array_fault
 use Rattle.tce_spec.specs.Specification.{Specification}
 use Rattle.tce_result.specs.TensorFiles.{name_of, file_of}
 use Rattle.tce_job.specs.declared.fault.JobFault.{JobFault}
 use Rattle.tce_job.specs.declared.fault.JobFault.TheVariants as faults
 use Rattle.tce_command.specs.Refusals.{NamesFile}
+use Rattle.tce_command.specs.Report.{fault_of}
 use Rattle.tce_command.specs.declared.refusal.Refusal.{Refusal}
 use Rattle.tce_command.specs.declared.refusal.Refusal.TheVariants.{Array, Budget, Intermediates, Disk, Memory}
 
 -- the refusal names this tensor, and tells this fault of its file
 abbrev pub NamesTensor : List ℕ → ArrayFault → Refusal → Type 0
-NamesTensor name fault (Array tensor told) = (tensor.bytes ≡ name) × (told ≡ fault)
+NamesTensor name fault (Array tensor told) = (tensor.bytes ≡ name) × (fault_of told ≡ fault)
 NamesTensor name fault refusal = ⊥
 
 -- an operand that is not there is told by its file, one that is no array of its shape by its name
 abbrev pub TellsOperand : Specification → ℕ → ArrayFault → Refusal → Type 0
-TellsOperand s t NoFile refusal = NamesFile (file_of s t) refusal
+TellsOperand s t array_fault.NoFile refusal = NamesFile (file_of s t) refusal
 TellsOperand s t fault refusal = NamesTensor (name_of s t) fault refusal
+
+-- an operand that the fault names is refused for its file, and not for a failure of the disk
+abbrev pub IsOfFiles : JobFault → Type 0
+IsOfFiles (faults.Array t fault) = fault ≢ array_fault.Disk
+IsOfFiles fault = ⊤
 
 -- the refusal tells the fault
 abbrev pub IsToldAs : Specification → JobFault → Refusal → Type 0

@@ -9,7 +9,10 @@ use Rattle.tce_declarations.specs.declared.fault.SpecFault.{SpecFault}
 use Rattle.tce_command.specs.Refusals.{IsFree, SameRefusal}
 use Rattle.tce_command.specs.declared.refusal.Refusal.{Refusal}
 use Rattle.tce_command.specs.declared.refusal.Refusal.TheVariants.{Specification, Missing, Array, Budget, Intermediates, Flat, Tensor, Misfit, Einsum, Symmetry, Disk, Memory}
-use Rattle.tce_source.specs.Source.{Specifies, HasFault, HasSpecification, IsSourceRefusal}
+use Rattle.tce_batch.specs.Outcome.{IsBatchOutcome}
+use Rattle.tce_batch.proofs.Computed.{batch_only}
+use Rattle.tce_source.specs.Source.{Specifies, HasFault, HasSpecification, IsSourceRefusal, IsTextRefusal}
+use Rattle.tce_source.specs.BatchSource.{HasBatch, HasBatchFault, IsBatchSourceRefusal}
 use Rattle.tce_source.proofs.Faults.{told}
 
 one_of : (found : Option (List ℕ)) (s t : Specified) → IsSomeAnd found (λ text. Specifies text s) → IsSomeAnd found (λ text. Specifies text t) → s ≡ t
@@ -28,55 +31,95 @@ same_fault text f g p q =
     let b = told (Some q.found) g q.shown q.no_memory in
     (a.code ∙ sym b.code, a.line ∙ sym b.line)
 
-same_of : (found : Option (List ℕ)) (f g : SpecFault) → IsSomeAnd found (λ text. HasFault text f) → IsSomeAnd found (λ text. HasFault text g) → SameRefusal (Specification f) (Specification g)
-same_of None f g p q = absurd p
-same_of (Some text) f g p q = same_fault text f g p q
+same_batch_fault : (text : List ℕ) (f g : SpecFault) → HasBatchFault text f → HasBatchFault text g → SameRefusal (Specification f) (Specification g)
+same_batch_fault text f g p q =
+    let e : Err p.found ≡ Err q.found = batch_only text (Err p.found) p.outcome ∙ sym (batch_only text (Err q.found) q.outcome) in
+    let same : Some p.found ≡ Some q.found = cc in
+    let a = told (Some q.found) f (subst (λ o. Shows o f) same p.shown) p.no_memory in
+    let b = told (Some q.found) g q.shown q.no_memory in
+    (a.code ∙ sym b.code, a.line ∙ sym b.line)
+
+same_of : (Has : List ℕ → SpecFault → Type 0) (found : Option (List ℕ)) (f g : SpecFault) → ((text : List ℕ) → Has text f → Has text g → SameRefusal (Specification f) (Specification g))
+    → IsSomeAnd found (λ text. Has text f) → IsSomeAnd found (λ text. Has text g) → SameRefusal (Specification f) (Specification g)
+same_of Has None f g alike p q = absurd p
+same_of Has (Some text) f g alike p q = alike text p q
 
 not_absent : (P : List ℕ → Type 0) (found : Option (List ℕ)) → IsSomeAnd found P → found ≡ None → ⊥
 not_absent P found p e = subst (λ x. IsSomeAnd x P) e p
 
-pub one_refusal : (name : List ℕ) (found : Option (List ℕ)) (a b : Refusal) → IsSourceRefusal name found a → IsSourceRefusal name found b → (IsFree b → ⊥) → IsFree a ⊎ SameRefusal a b
-one_refusal name found Disk b p q free = inl tt
-one_refusal name found Memory b p q free = inl tt
-one_refusal name found (Array x u) b p q free = absurd p
-one_refusal name found (Budget x) b p q free = absurd p
-one_refusal name found (Intermediates x) b p q free = absurd p
-one_refusal name found (Flat x) b p q free = absurd p
-one_refusal name found (Tensor x) b p q free = absurd p
-one_refusal name found (Misfit x) b p q free = absurd p
-one_refusal name found (Einsum x) b p q free = absurd p
-one_refusal name found (Symmetry x u) b p q free = absurd p
-one_refusal name found a (Array y v) p q free = absurd q
-one_refusal name found a (Budget y) p q free = absurd q
-one_refusal name found a (Intermediates y) p q free = absurd q
-one_refusal name found a (Flat y) p q free = absurd q
-one_refusal name found a (Tensor y) p q free = absurd q
-one_refusal name found a (Misfit y) p q free = absurd q
-one_refusal name found a (Einsum y) p q free = absurd q
-one_refusal name found a (Symmetry y v) p q free = absurd q
-one_refusal name found a Disk p q free = absurd (free tt)
-one_refusal name found a Memory p q free = absurd (free tt)
-one_refusal name found (Missing x) (Missing y) p q free = inr (refl, ap (λ bytes. codes "error 3: no file " ++ bytes ++ codes "\n") (p.0 ∙ sym q.0))
-one_refusal name found (Missing x) (Specification g) p q free = absurd (not_absent _ found q p.1)
-one_refusal name found (Specification f) (Missing y) p q free = absurd (not_absent _ found p q.1)
-one_refusal name found (Specification f) (Specification g) p q free = inr (same_of found f g p q)
+-- where the faults of each text are told alike, a file is refused for one reason
+abbrev AreToldAlike : (List ℕ → SpecFault → Type 0) → Type 0
+AreToldAlike Has = (text : List ℕ) (f g : SpecFault) → Has text f → Has text g → SameRefusal (Specification f) (Specification g)
 
-specified_not_faulty : (found : Option (List ℕ)) (s : Specified) (f : SpecFault) → IsSomeAnd found (λ text. Specifies text s) → IsSomeAnd found (λ text. HasFault text f) → ⊥
-specified_not_faulty None s f p q = p
-specified_not_faulty (Some text) s f p q =
-    let e : Ok s ≡ Err q.found = computed_only text (Ok s) p ∙ sym (computed_only text (Err q.found) q.outcome) in
-    absurd (cc)
+text_refusal : (Has : List ℕ → SpecFault → Type 0) (name : List ℕ) (found : Option (List ℕ)) (a b : Refusal) → AreToldAlike Has → IsTextRefusal Has name found a → IsTextRefusal Has name found b → (IsFree b → ⊥)
+    → IsFree a ⊎ SameRefusal a b
+text_refusal Has name found Disk b alike p q free = inl tt
+text_refusal Has name found Memory b alike p q free = inl tt
+text_refusal Has name found (Array x u) b alike p q free = absurd p
+text_refusal Has name found (Budget x) b alike p q free = absurd p
+text_refusal Has name found (Intermediates x) b alike p q free = absurd p
+text_refusal Has name found (Flat x) b alike p q free = absurd p
+text_refusal Has name found (Tensor x) b alike p q free = absurd p
+text_refusal Has name found (Misfit x) b alike p q free = absurd p
+text_refusal Has name found (Einsum x) b alike p q free = absurd p
+text_refusal Has name found (Symmetry x u) b alike p q free = absurd p
+text_refusal Has name found a (Array y v) alike p q free = absurd q
+text_refusal Has name found a (Budget y) alike p q free = absurd q
+text_refusal Has name found a (Intermediates y) alike p q free = absurd q
+text_refusal Has name found a (Flat y) alike p q free = absurd q
+text_refusal Has name found a (Tensor y) alike p q free = absurd q
+text_refusal Has name found a (Misfit y) alike p q free = absurd q
+text_refusal Has name found a (Einsum y) alike p q free = absurd q
+text_refusal Has name found a (Symmetry y v) alike p q free = absurd q
+text_refusal Has name found a Disk alike p q free = absurd (free tt)
+text_refusal Has name found a Memory alike p q free = absurd (free tt)
+text_refusal Has name found (Missing x) (Missing y) alike p q free = inr (refl, ap (λ bytes. codes "error 3: no file " ++ bytes ++ codes "\n") (p.0 ∙ sym q.0))
+text_refusal Has name found (Missing x) (Specification g) alike p q free = absurd (not_absent _ found q p.1)
+text_refusal Has name found (Specification f) (Missing y) alike p q free = absurd (not_absent _ found p q.1)
+text_refusal Has name found (Specification f) (Specification g) alike p q free = inr (same_of Has found f g (λ text. alike text f g) p q)
+
+pub one_refusal : (name : List ℕ) (found : Option (List ℕ)) (a b : Refusal) → IsSourceRefusal name found a → IsSourceRefusal name found b → (IsFree b → ⊥) → IsFree a ⊎ SameRefusal a b
+one_refusal name found a b p q free = text_refusal HasFault name found a b same_fault p q free
+
+pub one_batch_refusal : (name : List ℕ) (found : Option (List ℕ)) (a b : Refusal) → IsBatchSourceRefusal name found a → IsBatchSourceRefusal name found b → (IsFree b → ⊥) → IsFree a ⊎ SameRefusal a b
+one_batch_refusal name found a b p q free = text_refusal HasBatchFault name found a b same_batch_fault p q free
+
+-- what is specified has no fault
+specified_not_faulty : (text : List ℕ) (s : Specified) (f : SpecFault) → Specifies text s → HasFault text f → ⊥
+specified_not_faulty text s f p q = let e : Ok s ≡ Err q.found = computed_only text (Ok s) p ∙ sym (computed_only text (Err q.found) q.outcome) in absurd (cc)
+
+batch_not_faulty : (text : List ℕ) (batch : List Specified) (f : SpecFault) → IsBatchOutcome text (Ok batch) → HasBatchFault text f → ⊥
+batch_not_faulty text batch f p q = let e : Ok batch ≡ Err q.found = batch_only text (Ok batch) p ∙ sym (batch_only text (Err q.found) q.outcome) in absurd (cc)
+
+not_faulty : (Has : List ℕ → SpecFault → Type 0) (Is : List ℕ → Type 0) (found : Option (List ℕ)) (f : SpecFault) → ((text : List ℕ) → Is text → Has text f → ⊥) → IsSomeAnd found Is → IsSomeAnd found (λ text. Has text f) → ⊥
+not_faulty Has Is None f apart p q = p
+not_faulty Has Is (Some text) f apart p q = apart text p q
+
+not_refused : (Has : List ℕ → SpecFault → Type 0) (Is : List ℕ → Type 0) (name : List ℕ) (found : Option (List ℕ)) (a : Refusal) → ((text : List ℕ) (f : SpecFault) → Is text → Has text f → ⊥)
+    → IsSomeAnd found Is → IsTextRefusal Has name found a → IsFree a
+not_refused Has Is name found (Missing x) apart p q = absurd (not_absent Is found p q.1)
+not_refused Has Is name found (Specification f) apart p q = absurd (not_faulty Has Is found f (λ text. apart text f) p q)
+not_refused Has Is name found Disk apart p q = tt
+not_refused Has Is name found Memory apart p q = tt
+not_refused Has Is name found (Array x fault) apart p q = absurd q
+not_refused Has Is name found (Budget n) apart p q = absurd q
+not_refused Has Is name found (Intermediates n) apart p q = absurd q
+not_refused Has Is name found (Flat n) apart p q = absurd q
+not_refused Has Is name found (Tensor x) apart p q = absurd q
+not_refused Has Is name found (Misfit n) apart p q = absurd q
+not_refused Has Is name found (Einsum trouble) apart p q = absurd q
+not_refused Has Is name found (Symmetry x trouble) apart p q = absurd q
 
 pub not_both : (files : Files) (spec : List ℕ) (s : Specified) (a : Refusal) → HasSpecification files spec s → IsSourceRefusal spec (file files spec) a → IsFree a
-not_both files spec s (Missing name) p q = absurd (not_absent _ (file files spec) p q.1)
-not_both files spec s (Specification f) p q = absurd (specified_not_faulty (file files spec) s f p q)
-not_both files spec s Disk p q = tt
-not_both files spec s Memory p q = tt
-not_both files spec s (Array name fault) p q = absurd q
-not_both files spec s (Budget n) p q = absurd q
-not_both files spec s (Intermediates n) p q = absurd q
-not_both files spec s (Flat n) p q = absurd q
-not_both files spec s (Tensor name) p q = absurd q
-not_both files spec s (Misfit n) p q = absurd q
-not_both files spec s (Einsum trouble) p q = absurd q
-not_both files spec s (Symmetry name trouble) p q = absurd q
+not_both files spec s a p q = not_refused HasFault (λ text. Specifies text s) spec (file files spec) a (λ text. specified_not_faulty text s) p q
+
+pub not_both_batch : (files : Files) (spec : List ℕ) (batch : List Specified) (a : Refusal) → HasBatch files spec batch → IsBatchSourceRefusal spec (file files spec) a → IsFree a
+not_both_batch files spec batch a p q = not_refused HasBatchFault (λ text. IsBatchOutcome text (Ok batch)) spec (file files spec) a (λ text. batch_not_faulty text batch) p q
+
+-- a file specifies one list of formulas
+one_batch_of : (found : Option (List ℕ)) (batch other : List Specified) → IsSomeAnd found (λ text. IsBatchOutcome text (Ok batch)) → IsSomeAnd found (λ text. IsBatchOutcome text (Ok other)) → batch ≡ other
+one_batch_of None batch other p q = absurd p
+one_batch_of (Some text) batch other p q = let e = batch_only text (Ok batch) p ∙ sym (batch_only text (Ok other) q) in cc
+
+pub one_batch : (files : Files) (spec : List ℕ) (batch other : List Specified) → HasBatch files spec batch → HasBatch files spec other → batch ≡ other
+one_batch files spec batch other p q = one_batch_of (file files spec) batch other p q

@@ -1,11 +1,11 @@
 -- The file of a specification.
-use Rattle.std.specs.Prelude.{◌≡◌, ◌≢◌, ⊤, ℕ, List, Option, Some, None}
+use Rattle.std.specs.Prelude.{◌≡◌, ◌≢◌, ⊤, ℕ, ◌^◌, ◌<◌, List, length, Option, Some, None}
 use Rattle.std.specs.Option.{IsSomeAnd}
 use Rattle.std.specs.declared.result.Result.TheVariants.{Ok, Err}
 use Rattle.tce_declarations.specs.Faults.{Fault}
 use Rattle.tce_declarations.specs.FaultCode.{Shows}
 use Rattle.tce_declarations.specs.declared.fault.SpecFault.{SpecFault}
-use Rattle.tce_declarations.specs.declared.fault.SpecFault.TheVariants.{Memory}
+use Rattle.tce_declarations.specs.declared.fault.SpecFault.TheVariants.{TooLong, Memory}
 use Rattle.tce_spec.specs.Specification.{Specification as Specified}
 use Rattle.tce_spec.specs.Outcome.{IsOutcome}
 use Rattle.tce_outside.specs.Files.{Files, file}
@@ -24,13 +24,21 @@ pub record HasFault (text : List ℕ) (fault : SpecFault) : Type 0 where
   pub shown : Shows (Some found) fault
   pub no_memory : fault ≢ Memory
 
--- why the specification in a file with these contents, or in none, is refused. The disk may fail and memory be wanting at any place
+-- the text is refused unread
+abbrev pub IsTooLong : List ℕ → SpecFault → Type 0
+IsTooLong text fault = (fault ≡ TooLong) × (2 ^ 16 < length text)
+
+-- why the text in a file with these contents, or in none, is refused, where `Has` says which faults a text has. The disk may fail and memory be wanting at any place
+abbrev pub IsTextRefusal : (List ℕ → SpecFault → Type 0) → List ℕ → Option (List ℕ) → Refusal → Type 0
+IsTextRefusal Has name found (Missing file) = (file.bytes ≡ name) × (found ≡ None)
+IsTextRefusal Has name found (Specification fault) = IsSomeAnd found (λ text. Has text fault)
+IsTextRefusal Has name found Disk = ⊤
+IsTextRefusal Has name found refusals.Memory = ⊤
+IsTextRefusal Has name found refusal = ⊥
+
+-- why the specification in such a file is refused
 abbrev pub IsSourceRefusal : List ℕ → Option (List ℕ) → Refusal → Type 0
-IsSourceRefusal name found (Missing file) = (file.bytes ≡ name) × (found ≡ None)
-IsSourceRefusal name found (Specification fault) = IsSomeAnd found (λ text. HasFault text fault)
-IsSourceRefusal name found Disk = ⊤
-IsSourceRefusal name found refusals.Memory = ⊤
-IsSourceRefusal name found refusal = ⊥
+IsSourceRefusal name found refusal = IsTextRefusal HasFault name found refusal
 
 -- the file is there, and its text specifies this
 abbrev pub HasSpecification : Files → List ℕ → Specified → Type 0

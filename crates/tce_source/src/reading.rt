@@ -4,7 +4,7 @@ ghost use Rattle.std.specs.Option.{ForSome, IsSomeAnd};
 ghost use Rattle.tce_outside.specs.Files.{file};
 ghost use Rattle.tce_outside.specs.Fault.{HasCause, TellsFaults};
 ghost use Rattle.tce_declarations.specs.Declarations.{HaveNames};
-ghost use Rattle.tce_source.specs.Source.{HasSpecification, IsSourceRefusal};
+ghost use Rattle.tce_source.specs.Source.{HasSpecification, IsSourceRefusal, IsTextRefusal, IsTooLong};
 
 use std::alloc::Global;
 use tce_command::Refusal;
@@ -35,17 +35,21 @@ pub fn read_source<D: Disk>(alloc: Global, disk: &mut D, name: &str) -> Result<S
 }
 
 // Whether a fault is want of memory.
-fn is_memory(fault: &SpecFault) -> bool
+pub(crate) fn is_memory(fault: &SpecFault) -> bool
     ensures { IsTrue result ↔ (fault.now ≡ SpecFault.Memory) }
 {
     matches!(fault, SpecFault::Memory)
 }
 
 // Reads a text that is not too long.
-fn read_text<D: Disk>(alloc: Global, disk: &mut D, name: &str) -> Result<Vec<u8>, Refusal>
+pub(crate) fn read_text<D: Disk>(
+    alloc: Global,
+    disk: &mut D,
+    name: &str,
+) -> Result<Vec<u8>, Refusal>
     requires { length name.now ≤ 200 }
     ensures bytes { IfOk result (λ bytes. ForSome (D.files disk.old) (λ files. file files name.now ≡ Some bytes.items)) }
-    ensures refused { IfErr result (λ refusal. ForSome (D.files disk.old) (λ files. IsSourceRefusal name.now (file files name.now) refusal)) }
+    ensures refused { IfErr result (λ refusal. ForSome (D.files disk.old) (λ files. IsTextRefusal IsTooLong name.now (file files name.now) refusal)) }
     ensures same { D.files disk.new ≡ D.files disk.old }
     ensures cause { HasCause (D.faults disk.old) (D.faults disk.new) (result ≡ Err Refusal.Disk) }
     ensures told { TellsFaults (D.faults disk.old) (D.faults disk.new) (result ≡ Err Refusal.Disk) }

@@ -1,9 +1,10 @@
 -- The answers of the commands, joined.
-use Rattle.std.proofs.Common.{◌≡◌, refl, sym, ap, subst, ◌∙◌, ◌⊎◌, inl, inr, ℕ, Bool, true, false, if◌then◌else◌, List, Option}
+use Rattle.std.proofs.Common.{◌≡◌, refl, sym, ap, subst, ◌∙◌, ◌⊎◌, inl, inr, ℕ, ◌≤◌, Bool, true, false, if◌then◌else◌, List, length, take, Option, arith}
+use Rattle.std.proofs.Math.Seq.{take-length}
 use Rattle.std.specs.Option.{ForSome}
 use Rattle.tce_outside.specs.Files.{Files, file}
 use Rattle.tce_declarations.specs.declared.fault.SpecFault.{SpecFault}
-use Rattle.tce_command.specs.Command.{Command, run, plan, cert, check, pack, unpack, convert, expand, demo}
+use Rattle.tce_command.specs.Command.{Command, run, batch, plan, cert, check, pack, unpack, convert, expand, demo}
 use Rattle.tce_command.specs.Report.{status_of, ending_of, code_of, line_over, wants_memory}
 use Rattle.tce_command.specs.Refusals.{IsFree, SameRefusal}
 use Rattle.tce_command.specs.CommandRefusals.{EndsAlike, MayReplace, OnCommon}
@@ -16,8 +17,11 @@ use Rattle.tce_command.specs.declared.command_refusal.CommandRefusal.TheVariants
 use Rattle.tce_command.specs.declared.trouble.EinsumTrouble.TheVariants as einsums
 use Rattle.tce_command.specs.declared.status.Status.{Status}
 use Rattle.tce_command.specs.declared.status.Status.TheVariants.{Done, SpecRefused, EinsumRefused, DiskFault, SinkFault, WantOfMemory}
+use Rattle.tce_spec.specs.Specification.{Specification as Specified}
+use Rattle.tce_batch_job.specs.Reports.{HasRun, HasTaken}
 use Rattle.tce_source.proofs.Outcomes.{not_both, one_refusal as one_source_refusal}
 use Rattle.tce_run.proofs.Reasons as runs
+use Rattle.tce_run.proofs.BatchReasons as batches
 use Rattle.tce_verify.proofs.OneAnswer as verifications
 use Rattle.tce_tools.specs.Answers.{HasFlat, HasArray, HasFitting}
 use Rattle.tce_flat.specs.Tensors.{array_file, sym_file}
@@ -42,6 +46,7 @@ common_free P free (Certificate trouble line) p = absurd p
 
 one_refusal : (files : Files) (command : Command) (a b : CommandRefusal) → IsCommandRefusal files command a → IsCommandRefusal files command b → (MayReplace b → ⊥) → MayReplace a ⊎ EndsAlike a b
 one_refusal files (run spec budget) a b p q free = common_alone _ (runs.alone files spec budget) a b p q free
+one_refusal files (batch spec budget) a b p q free = common_alone _ (batches.alone_batch files spec budget) a b p q free
 one_refusal files (plan spec) a b p q free = common_alone _ (one_source_refusal spec (file files spec)) a b p q free
 one_refusal files (cert spec name) a b p q free = common_alone _ (one_source_refusal spec (file files spec)) a b p q free
 one_refusal files (check spec name) a b p q free = verifications.alone files spec name a b p q free
@@ -57,6 +62,7 @@ one_refusal files (demo seed v o) a b p q free = inl (common_free IsFree (λ x f
 
 can_free : (files : Files) (command : Command) (a : CommandRefusal) → CanDo files command → IsCommandRefusal files command a → MayReplace a
 can_free files (run spec budget) a can p = common_free _ (λ x. runs.granted files spec budget x can) a p
+can_free files (batch spec budget) a can p = common_free _ (λ x. batches.granted_batch files spec budget x can) a p
 can_free files (plan spec) a can p = common_free _ (λ x. not_both files spec can.0 x can.1) a p
 can_free files (cert spec name) a can p = common_free _ (λ x. not_both files spec can.0 x can.1) a p
 can_free files (check spec name) a can p = verifications.granted files spec name a can p
@@ -75,6 +81,7 @@ can_free files (demo seed v o) a can p = common_free IsFree (λ x free. free) a 
 pub done_can : (command : Command) (before after : Option Files) (taken taken_after : List (ℕ × ℕ)) (report : List ℕ) → IsDone command before after taken taken_after report
     → ForSome before (λ files. CanDo files command)
 done_can (run spec budget) before after taken taken_after report done = λ files told. (done.specification, done.specified files told, done.able files told)
+done_can (batch spec budget) before after taken taken_after report done = λ files told. (done.formulas, done.specified files told, done.able files told)
 done_can (plan spec) before after taken taken_after report done = λ files told. let planned = done.0 files told in (planned.specification, planned.specified)
 done_can (cert spec name) before after taken taken_after report done = λ files told. (done.0.specification, done.0.specified files told)
 done_can (check spec name) before after taken taken_after report done = λ files told. let verified = done.0 files told in verified.can
@@ -85,10 +92,17 @@ done_can (expand spec tensor) before after taken taken_after report done =
     λ files told. (done.0.shape, done.0.tensor_is files told, (done.0.expanding.symmetry, done.0.expanding.found files told))
 done_can (demo seed v o) before after taken taken_after report done = λ files told. tt
 
+-- all formulas took in turn
+all_taken : (formulas : List Specified) (budget : ℕ) (taken taken_after : List (ℕ × ℕ)) (report : List ℕ) → HasRun formulas budget taken taken_after report → HasTaken (take (length formulas) formulas) budget taken taken_after
+all_taken formulas budget taken taken_after report h =
+    subst (λ (ss : List Specified). HasTaken ss budget taken taken_after) (sym (take-length formulas)) (record { plans = h.plans; least = h.least; taken = h.taken })
+
 pub done_takes : (command : Command) (before after : Option Files) (taken taken_after : List (ℕ × ℕ)) (report : List ℕ) → IsDone command before after taken taken_after report
     → MayTake command before taken taken_after
 done_takes (run spec budget) before after taken taken_after report done =
     inr (record { specification = done.specification; specified = done.specified; able = done.able; plan = done.plan; least = done.least; taking = done.taking })
+done_takes (batch spec budget) before after taken taken_after report done =
+    inr (record { formulas = done.formulas; specified = done.specified; count = length done.formulas; within = omega arith; taking = all_taken done.formulas budget taken taken_after report done.run })
 done_takes (plan spec) before after taken taken_after report done = done.2
 done_takes (cert spec name) before after taken taken_after report done = done.1
 done_takes (check spec name) before after taken taken_after report done = done.2

@@ -4,11 +4,11 @@ use Rattle.std.specs.Option.{ForSome, option_map}
 use Rattle.tce_outside.specs.Files.{Files}
 use Rattle.tce_outside.specs.Fault.{Rose}
 use Rattle.tce_space.specs.Space.{IndexSpace}
-use Rattle.tce_command.specs.Command.{Command, run, plan, cert, check, pack, unpack, convert, expand, demo, IsCommand}
-use Rattle.tce_command.specs.Report.{LineNames, NamesNoIndex, NamesNothing, cert_line, ending_of, line_over}
+use Rattle.tce_command.specs.Command.{Command, run, batch, plan, cert, check, pack, unpack, convert, expand, demo, IsCommand}
+use Rattle.tce_command.specs.Report.{LineNames, IsWellFormed, NamesNoIndex, NamesNothing, cert_line, ending_of, line_over}
 use Rattle.tce_command.specs.CommandRefusals.{HasNames, MayReplace}
 use Rattle.tce_command.proofs.Statuses.{is_plain, over}
-use Rattle.tce_command.specs.Outcome.{Grew, GrewWithin, HasErrorLine, IsFault, IsRefusal}
+use Rattle.tce_command.specs.Outcome.{Grew, GrewWithin, HasErrorLine, IsFault, IsKept, IsRefusal}
 use Rattle.tce_command.specs.declared.trouble.CertTrouble.{CertTrouble}
 use Rattle.tce_command.specs.declared.trouble.SymTrouble.{SymTrouble}
 use Rattle.tce_command.specs.declared.trouble_line.TroubleLine.{TroubleLine}
@@ -18,11 +18,22 @@ use Rattle.tce_command.specs.declared.command_refusal.CommandRefusal.{CommandRef
 use Rattle.tce_command.specs.declared.command_refusal.CommandRefusal.TheVariants.{Common, Certificate}
 use Rattle.tce_command.specs.declared.status.Status.{Status}
 use Rattle.tce_command.specs.declared.status.Status.TheVariants.{Done, BadWords, SpecRefused, NoFile, ArrayRefused, BudgetTooSmall, IntermediatesTooLarge, CertRefused, DiskFault, SinkFault, WantOfMemory, FlatRefused, UnknownTensor, DoesNotFit, EinsumRefused, SymRefused}
-use Rattle.tce_top.specs.Performed.{HasIndexes, IsCommandRefusal, IsDone, MayLeaveOther, NamesItsIndexes}
+use Rattle.tce_top.specs.Performed.{HasIndexes, IsCommandRefusal, IsDone, KeepsRoom, LeavesFormulas, MayLeaveOther, NamesItsIndexes}
 use Rattle.tce_command.proofs.Commands.{one_command}
-use Rattle.tce_top.specs.Outcome.{AreNamed, IsDemonstration, IsTensorOf, IsWholeRun}
-use Rattle.tce_top.proofs.Joined.{Kept, free_fault}
+use Rattle.tce_top.specs.Outcome.{AreNamed, IsDemonstration, IsPartOfBatch, IsTensorOf, IsWholeRun}
+use Rattle.tce_run.specs.BatchDone.{IsBatchLeft, IsCutOff}
+use Rattle.tce_top.proofs.Joined.{Kept, Put, free_fault}
 use Rattle.tce_top.proofs.Expansions.{words_tensor}
+
+-- a status that is kept, or gives way to want of memory, is well formed as it was
+pub stays_well_formed : (due status : Status) → IsKept due status → IsWellFormed due → IsWellFormed status
+stays_well_formed due status (inl same) h = subst IsWellFormed (sym same) h
+stays_well_formed due status (inr memory) h = subst IsWellFormed (sym memory.0) tt
+
+pub finished_well_formed : (status : Status) → (status ≡ Done) ⊎ ((status ≡ SinkFault) ⊎ (status ≡ WantOfMemory)) → IsWellFormed status
+finished_well_formed status (inl is) = subst IsWellFormed (sym is) tt
+finished_well_formed status (inr (inl is)) = subst IsWellFormed (sym is) tt
+finished_well_formed status (inr (inr is)) = subst IsWellFormed (sym is) tt
 
 -- Files and takings.
 
@@ -50,9 +61,10 @@ pub not_free : (r : CommandRefusal) (status : Status) → Kept r status → IsRe
 not_free r status (inl kept) refused free = no_refusal (ending_of r) (free_fault r free) (subst IsRefusal kept refused)
 not_free r status (inr memory) refused free = no_refusal WantOfMemory tt (subst IsRefusal memory.0 refused)
 
--- what may leave other files is a failing disk, but in a demonstration
+-- what may leave other files is a failing disk, or want of memory
 leaves : (command : Command) (r : CommandRefusal) → MayLeaveOther command r → MayReplace r
 leaves (run spec budget) r e = subst MayReplace (sym e) tt
+leaves (batch spec budget) r free = free
 leaves (plan spec) r e = subst MayReplace (sym e) tt
 leaves (cert spec file) r e = subst MayReplace (sym e) tt
 leaves (check spec file) r e = subst MayReplace (sym e) tt
@@ -75,22 +87,60 @@ no_disk : (r : CommandRefusal) (status : Status) → Kept r status → status �
 no_disk r status (inl kept) memory disk = let e : WantOfMemory ≡ DiskFault = sym memory ∙ kept ∙ ap ending_of disk in absurd (cc)
 no_disk r status (inr other) memory disk = other.1 (ap ending_of disk)
 
-pub without_memory : (words : List (List ℕ)) (command : Command) (r : CommandRefusal) (status : Status) (A : Type 0) → IsCommand words command → Kept r status → status ≡ WantOfMemory
-    → MayLeaveOther command r ⊎ A → A ⊎ IsDemonstration words
-without_memory words command r status A is kept memory (inr same) = inl same
-without_memory words (run spec budget) r status A is kept memory (inl disk) = absurd (no_disk r status kept memory disk)
-without_memory words (plan spec) r status A is kept memory (inl disk) = absurd (no_disk r status kept memory disk)
-without_memory words (cert spec file) r status A is kept memory (inl disk) = absurd (no_disk r status kept memory disk)
-without_memory words (check spec file) r status A is kept memory (inl disk) = absurd (no_disk r status kept memory disk)
-without_memory words (pack spec tensor flat) r status A is kept memory (inl disk) = absurd (no_disk r status kept memory disk)
-without_memory words (unpack spec tensor flat) r status A is kept memory (inl disk) = absurd (no_disk r status kept memory disk)
-without_memory words (convert spec tensor form) r status A is kept memory (inl disk) = absurd (no_disk r status kept memory disk)
-without_memory words (expand spec tensor) r status A is kept memory (inl disk) = absurd (no_disk r status kept memory disk)
-without_memory words (demo seed v o) r status A is kept memory (inl free) = inr (seed, v, o, is)
+-- several formulas without memory: the first of them are run, or no file changed
+batch_memory : (words : List (List ℕ)) (spec : List ℕ) (budget : ℕ) (r : CommandRefusal) (status : Status) (before after : Option Files) → IsCommand words (batch spec budget) → Kept r status → status ≡ WantOfMemory
+    → LeavesFormulas (batch spec budget) r before after → (after ≡ before) ⊎ IsPartOfBatch words before after
+batch_memory words spec budget (Certificate trouble line) status before after is kept memory left = absurd left
+batch_memory words spec budget (Common Disk) status before after is kept memory left = absurd (no_disk (Common Disk) status kept memory refl)
+batch_memory words spec budget (Common Memory) status before after is kept memory (inl same) = inl same
+batch_memory words spec budget (Common Memory) status before after is kept memory (inr first) = inr (spec, budget, is, first)
+batch_memory words spec budget (Common r) status before after is kept memory left = inl left
 
-pub or_demonstration : (A B C : Type 0) → A ⊎ C → A ⊎ (B ⊎ C)
-or_demonstration A B C (inl a) = inl a
-or_demonstration A B C (inr c) = inr (inr c)
+pub or_part : (A B C : Type 0) → A ⊎ C → A ⊎ (B ⊎ C)
+or_part A B C (inl a) = inl a
+or_part A B C (inr c) = inr (inr c)
+
+pub without_memory : (words : List (List ℕ)) (command : Command) (r : CommandRefusal) (status : Status) (before after : Option Files) → IsCommand words command → Kept r status → status ≡ WantOfMemory
+    → LeavesFormulas command r before after → MayLeaveOther command r ⊎ (after ≡ before) → (after ≡ before) ⊎ (IsDemonstration words ⊎ IsPartOfBatch words before after)
+without_memory words command r status before after is kept memory left (inr same) = inl same
+without_memory words (batch spec budget) r status before after is kept memory left (inl free) = or_part _ _ _ (batch_memory words spec budget r status before after is kept memory left)
+without_memory words (run spec budget) r status before after is kept memory left (inl disk) = absurd (no_disk r status kept memory disk)
+without_memory words (plan spec) r status before after is kept memory left (inl disk) = absurd (no_disk r status kept memory disk)
+without_memory words (cert spec file) r status before after is kept memory left (inl disk) = absurd (no_disk r status kept memory disk)
+without_memory words (check spec file) r status before after is kept memory left (inl disk) = absurd (no_disk r status kept memory disk)
+without_memory words (pack spec tensor flat) r status before after is kept memory left (inl disk) = absurd (no_disk r status kept memory disk)
+without_memory words (unpack spec tensor flat) r status before after is kept memory left (inl disk) = absurd (no_disk r status kept memory disk)
+without_memory words (convert spec tensor form) r status before after is kept memory left (inl disk) = absurd (no_disk r status kept memory disk)
+without_memory words (expand spec tensor) r status before after is kept memory left (inl disk) = absurd (no_disk r status kept memory disk)
+without_memory words (demo seed v o) r status before after is kept memory left (inl free) = inr (inl (seed, v, o, is))
+
+-- what several formulas leave where the disk fails
+pub cut_off : (spec : List ℕ) (budget : ℕ) (r : CommandRefusal) (status : Status) (before after : Option Files) → Kept r status → status ≡ DiskFault → LeavesFormulas (batch spec budget) r before after
+    → (after ≡ before) ⊎ IsCutOff before after spec
+cut_off spec budget (Certificate trouble line) status before after kept failed left = absurd left
+cut_off spec budget (Common Disk) status before after kept failed left = left
+cut_off spec budget (Common Memory) status before after (inl kept) failed left = let e : WantOfMemory ≡ DiskFault = sym kept ∙ failed in absurd (cc)
+cut_off spec budget (Common Memory) status before after (inr memory) failed left = let e : WantOfMemory ≡ DiskFault = sym memory.0 ∙ failed in absurd (cc)
+cut_off spec budget (Common r) status before after kept failed left = inl left
+
+-- a report that was put is no failure of the disk
+pub not_cut_off : (status : Status) (A : Type 0) → Put status → status ≡ DiskFault → A
+not_cut_off status A (inl done) failed = let e : Done ≡ DiskFault = sym done ∙ failed in absurd (cc)
+not_cut_off status A (inr (inl cut)) failed = let e : SinkFault ≡ DiskFault = sym cut ∙ failed in absurd (cc)
+not_cut_off status A (inr (inr memory)) failed = let e : WantOfMemory ≡ DiskFault = sym memory ∙ failed in absurd (cc)
+
+-- takings that are as they were are kept
+pub keeps_same : (command : Command) (told : Option Files) (taken taken_after : List (ℕ × ℕ)) → taken_after ≡ taken → KeepsRoom command told taken taken_after
+keeps_same (batch spec budget) told taken taken_after same = λ files is. same
+keeps_same (run spec budget) told taken taken_after same = same
+keeps_same (plan spec) told taken taken_after same = same
+keeps_same (cert spec file) told taken taken_after same = same
+keeps_same (check spec file) told taken taken_after same = same
+keeps_same (pack spec tensor flat) told taken taken_after same = same
+keeps_same (unpack spec tensor flat) told taken taken_after same = same
+keeps_same (convert spec tensor form) told taken taken_after same = same
+keeps_same (expand spec tensor) told taken taken_after same = same
+keeps_same (demo seed v o) told taken taken_after same = same
 
 -- Lines.
 

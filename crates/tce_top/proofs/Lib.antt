@@ -2,3 +2,4 @@ pub mod Joined
 pub mod Demonstrations
 pub mod Left
 pub mod Expansions
+pub mod Batches

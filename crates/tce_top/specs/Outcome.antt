@@ -14,7 +14,8 @@ use Rattle.tce_result.specs.TensorFiles.{file_of}
 use Rattle.tce_result.specs.ResultBytes.{result_bytes}
 use Rattle.tce_takings.specs.Takings.{tile_take}
 use Rattle.tce_source.specs.Source.{HasSpecification}
-use Rattle.tce_command.specs.Command.{Command, demo, expand, IsCommand}
+use Rattle.tce_run.specs.BatchDone.{AreFirstRun}
+use Rattle.tce_command.specs.Command.{Command, batch, demo, expand, IsCommand}
 use Rattle.tce_command.specs.declared.status.Status.{Status}
 use Rattle.tce_command.specs.declared.status.Status.TheVariants.{SymRefused}
 use Rattle.tce_top.specs.Performed.{IsDone, HasIndexes}
@@ -46,6 +47,10 @@ IsTensorOf words told status tensor = ⊤
 -- the words are those of a demonstration
 abbrev pub IsDemonstration : List (List ℕ) → Type 0
 IsDemonstration words = (seed : ℕ) × (v : ℕ) × (o : ℕ) × IsCommand words (demo seed v o)
+
+-- the words are those of several formulas, of which the first are run
+abbrev pub IsPartOfBatch : List (List ℕ) → Option Files → Option Files → Type 0
+IsPartOfBatch words before after = (spec : List ℕ) × (budget : ℕ) × IsCommand words (batch spec budget) × AreFirstRun before after spec
 
 -- the indexes are those of the specification that the words name, where the disk tells its files
 abbrev pub AreNamed : List (List ℕ) → Option Files → IndexSpace → Type 0

@@ -5,7 +5,8 @@ ghost use Rattle.tce_outside.specs.Fault.{HasCause};
 ghost use Rattle.tce_command.specs.Command.{KeepsRules};
 ghost use Rattle.tce_command.specs.CommandCode.{command_of};
 ghost use Rattle.tce_command.specs.CommandRefusals.{MayReplace};
-ghost use Rattle.tce_top.specs.Performed.{IsCommandRefusal, IsDone, MayLeaveOther, MayTake, NamesItsIndexes, OthersStay};
+ghost use Rattle.tce_command.specs.Report.{IsWellFormed, ending_of};
+ghost use Rattle.tce_top.specs.Performed.{IsCommandRefusal, IsDone, KeepsRoom, LeavesFormulas, MayLeaveOther, MayTake, NamesItsIndexes, OthersStay};
 
 use std::alloc::Global;
 use tce_certify::certify;
@@ -14,11 +15,12 @@ use tce_demo::demo;
 use tce_flat::{convert, expand, pack, unpack};
 use tce_outside::Disk;
 use tce_plan::plan;
-use tce_run::run;
+use tce_run::{run, run_all};
 use tce_verify::verify;
 use tce_words::Room;
 
 /// Does what a command says, and gives its report.
+#[tactic(auto, using(tce_command::proofs::Statuses::well_formed))]
 pub fn perform<D: Disk, R: Room>(
     alloc: Global,
     command: Command<'_>,
@@ -29,14 +31,17 @@ pub fn perform<D: Disk, R: Room>(
     ensures done { IfOk result (λ report. IsDone (command_of command.entry) (D.files disk.old) (D.files disk.new) (R.takings room.old) (R.takings room.new) report.items) }
     ensures refused { IfErr result (λ refusal. ForSome (D.files disk.old) (λ files. IsCommandRefusal files (command_of command.entry) refusal)) }
     ensures line { IfErr result (NamesItsIndexes (command_of command.entry) (D.files disk.old)) }
+    ensures well_formed { IfErr result (λ refusal. IsWellFormed (ending_of refusal)) }
     ensures unchanged { IfErr result (λ refusal. MayLeaveOther (command_of command.entry) refusal ⊎ (D.files disk.new ≡ D.files disk.old)) }
+    ensures left { IfErr result (λ refusal. LeavesFormulas (command_of command.entry) refusal (D.files disk.old) (D.files disk.new)) }
     ensures takings { IfErr result (λ refusal. MayTake (command_of command.entry) (D.files disk.old) (R.takings room.old) (R.takings room.new)) }
-    ensures untaken { IfErr result (λ refusal. MayReplace refusal ⊎ (R.takings room.new ≡ R.takings room.old)) }
+    ensures untaken { IfErr result (λ refusal. MayReplace refusal ⊎ KeepsRoom (command_of command.entry) (D.files disk.old) (R.takings room.old) (R.takings room.new)) }
     ensures others { OthersStay (command_of command.entry) (D.files disk.old) (D.files disk.new) }
     ensures cause { HasCause (D.faults disk.old) (D.faults disk.new) (result ≡ Err (CommandRefusal.Common Refusal.Disk)) }
 {
     match command {
         Command::Run { spec, budget } => Ok(run(alloc, spec, budget, disk, room)?),
+        Command::Batch { spec, budget } => Ok(run_all(alloc, spec, budget, disk, room)?),
         Command::Plan { spec } => Ok(plan(alloc, spec, disk)?),
         Command::Cert { spec, cert } => Ok(certify(alloc, spec, cert, disk)?.into_bytes()),
         Command::Check { spec, cert } => Ok(verify(alloc, spec, cert, disk)?.into_bytes()),

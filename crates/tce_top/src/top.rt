@@ -3,13 +3,14 @@ ghost use Rattle.std.specs.Prelude.{◌≡◌, ◌⊎◌, ℕ, List, Some, map};
 ghost use Rattle.std.specs.String.{string_bytes};
 ghost use Rattle.tce_outside.specs.Fault.{HasCause};
 ghost use Rattle.tce_outside.specs.Files.{Files};
-ghost use Rattle.tce_command.specs.Command.{run, IsCommand, IsNoCommand};
-ghost use Rattle.tce_command.specs.Report.{LineNames, NamesNoIndex};
+ghost use Rattle.tce_command.specs.Command.{batch, run, IsCommand, IsNoCommand};
+ghost use Rattle.tce_command.specs.Report.{IsWellFormed, LineNames, NamesNoIndex};
 ghost use Rattle.tce_command.specs.declared.trouble.CertTrouble.{CertTrouble};
 ghost use Rattle.tce_command.specs.Outcome.{Answers, Grew, GrewWithin, HasErrorLine, HasLine, IsFault, IsRefusal};
-ghost use Rattle.tce_top.specs.Performed.{MayTake, OthersStay};
+ghost use Rattle.tce_top.specs.Performed.{KeepsRoom, MayTake, OthersStay};
 ghost use Rattle.tce_top.specs.Cause.{IsCause, OfCommand, Told};
-ghost use Rattle.tce_top.specs.Outcome.{AreNamed, IsDemonstration, IsFinished, IsTensorOf, IsWholeRun};
+ghost use Rattle.tce_top.specs.Outcome.{AreNamed, IsDemonstration, IsFinished, IsPartOfBatch, IsTensorOf, IsWholeRun};
+ghost use Rattle.tce_run.specs.BatchDone.{IsCutOff};
 
 use crate::perform::perform;
 use std::alloc::Global;
@@ -43,11 +44,14 @@ pub fn tce<D: Disk, K: Sink, R: Room>(
     ensures cause { Told (map string_bytes words.now) (D.files disk.old) (λ files command. IsCause files command result) }
     ensures exactly { Told (map string_bytes words.now) (D.files disk.old) (λ files command.
         (due : Status) → (IsFault due → ⊥) → IsCause files command due → Answers result due) }
+    // What no status holds, whatever the disk tells: a fault that is told by another status.
+    ensures well_formed { IsWellFormed result }
     ensures disk_fault { HasCause (D.faults disk.old) (D.faults disk.new) (result ≡ Status.DiskFault) }
     ensures sink_fault { HasCause (K.faults out.old) (K.faults out.new) (result ≡ Status.SinkFault) }
 
     // What each outcome leaves.
-    ensures unchanged { IsRefusal result → (D.files disk.new ≡ D.files disk.old) × (R.takings room.new ≡ R.takings room.old) }
+    ensures unchanged { IsRefusal result → (D.files disk.new ≡ D.files disk.old)
+        × OfCommand (map string_bytes words.now) (λ command. KeepsRoom command (D.files disk.old) (R.takings room.old) (R.takings room.new)) }
     ensures untouched { IsNoCommand (map string_bytes words.now) → (D.files disk.new ≡ D.files disk.old) × (R.takings room.new ≡ R.takings room.old) }
     ensures line { HasLine result → NamesNoIndex result → (names : LineNames) → IsTensorOf (map string_bytes words.now) (D.files disk.old) result names.tensor
         → HasErrorLine names result (K.bytes out.old) (K.bytes out.new) (K.faults out.old) (K.faults out.new) }
@@ -58,7 +62,10 @@ pub fn tce<D: Disk, K: Sink, R: Room>(
         × GrewWithin report (K.bytes out.old) (K.bytes out.new) }
     ensures no_memory { result ≡ Status.WantOfMemory → (D.files disk.new ≡ D.files disk.old)
         ⊎ ((report : List ℕ) × IsFinished (map string_bytes words.now) (D.files disk.old) (D.files disk.new) (R.takings room.old) (R.takings room.new) report)
-        ⊎ IsDemonstration (map string_bytes words.now) }
+        ⊎ IsDemonstration (map string_bytes words.now)
+        ⊎ IsPartOfBatch (map string_bytes words.now) (D.files disk.old) (D.files disk.new) }
+    ensures cut_off { result ≡ Status.DiskFault → (spec : List ℕ) (budget : ℕ) → IsCommand (map string_bytes words.now) (batch spec budget)
+        → (D.files disk.new ≡ D.files disk.old) ⊎ IsCutOff (D.files disk.old) (D.files disk.new) spec }
     ensures takings { OfCommand (map string_bytes words.now) (λ command. MayTake command (D.files disk.old) (R.takings room.old) (R.takings room.new)) }
     ensures others { OfCommand (map string_bytes words.now) (λ command. OthersStay command (D.files disk.old) (D.files disk.new)) }
 {

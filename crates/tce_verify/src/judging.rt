@@ -3,6 +3,7 @@ ghost use Rattle.std.specs.Prelude.{IfOk, IfErr, OnOk};
 ghost use Rattle.tce_fusion.specs.Least.{IsLeast};
 ghost use Rattle.tce_nesting.specs.Plan.{PlanFits};
 ghost use Rattle.tce_check.specs.Verdict.{IsAccepted};
+ghost use Rattle.tce_command.specs.Report.{IsWellFormed, ending_of};
 ghost use Rattle.tce_verify.specs.Certificates.{IsCertificateOf};
 ghost use Rattle.tce_verify.specs.Judging.{IsAcceptedText, IsJudgement, IsPlanRefusal};
 
@@ -17,6 +18,7 @@ use tce_spec::Spec;
 pub fn judge(alloc: Global, spec: &Spec, text: &[u8]) -> Result<u128, CommandRefusal>
     ensures accepted { IfOk result (IsAcceptedText spec.now text.now) }
     ensures refused { IfErr result (IsJudgement spec.now text.now) }
+    ensures well_formed { IfErr result (λ refusal. IsWellFormed (ending_of refusal)) }
 {
     let plan = read_plan(alloc, spec, text)?;
     judge_plan(spec, &plan)?;
@@ -27,6 +29,7 @@ pub fn judge(alloc: Global, spec: &Spec, text: &[u8]) -> Result<u128, CommandRef
 fn read_plan(alloc: Global, spec: &Spec, text: &[u8]) -> Result<Plan, CommandRefusal>
     ensures read { IfOk result (λ plan. IsCertificateOf spec.now plan text.now) }
     ensures refused { IfErr result (IsJudgement spec.now text.now) }
+    ensures well_formed { IfErr result (λ refusal. IsWellFormed (ending_of refusal)) }
 {
     let space = spec.space();
     let tree = spec.tree();
@@ -45,6 +48,7 @@ fn judge_plan(spec: &Spec, plan: &Plan) -> Result<(), CommandRefusal>
     ensures accepted { OnOk result (IsAccepted spec.now.declarations.space spec.now.tree plan.now) }
     ensures least { OnOk result (IsLeast spec.now.declarations.space spec.now.tree plan.now.fusion.0.items) }
     ensures refused { IfErr result (IsPlanRefusal spec.now plan.now) }
+    ensures well_formed { IfErr result (λ refusal. IsWellFormed (ending_of refusal)) }
 {
     let space = spec.space();
     let tree = spec.tree();

@@ -1,7 +1,8 @@
 use Rattle.std.proofs.Common.{List, ℕ, refl, sym, subst}
+use Rattle.tce_job.specs.Refusals.{MayBeRefused}
 use Rattle.tce_job.proofs.Causes.{names_declared}
 use Rattle.tce_run.specs.Done.{IsRun}
-use Rattle.tce_run.proofs.Told.{told_failure, answered, unchanged, told_room}
+use Rattle.tce_run.proofs.Told.{of_files, told_failure, answered, unchanged, told_room}
 use Rattle.tce_run.proofs.Ran.{ran, refused, both_causes}
 use Rattle.tce_run.proofs.command.run.Goals as goal
 
@@ -17,8 +18,11 @@ returns-in-Ok-clause-cause g c =
     both_causes (g.D.Disk.faults c.args.disk.now) (g.D.Disk.faults c.read_source.new.disk) (g.D.Disk.faults c.run_job.new.disk) c.in_ok-source.ensures.cause c.in-Ok.ensures.cause
     (answered c.into_vec.result _ refl)
 
-pub refusal_of-requires : goal.refusal_of-requires
-refusal_of-requires g c = names_declared (g.D.Disk.files c.read_source.new.disk) c.in_ok-source.source c.args.budget c.in-Err.fault c.in-Err.ensures.refused
+pub refusal_of-requires-clause-declared : goal.refusal_of-requires-clause-declared
+refusal_of-requires-clause-declared g c = names_declared (g.D.Disk.files c.read_source.new.disk) c.in_ok-source.source c.args.budget c.in-Err.fault c.in-Err.ensures.refused
+
+pub refusal_of-requires-clause-of_files : goal.refusal_of-requires-clause-of_files
+refusal_of-requires-clause-of_files g c = of_files (MayBeRefused (g.D.Disk.files c.read_source.new.disk) c.in_ok-source.source) c.in_ok-source.source c.args.budget c.in-Err.fault c.in-Err.ensures.refused
 
 pub returns-clause-refused : goal.returns-clause-refused
 returns-clause-refused g c =

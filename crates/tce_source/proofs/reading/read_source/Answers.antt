@@ -1,8 +1,14 @@
 use Rattle.std.proofs.Common.{sym, subst}
+use Rattle.std.proofs.lemmas.Result.{err_from_is_err_and}
 use Rattle.tce_outside.specs.Files.{file}
 use Rattle.tce_spec.specs.Outcome.{IsOutcome}
-use Rattle.tce_source.proofs.Read.{specified, faulty, not_true}
+use Rattle.tce_source.proofs.Read.{specified, faulty, not_true, unread}
 use Rattle.tce_source.proofs.reading.read_source.Goals as goal
+
+pub returns-in_err-text-clause-refused : goal.returns-in_err-text-clause-refused
+returns-in_err-text-clause-refused g c =
+    let p = err_from_is_err_and c.from_residual.result c.from_residual.ensures.1 in
+    rw (p.1, p.2) (λ files told. unread c.args.name.now (file files c.args.name.now) c.in_err-text.field-0.0 (c.in_err-text.ensures.refused files told))
 
 pub returns-in-Ok-clause-read : goal.returns-in-Ok-clause-read
 returns-in-Ok-clause-read g c = λ files told.

@@ -1,14 +1,25 @@
-use Rattle.std.proofs.Common.{sym, subst, rules}
-use Rattle.tce_command.specs.Command.{run}
+use Rattle.std.proofs.Common.{refl, inl, sym, subst, rules}
+use Rattle.tce_command.specs.Command.{batch, run}
 use Rattle.tce_command.specs.Outcome.{Grew}
+use Rattle.tce_command.specs.Report.{ending_of}
+use Rattle.tce_command.specs.declared.status.Status.TheVariants.{BadWords}
 use Rattle.tce_command.proofs.Commands.{one_command}
-use Rattle.tce_top.specs.Performed.{CanDo, IsCommandRefusal, IsDone, MayTake, OthersStay}
+use Rattle.tce_top.specs.Performed.{CanDo, IsCommandRefusal, IsDone, KeepsRoom, LeavesFormulas, MayTake, OthersStay}
 use Rattle.tce_top.proofs.Joined.{done_can, done_takes, done_cause, done_answers, refused_cause, refused_answers}
 use Rattle.tce_top.proofs.Left as left
 use Rattle.tce_top.proofs.top.tce.Goals as goal
 
 pub returns-in_default-clause-line : goal.returns-in_default-clause-line
 returns-in_default-clause-line g c = λ has plain names of. c.refuse_words.ensures.line names
+
+pub returns-in_default-clause-unchanged : goal.returns-in_default-clause-unchanged
+returns-in_default-clause-unchanged g c = λ refused. (refl, λ command is. left.keeps_same command _ _ _ refl)
+
+pub returns-in_default-clause-cut_off : goal.returns-in_default-clause-cut_off
+returns-in_default-clause-cut_off g c = λ failed spec budget is. inl refl
+
+pub returns-in-Ok-clause-cut_off : goal.returns-in-Ok-clause-cut_off
+returns-in-Ok-clause-cut_off g c = λ failed. left.not_cut_off c.finish.result _ c.finish.ensures.cases failed
 
 pub returns-in-Ok-clause-run : goal.returns-in-Ok-clause-run
 returns-in-Ok-clause-run g c = λ done spec budget is files put told sink.
@@ -57,12 +68,19 @@ returns-in-Err-clause-exactly g c = λ command is files told due free cause.
 pub returns-in-Err-clause-unchanged : goal.returns-in-Err-clause-unchanged
 returns-in-Err-clause-unchanged g c = λ refused. (
   left.unchanged _ c.in-Err.refusal c.refuse.result _ c.refuse.ensures.kept refused c.in-Err.ensures.unchanged,
-  left.untaken c.in-Err.refusal c.refuse.result _ c.refuse.ensures.kept refused c.in-Err.ensures.untaken,
+  λ command is. subst (λ k. KeepsRoom k (g.D.Disk.files c.args.disk.now) (g.R.Room.takings c.args.room.now) (g.R.Room.takings c.perform.new.room)) (sym (one_command _ _ command c.in-Some.ensures is))
+      (left.untaken c.in-Err.refusal c.refuse.result _ c.refuse.ensures.kept refused c.in-Err.ensures.untaken),
 )
+
+pub returns-in-Err-clause-cut_off : goal.returns-in-Err-clause-cut_off
+returns-in-Err-clause-cut_off g c = λ failed spec budget is.
+    let same = one_command _ _ (batch spec budget) c.in-Some.ensures is in
+    left.cut_off spec budget c.in-Err.refusal c.refuse.result (g.D.Disk.files c.args.disk.now) (g.D.Disk.files c.perform.new.disk) c.refuse.ensures.kept failed
+    (subst (λ k. LeavesFormulas k c.in-Err.refusal (g.D.Disk.files c.args.disk.now) (g.D.Disk.files c.perform.new.disk)) (sym same) c.in-Err.ensures.left)
 
 pub returns-in-Err-clause-no_memory : goal.returns-in-Err-clause-no_memory
 returns-in-Err-clause-no_memory g c = λ memory.
-    left.or_demonstration _ _ _ (left.without_memory _ _ c.in-Err.refusal c.refuse.result _ c.in-Some.ensures c.refuse.ensures.kept memory c.in-Err.ensures.unchanged)
+    left.or_part _ _ _ (left.without_memory _ _ c.in-Err.refusal c.refuse.result _ _ c.in-Some.ensures c.refuse.ensures.kept memory c.in-Err.ensures.left c.in-Err.ensures.unchanged)
 
 pub returns-in-Err-clause-takings : goal.returns-in-Err-clause-takings
 returns-in-Err-clause-takings g c = λ command is.
@@ -81,3 +99,12 @@ pub returns-in-Err-clause-cert_line : goal.returns-in-Err-clause-cert_line
 returns-in-Err-clause-cert_line g c = λ trouble e.
     left.named_line _ _ _ _ _ _ _ _ c.in-Some.ensures
     (left.cert_lines _ _ c.in-Err.refusal c.refuse.result trouble _ _ _ _ c.in-Err.ensures.line c.refuse.ensures.line c.refuse.ensures.kept e)
+
+pub returns-in_default-clause-well_formed : goal.returns-in_default-clause-well_formed
+returns-in_default-clause-well_formed g c = left.stays_well_formed BadWords c.refuse_words.result c.refuse_words.ensures.kept tt
+
+pub returns-in-Ok-clause-well_formed : goal.returns-in-Ok-clause-well_formed
+returns-in-Ok-clause-well_formed g c = left.finished_well_formed c.finish.result c.finish.ensures.cases
+
+pub returns-in-Err-clause-well_formed : goal.returns-in-Err-clause-well_formed
+returns-in-Err-clause-well_formed g c = left.stays_well_formed (ending_of c.in-Err.refusal) c.refuse.result c.refuse.ensures.kept c.in-Err.ensures.well_formed
