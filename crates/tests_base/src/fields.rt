@@ -1,24 +1,17 @@
 //! Texts that were read by hand.
+use crate::given::{expect_index, expect_range, new_space};
 use arrayvec::ArrayVec;
 use std::alloc::Global;
-use std::test::Fail;
+use std::process::Abort;
 use tce_fields::{indexes_named, members_of, read_names, read_number, set_named, split_parts};
-use tce_space::{IndexSet, Name, Space, is_name};
+use tce_space::{IndexSet, Space};
 
 #[test]
 fn numbers_are_read(rt: HostRuntime) {
     let most = 79228162514264337593543950335;
     assert_eq!(rt; read_number(b"0"), Some(0));
     assert_eq!(rt; read_number(b"79228162514264337593543950335"), Some(most));
-    for text in [
-        "",
-        "00",
-        "+1",
-        "-1",
-        "1 ",
-        "x",
-        "79228162514264337593543950336",
-    ] {
+    for text in "|00|+1|-1|1 |x|79228162514264337593543950336".split('|') {
         assert_eq!(rt; read_number(text.as_bytes()), None, "{text}");
     }
 }
@@ -30,45 +23,44 @@ fn count_of(parts: &Option<ArrayVec<&[u8], 3>>) -> usize {
     }
 }
 
+fn expect_parts(rt: &impl Abort, text: &str, count: usize) {
+    assert_eq!(rt;
+        count_of(&split_parts(text.as_bytes(), b' ')),
+        count,
+        "{text}"
+    );
+}
+
+fn expect_names(rt: &impl Abort, text: &str, count: usize) {
+    assert_eq!(rt; count_of(&read_names(text.as_bytes())), count, "{text}");
+}
+
 #[test]
 fn texts_are_cut(rt: HostRuntime) {
-    for (text, count) in [("", 1), ("a", 1), ("a b", 2), (" a ", 3), ("a b c d", 4)] {
-        assert_eq!(rt;
-            count_of(&split_parts(text.as_bytes(), b' ')),
-            count,
-            "{text}"
-        );
-    }
-    for (text, count) in [
-        ("-", 0),
-        ("i,j1,k_", 3),
-        ("", 4),
-        ("i,", 4),
-        ("i,-", 4),
-        ("i,sum", 4),
-        ("i,j,k,l", 4),
-    ] {
-        assert_eq!(rt; count_of(&read_names(text.as_bytes())), count, "{text}");
+    expect_parts(&rt, "", 1);
+    expect_parts(&rt, "a", 1);
+    expect_parts(&rt, "a b", 2);
+    expect_parts(&rt, " a ", 3);
+    expect_parts(&rt, "a b c d", 4);
+}
+
+#[test]
+fn lists_of_names_are_read(rt: HostRuntime) {
+    expect_names(&rt, "-", 0);
+    expect_names(&rt, "i,j1,k_", 3);
+    for text in "|i,|i,-|i,sum|i,j,k,l".split('|') {
+        expect_names(&rt, text, 4);
     }
 }
 
 // A space with the indexes `k`, `i` and `j`.
-fn space_of_three(alloc: Global) -> Result<Space, Fail> {
-    let mut space = Space::new(alloc)?;
-    for name in ["k", "i", "j"] {
-        let text = Name::from(name)?;
-        if !is_name(text.as_str().as_bytes()) {
-            return Err(Fail::new("no name"));
-        }
-        if space.range_count() == 0 {
-            space.add_range(&text, 2, 1)?;
-        }
-        if space.range_count() == 0 {
-            return Err(Fail::new("no range"));
-        }
-        space.add_index(&text, 0)?;
-    }
-    Ok(space)
+fn space_of_three(rt: &impl Abort, alloc: Global) -> Space {
+    let mut space = new_space(rt, alloc);
+    expect_range(rt, &mut space, "k", (2, 1), 0);
+    expect_index(rt, &mut space, "k", 0, 0);
+    expect_index(rt, &mut space, "i", 0, 1);
+    expect_index(rt, &mut space, "j", 0, 2);
+    space
 }
 
 fn set_listed(space: &Space, list: &str) -> Option<IndexSet> {
@@ -86,22 +78,36 @@ fn bits_named(space: &Space, list: &str) -> u32 {
     }
 }
 
-#[test]
-fn indexes_are_named(rt: HostRuntime) -> Result<(), Fail> {
-    let space = space_of_three(rt.alloc())?;
-    for (list, bits) in [("-", 0), ("k,j", 5), ("j,k", 99), ("k,k", 99), ("k,z", 99)] {
-        assert_eq!(rt; bits_named(&space, list), bits, "{list}");
-    }
+fn expect_bits(rt: &impl Abort, space: &Space, list: &str, bits: u32) {
+    assert_eq!(rt; bits_named(space, list), bits, "{list}");
+}
+
+// The indexes of a list stand in its order.
+fn expect_order(rt: &impl Abort, space: &Space) {
     let Some(names) = read_names::<10>(b"j,k") else {
-        return Err(Fail::new("no names"));
+        panic!(rt; "no names");
     };
-    let Some(indexes) = indexes_named::<10>(&space, names.as_slice()) else {
-        return Err(Fail::new("no indexes"));
-    };
-    assert_eq!(rt; indexes.as_slice(), [2, 0].as_slice());
-    let Some(set) = set_listed(&space, "k") else {
-        return Err(Fail::new("no set"));
-    };
-    assert_eq!(rt; members_of(set).as_slice(), [0].as_slice());
-    Ok(())
+    match indexes_named::<10>(space, names.as_slice()) {
+        Some(indexes) => assert!(rt; indexes.as_slice() == [2, 0].as_slice()),
+        None => panic!(rt; "no indexes"),
+    }
+}
+
+fn expect_members(rt: &impl Abort, space: &Space) {
+    match set_listed(space, "k") {
+        Some(set) => assert!(rt; members_of(set).as_slice() == [0].as_slice()),
+        None => panic!(rt; "no set"),
+    }
+}
+
+#[test]
+fn indexes_are_named(rt: HostRuntime) {
+    let space = space_of_three(&rt, rt.alloc());
+    expect_bits(&rt, &space, "-", 0);
+    expect_bits(&rt, &space, "k,j", 5);
+    expect_bits(&rt, &space, "j,k", 99);
+    expect_bits(&rt, &space, "k,k", 99);
+    expect_bits(&rt, &space, "k,z", 99);
+    expect_order(&rt, &space);
+    expect_members(&rt, &space);
 }

@@ -1,4 +1,4 @@
-use std::test::Fail;
+use std::process::Abort;
 use tce_kernel::{
     add_vv, clear, dot, minus_sv, minus_vs, minus_vv, mul_add_sv, mul_add_vv, mul_sv, mul_vv,
     plus_sv, plus_vv, sum,
@@ -21,82 +21,195 @@ fn noise(seed: u64) -> [u64; MOST] {
     made
 }
 
-// What a place of the n first has, and what one behind them keeps.
-fn at(t: usize, n: usize, new: u64, old: u64) -> u64 {
-    if t < n { new } else { old }
+// The runs that a kernel is given, and what stood where it writes.
+#[derive(Clone, Copy)]
+struct Runs {
+    a: [u64; MOST],
+    b: [u64; MOST],
+    old: [u64; MOST],
+}
+
+impl Runs {
+    fn of(seed: u64) -> Runs {
+        Runs {
+            a: noise(seed),
+            b: noise(seed.wrapping_add(1)),
+            old: noise(seed.wrapping_add(2)),
+        }
+    }
+}
+
+#[derive(Clone, Copy)]
+enum Join {
+    Mul,
+    MulAdd,
+    Plus,
+    Add,
+    Minus,
+    Clear,
+}
+
+impl Join {
+    // What a place has afterwards.
+    fn of(self, old: u64, a: u64, b: u64) -> u64 {
+        match self {
+            Join::Mul => a.wrapping_mul(b),
+            Join::MulAdd => old.wrapping_add(a.wrapping_mul(b)),
+            Join::Plus => a.wrapping_add(b),
+            Join::Add => old.wrapping_add(a),
+            Join::Minus => a.wrapping_sub(b),
+            Join::Clear => 0,
+        }
+    }
+}
+
+// The n first places are joined, and those behind them are as they were.
+fn expect(rt: &impl Abort, join: Join, n: usize, found: &[u64; MOST], runs: &Runs) {
+    for t in 0..MOST {
+        let old = runs.old[t];
+        let due = if t < n {
+            join.of(old, runs.a[t], runs.b[t])
+        } else {
+            old
+        };
+        assert_eq!(rt; found[t], due, "{n} {t}");
+    }
+}
+
+fn expect_mul_vv(rt: &impl Abort, runs: &Runs) {
+    for n in 0..MOST {
+        let mut words = runs.old;
+        mul_vv(&mut words[..n], &runs.a[..n], &runs.b[..n]);
+        expect(rt, Join::Mul, n, &words, runs);
+    }
+}
+
+fn expect_mul_sv(rt: &impl Abort, runs: &Runs) {
+    for n in 0..MOST {
+        let mut words = runs.old;
+        mul_sv(&mut words[..n], S, &runs.b[..n]);
+        expect(rt, Join::Mul, n, &words, runs);
+    }
+}
+
+fn expect_mul_add_vv(rt: &impl Abort, runs: &Runs) {
+    for n in 0..MOST {
+        let mut words = runs.old;
+        mul_add_vv(&mut words[..n], &runs.a[..n], &runs.b[..n]);
+        expect(rt, Join::MulAdd, n, &words, runs);
+    }
+}
+
+fn expect_mul_add_sv(rt: &impl Abort, runs: &Runs) {
+    for n in 0..MOST {
+        let mut words = runs.old;
+        mul_add_sv(&mut words[..n], S, &runs.b[..n]);
+        expect(rt, Join::MulAdd, n, &words, runs);
+    }
+}
+
+fn expect_dot(rt: &impl Abort, runs: &Runs) {
+    let mut total: u64 = 0;
+    for n in 0..MOST {
+        assert_eq!(rt; dot(&runs.a[..n], &runs.b[..n]), total, "{n}");
+        total = total.wrapping_add(runs.a[n].wrapping_mul(runs.b[n]));
+    }
 }
 
 #[test]
-fn products_equal_plain_loops(rt: HostRuntime) -> Result<(), Fail> {
-    let (a, b, old) = (noise(1), noise(2), noise(3));
+fn products_equal_plain_loops(rt: HostRuntime) {
+    let mut runs = Runs::of(1);
+    expect_mul_vv(&rt, &runs);
+    expect_mul_add_vv(&rt, &runs);
+    expect_dot(&rt, &runs);
+    runs.a = [S; MOST];
+    expect_mul_sv(&rt, &runs);
+    expect_mul_add_sv(&rt, &runs);
+}
+
+fn expect_plus_vv(rt: &impl Abort, runs: &Runs) {
     for n in 0..MOST {
-        let (mut vv, mut sv, mut add_to_vv, mut add_to_sv) = (old, old, old, old);
-        mul_vv(&mut vv[..n], &a[..n], &b[..n]);
-        mul_sv(&mut sv[..n], S, &b[..n]);
-        mul_add_vv(&mut add_to_vv[..n], &a[..n], &b[..n]);
-        mul_add_sv(&mut add_to_sv[..n], S, &b[..n]);
-        let mut total: u64 = 0;
-        for t in 0..MOST {
-            let (product, multiple) = (a[t].wrapping_mul(b[t]), b[t].wrapping_mul(S));
-            total = total.wrapping_add(at(t, n, product, 0));
-            assert_eq!(rt; vv[t], at(t, n, product, old[t]), "vv {n} {t}");
-            assert_eq!(rt; sv[t], at(t, n, multiple, old[t]), "sv {n} {t}");
-            let (more, more_of_s) = (old[t].wrapping_add(product), old[t].wrapping_add(multiple));
-            assert_eq!(rt; add_to_vv[t], at(t, n, more, old[t]), "add vv {n} {t}");
-            assert_eq!(rt; add_to_sv[t], at(t, n, more_of_s, old[t]), "add sv {n} {t}");
-        }
-        assert_eq!(rt; dot(&a[..n], &b[..n]), total, "dot {n}");
+        let mut words = runs.old;
+        plus_vv(&mut words[..n], &runs.a[..n], &runs.b[..n]);
+        expect(rt, Join::Plus, n, &words, runs);
     }
-    Ok(())
+}
+
+fn expect_plus_sv(rt: &impl Abort, runs: &Runs) {
+    for n in 0..MOST {
+        let mut words = runs.old;
+        plus_sv(&mut words[..n], S, &runs.b[..n]);
+        expect(rt, Join::Plus, n, &words, runs);
+    }
+}
+
+fn expect_add_vv(rt: &impl Abort, runs: &Runs) {
+    for n in 0..MOST {
+        let mut words = runs.old;
+        add_vv(&mut words[..n], &runs.a[..n]);
+        expect(rt, Join::Add, n, &words, runs);
+    }
+}
+
+fn expect_clear(rt: &impl Abort, runs: &Runs) {
+    for n in 0..MOST {
+        let mut words = runs.old;
+        clear(&mut words[..n]);
+        expect(rt, Join::Clear, n, &words, runs);
+    }
+}
+
+fn expect_sum(rt: &impl Abort, runs: &Runs) {
+    let mut total: u64 = 0;
+    for n in 0..MOST {
+        assert_eq!(rt; sum(&runs.a[..n]), total, "{n}");
+        total = total.wrapping_add(runs.a[n]);
+    }
 }
 
 #[test]
-fn sums_equal_plain_loops(rt: HostRuntime) -> Result<(), Fail> {
-    let (a, b, old) = (noise(4), noise(5), noise(6));
+fn sums_equal_plain_loops(rt: HostRuntime) {
+    let mut runs = Runs::of(4);
+    expect_plus_vv(&rt, &runs);
+    expect_add_vv(&rt, &runs);
+    expect_clear(&rt, &runs);
+    expect_sum(&rt, &runs);
+    runs.a = [S; MOST];
+    expect_plus_sv(&rt, &runs);
+}
+
+fn expect_minus_vv(rt: &impl Abort, runs: &Runs) {
     for n in 0..MOST {
-        let (mut vv, mut sv, mut add_to, mut cleared) = (old, old, old, old);
-        plus_vv(&mut vv[..n], &a[..n], &b[..n]);
-        plus_sv(&mut sv[..n], S, &b[..n]);
-        add_vv(&mut add_to[..n], &a[..n]);
-        clear(&mut cleared[..n]);
-        let mut total: u64 = 0;
-        for t in 0..MOST {
-            total = total.wrapping_add(at(t, n, a[t], 0));
-            assert_eq!(rt;
-                vv[t],
-                at(t, n, a[t].wrapping_add(b[t]), old[t]),
-                "vv {n} {t}"
-            );
-            assert_eq!(rt; sv[t], at(t, n, b[t].wrapping_add(S), old[t]), "sv {n} {t}");
-            assert_eq!(rt;
-                add_to[t],
-                at(t, n, old[t].wrapping_add(a[t]), old[t]),
-                "add {n} {t}"
-            );
-            assert_eq!(rt; cleared[t], at(t, n, 0, old[t]), "clear {n} {t}");
-        }
-        assert_eq!(rt; sum(&a[..n]), total, "sum {n}");
+        let mut words = runs.old;
+        minus_vv(&mut words[..n], &runs.a[..n], &runs.b[..n]);
+        expect(rt, Join::Minus, n, &words, runs);
     }
-    Ok(())
+}
+
+fn expect_minus_sv(rt: &impl Abort, runs: &Runs) {
+    for n in 0..MOST {
+        let mut words = runs.old;
+        minus_sv(&mut words[..n], S, &runs.b[..n]);
+        expect(rt, Join::Minus, n, &words, runs);
+    }
+}
+
+fn expect_minus_vs(rt: &impl Abort, runs: &Runs) {
+    for n in 0..MOST {
+        let mut words = runs.old;
+        minus_vs(&mut words[..n], &runs.a[..n], S);
+        expect(rt, Join::Minus, n, &words, runs);
+    }
 }
 
 #[test]
-fn differences_equal_plain_loops(rt: HostRuntime) -> Result<(), Fail> {
-    let (a, b, old) = (noise(7), noise(8), noise(9));
-    for n in 0..MOST {
-        let (mut vv, mut sv, mut vs) = (old, old, old);
-        minus_vv(&mut vv[..n], &a[..n], &b[..n]);
-        minus_sv(&mut sv[..n], S, &b[..n]);
-        minus_vs(&mut vs[..n], &a[..n], S);
-        for t in 0..MOST {
-            assert_eq!(rt;
-                vv[t],
-                at(t, n, a[t].wrapping_sub(b[t]), old[t]),
-                "vv {n} {t}"
-            );
-            assert_eq!(rt; sv[t], at(t, n, S.wrapping_sub(b[t]), old[t]), "sv {n} {t}");
-            assert_eq!(rt; vs[t], at(t, n, a[t].wrapping_sub(S), old[t]), "vs {n} {t}");
-        }
-    }
-    Ok(())
+fn differences_equal_plain_loops(rt: HostRuntime) {
+    let runs = Runs::of(7);
+    expect_minus_vv(&rt, &runs);
+    let mut from_one = runs;
+    from_one.a = [S; MOST];
+    expect_minus_sv(&rt, &from_one);
+    let mut by_one = runs;
+    by_one.b = [S; MOST];
+    expect_minus_vs(&rt, &by_one);
 }

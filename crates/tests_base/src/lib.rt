@@ -6,6 +6,8 @@ mod fields;
 #[cfg(test)]
 mod frames;
 #[cfg(test)]
+mod given;
+#[cfg(test)]
 mod kernel;
 #[cfg(test)]
 mod outside;

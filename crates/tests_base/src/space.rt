@@ -1,158 +1,156 @@
-ghost use Rattle.std.specs.Prelude.{IsTrue};
-ghost use Rattle.tce_space.specs.Name.{is_name};
-
+use crate::given::{add_index, add_range, expect_index, expect_range, new_space};
 use arrayvec::ArrayVec;
 use std::alloc::Global;
 use std::process::Abort;
 use tce_space::*;
 
-const LETTERS: [&str; 25] = [
-    "a", "b", "c", "d", "e", "f", "g", "h", "i", "j", "k", "l", "m", "n", "o", "p", "q", "r", "s",
-    "t", "u", "v", "w", "x", "y",
-];
-
-// A name, tested.
-fn name_of(rt: &impl Abort, text: &str) -> Name
-    ensures { IsTrue (is_name result.bytes) }
-{
-    let Ok(name) = Name::from(text) else {
-        panic!(rt; "too long: {text}");
-    };
-    assert!(rt; is_name(name.as_str().as_bytes()), "no name: {text}");
-    name
-}
-
-fn add_range(
-    rt: &impl Abort,
-    space: &mut Space,
-    text: &str,
-    extent: u64,
-    edge: u64,
-) -> Result<u8, SpaceFault> {
-    assert!(rt; 0 < edge);
-    assert!(rt; edge <= extent);
-    assert!(rt; extent < 1 << 32);
-    space.add_range(&name_of(rt, text), extent, edge)
-}
-
-fn add_index(rt: &impl Abort, space: &mut Space, text: &str, range: u8) -> Result<u8, SpaceFault> {
-    assert!(rt; range < space.range_count());
-    space.add_index(&name_of(rt, text), range)
-}
-
 // A range `V` of 3000 in tiles of 10 with the indexes `a` and `b`, and a range `O` of 100 with the index `i`.
 fn worked_space(rt: &impl Abort, alloc: Global) -> Space {
-    let Ok(mut space) = Space::new(alloc) else {
-        panic!(rt; "no memory");
-    };
-    assert_eq!(rt; add_range(rt, &mut space, "V", 3000, 10), Ok(0));
-    assert_eq!(rt; add_range(rt, &mut space, "O", 100, 1), Ok(1));
-    assert_eq!(rt; add_index(rt, &mut space, "a", 0), Ok(0));
-    assert_eq!(rt; add_index(rt, &mut space, "i", 1), Ok(1));
-    assert_eq!(rt; add_index(rt, &mut space, "b", 0), Ok(2));
+    let mut space = new_space(rt, alloc);
+    expect_range(rt, &mut space, "V", (3000, 10), 0);
+    expect_range(rt, &mut space, "O", (100, 1), 1);
+    expect_index(rt, &mut space, "a", 0, 0);
+    expect_index(rt, &mut space, "i", 1, 1);
+    expect_index(rt, &mut space, "b", 0, 2);
     space
+}
+
+fn expect_set(rt: &impl Abort, set: IndexSet, bits: u32, count: u8) {
+    assert!(rt; set.bits() == bits);
+    assert!(rt; set.count() == count);
+}
+
+fn expect_within(rt: &impl Abort, inner: IndexSet, outer: IndexSet, is: bool) {
+    assert!(rt; inner.within(outer) == is);
 }
 
 #[test]
 fn sets_are_those_of_their_names(rt: HostRuntime) {
     let a = IndexSet::empty().with(0).with(3).with(23);
     let b = IndexSet::of_bits(24);
-    for (set, bits, count) in [
-        (IndexSet::default(), 0, 0),
-        (a, 8388617, 3),
-        (a.union(b), 8388633, 4),
-        (a.meet(b), 8, 1),
-        (a.minus(b), 8388609, 2),
-        (IndexSet::of_list(&[23, 0, 3, 0]), 8388617, 3),
-    ] {
-        assert_eq!(rt; set.bits(), bits);
-        assert_eq!(rt; set.count(), count);
-    }
-    for (inner, outer, is) in [
-        (a.meet(b), a, true),
-        (a, a, true),
-        (a, b, false),
-        (a.union(b), a, false),
-    ] {
-        assert_eq!(rt; inner.within(outer), is);
-    }
+    expect_set(&rt, IndexSet::default(), 0, 0);
+    expect_set(&rt, a, 8388617, 3);
+    expect_set(&rt, a.union(b), 8388633, 4);
+    expect_set(&rt, a.meet(b), 8, 1);
+    expect_set(&rt, a.minus(b), 8388609, 2);
+    expect_set(&rt, IndexSet::of_list(&[23, 0, 3, 0]), 8388617, 3);
+    expect_within(&rt, a.meet(b), a, true);
+    expect_within(&rt, a, a, true);
+    expect_within(&rt, a, b, false);
+    expect_within(&rt, a.union(b), a, false);
     assert_eq!(rt; (a.has(22), a.has(23)), (false, true));
+}
+
+fn expect_word(rt: &impl Abort, text: &str, is: bool) {
+    assert_eq!(rt; is_name(text.as_bytes()), is, "at {text}");
 }
 
 #[test]
 fn names_are_words_but_no_keywords(rt: HostRuntime) {
-    for (text, is) in [
-        ("N", true),
-        ("a23456789_ABCDEF", true),
-        ("Range", true),
-        ("sums", true),
-        ("a23456789_ABCDEFG", false),
-        ("sum", false),
-        ("2A", false),
-        ("_a", false),
-        ("a b", false),
-        ("", false),
-    ] {
-        assert_eq!(rt; is_name(text.as_bytes()), is, "at {text}");
+    for text in "N|a23456789_ABCDEF|Range|sums".split('|') {
+        expect_word(&rt, text, true);
     }
+    for text in "a23456789_ABCDEFG|sum|2A|_a|a b|".split('|') {
+        expect_word(&rt, text, false);
+    }
+}
+
+// A range or an index whose name is taken is refused.
+fn expect_twice(rt: &impl Abort, space: &mut Space, range: &str, index: &str) {
+    assert_eq!(rt;
+        add_range(rt, space, range, (5, 5)),
+        Err(SpaceFault::NameTwice)
+    );
+    assert_eq!(rt; add_index(rt, space, index, 0), Err(SpaceFault::NameTwice));
+}
+
+fn expect_range_named(rt: &impl Abort, space: &Space, text: &str, number: Option<u8>) {
+    assert_eq!(rt; space.range_named(text), number, "{text}");
+}
+
+fn expect_index_named(rt: &impl Abort, space: &Space, text: &str, number: Option<u8>) {
+    assert_eq!(rt; space.index_named(text), number, "{text}");
+}
+
+fn expect_range_kept(rt: &impl Abort, space: &Space, range: u8, text: &str, size: (u64, u64)) {
+    assert!(rt; range < space.range_count());
+    assert_eq!(rt; space.range_name(range).as_str(), text);
+    assert_eq!(rt;
+        (space.range_extent(range), space.range_edge(range)),
+        size,
+        "{text}"
+    );
+}
+
+fn expect_index_kept(rt: &impl Abort, space: &Space, index: u8, text: &str, range: u8) {
+    assert!(rt; index < space.index_count());
+    assert_eq!(rt; space.index_name(index).as_str(), text);
+    assert_eq!(rt; space.range_of(index), range, "{text}");
+}
+
+fn expect_size_kept(rt: &impl Abort, space: &Space, index: u8, size: (u64, u64)) {
+    assert!(rt; index < space.index_count());
+    assert_eq!(rt; (space.extent(index), space.edge(index)), size);
+}
+
+fn expect_counts(rt: &impl Abort, space: &Space, ranges: u8, indexes: u8) {
+    assert!(rt; space.range_count() == ranges);
+    assert!(rt; space.index_count() == indexes);
 }
 
 #[test]
 fn spaces_keep_what_was_declared(rt: HostRuntime) {
     let mut space = worked_space(&rt, rt.alloc());
-    let space = &mut space;
-    assert_eq!(rt;
-        add_range(&rt, space, "V", 5, 5),
-        Err(SpaceFault::NameTwice)
-    );
-    assert_eq!(rt; add_index(&rt, space, "i", 0), Err(SpaceFault::NameTwice));
-    assert_eq!(rt; add_index(&rt, space, "V", 1), Ok(3));
-    assert!(rt; space.range_count() == 2);
-    assert!(rt; space.index_count() == 4);
-    assert_eq!(rt; space.range_named("O"), Some(1));
-    assert_eq!(rt; space.range_named("a"), None);
-    assert_eq!(rt; space.index_named("V"), Some(3));
-    assert_eq!(rt; space.index_named("a name that is too long"), None);
-    assert_eq!(rt; space.range_name(1).as_str(), "O");
-    assert_eq!(rt; (space.range_extent(0), space.range_edge(0)), (3000, 10));
-    assert_eq!(rt; space.index_name(1).as_str(), "i");
-    assert_eq!(rt;
-        (space.range_of(3), space.extent(3), space.edge(2)),
-        (1, 100, 10)
-    );
+    expect_twice(&rt, &mut space, "V", "i");
+    expect_index(&rt, &mut space, "V", 1, 3);
+    expect_counts(&rt, &space, 2, 4);
+    expect_range_named(&rt, &space, "O", Some(1));
+    expect_range_named(&rt, &space, "a", None);
+    expect_index_named(&rt, &space, "V", Some(3));
+    expect_index_named(&rt, &space, "a name that is too long", None);
+}
+
+#[test]
+fn spaces_keep_names_and_sizes(rt: HostRuntime) {
+    let mut space = worked_space(&rt, rt.alloc());
+    expect_index(&rt, &mut space, "V", 1, 3);
+    expect_range_kept(&rt, &space, 0, "V", (3000, 10));
+    expect_range_kept(&rt, &space, 1, "O", (100, 1));
+    expect_index_kept(&rt, &space, 1, "i", 1);
+    expect_index_kept(&rt, &space, 3, "V", 1);
+    expect_size_kept(&rt, &space, 3, (100, 1));
+    expect_size_kept(&rt, &space, 2, (3000, 10));
+}
+
+const LETTERS: &str = "a b c d e f g h i j k l m n o p q r s t u v w x y";
+
+// What the declaration with this number answers, where so many have room.
+fn due(number: usize, most: u8) -> Result<u8, SpaceFault> {
+    if number < most as usize {
+        Ok(number as u8)
+    } else {
+        Err(SpaceFault::Full)
+    }
+}
+
+fn fill_ranges(rt: &impl Abort, space: &mut Space) {
+    for (k, letter) in LETTERS.split(' ').enumerate() {
+        assert_eq!(rt; add_range(rt, space, letter, (7, 2)), due(k, 16), "at {k}");
+    }
+}
+
+fn fill_indexes(rt: &impl Abort, space: &mut Space) {
+    for (k, letter) in LETTERS.split(' ').enumerate() {
+        assert_eq!(rt; add_index(rt, space, letter, 15), due(k, 24), "at {k}");
+    }
 }
 
 #[test]
 fn lists_of_declarations_are_limited(rt: HostRuntime) {
-    let Ok(mut space) = Space::new(rt.alloc()) else {
-        panic!(rt; "no memory");
-    };
-    for (k, letter) in LETTERS.iter().enumerate() {
-        let added = add_range(&rt, &mut space, *letter, 7, 2);
-        let due = if k < 16 {
-            Ok(k as u8)
-        } else {
-            Err(SpaceFault::Full)
-        };
-        assert_eq!(rt; added, due, "at {k}");
-    }
-    for (k, letter) in LETTERS.iter().enumerate() {
-        let added = add_index(&rt, &mut space, *letter, 15);
-        let due = if k < 24 {
-            Ok(k as u8)
-        } else {
-            Err(SpaceFault::Full)
-        };
-        assert_eq!(rt; added, due, "at {k}");
-    }
-    assert_eq!(rt;
-        add_range(&rt, &mut space, "a", 7, 2),
-        Err(SpaceFault::NameTwice)
-    );
-    assert_eq!(rt;
-        add_index(&rt, &mut space, "x", 0),
-        Err(SpaceFault::NameTwice)
-    );
+    let mut space = new_space(&rt, rt.alloc());
+    fill_ranges(&rt, &mut space);
+    fill_indexes(&rt, &mut space);
+    expect_twice(&rt, &mut space, "a", "x");
 }
 
 // The volume of a set of the first four indexes.
@@ -162,39 +160,42 @@ fn volume_of(rt: &impl Abort, space: &Space, bits: u32) -> Option<u128> {
     space.volume(IndexSet::of_bits(bits))
 }
 
-#[test]
-fn volumes_end_at_their_limit(rt: HostRuntime) {
-    let Ok(mut space) = Space::new(rt.alloc()) else {
-        panic!(rt; "no memory");
-    };
-    assert_eq!(rt; add_range(&rt, &mut space, "V", 1 << 30, 1), Ok(0));
-    assert_eq!(rt; add_range(&rt, &mut space, "O", 2, 1), Ok(1));
-    for (letter, range) in [("a", 0), ("b", 0), ("c", 0), ("i", 1)] {
-        assert!(rt; add_index(&rt, &mut space, letter, range).is_ok());
-    }
-    for (bits, volume) in [
-        (0, Some(1)),
-        (8, Some(2)),
-        (11, Some(2 << 60)),
-        (7, Some(1 << 90)),
-        (15, None),
-    ] {
-        assert_eq!(rt; volume_of(&rt, &space, bits), volume, "at {bits}");
-    }
+fn expect_volume(rt: &impl Abort, space: &Space, bits: u32, volume: Option<u128>) {
+    assert_eq!(rt; volume_of(rt, space, bits), volume, "at {bits}");
 }
 
-// The shape of two dimensions.
+// The indexes a, b and c of extent 2 ^ 30, and i of extent 2.
+fn vast_space(rt: &impl Abort, alloc: Global) -> Space {
+    let mut space = new_space(rt, alloc);
+    expect_range(rt, &mut space, "V", (1 << 30, 1), 0);
+    expect_range(rt, &mut space, "O", (2, 1), 1);
+    expect_index(rt, &mut space, "a", 0, 0);
+    expect_index(rt, &mut space, "b", 0, 1);
+    expect_index(rt, &mut space, "c", 0, 2);
+    expect_index(rt, &mut space, "i", 1, 3);
+    space
+}
+
+#[test]
+fn volumes_end_at_their_limit(rt: HostRuntime) {
+    let space = vast_space(&rt, rt.alloc());
+    expect_volume(&rt, &space, 0, Some(1));
+    expect_volume(&rt, &space, 8, Some(2));
+    expect_volume(&rt, &space, 11, Some(2 << 60));
+    expect_volume(&rt, &space, 7, Some(1 << 90));
+    expect_volume(&rt, &space, 15, None);
+}
+
+// The shape of two dimensions, each by its extent and edge.
 fn shape_of_two(
     rt: &impl Abort,
     alloc: Global,
     first: (u64, u64),
     second: (u64, u64),
 ) -> Result<Shape, ShapeFault> {
-    let Ok(mut space) = Space::new(alloc) else {
-        panic!(rt; "no memory");
-    };
-    assert_eq!(rt; add_range(rt, &mut space, "V", first.0, first.1), Ok(0));
-    assert_eq!(rt; add_range(rt, &mut space, "O", second.0, second.1), Ok(1));
+    let mut space = new_space(rt, alloc);
+    expect_range(rt, &mut space, "V", first, 0);
+    expect_range(rt, &mut space, "O", second, 1);
     assert!(rt; space.range_count() == 2);
     let mut ranges = ArrayVec::new();
     ranges.push(0);
@@ -202,60 +203,82 @@ fn shape_of_two(
     space.shape(&ranges)
 }
 
+// The words of a tile, the tiles, the words with the padding, the elements, and the bytes of a file.
+fn numbers_of(shape: &Shape) -> [u64; 5] {
+    [
+        shape.tile_words(),
+        shape.tiles(),
+        shape.padded_words(),
+        shape.elements(),
+        shape.file_len(),
+    ]
+}
+
+// The shape has these numbers, and a copy has its edges.
+fn expect_shape(
+    rt: &impl Abort,
+    alloc: Global,
+    first: (u64, u64),
+    second: (u64, u64),
+    numbers: [u64; 5],
+) {
+    match shape_of_two(rt, alloc, first, second) {
+        Ok(shape) => {
+            assert!(rt; numbers_of(&shape) == numbers);
+            expect_dimensions(rt, &shape, &[first.0, second.0], &[first.1, second.1]);
+        }
+        Err(_) => panic!(rt; "no shape"),
+    }
+}
+
+fn expect_dimensions(rt: &impl Abort, shape: &Shape, extents: &[u64], edges: &[u64]) {
+    assert!(rt; shape.extents() == extents);
+    match shape.clone() {
+        Ok(clone) => assert!(rt; clone.edges() == edges),
+        Err(_) => panic!(rt; "no memory"),
+    }
+}
+
+fn expect_no_shape(
+    rt: &impl Abort,
+    alloc: Global,
+    first: (u64, u64),
+    second: (u64, u64),
+    fault: ShapeFault,
+) {
+    match shape_of_two(rt, alloc, first, second) {
+        Ok(_) => panic!(rt; "a shape"),
+        Err(found) => assert!(rt; found == fault),
+    }
+}
+
+const HALF: u64 = 1 << 24;
+
 #[test]
 fn shapes_have_the_numbers_of_their_files(rt: HostRuntime) {
-    let half = 1 << 24;
-    for (first, second, due) in [
-        ((5, 1), (7, 1), Ok([1, 35, 35, 35, 328])),
-        ((5, 2), (4, 3), Ok([6, 6, 36, 20, 336])),
-        (
-            (1 << 20, 1024),
-            (1024, 1024),
-            Ok([1 << 20, 1024, 1 << 30, 1 << 30, (8 << 30) + 48]),
-        ),
-        ((1 << 20, 1025), (1024, 1024), Err(ShapeFault::TileWords)),
-        (
-            (half, 1),
-            (half, 1),
-            Ok([1, 1 << 48, 1 << 48, 1 << 48, (8 << 48) + 48]),
-        ),
-        ((half + 1, 1), (half, 1), Err(ShapeFault::ArrayWords)),
-        ((half, 3), (half, 1), Err(ShapeFault::ArrayWords)),
-        (
-            (1 << 31, 1 << 31),
-            (1 << 31, 1 << 31),
-            Err(ShapeFault::TileWords),
-        ),
-    ] {
-        match shape_of_two(&rt, rt.alloc(), first, second) {
-            Ok(shape) => {
-                let numbers = [
-                    shape.tile_words(),
-                    shape.tiles(),
-                    shape.padded_words(),
-                    shape.elements(),
-                    shape.file_len(),
-                ];
-                assert_eq!(rt; Ok(numbers), due);
-                assert_eq!(rt; shape.extents(), &[first.0, second.0][..]);
-                let Ok(clone) = shape.clone() else {
-                    unreachable!()
-                };
-                assert_eq!(rt; clone.edges(), &[first.1, second.1][..]);
-            }
-            Err(fault) => assert_eq!(rt; Err(fault), due),
-        }
-    }
+    let alloc = rt.alloc();
+    expect_shape(&rt, alloc, (5, 1), (7, 1), [1, 35, 35, 35, 328]);
+    expect_shape(&rt, alloc, (5, 2), (4, 3), [6, 6, 36, 20, 336]);
+    let numbers = [1 << 20, 1024, 1 << 30, 1 << 30, (8 << 30) + 48];
+    expect_shape(&rt, alloc, (1 << 20, 1024), (1024, 1024), numbers);
+    let numbers = [1, 1 << 48, 1 << 48, 1 << 48, (8 << 48) + 48];
+    expect_shape(&rt, alloc, (HALF, 1), (HALF, 1), numbers);
+}
+
+#[test]
+fn shapes_are_limited(rt: HostRuntime) {
+    let alloc = rt.alloc();
+    let (long, whole) = ((1 << 20, 1025), (1 << 31, 1 << 31));
+    expect_no_shape(&rt, alloc, long, (1024, 1024), ShapeFault::TileWords);
+    expect_no_shape(&rt, alloc, (HALF + 1, 1), (HALF, 1), ShapeFault::ArrayWords);
+    expect_no_shape(&rt, alloc, (HALF, 3), (HALF, 1), ShapeFault::ArrayWords);
+    expect_no_shape(&rt, alloc, whole, whole, ShapeFault::TileWords);
+}
+
+#[test]
+fn a_scalar_has_one_element(rt: HostRuntime) {
     let scalar = Shape::default();
-    assert_eq!(rt;
-        (
-            scalar.tile_words(),
-            scalar.tiles(),
-            scalar.elements(),
-            scalar.file_len()
-        ),
-        (1, 1, 1, 24)
-    );
+    assert!(rt; numbers_of(&scalar) == [1, 1, 1, 1, 24]);
 }
 
 #[test]

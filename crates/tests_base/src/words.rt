@@ -1,6 +1,6 @@
 ghost use Rattle.std.specs.Prelude.{◌≡◌, ◌<◌, ◌≤◌, length, IfOk};
 
-use std::alloc::AllocError;
+use std::alloc::{AllocError, Global};
 use std::process::Abort;
 use std::test::Fail;
 use tce_words::{HeapRoom, RefusingRoom, Room, Words};
@@ -170,57 +170,79 @@ fn summing_runs_equal_plain_loops(rt: HostRuntime) -> Result<(), Fail> {
     Ok(())
 }
 
-#[test]
-fn bytes_are_little_endian(rt: HostRuntime) -> Result<(), Fail> {
-    let bytes = [
-        0x01, 0x02, 0x03, 0x04, 0x05, 0x06, 0x07, 0x88, 0xff, 0xff, 0xff, 0x7f, 0x00, 0x00, 0x00,
-        0x80,
-    ];
-    let mut room = HeapRoom::new(rt.alloc());
-    let mut words = room.take(0, 6)?;
-    assert!(rt; words.len() == 6);
-    words.put(5, 7);
-    words.load(1, &bytes);
-    let wide = [0, 0x8807_0605_0403_0201, 0x8000_0000_7fff_ffff, 0, 0, 7];
+// The words from the first on are these.
+fn expect_six(rt: &impl Abort, words: &Words, due: [u64; 6])
+    requires { length words.now ≡ 6 }
+{
     for k in 0..6 {
-        assert_eq!(rt; words.get(k as u64), wide[k], "wide {k}");
+        assert_eq!(rt; words.get(k as u64), due[k], "{k}");
     }
+}
+
+// Six words, the last of which is 7.
+fn six_words(rt: &impl Abort, alloc: Global) -> Words
+    ensures { length result ≡ 6 }
+{
+    let mut room = HeapRoom::new(alloc);
+    match room.take(0, 6) {
+        Ok(mut words) => {
+            words.put(5, 7);
+            words
+        }
+        Err(_) => panic!(rt; "no memory"),
+    }
+}
+
+const BYTES: [u8; 16] = [
+    0x01, 0x02, 0x03, 0x04, 0x05, 0x06, 0x07, 0x88, 0xff, 0xff, 0xff, 0x7f, 0x00, 0x00, 0x00, 0x80,
+];
+
+#[test]
+fn bytes_are_little_endian(rt: HostRuntime) {
+    let mut words = six_words(&rt, rt.alloc());
+    words.load(1, &BYTES);
+    let wide = [0, 0x8807_0605_0403_0201, 0x8000_0000_7fff_ffff, 0, 0, 7];
+    expect_six(&rt, &words, wide);
     let mut back = [0; 16];
     words.store(1, &mut back);
-    assert_eq!(rt; back, bytes);
-    words.load_narrow(1, &bytes);
-    let narrow = [
-        0,
-        0x0403_0201,
-        0xffff_ffff_8807_0605,
-        0x7fff_ffff,
-        0xffff_ffff_8000_0000,
-        7,
-    ];
-    for k in 0..6 {
-        assert_eq!(rt; words.get(k as u64), narrow[k], "narrow {k}");
-    }
-    words.fill_zero(2, 3);
-    let cleared = [0, 0x0403_0201, 0, 0, 0, 7];
-    for k in 0..6 {
-        assert_eq!(rt; words.get(k as u64), cleared[k], "cleared {k}");
-    }
-    Ok(())
+    assert!(rt; back == BYTES);
 }
 
 #[test]
-fn rooms_note_their_takings(rt: HostRuntime) -> Result<(), Fail> {
+fn narrow_bytes_are_little_endian(rt: HostRuntime) {
+    let mut words = six_words(&rt, rt.alloc());
+    words.load_narrow(1, &BYTES);
+    let (second, last) = (0xffff_ffff_8807_0605, 0xffff_ffff_8000_0000);
+    expect_six(&rt, &words, [0, 0x0403_0201, second, 0x7fff_ffff, last, 7]);
+    words.fill_zero(2, 3);
+    expect_six(&rt, &words, [0, 0x0403_0201, 0, 0, 0, 7]);
+}
+
+// The words of a block that a room gives, or none where it refuses.
+fn taken<R: Room>(room: &mut R, words: u64, more: u64) -> Option<u64>
+    requires words { words ≤ 6 }
+    requires more { more ≤ 6 }
+{
+    match room.take(words, more) {
+        Ok(words) => Some(words.len()),
+        Err(_) => None,
+    }
+}
+
+#[test]
+fn rooms_note_their_takings(rt: HostRuntime) {
     let mut room = HeapRoom::new(rt.alloc());
-    let words = room.take(2, 3)?;
-    assert_eq!(rt; words.len(), 5);
-    let none = room.take(0, 0)?;
-    assert_eq!(rt; none.len(), 0);
+    assert_eq!(rt; taken(&mut room, 2, 3), Some(5));
+    assert_eq!(rt; taken(&mut room, 0, 0), Some(0));
     assert!(rt; room.takings() == [(2, 3), (0, 0)].as_slice());
-    let mut refusing = RefusingRoom::new(rt.alloc(), 1);
-    assert!(rt; refusing.take(1, 4)?.len() == 5);
-    assert!(rt; refusing.take(1, 1).is_err());
-    assert!(rt; refusing.takings() == [(1, 4)].as_slice());
-    assert!(rt; refusing.take(0, 2)?.len() == 2);
-    assert!(rt; refusing.takings() == [(1, 4), (0, 2)].as_slice());
-    Ok(())
+}
+
+#[test]
+fn refusals_are_not_noted(rt: HostRuntime) {
+    let mut room = RefusingRoom::new(rt.alloc(), 1);
+    assert_eq!(rt; taken(&mut room, 1, 4), Some(5));
+    assert_eq!(rt; taken(&mut room, 1, 1), None);
+    assert!(rt; room.takings() == [(1, 4)].as_slice());
+    assert_eq!(rt; taken(&mut room, 0, 2), Some(2));
+    assert!(rt; room.takings() == [(1, 4), (0, 2)].as_slice());
 }

@@ -3,7 +3,6 @@
 use crate::given::spec_of;
 use std::alloc::Global;
 use std::process::Abort;
-use std::test::Fail;
 use tce_array::{ArrayFault, Form};
 use tce_arrays::{arrays_of, open_operands};
 use tce_cache::ArrayRef;
@@ -23,16 +22,18 @@ const EIGHT: &[u8] =
 const OTHER_EDGE: &[u8] =
     b"TCARRAY1\x01\0\0\0\0\0\0\0\x02\0\0\0\0\0\0\0\x01\0\0\0\0\0\0\0\x03\0\0\0\0\0\0\0\x04\0\0\0\0\0\0\0";
 
+fn put(rt: &impl Abort, disk: &mut MemDisk, name: &str, bytes: &[u8]) {
+    if !bytes.is_empty() {
+        assert!(rt; disk.put_file(name, bytes).is_ok());
+    }
+}
+
 // A disk with these files of A and of B, where an empty one is absent.
-fn disk_of(alloc: Global, a: &[u8], b: &[u8]) -> Result<MemDisk, Fail> {
+fn disk_of(rt: &impl Abort, alloc: Global, a: &[u8], b: &[u8]) -> MemDisk {
     let mut disk = MemDisk::new(alloc);
-    if !a.is_empty() {
-        disk.put_file("A.tca", a)?;
-    }
-    if !b.is_empty() {
-        disk.put_file("B.tca", b)?;
-    }
-    Ok(disk)
+    put(rt, &mut disk, "A.tca", a);
+    put(rt, &mut disk, "B.tca", b);
+    disk
 }
 
 // Over a disk with these files the operand of this tensor is refused.
@@ -43,31 +44,30 @@ fn expect_refused(
     b: &[u8],
     tensor: u8,
     fault: ArrayFault,
-) -> Result<(), Fail> {
-    let spec = spec_of(alloc, TEXT)?;
-    let mut disk = disk_of(alloc, a, b)?;
+) {
+    let spec = spec_of(rt, alloc, TEXT);
+    let mut disk = disk_of(rt, alloc, a, b);
     match open_operands(&spec, &mut disk) {
-        Ok(_) => return Err(Fail::new("an operand is missing or damaged")),
+        Ok(_) => panic!(rt; "an operand is missing or damaged"),
         Err(refused) => assert!(rt; refused.tensor == tensor && refused.fault == fault),
     }
-    Ok(())
 }
 
 #[test]
-fn the_first_operand_that_is_absent_decides(rt: HostRuntime) -> Result<(), Fail> {
+fn the_first_operand_that_is_absent_decides(rt: HostRuntime) {
     let alloc = rt.alloc();
-    expect_refused(&rt, alloc, b"", b"", 2, ArrayFault::NoFile)?;
-    expect_refused(&rt, alloc, b"", EIGHT, 2, ArrayFault::NoFile)?;
-    expect_refused(&rt, alloc, NARROW, b"", 0, ArrayFault::NoFile)
+    expect_refused(&rt, alloc, b"", b"", 2, ArrayFault::NoFile);
+    expect_refused(&rt, alloc, b"", EIGHT, 2, ArrayFault::NoFile);
+    expect_refused(&rt, alloc, NARROW, b"", 0, ArrayFault::NoFile);
 }
 
 #[test]
-fn the_first_operand_that_is_damaged_decides(rt: HostRuntime) -> Result<(), Fail> {
+fn the_first_operand_that_is_damaged_decides(rt: HostRuntime) {
     let alloc = rt.alloc();
-    expect_refused(&rt, alloc, OTHER_EDGE, b"", 2, ArrayFault::BadHeader(24))?;
-    expect_refused(&rt, alloc, EIGHT, OTHER_EDGE, 0, ArrayFault::BadHeader(24))?;
+    expect_refused(&rt, alloc, OTHER_EDGE, b"", 2, ArrayFault::BadHeader(24));
+    expect_refused(&rt, alloc, EIGHT, OTHER_EDGE, 0, ArrayFault::BadHeader(24));
     let short = ArrayFault::BadLength(8);
-    expect_refused(&rt, alloc, EIGHT, b"TCARRAY1", 0, short)
+    expect_refused(&rt, alloc, EIGHT, b"TCARRAY1", 0, short);
 }
 
 // The array with this file has this form, these words in a tile, and is written or not.
@@ -84,18 +84,23 @@ fn expect_array(
     assert!(rt; array.shape.tile_words() == words as u64, "{file}");
 }
 
-#[test]
-fn arrays_are_those_of_the_tensors(rt: HostRuntime) -> Result<(), Fail> {
-    let spec = spec_of(rt.alloc(), TEXT)?;
-    let mut disk = disk_of(rt.alloc(), NARROW, EIGHT)?;
-    let Ok(forms) = open_operands(&spec, &mut disk) else {
-        return Err(Fail::new("both operands are arrays"));
-    };
-    let arrays = arrays_of(rt.alloc(), &spec, &forms)?;
+fn expect_arrays(rt: &impl Abort, arrays: &[ArrayRef]) {
     assert!(rt; arrays.len() == 4);
-    expect_array(&rt, &arrays[0], "B.tca", Form::One, 2, false);
-    expect_array(&rt, &arrays[1], "X.tca", Form::One, 4, false);
-    expect_array(&rt, &arrays[2], "A.tca", Form::Narrow, 2, false);
-    expect_array(&rt, &arrays[3], "C.tca", Form::One, 4, true);
-    Ok(())
+    expect_array(rt, &arrays[0], "B.tca", Form::One, 2, false);
+    expect_array(rt, &arrays[1], "X.tca", Form::One, 4, false);
+    expect_array(rt, &arrays[2], "A.tca", Form::Narrow, 2, false);
+    expect_array(rt, &arrays[3], "C.tca", Form::One, 4, true);
+}
+
+#[test]
+fn arrays_are_those_of_the_tensors(rt: HostRuntime) {
+    let spec = spec_of(&rt, rt.alloc(), TEXT);
+    let mut disk = disk_of(&rt, rt.alloc(), NARROW, EIGHT);
+    let Ok(forms) = open_operands(&spec, &mut disk) else {
+        panic!(rt; "both operands are arrays");
+    };
+    match arrays_of(rt.alloc(), &spec, &forms) {
+        Ok(arrays) => expect_arrays(&rt, arrays.as_slice()),
+        Err(_) => panic!(rt; "no memory"),
+    }
 }

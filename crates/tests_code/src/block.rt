@@ -62,12 +62,12 @@ fn expect_blocks(rt: &impl Abort, loops: &str, wanted: &str, are_all: bool) {
         };
         let from = numbers_of(rt, side(part, ':', 0));
         let len = numbers_of(rt, side(part, ':', 1));
-        assert_eq!(rt; block.from.as_slice(), from.as_slice(), "{loops}");
-        assert_eq!(rt; block.len.as_slice(), len.as_slice(), "{loops}");
+        assert!(rt; block.from.as_slice() == from.as_slice(), "{loops}");
+        assert!(rt; block.len.as_slice() == len.as_slice(), "{loops}");
     }
     if are_all {
-        assert_eq!(rt; blocks.next(), None, "{loops}");
-        assert_eq!(rt; blocks.next(), None, "once more, {loops}");
+        assert!(rt; blocks.next() == None, "{loops}");
+        assert!(rt; blocks.next() == None, "once more, {loops}");
     }
 }
 

@@ -1,7 +1,6 @@
 //! Worked parts.
 ghost use Rattle.tce_blockwise.specs.Examples.{WorkedParts};
 
-use std::test::Fail;
 use tce_blockwise::{parts_keep_words, parts_make_tails};
 
 // What the definitions give for the worked parts.
@@ -10,9 +9,8 @@ fn worked_parts()
 {}
 
 #[test]
-fn laws_of_parts(_rt: HostRuntime) -> Result<(), Fail> {
+fn laws_of_parts() {
     worked_parts();
     parts_make_tails();
     parts_keep_words();
-    Ok(())
 }

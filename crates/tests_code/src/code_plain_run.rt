@@ -3,7 +3,7 @@ ghost use Rattle.std.specs.Prelude.{◌<◌, ◌≤◌};
 
 use arrayvec::ArrayVec;
 use std::alloc::Global;
-use std::test::Fail;
+use std::process::Abort;
 use tce_code::Op;
 use tce_space::IndexSet;
 use tce_tree::{Fusion, Operand, Tree};
@@ -30,24 +30,25 @@ pub(crate) struct Run {
 impl Run {
     // The root's places are 0, and all others hold 7.
     pub(crate) fn new(
+        rt: &impl Abort,
         alloc: Global,
         tree: &Tree,
         fusion: &Fusion,
         extents: [u64; 10],
         tensors: &[&[u64]],
-    ) -> Result<Run, Fail> {
-        Ok(Run {
+    ) -> Run {
+        Run {
             extents,
-            tensors: copies_of(alloc, tensors)?,
-            places: first_places(alloc, tree, fusion, &extents)?,
+            tensors: copies_of(rt, alloc, tensors),
+            places: first_places(rt, alloc, tree, fusion, &extents),
             numbers: [0; 10],
-        })
+        }
     }
 
-    pub(crate) fn root_words(&self, tree: &Tree) -> Result<&[u64], Fail> {
+    pub(crate) fn root_words(&self, rt: &impl Abort, tree: &Tree) -> &[u64] {
         match self.places.get(tree.count() as usize - 1) {
-            Some(words) => Ok(words.as_slice()),
-            None => Err(Fail::new("the root has no places")),
+            Some(words) => words.as_slice(),
+            None => panic!(rt; "the root has no places"),
         }
     }
 
@@ -115,35 +116,32 @@ impl Run {
         }
     }
 
+    // What an operation puts into the places of a node.
+    fn result_of(&self, tree: &Tree, fusion: &Fusion, v: u8, op: Op) -> u64 {
+        let left = self.left_word(tree, fusion, v);
+        let right = self.right_word(tree, fusion, v);
+        match op {
+            Op::Mul(_) => left.wrapping_mul(right),
+            Op::Add(_) => left.wrapping_add(right),
+            Op::Sub(_) => left.wrapping_sub(right),
+            _ => self.word_of(tree, fusion, v).wrapping_add(left),
+        }
+    }
+
+    fn put_result(&mut self, tree: &Tree, fusion: &Fusion, v: u8, op: Op) {
+        let word = self.result_of(tree, fusion, v, op);
+        self.set_word(tree, fusion, v, word);
+    }
+
     fn apply(&mut self, tree: &Tree, fusion: &Fusion, op: Op) {
         match op {
             Op::Open(_) => {}
             Op::Close => {}
             Op::Clear(v) => self.clear(v),
-            Op::Mul(v) => {
-                let word = self
-                    .left_word(tree, fusion, v)
-                    .wrapping_mul(self.right_word(tree, fusion, v));
-                self.set_word(tree, fusion, v, word);
-            }
-            Op::Add(v) => {
-                let word = self
-                    .left_word(tree, fusion, v)
-                    .wrapping_add(self.right_word(tree, fusion, v));
-                self.set_word(tree, fusion, v, word);
-            }
-            Op::Sub(v) => {
-                let word = self
-                    .left_word(tree, fusion, v)
-                    .wrapping_sub(self.right_word(tree, fusion, v));
-                self.set_word(tree, fusion, v, word);
-            }
-            Op::Acc(v) => {
-                let word = self
-                    .word_of(tree, fusion, v)
-                    .wrapping_add(self.left_word(tree, fusion, v));
-                self.set_word(tree, fusion, v, word);
-            }
+            Op::Mul(v) => self.put_result(tree, fusion, v, op),
+            Op::Add(v) => self.put_result(tree, fusion, v, op),
+            Op::Sub(v) => self.put_result(tree, fusion, v, op),
+            Op::Acc(v) => self.put_result(tree, fusion, v, op),
         }
     }
 
@@ -160,73 +158,88 @@ impl Run {
         Some(open.body)
     }
 
+    // Begins a loop, whose body stands at this position.
+    fn open(&mut self, rt: &impl Abort, opened: &mut Vec<OpenLoop>, index: u8, body: usize) {
+        if index < 10 {
+            self.numbers[index as usize] = 0;
+        }
+        assert!(rt; opened.push(OpenLoop { index, body }).is_ok());
+    }
+
+    // Ends a turn of the innermost loop, and says where the run goes on.
+    fn close(&mut self, rt: &impl Abort, opened: &mut Vec<OpenLoop>, behind: usize) -> usize {
+        let Some(open) = opened.pop() else {
+            panic!(rt; "a loop is closed that is not open");
+        };
+        match self.turn(open) {
+            Some(body) => {
+                assert!(rt; opened.push(open).is_ok());
+                body
+            }
+            None => behind,
+        }
+    }
+
     pub(crate) fn run(
         &mut self,
+        rt: &impl Abort,
         alloc: Global,
         tree: &Tree,
         fusion: &Fusion,
         ops: &[Op],
-    ) -> Result<(), Fail> {
+    ) {
         let mut opened = Vec::new(alloc);
         let mut at = 0;
         for _ in 0..LIMIT {
             if at >= ops.len() {
-                return Ok(());
+                return;
             }
             let op = ops[at];
             at += 1;
             match op {
-                Op::Open(index) => {
-                    if index < 10 {
-                        self.numbers[index as usize] = 0;
-                    }
-                    opened.push(OpenLoop { index, body: at })?;
-                }
-                Op::Close => {
-                    let Some(open) = opened.pop() else {
-                        return Err(Fail::new("a loop is closed that is not open"));
-                    };
-                    if let Some(body) = self.turn(open) {
-                        opened.push(open)?;
-                        at = body;
-                    }
-                }
+                Op::Open(index) => self.open(rt, &mut opened, index, at),
+                Op::Close => at = self.close(rt, &mut opened, at),
                 _ => self.apply(tree, fusion, op),
             }
         }
-        Err(Fail::new("the run does not end"))
+        panic!(rt; "the run does not end")
     }
 }
 
-fn copies_of(alloc: Global, tensors: &[&[u64]]) -> Result<Vec<Vec<u64>>, Fail> {
+fn copies_of(rt: &impl Abort, alloc: Global, tensors: &[&[u64]]) -> Vec<Vec<u64>> {
     let mut copies = Vec::new(alloc);
     for words in tensors {
-        copies.push(Vec::from_slice(alloc, *words)?)?;
+        match Vec::from_slice(alloc, *words) {
+            Ok(copy) => assert!(rt; copies.push(copy).is_ok()),
+            Err(_) => panic!(rt; "no memory"),
+        }
     }
-    Ok(copies)
+    copies
 }
 
 fn first_places(
+    rt: &impl Abort,
     alloc: Global,
     tree: &Tree,
     fusion: &Fusion,
     extents: &[u64; 10],
-) -> Result<Vec<Vec<u64>>, Fail> {
+) -> Vec<Vec<u64>> {
     let mut places = Vec::new(alloc);
     let count = tree.count();
     for v in 0..count {
         let size = volume(extents, kept(tree, fusion, v).as_slice());
-        places.push(repeated(alloc, if v + 1 == count { 0 } else { 7 }, size)?)?;
+        let word = if v + 1 == count { 0 } else { 7 };
+        assert!(rt; places.push(repeated(rt, alloc, word, size)).is_ok());
     }
-    Ok(places)
+    places
 }
 
-fn repeated(alloc: Global, word: u64, size: u64) -> Result<Vec<u64>, Fail> {
+fn repeated(rt: &impl Abort, alloc: Global, word: u64, size: u64) -> Vec<u64> {
     let mut words = Vec::new(alloc);
     for _ in 0..size.min(LIMIT) {
-        words.push(word)?;
+        assert!(rt; words.push(word).is_ok());
     }
-    Ok(words)
+    words
 }
 
 fn number(numbers: &[u64; 10], i: u8) -> u64 {

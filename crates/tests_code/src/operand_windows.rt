@@ -2,10 +2,10 @@
 ghost use Rattle.std.specs.Prelude.{◌≡◌, IsTrue, replicate, slice_set};
 ghost use Rattle.tce_space.specs.Box.{IsInside};
 
+use crate::given::new_space;
 use arrayvec::ArrayVec;
 use std::alloc::Global;
 use std::process::Abort;
-use std::test::Fail;
 use tce_layout::Slot;
 use tce_operand_windows::{
     blocks_stay_in_tiles, changes_keep_cells, set_numbers, slot_window, slots_show_nodes,
@@ -14,6 +14,7 @@ use tce_operand_windows::{
 };
 use tce_operands::coordinates_of;
 use tce_space::{Name, Shape, Space, is_name};
+use tce_windows::Window;
 
 // These numbers for indexes 0 and 1, and 0 for the others.
 fn two(first: u64, second: u64) -> [u64; 24]
@@ -45,15 +46,15 @@ fn declare(rt: &impl Abort, space: &mut Space, name: &str, extent: u64, edge: u6
         panic!(rt; "one letter is short");
     };
     assert!(rt; is_name(name.as_str().as_bytes()));
-    assert!(rt; 0 < edge && edge <= extent && extent < 1 << 32);
+    assert!(rt; 0 < edge);
+    assert!(rt; edge <= extent);
+    assert!(rt; extent < 1 << 32);
     assert!(rt; space.add_range(&name, extent, edge).is_ok());
 }
 
 // Three dimensions: 5 in tiles of 4, 3 in tiles of 2, and 5 in tiles of 4 again.
 fn three_dimensions(rt: &impl Abort, alloc: Global) -> Shape {
-    let Ok(mut space) = Space::new(alloc) else {
-        panic!(rt; "memory was ample");
-    };
+    let mut space = new_space(rt, alloc);
     declare(rt, &mut space, "I", 5, 4);
     declare(rt, &mut space, "J", 3, 2);
     assert!(rt; space.range_count() == 2);
@@ -61,14 +62,14 @@ fn three_dimensions(rt: &impl Abort, alloc: Global) -> Shape {
     ranges.push(0);
     ranges.push(1);
     ranges.push(0);
-    let Ok(shape) = space.shape(&ranges) else {
-        panic!(rt; "within the limits");
-    };
-    shape
+    match space.shape(&ranges) {
+        Ok(shape) => shape,
+        Err(_) => panic!(rt; "within the limits"),
+    }
 }
 
 #[test]
-fn laws_of_windows(_rt: HostRuntime) -> Result<(), Fail> {
+fn laws_of_windows() {
     blocks_stay_in_tiles();
     turns_stay_in_one_tile();
     slots_show_words();
@@ -78,62 +79,66 @@ fn laws_of_windows(_rt: HostRuntime) -> Result<(), Fail> {
     windows_are_apart();
     changes_keep_cells();
     touched_tiles_stay();
-    Ok(())
 }
 
 // The loop over index 1 begins at 7; without loops all numbers stay.
 #[test]
-fn loops_begin_at_their_first_numbers(rt: HostRuntime) -> Result<(), Fail> {
+fn loops_begin_at_their_first_numbers(rt: HostRuntime) {
     let mut numbers = two(5, 2);
     set_numbers(&mut numbers, &[1], &[7]);
-    assert_eq!(rt; numbers[0], 5);
-    assert_eq!(rt; numbers[1], 7);
+    assert!(rt; numbers[0] == 5);
+    assert!(rt; numbers[1] == 7);
     set_numbers(&mut numbers, &[], &[]);
-    assert_eq!(rt; numbers[1], 7);
-    Ok(())
+    assert!(rt; numbers[1] == 7);
 }
 
 // The slot from word 100 on of a node with 6 numbers of index 1 behind those of index 0: 100 + 5 * 6 + 2.
 #[test]
-fn slots_go_by_their_steps(rt: HostRuntime) -> Result<(), Fail> {
+fn slots_go_by_their_steps(rt: HostRuntime) {
     let slot = Slot {
         offset: 100,
         size: 60,
         steps: two(6, 1),
     };
     let window = slot_window(&slot, &two(5, 2));
-    assert_eq!(rt; window.first, 132);
-    assert_eq!(rt; window.steps[0], 6);
-    assert_eq!(rt; window.steps[1], 1);
-    Ok(())
+    assert!(rt; window.first == 132);
+    assert!(rt; window.steps[0] == 6);
+    assert!(rt; window.steps[1] == 1);
+}
+
+fn expect_window(rt: &impl Abort, window: &Window, first: u64, steps: [u64; 3]) {
+    assert!(rt; window.first == first);
+    assert!(rt; window.steps[0] == steps[0]);
+    assert!(rt; window.steps[1] == steps[1]);
+    assert!(rt; window.steps[2] == steps[2]);
+}
+
+// The tile of `A[i, j, i]` from word 100 on.
+fn expect_tile(rt: &impl Abort, shape: &Shape, i: u64, j: u64, first: u64) {
+    let numbers = two(i, j);
+    let coordinates = coordinates_of(&[0, 1, 0], &numbers);
+    assert!(rt; is_inside(shape.extents(), coordinates.as_slice()));
+    assert!(rt; shape.tile_words() < 1000);
+    let window = tile_window(shape, &[0, 1, 0], &numbers, 100);
+    expect_window(rt, &window, first, [9, 4, 0]);
 }
 
 // Tiles of `A[i, j, i]` from word 100 on: the number of i counts 8 words in the first dimension and 1 in the last, that of
 // j 4 words; behind the edges the next tile begins.
 #[test]
-fn tiles_go_by_the_edges_behind(rt: HostRuntime) -> Result<(), Fail> {
+fn tiles_go_by_the_edges_behind(rt: HostRuntime) {
     let shape = three_dimensions(&rt, rt.alloc());
-    for (i, j, first) in [(3, 1, 131), (3, 2, 127), (4, 1, 104)] {
-        let numbers = two(i, j);
-        let coordinates = coordinates_of(&[0, 1, 0], &numbers);
-        assert!(rt; is_inside(shape.extents(), coordinates.as_slice()));
-        assert!(rt; shape.tile_words() < 1000);
-        let window = tile_window(&shape, &[0, 1, 0], &numbers, 100);
-        assert_eq!(rt; window.first, first);
-        assert_eq!(rt; window.steps[0], 9);
-        assert_eq!(rt; window.steps[1], 4);
-        assert_eq!(rt; window.steps[2], 0);
-    }
-    Ok(())
+    expect_tile(&rt, &shape, 3, 1, 131);
+    expect_tile(&rt, &shape, 3, 2, 127);
+    expect_tile(&rt, &shape, 4, 1, 104);
 }
 
 // The one element of an array without dimensions.
 #[test]
-fn single_elements_have_no_steps(rt: HostRuntime) -> Result<(), Fail> {
+fn single_elements_have_no_steps(rt: HostRuntime) {
     let shape = Shape::default();
     assert!(rt; shape.tile_words() < 1000);
     let window = tile_window(&shape, &[], &two(5, 2), 7);
-    assert_eq!(rt; window.first, 7);
-    assert_eq!(rt; window.steps[0], 0);
-    Ok(())
+    assert!(rt; window.first == 7);
+    assert!(rt; window.steps[0] == 0);
 }

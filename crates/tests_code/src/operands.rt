@@ -1,5 +1,4 @@
 //! Elements, worked by hand.
-use std::test::Fail;
 use tce_operands::{
     ElementPlace, cleared_slots_are_cleared, coordinates_of, place_of_element,
     places_have_their_words, puts_change_one_place, slots_lead_to_places,
@@ -16,7 +15,7 @@ fn numbers() -> [u64; 24] {
 }
 
 #[test]
-fn laws_of_operands(_rt: HostRuntime) -> Result<(), Fail> {
+fn laws_of_operands() {
     slots_lead_to_places();
     places_have_their_words();
     touched_tiles_show_elements();
@@ -24,21 +23,18 @@ fn laws_of_operands(_rt: HostRuntime) -> Result<(), Fail> {
     cleared_slots_are_cleared();
     tile_puts_change_one_place();
     touches_keep_states();
-    Ok(())
 }
 
 #[test]
-fn repeated_indexes_have_one_number(rt: HostRuntime) -> Result<(), Fail> {
+fn repeated_indexes_have_one_number(rt: HostRuntime) {
     let coordinates = coordinates_of(&[3, 2, 3], &numbers());
-    assert_eq!(rt; coordinates.as_slice(), [4, 1, 4].as_slice());
-    Ok(())
+    assert!(rt; coordinates.as_slice() == [4, 1, 4].as_slice());
 }
 
 // An array of one element has one tile of one word.
 #[test]
-fn single_elements_stand_first(rt: HostRuntime) -> Result<(), Fail> {
+fn single_elements_stand_first(rt: HostRuntime) {
     let at = place_of_element(&Shape::default(), &[]);
-    assert_eq!(rt; at.tile, 0);
-    assert_eq!(rt; at.place, 0);
-    Ok(())
+    assert!(rt; at.tile == 0);
+    assert!(rt; at.place == 0);
 }

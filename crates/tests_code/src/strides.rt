@@ -1,27 +1,35 @@
-ghost use Rattle.std.specs.Prelude.{◌≡◌, ◌<◌, length, IfOk};
+ghost use Rattle.std.specs.Prelude.{◌≡◌, ◌<◌, length};
 
-use std::alloc::AllocError;
+use std::alloc::Global;
 use std::process::Abort;
-use std::test::Fail;
 use tce_strides::{Loop, Operation, SumLoop, compute, grow, grow_by_products};
 use tce_words::{HeapRoom, Room, Words};
 
 // The words at the front of a block of 24.
-fn block_of(room: &mut HeapRoom, from: &[u64; 12]) -> Result<Words, AllocError>
-    ensures { IfOk result (λ words. length words ≡ 24) }
+fn block_of(rt: &impl Abort, alloc: Global, from: &[u64; 12]) -> Words
+    ensures { length result ≡ 24 }
 {
-    let mut words = room.take(24, 0)?;
+    let mut words = room_of_24(rt, alloc);
     for k in 0..12usize {
         words.put(k as u64, from[k]);
     }
-    Ok(words)
+    words
 }
 
-fn expect_word<R: Abort>(rt: &R, words: &Words, at: u64, word: u64)
+fn room_of_24(rt: &impl Abort, alloc: Global) -> Words
+    ensures { length result ≡ 24 }
+{
+    match HeapRoom::new(alloc).take(24, 0) {
+        Ok(words) => words,
+        Err(_) => panic!(rt; "no memory"),
+    }
+}
+
+fn expect_word(rt: &impl Abort, words: &Words, at: u64, word: u64)
     requires length { length words.now ≡ 24 }
     requires at { at < 24 }
 {
-    assert_eq!(rt; words.get(at), word);
+    assert!(rt; words.get(at) == word);
 }
 
 // A product of the matrices of 2 by 3 words at 0 and of 3 by 2 at 6, to the words at 12.
@@ -52,16 +60,14 @@ fn multiply(words: &mut Words)
 }
 
 #[test]
-fn matrices_are_multiplied(rt: HostRuntime) -> Result<(), Fail> {
-    let mut room = HeapRoom::new(rt.alloc());
-    let mut words = block_of(&mut room, &[1, 2, 3, 4, 5, 6, 7, 8, 9, 10, 11, 12])?;
+fn matrices_are_multiplied(rt: HostRuntime) {
+    let mut words = block_of(&rt, rt.alloc(), &[1, 2, 3, 4, 5, 6, 7, 8, 9, 10, 11, 12]);
     multiply(&mut words);
     expect_word(&rt, &words, 12, 2 * 58);
     expect_word(&rt, &words, 13, 2 * 64);
     expect_word(&rt, &words, 14, 2 * 139);
     expect_word(&rt, &words, 15, 2 * 154);
     expect_word(&rt, &words, 16, 0);
-    Ok(())
 }
 
 // The sums of the rows of 3 words and of their diagonal.
@@ -91,16 +97,14 @@ fn sum_rows(words: &mut Words)
 }
 
 #[test]
-fn rows_and_a_diagonal_are_summed(rt: HostRuntime) -> Result<(), Fail> {
-    let mut room = HeapRoom::new(rt.alloc());
-    let mut words = block_of(&mut room, &[1, 2, 3, 4, 5, 6, 7, 8, 9, 10, 11, 12])?;
+fn rows_and_a_diagonal_are_summed(rt: HostRuntime) {
+    let mut words = block_of(&rt, rt.alloc(), &[1, 2, 3, 4, 5, 6, 7, 8, 9, 10, 11, 12]);
     sum_rows(&mut words);
     expect_word(&rt, &words, 12, 2 * 6);
     expect_word(&rt, &words, 13, 2 * 15);
     expect_word(&rt, &words, 14, 2 * 24);
     expect_word(&rt, &words, 20, 15);
     expect_word(&rt, &words, 21, 2);
-    Ok(())
 }
 
 // The words at 3 less those at 0, both operations' other results, and the last product of both rows.
@@ -128,9 +132,8 @@ fn join_rows(words: &mut Words)
 }
 
 #[test]
-fn rows_are_joined(rt: HostRuntime) -> Result<(), Fail> {
-    let mut room = HeapRoom::new(rt.alloc());
-    let mut words = block_of(&mut room, &[1, 7, 4, 5, 2, 9, 0, 0, 0, 0, 0, 0])?;
+fn rows_are_joined(rt: HostRuntime) {
+    let mut words = block_of(&rt, rt.alloc(), &[1, 7, 4, 5, 2, 9, 0, 0, 0, 0, 0, 0]);
     join_rows(&mut words);
     expect_word(&rt, &words, 12, 4);
     expect_word(&rt, &words, 13, u64::MAX - 4);
@@ -143,7 +146,6 @@ fn rows_are_joined(rt: HostRuntime) -> Result<(), Fail> {
     expect_word(&rt, &words, 20, 36);
     expect_word(&rt, &words, 21, 36);
     expect_word(&rt, &words, 22, u64::MAX - 5);
-    Ok(())
 }
 
 // Loops of eight turns: the ninth word's products with the first eight are added, the sum of their squares, and the last
@@ -170,13 +172,11 @@ fn run_along(words: &mut Words)
 }
 
 #[test]
-fn long_loops_run(rt: HostRuntime) -> Result<(), Fail> {
-    let mut room = HeapRoom::new(rt.alloc());
-    let mut words = block_of(&mut room, &[1, 2, 3, 4, 5, 6, 7, 8, 9, 0, 0, 0])?;
+fn long_loops_run(rt: HostRuntime) {
+    let mut words = block_of(&rt, rt.alloc(), &[1, 2, 3, 4, 5, 6, 7, 8, 9, 0, 0, 0]);
     run_along(&mut words);
     expect_word(&rt, &words, 12, 9);
     expect_word(&rt, &words, 19, 72);
     expect_word(&rt, &words, 20, 204);
     expect_word(&rt, &words, 21, 64);
-    Ok(())
 }

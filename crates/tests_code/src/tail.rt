@@ -1,7 +1,6 @@
 //! Bounds on touches.
 ghost use Rattle.tce_tail.specs.Examples.{WorkedTouches};
 
-use std::test::Fail;
 use tce_tail::{joined_tails_add_up, single_tails_end_at_last, sum_tails_add_up, touches_are_few};
 
 // What the definitions give for the worked codes.
@@ -10,11 +9,10 @@ fn worked_touches()
 {}
 
 #[test]
-fn laws_of_tails(_rt: HostRuntime) -> Result<(), Fail> {
+fn laws_of_tails() {
     worked_touches();
     sum_tails_add_up();
     single_tails_end_at_last();
     joined_tails_add_up();
     touches_are_few();
-    Ok(())
 }

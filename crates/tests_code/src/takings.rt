@@ -3,8 +3,6 @@
 use crate::given::spec_of;
 use std::alloc::Global;
 use std::process::Abort;
-use std::test::Fail;
-use tce_spec::Spec;
 use tce_takings::{frame_count, least_budget, tile_count, tile_take};
 
 // Tiles of one word: two operands of two tiles each, and a result of four.
@@ -19,15 +17,7 @@ const CHAIN: &[u8] =
 const SQUARE: &[u8] =
     b"range N 4 tile 4\nindex N i j\ntensor A[N]\ntensor X[N,N,N]\ntensor C[N,N]\nC[i,j] = A[i] * A[j]\n";
 
-// The frames and the words that are taken under a budget.
-fn taken(spec: &Spec, budget: u64) -> Result<(u64, u64), Fail> {
-    if budget < least_budget(spec) {
-        return Err(Fail::new("the budget is too small"));
-    }
-    Ok((frame_count(spec, budget), tile_take(spec, budget)))
-}
-
-// The least budget and the number of tiles of the text, and what is taken under a budget.
+// The least budget and the number of tiles of the text, and the frames and words that are taken under a budget.
 fn expect(
     rt: &impl Abort,
     alloc: Global,
@@ -35,30 +25,32 @@ fn expect(
     fixed: (u64, u64),
     budget: u64,
     want: (u64, u64),
-) -> Result<(), Fail> {
-    let spec = spec_of(alloc, text)?;
-    assert_eq!(rt; (least_budget(&spec), tile_count(&spec)), fixed);
-    assert!(rt; taken(&spec, budget)? == want);
-    Ok(())
+) {
+    let spec = spec_of(rt, alloc, text);
+    assert!(rt; least_budget(&spec) == fixed.0);
+    assert!(rt; tile_count(&spec) == fixed.1);
+    assert!(rt; fixed.0 <= budget);
+    assert!(rt; frame_count(&spec, budget) == want.0);
+    assert!(rt; tile_take(&spec, budget) == want.1);
 }
 
 #[test]
-fn takings_of_an_outer_product(rt: HostRuntime) -> Result<(), Fail> {
-    expect(&rt, rt.alloc(), OUTER, (3, 8), 3, (3, 3))?;
-    expect(&rt, rt.alloc(), OUTER, (3, 8), 7, (7, 7))?;
-    expect(&rt, rt.alloc(), OUTER, (3, 8), 1 << 40, (8, 8))
+fn takings_of_an_outer_product(rt: HostRuntime) {
+    expect(&rt, rt.alloc(), OUTER, (3, 8), 3, (3, 3));
+    expect(&rt, rt.alloc(), OUTER, (3, 8), 7, (7, 7));
+    expect(&rt, rt.alloc(), OUTER, (3, 8), 1 << 40, (8, 8));
 }
 
 #[test]
-fn takings_of_a_chain(rt: HostRuntime) -> Result<(), Fail> {
-    expect(&rt, rt.alloc(), CHAIN, (7680, 800), 7680, (3, 7680))?;
-    expect(&rt, rt.alloc(), CHAIN, (7680, 800), 10239, (3, 7680))?;
-    expect(&rt, rt.alloc(), CHAIN, (7680, 800), 10240, (4, 10240))?;
-    expect(&rt, rt.alloc(), CHAIN, (7680, 800), 1 << 40, (800, 2048000))
+fn takings_of_a_chain(rt: HostRuntime) {
+    expect(&rt, rt.alloc(), CHAIN, (7680, 800), 7680, (3, 7680));
+    expect(&rt, rt.alloc(), CHAIN, (7680, 800), 10239, (3, 7680));
+    expect(&rt, rt.alloc(), CHAIN, (7680, 800), 10240, (4, 10240));
+    expect(&rt, rt.alloc(), CHAIN, (7680, 800), 1 << 40, (800, 2048000));
 }
 
 #[test]
-fn takings_of_a_square(rt: HostRuntime) -> Result<(), Fail> {
-    expect(&rt, rt.alloc(), SQUARE, (48, 2), 48, (3, 48))?;
-    expect(&rt, rt.alloc(), SQUARE, (48, 2), 1000, (3, 48))
+fn takings_of_a_square(rt: HostRuntime) {
+    expect(&rt, rt.alloc(), SQUARE, (48, 2), 48, (3, 48));
+    expect(&rt, rt.alloc(), SQUARE, (48, 2), 1000, (3, 48));
 }

@@ -3,15 +3,17 @@ ghost use Rattle.std.specs.Prelude.{◌≡◌, ◌<◌, ◌≤◌, ◌^◌, IsTr
 ghost use Rattle.std.specs.declared.option.Option.TheVariants.{None};
 ghost use Rattle.tce_space.specs.Name.{is_name};
 
+use crate::given::{constant, leaf, new_space, product, sum, two_sums};
 use arrayvec::ArrayVec;
 use std::alloc::Global;
+use std::process::Abort;
 use std::test::Fail;
 use tce_code::generate;
 use tce_fusion::{is_legal, standard_orders};
 use tce_outside::Failed;
 use tce_space::{IndexSet, Name, Space};
 use tce_tail::touches_are_few;
-use tce_tree::{Expr, Fusion, Leaf, Tree};
+use tce_tree::{Expr, Fusion, Tree};
 use tce_walk::{Machine, Tail, run_program};
 
 // Writes down the calls of a run as bytes, and fails where there is no room for more. It tells nothing of its places,
@@ -88,82 +90,61 @@ impl<'a> Machine for Recorder<'a> {
     ghost keeps_on = { Prim.search rules };
 }
 
-fn leaf(alloc: Global, tensor: u8, indexes: &[u8]) -> Result<Box<Expr>, Fail> {
-    let mut list = ArrayVec::new();
-    list.try_extend_from_slice(indexes)?;
-    let expr = Expr::Leaf(Leaf {
-        tensor,
-        indexes: list,
-    });
-    Ok(Box::new(alloc, expr)?)
-}
-
-fn sum(alloc: Global, indexes: &[u8], operand: Box<Expr>) -> Result<Box<Expr>, Fail> {
-    let mut list = ArrayVec::new();
-    list.try_extend_from_slice(indexes)?;
-    Ok(Box::new(alloc, Expr::Sum(list, operand))?)
-}
-
-fn product(alloc: Global, left: Box<Expr>, right: Box<Expr>) -> Result<Box<Expr>, Fail> {
-    Ok(Box::new(alloc, Expr::Product(left, right))?)
-}
-
-// `sum{k}(A[i,k]) * sum{l}(B[j,l])`
-fn two_sums(alloc: Global) -> Result<Box<Expr>, Fail> {
-    let left = sum(alloc, &[2], leaf(alloc, 0, &[0, 2])?)?;
-    let right = sum(alloc, &[3], leaf(alloc, 1, &[1, 3])?)?;
-    product(alloc, left, right)
-}
-
 // `sum{i}(A[i] * B[i])`
-fn dot(alloc: Global) -> Result<Box<Expr>, Fail> {
-    let pairs = product(alloc, leaf(alloc, 0, &[0])?, leaf(alloc, 1, &[0])?)?;
-    sum(alloc, &[0], pairs)
+fn dot(rt: &impl Abort, alloc: Global) -> Box<Expr> {
+    let pairs = product(
+        rt,
+        alloc,
+        leaf(rt, alloc, 0, &[0]),
+        leaf(rt, alloc, 1, &[0]),
+    );
+    sum(rt, alloc, &[0], pairs)
 }
 
 // `2 * A[i]`
-fn doubled(alloc: Global) -> Result<Box<Expr>, Fail> {
-    let two = Box::new(alloc, Expr::Constant(2))?;
-    product(alloc, two, leaf(alloc, 0, &[0])?)
+fn doubled(rt: &impl Abort, alloc: Global) -> Box<Expr> {
+    product(rt, alloc, constant(rt, alloc, 2), leaf(rt, alloc, 0, &[0]))
 }
 
-fn declare(space: &mut Space, name: &str) -> Result<(), Fail>
-    requires { IsTrue (is_name name.now) }
+fn name_of(rt: &impl Abort, text: &str) -> Name
+    ensures { IsTrue (is_name result.bytes) }
 {
-    if space.range_count() == 0 {
-        return Err(Fail::new("no range is declared"));
-    }
-    let text = Name::from(name)?;
-    space.add_index(&text, 0)?;
-    Ok(())
+    let Ok(name) = Name::from(text) else {
+        panic!(rt; "too long: {text}");
+    };
+    assert!(rt; tce_space::is_name(name.as_str().as_bytes()));
+    name
+}
+
+fn declare(rt: &impl Abort, space: &mut Space, name: &str) {
+    assert!(rt; 0 < space.range_count());
+    assert!(rt; space.add_index(&name_of(rt, name), 0).is_ok());
 }
 
 // The indexes i, j, k and l of extent 3.
-#[tactic(auto, unfolding(tce_space::specs::Name::is_name))]
-fn four_indexes(alloc: Global) -> Result<Space, Fail> {
-    let mut space = Space::new(alloc)?;
-    let range = Name::from("N")?;
-    space.add_range(&range, 3, 2)?;
-    declare(&mut space, "i")?;
-    declare(&mut space, "j")?;
-    declare(&mut space, "k")?;
-    declare(&mut space, "l")?;
-    Ok(space)
+fn four_indexes(rt: &impl Abort, alloc: Global) -> Space {
+    let mut space = new_space(rt, alloc);
+    assert!(rt; space.add_range(&name_of(rt, "N"), 3, 2).is_ok());
+    declare(rt, &mut space, "i");
+    declare(rt, &mut space, "j");
+    declare(rt, &mut space, "k");
+    declare(rt, &mut space, "l");
+    space
 }
 
 // Puts down the calls of a run of the code with the standard orders, and says whether it succeeds.
 fn calls_of(
     alloc: Global,
+    space: &Space,
     expr: &Expr,
     sets: &[IndexSet],
     room: usize,
     calls: &mut ArrayVec<u8, 128>,
 ) -> Result<bool, Fail> {
-    let space = four_indexes(alloc)?;
-    if expr.operations() > 32 || !expr.is_declared(&space) || !expr.sums_are_distinct() {
+    if expr.operations() > 32 || !expr.is_declared(space) || !expr.sums_are_distinct() {
         return Err(Fail::new("no tree over the four indexes"));
     }
-    let tree = Tree::build(alloc, &space, expr)?;
+    let tree = Tree::build(alloc, space, expr)?;
     let mut fused = ArrayVec::new();
     fused.try_extend_from_slice(sets)?;
     let fusion = Fusion(fused);
@@ -176,13 +157,13 @@ fn calls_of(
     touches_are_few();
     let code = generate(alloc, &tree, &fusion, &orders)?;
     let mut machine = Recorder {
-        space: &space,
+        space,
         tree: &tree,
         fusion: &fusion,
         room,
         calls,
     };
-    let answer = run_program(&space, &tree, code.ops(), &mut machine);
+    let answer = run_program(space, &tree, code.ops(), &mut machine);
     let Recorder {
         space: _,
         tree: _,
@@ -193,48 +174,82 @@ fn calls_of(
     Ok(answer.is_ok())
 }
 
-#[test]
-fn tails_are_handed_over_whole(rt: HostRuntime) -> Result<(), Fail> {
-    let none = IndexSet::empty();
+// With so much room for its calls a run succeeds or not, and has these calls.
+fn expect_calls(
+    rt: &impl Abort,
+    alloc: Global,
+    expr: &Expr,
+    sets: &[IndexSet],
+    ends: (usize, bool),
+    wanted: &[u8],
+) {
+    let space = four_indexes(rt, alloc);
     let mut calls = ArrayVec::new();
+    match calls_of(alloc, &space, expr, sets, ends.0, &mut calls) {
+        Ok(ran) => assert!(rt; ran == ends.1),
+        Err(_) => panic!(rt; "no run"),
+    }
+    assert!(rt; calls.as_slice() == wanted);
+}
+
+#[test]
+fn tails_are_handed_over_whole(rt: HostRuntime) {
+    let none = IndexSet::empty();
     let sets = [none, IndexSet::empty().with(1), none];
-    let ran = calls_of(rt.alloc(), &*two_sums(rt.alloc())?, &sets, 128, &mut calls)?;
-    assert!(rt; ran);
-    let expected = [
+    let wanted = [
         b'c', 0, b't', 0, 0, 0, 0, 2, b'c', 1, b't', 1, 0, 0, 3, b't', 2, 0, 0, 0, b'c', 1, b't',
         1, 0, 1, 3, b't', 2, 0, 1, 0, b'c', 1, b't', 1, 0, 2, 3, b't', 2, 0, 2, 0,
     ];
-    assert!(rt; calls.as_slice() == expected.as_slice());
-    Ok(())
+    let expr = two_sums(&rt, rt.alloc());
+    expect_calls(
+        &rt,
+        rt.alloc(),
+        &expr,
+        &sets,
+        (128, true),
+        wanted.as_slice(),
+    );
 }
 
 #[test]
-fn a_product_joins_its_sum(rt: HostRuntime) -> Result<(), Fail> {
-    let none = IndexSet::empty();
-    let mut calls = ArrayVec::new();
-    let sets = [IndexSet::empty().with(0), none];
-    let ran = calls_of(rt.alloc(), &*dot(rt.alloc())?, &sets, 128, &mut calls)?;
-    assert!(rt; ran);
-    assert!(rt; calls.as_slice() == [b't', 0, 101, 0, 0].as_slice());
-    Ok(())
+fn a_product_joins_its_sum(rt: HostRuntime) {
+    let sets = [IndexSet::empty().with(0), IndexSet::empty()];
+    let expr = dot(&rt, rt.alloc());
+    expect_calls(
+        &rt,
+        rt.alloc(),
+        &expr,
+        &sets,
+        (128, true),
+        &[b't', 0, 101, 0, 0],
+    );
 }
 
 #[test]
-fn constants_go_turn_by_turn(rt: HostRuntime) -> Result<(), Fail> {
-    let none = IndexSet::empty();
-    let mut calls = ArrayVec::new();
-    let ran = calls_of(rt.alloc(), &*doubled(rt.alloc())?, &[none], 128, &mut calls)?;
-    assert!(rt; ran);
-    assert!(rt; calls.as_slice() == [b'o', 0, 0, b'o', 0, 1, b'o', 0, 2].as_slice());
-    Ok(())
+fn constants_go_turn_by_turn(rt: HostRuntime) {
+    let wanted = [b'o', 0, 0, b'o', 0, 1, b'o', 0, 2];
+    let expr = doubled(&rt, rt.alloc());
+    let sets = [IndexSet::empty()];
+    expect_calls(
+        &rt,
+        rt.alloc(),
+        &expr,
+        &sets,
+        (128, true),
+        wanted.as_slice(),
+    );
 }
 
 #[test]
-fn a_failure_ends_the_run(rt: HostRuntime) -> Result<(), Fail> {
-    let none = IndexSet::empty();
-    let mut calls = ArrayVec::new();
-    let ran = calls_of(rt.alloc(), &*doubled(rt.alloc())?, &[none], 7, &mut calls)?;
-    assert!(rt; !ran);
-    assert!(rt; calls.as_slice() == [b'o', 0, 0, b'o', 0, 1].as_slice());
-    Ok(())
+fn a_failure_ends_the_run(rt: HostRuntime) {
+    let expr = doubled(&rt, rt.alloc());
+    let sets = [IndexSet::empty()];
+    expect_calls(
+        &rt,
+        rt.alloc(),
+        &expr,
+        &sets,
+        (7, false),
+        &[b'o', 0, 0, b'o', 0, 1],
+    );
 }

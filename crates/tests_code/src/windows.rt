@@ -1,9 +1,8 @@
 //! Small blocks, with results by hand.
-ghost use Rattle.std.specs.Prelude.{◌≡◌, ◌+◌, ◌<◌, length, IfOk};
+ghost use Rattle.std.specs.Prelude.{◌≡◌, ◌+◌, ◌<◌, length};
 
-use std::alloc::AllocError;
+use std::alloc::Global;
 use std::process::Abort;
-use std::test::Fail;
 use tce_strides::Operation;
 use tce_windows::{LoopSequence, Window, compute, grow, grow_by_products, laws};
 use tce_words::{HeapRoom, Room, Words};
@@ -68,22 +67,31 @@ const DIFFERENCES: Window = Window {
 };
 
 // The words at the front of a block of 24.
-fn block_of(room: &mut HeapRoom, from: &[u64; 12]) -> Result<Words, AllocError>
-    ensures { IfOk result (λ words. length words ≡ 24) }
+fn block_of(rt: &impl Abort, alloc: Global, from: &[u64; 12]) -> Words
+    ensures { length result ≡ 24 }
 {
-    let mut words = room.take(24, 0)?;
+    let mut words = room_of_24(rt, alloc);
     for k in 0..12usize {
         words.put(k as u64, from[k]);
     }
-    Ok(words)
+    words
 }
 
-fn expect_words<R: Abort>(rt: &R, words: &Words, from: u64, expected: &[u64])
+fn room_of_24(rt: &impl Abort, alloc: Global) -> Words
+    ensures { length result ≡ 24 }
+{
+    match HeapRoom::new(alloc).take(24, 0) {
+        Ok(words) => words,
+        Err(_) => panic!(rt; "no memory"),
+    }
+}
+
+fn expect_words(rt: &impl Abort, words: &Words, from: u64, expected: &[u64])
     requires length { length words.now ≡ 24 }
     requires within { from + length expected.now < 25 }
 {
     for k in 0..expected.len() {
-        assert_eq!(rt; words.get(from + k as u64), expected[k]);
+        assert!(rt; words.get(from + k as u64) == expected[k]);
     }
 }
 
@@ -161,9 +169,8 @@ fn put_results(words: &mut Words)
 }
 
 #[test]
-fn blocks_run(rt: HostRuntime) -> Result<(), Fail> {
-    let mut room = HeapRoom::new(rt.alloc());
-    let mut words = block_of(&mut room, &[1, 2, 3, 4, 5, 6, 7, 8, 9, 10, 11, 12])?;
+fn blocks_run(rt: HostRuntime) {
+    let mut words = block_of(&rt, rt.alloc(), &[1, 2, 3, 4, 5, 6, 7, 8, 9, 10, 11, 12]);
     multiply(&mut words);
     expect_words(&rt, &words, 12, &[2 * 58, 2 * 64, 2 * 139, 2 * 154]);
     sum_rows(&mut words);
@@ -172,11 +179,10 @@ fn blocks_run(rt: HostRuntime) -> Result<(), Fail> {
     expect_words(&rt, &words, 18, &[3 * 11, 6 * 11]);
     expect_words(&rt, &words, 20, &[3, 3, 3, 0]);
     expect_words(&rt, &words, 0, &[1, 2, 3, 4, 5, 6, 7, 8, 9, 10, 11, 12]);
-    Ok(())
 }
 
 #[test]
-fn laws_of_windows(_rt: HostRuntime) -> Result<(), Fail> {
+fn laws_of_windows() {
     laws::coordinates_are_turns();
     laws::turns_are_within();
     laws::turns_are_apart();
@@ -188,5 +194,4 @@ fn laws_of_windows(_rt: HostRuntime) -> Result<(), Fail> {
     laws::grow_leaves();
     laws::products_leave();
     laws::compute_leaves();
-    Ok(())
 }

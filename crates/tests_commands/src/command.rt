@@ -4,10 +4,11 @@ ghost use Rattle.tce_command.specs.Report.{NamesDeclared};
 use std::alloc::Global;
 use std::process::Abort;
 use std::test::Fail;
-use tce_array::ArrayFault;
 use tce_cert::CertFault;
 use tce_check::Verdict;
-use tce_command::{CertTrouble, CommandRefusal, Refusal, finish, refuse, refuse_words};
+use tce_command::{
+    ArrayTrouble, CertTrouble, CommandRefusal, Refusal, finish, refuse, refuse_words,
+};
 use tce_declarations::{Limit, SpecFault};
 use tce_nesting::Nesting;
 use tce_outside::MemSink;
@@ -70,9 +71,9 @@ fn refused_files_have_their_lines(rt: HostRuntime) -> Result<(), Fail> {
     let alloc = rt.alloc();
     let missing = Refusal::missing("one.tce");
     expect(&rt, alloc, missing, 3, b"error 3: no file one.tce\n")?;
-    let length = Refusal::Array(name("A")?, ArrayFault::BadLength(48));
+    let length = Refusal::Array(name("A")?, ArrayTrouble::BadLength(48));
     expect(&rt, alloc, length, 4, b"error 4: A.tca: length 48\n")?;
-    let head = Refusal::Array(name("A")?, ArrayFault::BadHeader(8));
+    let head = Refusal::Array(name("A")?, ArrayTrouble::BadHeader(8));
     expect(&rt, alloc, head, 4, b"error 4: A.tca: head byte 8\n")?;
     let flat = Refusal::Flat(24);
     expect(&rt, alloc, flat, 11, b"error 11: flat length 24\n")?;

@@ -3,8 +3,7 @@
 use std::alloc::Global;
 use std::process::Abort;
 use std::test::Fail;
-use tce_array::ArrayFault;
-use tce_command::Refusal;
+use tce_command::{ArrayTrouble, Refusal};
 use tce_outside::{FaultyDisk, MemDisk};
 use tce_run::run;
 use tce_words::{HeapRoom, RefusingRoom};
@@ -97,6 +96,31 @@ fn a_product_of_elements_is_run(rt: HostRuntime) -> Result<(), Fail> {
     expect_run(&rt, rt.alloc(), disk, 6, "1 5 2 1 2 3 4 5 0", report)
 }
 
+// The numbers of an array's head, and behind them one that stands so often.
+fn repeated(alloc: Global, head: &str, word: &str, count: u32) -> Result<String, Fail> {
+    let mut text = String::new(alloc);
+    text.push_str(head)?;
+    for _ in 0..count {
+        text.push_str(word)?;
+    }
+    Ok(text)
+}
+
+// Its 34 * 34 + 34 + 34 tiles, each of one word, have a frame each.
+#[test]
+fn a_run_may_have_many_frames(rt: HostRuntime) -> Result<(), Fail> {
+    let alloc = rt.alloc();
+    let text =
+        b"range N 34\nindex N i j\ntensor A[N]\ntensor B[N]\ntensor C[N,N]\nC[i,j] = A[i] * B[j]\n";
+    let a = repeated(alloc, "1 34 1", " 2", 34)?;
+    let b = repeated(alloc, "1 34 1", " 3", 34)?;
+    let c = repeated(alloc, "2 34 34 1 1", " 6", 1156)?;
+    let disk = disk_of(alloc, text, a.as_str(), b.as_str())?;
+    let report =
+        b"tce run 1\nnode 0 product loops i,j result\nmemory 0\ntiles 1224\nwrote C.tca 9296\n";
+    expect_run(&rt, alloc, disk, 5000, c.as_str(), report)
+}
+
 // Whether a refusal has this exit status, names this, and tells this number.
 fn tells(refusal: &Refusal, code: u8, name: &str, number: u128) -> bool {
     if refusal.status().code() != code {
@@ -104,10 +128,10 @@ fn tells(refusal: &Refusal, code: u8, name: &str, number: u128) -> bool {
     }
     match refusal {
         Refusal::Missing(file) => file.as_str() == name,
-        Refusal::Array(tensor, ArrayFault::BadLength(len)) => {
+        Refusal::Array(tensor, ArrayTrouble::BadLength(len)) => {
             tensor.as_str() == name && *len as u128 == number
         }
-        Refusal::Array(tensor, ArrayFault::BadHeader(at)) => {
+        Refusal::Array(tensor, ArrayTrouble::BadHeader(at)) => {
             tensor.as_str() == name && *at as u128 == number
         }
         Refusal::Budget(least) => *least as u128 == number,

@@ -89,6 +89,24 @@ fn plans_that_keep_the_rules_are_accepted(rt: HostRuntime) -> Result<(), Fail> {
     )
 }
 
+// The first table, with rows behind those that are needed, in more than 2^24 bytes.
+fn long_table(rt: &impl Abort, alloc: Global) -> Result<Vec<u8>, Fail> {
+    let mut bytes = Vec::new(alloc);
+    bytes.extend_from_slice(b"table 0 520002\nrow 5 -\nrow 1 i")?;
+    for _ in 0..520_000u32 {
+        bytes.extend_from_slice(b"\nrow 10000000000000000000000000 i")?;
+    }
+    assert!(rt; bytes.len() > 1 << 24);
+    Ok(bytes)
+}
+
+#[test]
+fn a_long_certificate_is_accepted(rt: HostRuntime) -> Result<(), Fail> {
+    let alloc = rt.alloc();
+    let table = long_table(&rt, alloc)?;
+    expect_changed(&rt, alloc, (131, 156), table.as_slice(), 0, ACCEPTED)
+}
+
 #[test]
 fn the_first_rule_that_a_plan_breaks_is_named(rt: HostRuntime) -> Result<(), Fail> {
     let alloc = rt.alloc();

@@ -2,9 +2,9 @@
 ghost use Rattle.std.specs.Prelude.{◌<◌, All, IsTrue};
 
 use arrayvec::ArrayVec;
-use std::alloc::{AllocError, Global};
+use std::alloc::Global;
 use std::process::Abort;
-use std::test::Fail;
+use tce_outside::{FaultyDisk, MemDisk};
 use tce_space::{Name, Shape, Space, is_name};
 
 const LETTERS: [&str; 8] = ["a", "b", "c", "d", "e", "f", "g", "h"];
@@ -22,18 +22,41 @@ fn number_of(rt: &impl Abort, word: &str) -> u64 {
 }
 
 // The numbers of a text, apart by blanks.
-pub(crate) fn numbers_of(
-    rt: &impl Abort,
-    alloc: Global,
-    text: &str,
-) -> Result<Vec<u64>, AllocError> {
+pub(crate) fn numbers_of(rt: &impl Abort, alloc: Global, text: &str) -> Vec<u64> {
     let mut numbers = Vec::new(alloc);
     for word in text.split(' ') {
         if !word.is_empty() {
-            numbers.push(number_of(rt, word))?;
+            assert!(rt; numbers.push(number_of(rt, word)).is_ok());
         }
     }
-    Ok(numbers)
+    numbers
+}
+
+pub(crate) fn put(rt: &impl Abort, bytes: &mut Vec<u8>, more: &[u8]) {
+    assert!(rt; bytes.extend_from_slice(more).is_ok(), "no memory");
+}
+
+pub(crate) fn put_file(rt: &impl Abort, disk: &mut MemDisk, name: &str, bytes: &[u8]) {
+    assert!(rt; disk.put_file(name, bytes).is_ok(), "no memory");
+}
+
+pub(crate) fn expect_file(rt: &impl Abort, disk: &MemDisk, name: &str, bytes: &[u8]) {
+    assert!(rt; disk.file(name) == Some(bytes), "the file {name}");
+}
+
+pub(crate) fn repeated(rt: &impl Abort, alloc: Global, byte: u8, count: usize) -> Vec<u8> {
+    match vec![in alloc; byte; count] {
+        Ok(bytes) => bytes,
+        Err(_) => panic!(rt; "no memory"),
+    }
+}
+
+// A disk with these files, where the call with this number fails.
+pub(crate) fn failing(rt: &impl Abort, alloc: Global, files: MemDisk, call: u64) -> FaultyDisk {
+    match vec![in alloc; call] {
+        Ok(calls) => FaultyDisk::new(files, calls),
+        Err(_) => panic!(rt; "no memory"),
+    }
 }
 
 // Whether all these ranges are declared.
@@ -52,7 +75,9 @@ fn add_range(rt: &impl Abort, space: &mut Space, number: usize, word: &str) -> u
     assert!(rt; is_name(name.as_str().as_bytes()));
     let extent = number_of(rt, part(word, '/', 0));
     let edge = number_of(rt, part(word, '/', 1));
-    assert!(rt; 0 < edge && edge <= extent && extent < 1 << 32);
+    assert!(rt; 0 < edge);
+    assert!(rt; edge <= extent);
+    assert!(rt; extent < 1 << 32);
     let Ok(range) = space.add_range(&name, extent, edge) else {
         panic!(rt; "each name is new");
     };
@@ -85,11 +110,12 @@ pub(crate) fn file_of(
     magic: &str,
     words: &str,
     rest: &[u8],
-) -> Result<Vec<u8>, AllocError> {
-    let mut bytes = magic.as_bytes().to_vec(alloc)?;
-    for word in &numbers_of(rt, alloc, words)? {
-        bytes.extend_from_slice(&word.to_le_bytes())?;
+) -> Vec<u8> {
+    let mut bytes = Vec::new(alloc);
+    put(rt, &mut bytes, magic.as_bytes());
+    for word in &numbers_of(rt, alloc, words) {
+        put(rt, &mut bytes, &word.to_le_bytes());
     }
-    bytes.extend_from_slice(rest)?;
-    Ok(bytes)
+    put(rt, &mut bytes, rest);
+    bytes
 }

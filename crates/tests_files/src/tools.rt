@@ -1,39 +1,38 @@
 //! Flat files, arrays in other forms, and the arrays of the demonstration.
+ghost use Rattle.std.specs.Prelude.{◌<◌, ◌≤◌};
 
-use crate::given::{numbers_of, shape_of};
-use std::alloc::{AllocError, Global};
+use crate::given::{expect_file, failing, numbers_of, put, put_file, repeated, shape_of};
+use std::alloc::Global;
 use std::process::Abort;
-use std::test::Fail;
 use tce_array::{ArrayFault, Form, open};
 use tce_outside::{Disk, FaultyDisk, MemDisk, OutFault};
 use tce_space::Shape;
 use tce_tools::{ToolFault, cell_sum, convert, demo_array, demo_spec, pack, unpack};
 
 // The words from 1 on, eight bytes each.
-fn counted(alloc: Global, count: u64) -> Result<Vec<u8>, AllocError> {
+fn counted(rt: &impl Abort, alloc: Global, count: u64) -> Vec<u8> {
     let mut bytes = Vec::new(alloc);
     for k in 0..count {
-        bytes.extend_from_slice(&(k + 1).to_le_bytes())?;
+        put(rt, &mut bytes, &(k + 1).to_le_bytes());
     }
-    Ok(bytes)
+    bytes
+}
+
+fn put_numbers(rt: &impl Abort, bytes: &mut Vec<u8>, numbers: &[u64]) {
+    for number in numbers {
+        put(rt, bytes, &number.to_le_bytes());
+    }
 }
 
 // An array file in the first form, by its shape and its words.
-fn first_form(
-    rt: &impl Abort,
-    alloc: Global,
-    shape: &Shape,
-    words: &str,
-) -> Result<Vec<u8>, AllocError> {
-    let mut bytes = b"TCARRAY1".to_vec(alloc)?;
-    bytes.extend_from_slice(&(shape.extents().len() as u64).to_le_bytes())?;
-    let words = numbers_of(rt, alloc, words)?;
-    for numbers in [shape.extents(), shape.edges(), words.as_slice()] {
-        for number in numbers {
-            bytes.extend_from_slice(&number.to_le_bytes())?;
-        }
-    }
-    Ok(bytes)
+fn first_form(rt: &impl Abort, alloc: Global, shape: &Shape, words: &str) -> Vec<u8> {
+    let mut bytes = Vec::new(alloc);
+    put(rt, &mut bytes, b"TCARRAY1");
+    put_numbers(rt, &mut bytes, &[shape.extents().len() as u64]);
+    put_numbers(rt, &mut bytes, shape.extents());
+    put_numbers(rt, &mut bytes, shape.edges());
+    put_numbers(rt, &mut bytes, numbers_of(rt, alloc, words).as_slice());
+    bytes
 }
 
 // Packs, where the names differ.
@@ -100,6 +99,30 @@ fn drawn<D: Disk>(
     Some(demo_array(disk, shape, array, x))
 }
 
+fn expect_packed<D: Disk>(rt: &impl Abort, disk: &mut D, shape: &Shape) {
+    assert!(rt; packed(disk, shape, "a.flat", "A.tca") == Some(Ok(())));
+}
+
+fn expect_unpacked<D: Disk>(rt: &impl Abort, disk: &mut D, shape: &Shape, array: &str) {
+    assert!(rt; unpacked(disk, shape, array, "b.flat") == Some(Ok(())));
+}
+
+fn expect_converted<D: Disk>(rt: &impl Abort, disk: &mut D, shape: &Shape, form: Form) {
+    assert!(rt; converted(disk, shape, "A.tca", form, "B.tca") == Some(Ok(())));
+}
+
+// The array has this form and this sum.
+fn expect_sum<D: Disk>(
+    rt: &impl Abort,
+    disk: &mut D,
+    shape: &Shape,
+    name: &str,
+    form: Form,
+    sum: u64,
+) {
+    assert!(rt; form_and_sum(disk, shape, name) == Some((form, sum)));
+}
+
 // The array A.tca is written in this form as B.tca, has this sum, and gives back its elements.
 fn expect_form(
     rt: &impl Abort,
@@ -109,13 +132,17 @@ fn expect_form(
     sum: u64,
     flat: &[u8],
 ) {
-    assert_eq!(rt;
-        converted(disk, shape, "A.tca", form, "B.tca"),
-        Some(Ok(()))
-    );
-    assert_eq!(rt; form_and_sum(disk, shape, "B.tca"), Some((form, sum)));
-    assert_eq!(rt; unpacked(disk, shape, "B.tca", "b.flat"), Some(Ok(())));
-    assert_eq!(rt; disk.file("b.flat"), Some(flat));
+    expect_converted(rt, disk, shape, form);
+    expect_sum(rt, disk, shape, "B.tca", form, sum);
+    expect_unpacked(rt, disk, shape, "B.tca");
+    expect_file(rt, disk, "b.flat", flat);
+}
+
+// A disk with this flat file.
+fn disk_of(rt: &impl Abort, alloc: Global, flat: &[u8]) -> MemDisk {
+    let mut disk = MemDisk::new(alloc);
+    put_file(rt, &mut disk, "a.flat", flat);
+    disk
 }
 
 // Elements 1, 2, 3 and so on of a shape: so many, with this sum, and the words of their array file.
@@ -126,78 +153,72 @@ fn expect_tiled(
     elements: u64,
     sum: u64,
     words: &str,
-) -> Result<(), Fail> {
+) {
     let shape = shape_of(rt, alloc, dimensions);
-    let flat = counted(alloc, elements)?;
-    let array = first_form(rt, alloc, &shape, words)?;
-    let mut disk = MemDisk::new(alloc);
-    disk.put_file("a.flat", &flat)?;
-    assert_eq!(rt; packed(&mut disk, &shape, "a.flat", "A.tca"), Some(Ok(())));
-    assert_eq!(rt; disk.file("A.tca"), Some(array.as_slice()));
-    assert_eq!(rt;
-        form_and_sum(&mut disk, &shape, "A.tca"),
-        Some((Form::One, sum))
-    );
+    let flat = counted(rt, alloc, elements);
+    let array = first_form(rt, alloc, &shape, words);
+    let mut disk = disk_of(rt, alloc, flat.as_slice());
+    expect_packed(rt, &mut disk, &shape);
+    expect_file(rt, &disk, "A.tca", array.as_slice());
+    expect_sum(rt, &mut disk, &shape, "A.tca", Form::One, sum);
     expect_form(rt, &mut disk, &shape, Form::Narrow, sum, flat.as_slice());
     expect_form(rt, &mut disk, &shape, Form::Wide, sum, flat.as_slice());
     expect_form(rt, &mut disk, &shape, Form::One, sum, flat.as_slice());
-    assert_eq!(rt; disk.file("B.tca"), Some(array.as_slice()));
-    assert_eq!(rt; disk.file("A.tca"), Some(array.as_slice()));
-    Ok(())
+    expect_file(rt, &disk, "B.tca", array.as_slice());
+    expect_file(rt, &disk, "A.tca", array.as_slice());
 }
 
 #[test]
-fn elements_move_between_flat_files_and_arrays(rt: HostRuntime) -> Result<(), Fail> {
+fn elements_move_between_flat_files_and_arrays(rt: HostRuntime) {
     let alloc = rt.alloc();
-    expect_tiled(&rt, alloc, "", 1, 1, "1")?;
+    expect_tiled(&rt, alloc, "", 1, 1, "1");
     // a last tile that is padded
-    expect_tiled(&rt, alloc, "5/2", 5, 15, "1 2 3 4 5 0")?;
+    expect_tiled(&rt, alloc, "5/2", 5, 15, "1 2 3 4 5 0");
     // one tile
-    expect_tiled(&rt, alloc, "2/2 3/3", 6, 21, "1 2 3 4 5 6")?;
+    expect_tiled(&rt, alloc, "2/2 3/3", 6, 21, "1 2 3 4 5 6");
     // tiles of one element
-    expect_tiled(&rt, alloc, "2/1 3/1", 6, 21, "1 2 3 4 5 6")?;
+    expect_tiled(&rt, alloc, "2/1 3/1", 6, 21, "1 2 3 4 5 6");
     // rows of one element
-    expect_tiled(&rt, alloc, "2/2 2/1", 4, 10, "1 3 2 4")
+    expect_tiled(&rt, alloc, "2/2 2/1", 4, 10, "1 3 2 4");
 }
 
 #[test]
-fn elements_move_where_tiles_are_padded(rt: HostRuntime) -> Result<(), Fail> {
+fn elements_move_where_tiles_are_padded(rt: HostRuntime) {
     let alloc = rt.alloc();
     // in both dimensions
     let words = "1 2 4 5 3 0 6 0 7 8 0 0 9 0 0 0";
-    expect_tiled(&rt, alloc, "3/2 3/2", 9, 45, words)?;
+    expect_tiled(&rt, alloc, "3/2 3/2", 9, 45, words);
     // three dimensions, of which the first is cut
     let words = "1 2 4 5 3 0 6 0 7 8 10 11 9 0 12 0";
-    expect_tiled(&rt, alloc, "2/1 2/2 3/2", 12, 78, words)
+    expect_tiled(&rt, alloc, "2/1 2/2 3/2", 12, 78, words);
 }
 
-fn expect_long(rt: &impl Abort, alloc: Global, dimensions: &str) -> Result<(), Fail> {
+// Elements 1, 2, 3 and so on go into an array and come back.
+fn expect_long(rt: &impl Abort, alloc: Global, dimensions: &str, elements: u64) {
     let shape = shape_of(rt, alloc, dimensions);
-    let count = shape.elements();
-    assert!(rt; count < 1 << 20);
-    let sum = count * (count + 1) / 2;
-    let flat = counted(alloc, count)?;
-    let mut disk = MemDisk::new(alloc);
-    disk.put_file("a.flat", &flat)?;
-    assert_eq!(rt; packed(&mut disk, &shape, "a.flat", "A.tca"), Some(Ok(())));
-    assert_eq!(rt;
-        form_and_sum(&mut disk, &shape, "A.tca"),
-        Some((Form::One, sum))
+    assert!(rt; shape.elements() == elements);
+    assert!(rt; elements < 1 << 20);
+    let flat = counted(rt, alloc, elements);
+    let mut disk = disk_of(rt, alloc, flat.as_slice());
+    expect_packed(rt, &mut disk, &shape);
+    expect_sum(
+        rt,
+        &mut disk,
+        &shape,
+        "A.tca",
+        Form::One,
+        elements * (elements + 1) / 2,
     );
-    assert_eq!(rt;
-        unpacked(&mut disk, &shape, "A.tca", "b.flat"),
-        Some(Ok(()))
-    );
-    assert_eq!(rt; disk.file("b.flat"), Some(flat.as_slice()));
-    Ok(())
+    expect_unpacked(rt, &mut disk, &shape, "A.tca");
+    expect_file(rt, &disk, "b.flat", flat.as_slice());
 }
 
 #[test]
-fn long_arrays_move_in_pieces(rt: HostRuntime) -> Result<(), Fail> {
+fn long_arrays_move_in_pieces(rt: HostRuntime) {
     let alloc = rt.alloc();
-    expect_long(&rt, alloc, "1/1 9000/1")?;
-    expect_long(&rt, alloc, "2/2 5000/5000")?;
-    expect_long(&rt, alloc, "41/7 101/9")
+    expect_long(&rt, alloc, "1/1 9000/1", 9000);
+    expect_long(&rt, alloc, "2/2 5000/5000", 10000);
+    expect_long(&rt, alloc, "41/7 101/9", 4141);
 }
 
 // The file of -1 and 5 in the narrow form.
@@ -206,97 +227,112 @@ const NARROW: &[u8] = &[
     2, 0, 0, 0, 0, 0, 0, 0, 1, 0, 0, 0, 0, 0, 0, 0, 0xff, 0xff, 0xff, 0xff, 5, 0, 0, 0,
 ];
 
-#[test]
-fn narrow_elements_are_signed(rt: HostRuntime) -> Result<(), Fail> {
-    let alloc = rt.alloc();
-    let shape = shape_of(&rt, alloc, "2/1");
+// A disk with the array of two words as A.tca, and the old file B.tca.
+fn disk_of_two(rt: &impl Abort, alloc: Global, shape: &Shape, words: &str) -> MemDisk {
     let mut disk = MemDisk::new(alloc);
-    let array = first_form(&rt, alloc, &shape, "18446744073709551615 5")?;
-    disk.put_file("A.tca", &array)?;
-    let done = converted(&mut disk, &shape, "A.tca", Form::Narrow, "B.tca");
-    assert_eq!(rt; done, Some(Ok(())));
-    assert_eq!(rt; disk.file("B.tca"), Some(NARROW));
-    assert_eq!(rt;
-        form_and_sum(&mut disk, &shape, "B.tca"),
-        Some((Form::Narrow, 4))
+    put_file(
+        rt,
+        &mut disk,
+        "A.tca",
+        first_form(rt, alloc, shape, words).as_slice(),
     );
-    Ok(())
+    put_file(rt, &mut disk, "B.tca", b"old");
+    disk
+}
+
+#[test]
+fn narrow_elements_are_signed(rt: HostRuntime) {
+    let shape = shape_of(&rt, rt.alloc(), "2/1");
+    let mut disk = disk_of_two(&rt, rt.alloc(), &shape, "18446744073709551615 5");
+    expect_converted(&rt, &mut disk, &shape, Form::Narrow);
+    expect_file(&rt, &disk, "B.tca", NARROW);
+    expect_sum(&rt, &mut disk, &shape, "B.tca", Form::Narrow, 4);
 }
 
 // Whether two words fit the narrow form, and the place of the first that does not.
-fn expect_fit(
-    rt: &impl Abort,
-    alloc: Global,
-    words: &str,
-    answer: Result<(), ToolFault>,
-) -> Result<(), Fail> {
+fn expect_fit(rt: &impl Abort, alloc: Global, words: &str, answer: Result<(), ToolFault>) {
     let shape = shape_of(rt, alloc, "2/1");
-    let mut disk = MemDisk::new(alloc);
-    disk.put_file("A.tca", &first_form(rt, alloc, &shape, words)?)?;
-    disk.put_file("B.tca", b"old")?;
+    let mut disk = disk_of_two(rt, alloc, &shape, words);
     let done = converted(&mut disk, &shape, "A.tca", Form::Narrow, "B.tca");
-    assert_eq!(rt; done, Some(answer), "{words}");
+    assert!(rt; done == Some(answer), "{words}");
     let kept = disk.file("B.tca") == Some(b"old".as_slice());
-    assert_eq!(rt; kept, answer.is_err(), "{words}");
-    let done = converted(&mut disk, &shape, "A.tca", Form::Wide, "B.tca");
-    assert_eq!(rt; done, Some(Ok(())), "{words}");
-    Ok(())
+    assert!(rt; kept == answer.is_err(), "{words}");
+    expect_converted(rt, &mut disk, &shape, Form::Wide);
 }
 
 #[test]
-fn narrow_elements_have_their_limits(rt: HostRuntime) -> Result<(), Fail> {
+fn narrow_elements_have_their_limits(rt: HostRuntime) {
     let alloc = rt.alloc();
-    expect_fit(&rt, alloc, "18446744071562067968 2147483647", Ok(()))?;
+    expect_fit(&rt, alloc, "18446744071562067968 2147483647", Ok(()));
     // one less than the least
     let last = Err(ToolFault::DoesNotFit(1));
-    expect_fit(&rt, alloc, "5 18446744071562067967", last)?;
+    expect_fit(&rt, alloc, "5 18446744071562067967", last);
     // one more than the largest
     let first = Err(ToolFault::DoesNotFit(0));
-    expect_fit(&rt, alloc, "2147483648 2147483648", first)
+    expect_fit(&rt, alloc, "2147483648 2147483648", first);
 }
 
 // A disk with the old file A.tca alone.
-fn old_disk(alloc: Global) -> Result<MemDisk, Fail> {
+fn old_disk(rt: &impl Abort, alloc: Global) -> MemDisk {
     let mut disk = MemDisk::new(alloc);
-    disk.put_file("A.tca", b"old")?;
-    Ok(disk)
+    put_file(rt, &mut disk, "A.tca", b"old");
+    disk
 }
 
 fn expect_old(rt: &impl Abort, disk: &MemDisk) {
-    assert_eq!(rt; disk.file("A.tca"), Some(b"old".as_slice()));
-    assert_eq!(rt; disk.file("b.flat"), None);
+    expect_file(rt, disk, "A.tca", b"old");
+    assert!(rt; disk.file("b.flat").is_none());
+}
+
+// Packing is refused with this fault, and changes nothing.
+fn expect_no_flat(rt: &impl Abort, disk: &mut MemDisk, shape: &Shape, fault: ToolFault) {
+    assert!(rt; packed(disk, shape, "a.flat", "A.tca") == Some(Err(fault)));
+    expect_old(rt, disk);
+}
+
+// A flat file of another length than 40 bytes.
+fn expect_flat_length(
+    rt: &impl Abort,
+    alloc: Global,
+    disk: &mut MemDisk,
+    shape: &Shape,
+    len: usize,
+) {
+    put_file(rt, disk, "a.flat", repeated(rt, alloc, 7, len).as_slice());
+    expect_no_flat(rt, disk, shape, ToolFault::FlatLength(len as u64));
 }
 
 #[test]
-fn flat_files_are_refused(rt: HostRuntime) -> Result<(), Fail> {
+fn flat_files_are_refused(rt: HostRuntime) {
     let alloc = rt.alloc();
     let shape = shape_of(&rt, alloc, "5/2");
-    let mut disk = old_disk(alloc)?;
-    let none = Some(Err(ToolFault::NoFlat));
-    assert_eq!(rt; packed(&mut disk, &shape, "a.flat", "A.tca"), none);
-    for len in [0, 39, 41] {
-        disk.put_file("a.flat", &vec![in alloc; 7u8; len]?)?;
-        let refused = Some(Err(ToolFault::FlatLength(len as u64)));
-        assert_eq!(rt; packed(&mut disk, &shape, "a.flat", "A.tca"), refused);
-    }
-    expect_old(&rt, &disk);
-    Ok(())
+    let mut disk = old_disk(&rt, alloc);
+    expect_no_flat(&rt, &mut disk, &shape, ToolFault::NoFlat);
+    expect_flat_length(&rt, alloc, &mut disk, &shape, 0);
+    expect_flat_length(&rt, alloc, &mut disk, &shape, 39);
+    expect_flat_length(&rt, alloc, &mut disk, &shape, 41);
+}
+
+// Unpacking and converting the array are refused with this fault, and change nothing.
+fn expect_no_array(
+    rt: &impl Abort,
+    disk: &mut MemDisk,
+    shape: &Shape,
+    name: &str,
+    fault: ArrayFault,
+) {
+    let refused = Some(Err(ToolFault::Array(fault)));
+    assert!(rt; unpacked(disk, shape, name, "b.flat") == refused);
+    assert!(rt; converted(disk, shape, name, Form::Wide, "b.flat") == refused);
+    expect_old(rt, disk);
 }
 
 #[test]
-fn arrays_are_refused(rt: HostRuntime) -> Result<(), Fail> {
+fn arrays_are_refused(rt: HostRuntime) {
     let shape = shape_of(&rt, rt.alloc(), "5/2");
-    let mut disk = old_disk(rt.alloc())?;
-    let refused = Some(Err(ToolFault::Array(ArrayFault::BadLength(3))));
-    assert_eq!(rt; unpacked(&mut disk, &shape, "A.tca", "b.flat"), refused);
-    let done = converted(&mut disk, &shape, "A.tca", Form::Wide, "b.flat");
-    assert_eq!(rt; done, refused);
-    let absent = Some(Err(ToolFault::Array(ArrayFault::NoFile)));
-    assert_eq!(rt; unpacked(&mut disk, &shape, "B.tca", "b.flat"), absent);
-    let done = converted(&mut disk, &shape, "B.tca", Form::Wide, "b.flat");
-    assert_eq!(rt; done, absent);
-    expect_old(&rt, &disk);
-    Ok(())
+    let mut disk = old_disk(&rt, rt.alloc());
+    expect_no_array(&rt, &mut disk, &shape, "A.tca", ArrayFault::BadLength(3));
+    expect_no_array(&rt, &mut disk, &shape, "B.tca", ArrayFault::NoFile);
 }
 
 // Whether a call ended well, or with the fault of the disk where it failed.
@@ -308,7 +344,16 @@ fn is_fault(ended: Option<Result<(), ToolFault>>, faults: u64) -> bool {
     }
 }
 
-// One of three commands over a disk whose call with this number fails.
+// One of three commands over a disk with the flat file a.flat and the array A.tca.
+fn ended(disk: &mut FaultyDisk, shape: &Shape, command: u8) -> Option<Result<(), ToolFault>> {
+    match command {
+        0 => packed(disk, shape, "a.flat", "B.tca"),
+        1 => unpacked(disk, shape, "A.tca", "B.tca"),
+        _ => converted(disk, shape, "A.tca", Form::Narrow, "B.tca"),
+    }
+}
+
+// A command over a disk whose call with this number fails.
 fn expect_failure(
     rt: &impl Abort,
     alloc: Global,
@@ -316,47 +361,54 @@ fn expect_failure(
     command: u8,
     flat: &[u8],
     array: &[u8],
-) -> Result<(), Fail> {
+) {
     let shape = shape_of(rt, alloc, "3/2 3/2");
-    let mut files = MemDisk::new(alloc);
-    files.put_file("a.flat", flat)?;
-    files.put_file("A.tca", array)?;
-    let mut disk = FaultyDisk::new(files, vec![in alloc; call]?);
-    let ended = match command {
-        0 => packed(&mut disk, &shape, "a.flat", "B.tca"),
-        1 => unpacked(&mut disk, &shape, "A.tca", "B.tca"),
-        _ => converted(&mut disk, &shape, "A.tca", Form::Narrow, "B.tca"),
-    };
-    assert!(rt; is_fault(ended, disk.faults()), "call {call} of {command}");
-    assert_eq!(rt; disk.inner().file("a.flat"), Some(flat));
-    assert_eq!(rt; disk.inner().file("A.tca"), Some(array));
-    Ok(())
+    let mut files = disk_of(rt, alloc, flat);
+    put_file(rt, &mut files, "A.tca", array);
+    let mut disk = failing(rt, alloc, files, call);
+    let done = ended(&mut disk, &shape, command);
+    assert!(rt; is_fault(done, disk.faults()), "call {call} of {command}");
+    expect_file(rt, disk.inner(), "a.flat", flat);
+    expect_file(rt, disk.inner(), "A.tca", array);
+}
+
+// Each call of a command fails in turn.
+fn expect_failures(rt: &impl Abort, alloc: Global, command: u8, flat: &[u8], array: &[u8]) {
+    for call in 0..24 {
+        expect_failure(rt, alloc, call, command, flat, array);
+    }
 }
 
 #[test]
-fn failures_of_the_disk_are_passed_on(rt: HostRuntime) -> Result<(), Fail> {
+fn failures_of_the_disk_are_passed_on(rt: HostRuntime) {
     let alloc = rt.alloc();
     let shape = shape_of(&rt, alloc, "3/2 3/2");
-    let flat = counted(alloc, 9)?;
-    let array = first_form(&rt, alloc, &shape, "1 2 4 5 3 0 6 0 7 8 0 0 9 0 0 0")?;
-    for call in 0..24 {
-        for command in 0..3 {
-            expect_failure(&rt, alloc, call, command, flat.as_slice(), array.as_slice())?;
-        }
-    }
-    Ok(())
+    let flat = counted(&rt, alloc, 9);
+    let array = first_form(&rt, alloc, &shape, "1 2 4 5 3 0 6 0 7 8 0 0 9 0 0 0");
+    expect_failures(&rt, alloc, 0, flat.as_slice(), array.as_slice());
+    expect_failures(&rt, alloc, 1, flat.as_slice(), array.as_slice());
+    expect_failures(&rt, alloc, 2, flat.as_slice(), array.as_slice());
 }
 
 const SMALLEST_SPEC: &str =
     "range V 1\nrange O 1\nindex V a b c d e f\nindex O i j k l\ntensor demoA[V,V,O,O]\ntensor demoB[V,V,V,O]\ntensor demoC[V,V,O,O]\ntensor demoD[V,V,V,O]\ntensor demoS[V,V,O,O]\ndemoS[a,b,i,j] = sum{c,k}(sum{d,f}(sum{e,l}(demoB[b,e,f,l] * demoD[c,d,e,l]) * demoC[d,f,j,k]) * demoA[a,c,i,k])\n";
 
+fn spec_of(rt: &impl Abort, alloc: Global, v: u64, o: u64) -> Vec<u8>
+    requires v { (0 < v) × (v ≤ 16) }
+    requires o { (0 < o) × (o ≤ 16) }
+{
+    match demo_spec(alloc, v, o) {
+        Ok(text) => text,
+        Err(_) => panic!(rt; "no memory"),
+    }
+}
+
 #[test]
-fn the_demonstration_has_its_text(rt: HostRuntime) -> Result<(), Fail> {
-    let smallest = demo_spec(rt.alloc(), 1, 1)?;
-    assert_eq!(rt; smallest.as_slice(), SMALLEST_SPEC.as_bytes());
-    let larger = demo_spec(rt.alloc(), 16, 8)?;
+fn the_demonstration_has_its_text(rt: HostRuntime) {
+    let smallest = spec_of(&rt, rt.alloc(), 1, 1);
+    assert!(rt; smallest.as_slice() == SMALLEST_SPEC.as_bytes());
+    let larger = spec_of(&rt, rt.alloc(), 16, 8);
     assert!(rt; larger.starts_with(b"range V 16 tile 4\nrange O 8 tile 4\nindex V a"));
-    Ok(())
 }
 
 // From this number the generator goes on to that one, and the elements that are drawn on the way are these.
@@ -367,21 +419,20 @@ fn expect_drawn(
     from: u64,
     to: u64,
     digits: &str,
-) -> Result<(), Fail> {
+) {
     let shape = shape_of(rt, alloc, dimensions);
+    let array = first_form(rt, alloc, &shape, digits);
     let mut disk = MemDisk::new(alloc);
-    assert_eq!(rt; drawn(&mut disk, &shape, "A.tca", from), Some(Ok(to)));
-    let array = first_form(rt, alloc, &shape, digits)?;
-    assert_eq!(rt; disk.file("A.tca"), Some(array.as_slice()));
-    Ok(())
+    assert!(rt; drawn(&mut disk, &shape, "A.tca", from) == Some(Ok(to)));
+    expect_file(rt, &disk, "A.tca", array.as_slice());
 }
 
 #[test]
-fn the_demonstration_draws_its_numbers(rt: HostRuntime) -> Result<(), Fail> {
+fn the_demonstration_draws_its_numbers(rt: HostRuntime) {
     let alloc = rt.alloc();
-    expect_drawn(&rt, alloc, "1/1 1/1 1/1 1/1", 1, 48271, "1")?;
-    expect_drawn(&rt, alloc, "1/1 1/1 1/1 1/1", 48271, 182605794, "4")?;
-    expect_drawn(&rt, alloc, "1/1 1/1 1/1 1/1", 182605794, 1291394886, "6")?;
-    expect_drawn(&rt, alloc, "1/1 1/1 1/1 1/1", 1291394886, 1914720637, "7")?;
-    expect_drawn(&rt, alloc, "2/2 2/1", 1, 1914720637, "1 6 4 7")
+    expect_drawn(&rt, alloc, "1/1 1/1 1/1 1/1", 1, 48271, "1");
+    expect_drawn(&rt, alloc, "1/1 1/1 1/1 1/1", 48271, 182605794, "4");
+    expect_drawn(&rt, alloc, "1/1 1/1 1/1 1/1", 182605794, 1291394886, "6");
+    expect_drawn(&rt, alloc, "1/1 1/1 1/1 1/1", 1291394886, 1914720637, "7");
+    expect_drawn(&rt, alloc, "2/2 2/1", 1, 1914720637, "1 6 4 7");
 }

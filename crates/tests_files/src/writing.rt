@@ -1,21 +1,22 @@
 //! Files that are written over others.
 
-use std::test::Fail;
+use crate::given::{expect_file, put_file};
+use std::process::Abort;
 use tce_outside::{FaultyDisk, MemDisk, OutFault};
 use tce_writing::write_file;
 
+fn expect_written(rt: &impl Abort, disk: &mut MemDisk, name: &str, bytes: &[u8]) {
+    assert!(rt; write_file(disk, name, bytes).is_ok());
+    expect_file(rt, disk, name, bytes);
+}
+
 #[test]
-fn files_are_written_whole(rt: HostRuntime) -> Result<(), Fail> {
+fn files_are_written_whole(rt: HostRuntime) {
     let mut disk = MemDisk::new(rt.alloc());
-    disk.put_file("a", b"before")?;
-    disk.put_file("b", b"beside")?;
-    let cases: [(&str, &[u8]); 3] = [("a", b"x"), ("c", b""), ("a", b"longer than before")];
-    for (name, bytes) in cases {
-        let Ok(()) = write_file(&mut disk, name, bytes) else {
-            return Err(Fail::new("the file is not written"));
-        };
-        assert_eq!(rt; disk.file(name).unwrap_or(b"none"), bytes);
-    }
-    assert_eq!(rt; disk.file("b").unwrap_or(b"none"), b"beside".as_slice());
-    Ok(())
+    put_file(&rt, &mut disk, "a", b"before");
+    put_file(&rt, &mut disk, "b", b"beside");
+    expect_written(&rt, &mut disk, "a", b"x");
+    expect_written(&rt, &mut disk, "c", b"");
+    expect_written(&rt, &mut disk, "a", b"longer than before");
+    expect_file(&rt, &disk, "b", b"beside");
 }

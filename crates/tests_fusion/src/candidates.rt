@@ -5,7 +5,6 @@ ghost use Rattle.tce_candidates.specs.Candidates.{HaveRoom, IsLimited, IsSmall, 
 use arrayvec::ArrayVec;
 use std::alloc::Global;
 use std::process::Abort;
-use std::test::Fail;
 use tce_candidates::{Candidate, candidates_of};
 use tce_nesting::{Choice, Nesting, Row, subsets};
 use tce_space::IndexSet;
@@ -16,21 +15,25 @@ fn set(rt: &impl Abort, bits: u32) -> IndexSet {
 }
 
 // The candidate with at most one class, of these bits.
-fn candidate(rt: &impl Abort, class: u32, cost: u128, sets: &[u32]) -> Result<Candidate, Fail> {
+fn candidate(rt: &impl Abort, class: u32, cost: u128, bits: &[u32]) -> Candidate {
     let loops = set(rt, class);
     assert!(rt; loops.count() <= 10);
     let classes = Nesting::combine(&Nesting::none(), &Nesting::none(), loops);
-    let mut fused = ArrayVec::new();
-    for bits in sets {
-        fused.try_push(set(rt, *bits))?;
-    }
-    Ok(Candidate {
+    Candidate {
         row: Row {
             classes: classes.expect(rt, "no conflict"),
             cost,
         },
-        sets: fused,
-    })
+        sets: sets_of(rt, bits),
+    }
+}
+
+fn sets_of(rt: &impl Abort, all: &[u32]) -> ArrayVec<IndexSet, 32> {
+    let mut sets = ArrayVec::new();
+    for bits in all {
+        assert!(rt; sets.try_push(set(rt, *bits)).is_ok());
+    }
+    sets
 }
 
 fn are_limited(candidates: &[Candidate]) -> bool
@@ -61,24 +64,32 @@ fn have_room(lefts: &[Candidate], rights: &[Candidate]) -> bool
     lefts.iter().all(|left| leaves_room(left, rights))
 }
 
-// The candidates of a node, for operands and choices that are tested.
+// The loops of a node, and those that are outer above it, by their bits.
+#[derive(Clone, Copy)]
+struct Loops {
+    all: u32,
+    outer: u32,
+}
+
+// The candidates of a node below a limit of 100, for operands and choices that are tested.
 fn found(
     rt: &impl Abort,
     alloc: Global,
     lefts: &[Candidate],
     rights: &[Candidate],
-    loops: u32,
     choices: &[Choice],
-    outer: u32,
-    limit: u128,
-) -> Result<Vec<Candidate>, Fail> {
-    let loops = set(rt, loops);
-    assert!(rt; loops.count() <= 10);
+    loops: Loops,
+) -> Vec<Candidate> {
+    let (all, outer) = (set(rt, loops.all), set(rt, loops.outer));
+    assert!(rt; all.count() <= 10);
     assert!(rt; are_limited(lefts));
     assert!(rt; are_limited(rights));
     assert!(rt; have_room(lefts, rights));
     assert!(rt; are_small(choices));
-    Ok(candidates_of(alloc, lefts, rights, loops, choices, set(rt, outer), limit)?)
+    match candidates_of(alloc, lefts, rights, all, choices, outer, 100) {
+        Ok(candidates) => candidates,
+        Err(_) => panic!(rt; "no memory"),
+    }
 }
 
 fn choice(rt: &impl Abort, bits: u32, size: u128) -> Choice {
@@ -88,85 +99,99 @@ fn choice(rt: &impl Abort, bits: u32, size: u128) -> Choice {
     }
 }
 
-#[test]
-fn candidates_of_two_sums(rt: HostRuntime) -> Result<(), Fail> {
+// The candidates of a sum over leaves.
+fn of_leaves(rt: &impl Abort, alloc: Global, choices: &[Choice], loops: Loops) -> Vec<Candidate> {
     let leaf = [Candidate::default()];
-    let leaf = leaf.as_slice();
-    let choices = [choice(&rt, 0, 5), choice(&rt, 0b01, 1)];
-    let first = found(
-        &rt,
-        rt.alloc(),
-        leaf,
-        leaf,
-        0b0101,
-        choices.as_slice(),
-        0b11,
-        100,
-    )?;
-    let wanted = [
-        candidate(&rt, 0, 5, &[0])?,
-        candidate(&rt, 0b01, 1, &[0b01])?,
-    ];
-    assert_eq!(rt; first.as_slice(), wanted.as_slice());
-    let choices = [choice(&rt, 0, 7), choice(&rt, 0b10, 1)];
-    let second = found(
-        &rt,
-        rt.alloc(),
-        leaf,
-        leaf,
-        0b1010,
-        choices.as_slice(),
-        0b11,
-        100,
-    )?;
-    let wanted = [
-        candidate(&rt, 0, 7, &[0])?,
-        candidate(&rt, 0b10, 1, &[0b10])?,
-    ];
-    assert_eq!(rt; second.as_slice(), wanted.as_slice());
-    // i above j and j above i has no step; of the others the cheapest is as coarse as each
+    found(rt, alloc, leaf.as_slice(), leaf.as_slice(), choices, loops)
+}
+
+// The first sum, with nothing fused or i.
+fn first_sum(rt: &impl Abort, alloc: Global) -> Vec<Candidate> {
+    let loops = Loops {
+        all: 0b0101,
+        outer: 0b11,
+    };
+    let choices = [choice(rt, 0, 5), choice(rt, 0b01, 1)];
+    of_leaves(rt, alloc, choices.as_slice(), loops)
+}
+
+// The second sum, with nothing fused or j.
+fn second_sum(rt: &impl Abort, alloc: Global) -> Vec<Candidate> {
+    let loops = Loops {
+        all: 0b1010,
+        outer: 0b11,
+    };
+    let choices = [choice(rt, 0, 7), choice(rt, 0b10, 1)];
+    of_leaves(rt, alloc, choices.as_slice(), loops)
+}
+
+// The candidates are this one alone, or this one and another.
+fn expect_one(rt: &impl Abort, found: &[Candidate], first: &Candidate) {
+    assert!(rt; found.len() == 1);
+    assert!(rt; found[0] == *first);
+}
+
+fn expect_two(rt: &impl Abort, found: &[Candidate], first: &Candidate, second: &Candidate) {
+    assert!(rt; found.len() == 2);
+    assert!(rt; found[0] == *first);
+    assert!(rt; found[1] == *second);
+}
+
+#[test]
+fn candidates_of_two_sums(rt: HostRuntime) {
+    let (first, second) = (first_sum(&rt, rt.alloc()), second_sum(&rt, rt.alloc()));
+    let fused = candidate(&rt, 0b01, 1, &[0b01]);
+    expect_two(&rt, first.as_slice(), &candidate(&rt, 0, 5, &[0]), &fused);
+    let fused = candidate(&rt, 0b10, 1, &[0b10]);
+    expect_two(&rt, second.as_slice(), &candidate(&rt, 0, 7, &[0]), &fused);
+}
+
+// i above j and j above i has no step; of the others the cheapest is as coarse as each
+#[test]
+fn candidates_of_a_product(rt: HostRuntime) {
+    let (first, second) = (first_sum(&rt, rt.alloc()), second_sum(&rt, rt.alloc()));
+    let loops = Loops {
+        all: 0b11,
+        outer: 0b11,
+    };
     let unfused = [choice(&rt, 0, 35)];
-    let product = found(
+    let (lefts, rights) = (first.as_slice(), second.as_slice());
+    let product = found(&rt, rt.alloc(), lefts, rights, unfused.as_slice(), loops);
+    expect_one(
         &rt,
-        rt.alloc(),
-        first.as_slice(),
-        second.as_slice(),
-        0b11,
-        unfused.as_slice(),
-        0b11,
-        100,
-    )?;
-    let wanted = [candidate(&rt, 0, 41, &[0, 0b10, 0])?];
-    assert_eq!(rt; product.as_slice(), wanted.as_slice());
-    Ok(())
+        product.as_slice(),
+        &candidate(&rt, 0, 41, &[0, 0b10, 0]),
+    );
+}
+
+// The sets of six loops of extent 2 that may be fused, with the elements that are left.
+fn all_choices(rt: &impl Abort) -> ArrayVec<Choice, 64> {
+    let loops = set(rt, 0b111111);
+    assert!(rt; loops.count() <= 10);
+    let mut choices = ArrayVec::new();
+    for fused in subsets(loops).as_slice() {
+        let left = loops.minus(*fused).count();
+        assert!(rt; left <= 6);
+        let choice = Choice {
+            fused: *fused,
+            size: 1 << left,
+        };
+        assert!(rt; choices.try_push(choice).is_ok());
+    }
+    choices
 }
 
 // The row with all loops in one class puts none above another and costs least.
 #[test]
-fn one_class_of_all_loops_covers_all(rt: HostRuntime) -> Result<(), Fail> {
-    let leaf = [Candidate::default()];
-    let loops = set(&rt, 0b111111);
-    assert!(rt; loops.count() <= 10);
-    let mut choices = ArrayVec::<Choice, 64>::new();
-    for fused in subsets(loops).as_slice() {
-        let left = loops.minus(*fused).count();
-        assert!(rt; left <= 6);
-        choices.try_push(Choice {
-            fused: *fused,
-            size: 1 << left,
-        })?;
-    }
-    let product = found(
+fn one_class_of_all_loops_covers_all(rt: HostRuntime) {
+    let loops = Loops {
+        all: 0b111111,
+        outer: 0b111111,
+    };
+    let product = of_leaves(&rt, rt.alloc(), all_choices(&rt).as_slice(), loops);
+    expect_one(
         &rt,
-        rt.alloc(),
-        leaf.as_slice(),
-        leaf.as_slice(),
-        0b111111,
-        choices.as_slice(),
-        0b111111,
-        100,
-    )?;
-    let wanted = [candidate(&rt, 0b111111, 1, &[0b111111])?];
-    assert_eq!(rt; product.as_slice(), wanted.as_slice());
-    Ok(())
+        product.as_slice(),
+        &candidate(&rt, 0b111111, 1, &[0b111111]),
+    );
 }

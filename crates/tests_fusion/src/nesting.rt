@@ -7,7 +7,6 @@ use crate::given::{fusion, orders, set, short_space, tree_over, two_sums};
 use arrayvec::ArrayVec;
 use std::alloc::Global;
 use std::process::Abort;
-use std::test::Fail;
 use tce_nesting::{
     Nesting, Plan, Row, Tables, choices, coarser_is_preorder, joins_tell_steps,
     nestings_are_their_relations, restrictions_cut, subsets,
@@ -46,60 +45,54 @@ fn combined(rt: &impl Abort, a: &Nesting, b: &Nesting, loops: IndexSet) -> Optio
 }
 
 // The join of the nestings of these classes is the one wanted.
-fn expect_join(rt: &impl Abort, a: &[u32], b: &[u32], loops: &[u8], wanted: Option<&[u32]>) {
-    let joined = combined(rt, &nesting(rt, a), &nesting(rt, b), set(loops));
-    assert_eq!(rt; joined, wanted.map(|classes| nesting(rt, classes)));
+fn expect_join(rt: &impl Abort, a: &[u32], b: &[u32], loops: &[u8], wanted: &[u32]) {
+    match combined(rt, &nesting(rt, a), &nesting(rt, b), set(loops)) {
+        Some(joined) => assert!(rt; joined == nesting(rt, wanted)),
+        None => panic!(rt; "a conflict"),
+    }
+}
+
+fn expect_conflict(rt: &impl Abort, a: &[u32], b: &[u32], loops: &[u8]) {
+    assert!(rt; combined(rt, &nesting(rt, a), &nesting(rt, b), set(loops)).is_none());
 }
 
 // b, c, d and e are 0 to 3, and i and j are 0 and 1.
 #[test]
 fn joins_are_the_worked_ones(rt: HostRuntime) {
     // a loop without a class
-    let wanted = Some([0b0011, 0b0100, 0b1000].as_slice());
+    let wanted = [0b0011, 0b0100, 0b1000].as_slice();
     expect_join(&rt, &[0b0011, 0b0100], &[], &[0, 1, 2, 3], wanted);
     // the first class is divided
-    let wanted = Some([0b001, 0b010, 0b100].as_slice());
+    let wanted = [0b001, 0b010, 0b100].as_slice();
     expect_join(&rt, &[0b001], &[0b011], &[0, 1, 2], wanted);
     // two leaves, with loops and without
-    expect_join(&rt, &[], &[], &[0, 1, 2], Some(&[0b111]));
-    expect_join(&rt, &[], &[], &[], Some(&[]));
+    expect_join(&rt, &[], &[], &[0, 1, 2], &[0b111]);
+    expect_join(&rt, &[], &[], &[], &[]);
 }
 
 #[test]
 fn conflicts_are_the_worked_ones(rt: HostRuntime) {
     // i above j and j above i
-    expect_join(&rt, &[0b01], &[0b10], &[0, 1], None);
+    expect_conflict(&rt, &[0b01], &[0b10], &[0, 1]);
     // a conflict of inner loops
-    let other = [0b001, 0b100, 0b010];
-    expect_join(
-        &rt,
-        &[0b001, 0b010, 0b100],
-        other.as_slice(),
-        &[0, 1, 2],
-        None,
-    );
+    let (one, other) = ([0b001, 0b010, 0b100], [0b001, 0b100, 0b010]);
+    expect_conflict(&rt, one.as_slice(), other.as_slice(), &[0, 1, 2]);
     // a conflict with a loop that has no class
-    expect_join(&rt, &[0b01, 0b10], &[0b10], &[0, 1, 2], None);
+    expect_conflict(&rt, &[0b01, 0b10], &[0b10], &[0, 1, 2]);
 }
 
 #[test]
 fn ten_loops_are_joined(rt: HostRuntime) {
-    let loops = [0, 1, 2, 3, 4, 5, 6, 7, 8, 9];
-    let wanted = Some([0x200, 0x100, 0x080, 0x07f].as_slice());
-    expect_join(
-        &rt,
-        &[0x200, 0x100],
-        &[0x300, 0x080],
-        loops.as_slice(),
-        wanted,
-    );
+    let loops = [0, 1, 2, 3, 4, 5, 6, 7, 8, 9].as_slice();
+    let wanted = [0x200, 0x100, 0x080, 0x07f].as_slice();
+    expect_join(&rt, &[0x200, 0x100], &[0x300, 0x080], loops, wanted);
 }
 
 // Whether b, c, d and e, in the classes of the states, may be fused like this, and the classes that are left.
 fn expect_allowed(rt: &impl Abort, fused: &[u8], allowed: bool, rest: &[u32]) {
     let worked = nesting(rt, &[0b0011, 0b0100, 0b1000]);
-    assert_eq!(rt; worked.allowed(set(fused)), allowed);
-    assert_eq!(rt; worked.restrict(set(fused)), nesting(rt, rest));
+    assert!(rt; worked.allowed(set(fused)) == allowed);
+    assert!(rt; worked.restrict(set(fused)) == nesting(rt, rest));
 }
 
 #[test]
@@ -116,18 +109,24 @@ fn sets_are_allowed_as_worked(rt: HostRuntime) {
     expect_allowed(&rt, &[0, 1, 2, 4], false, &[0b0011, 0b0100]);
 }
 
+fn expect_members(rt: &impl Abort, nesting: &Nesting, members: IndexSet) {
+    assert!(rt; nesting.members() == members);
+    match nesting.clone() {
+        Ok(clone) => assert!(rt; clone == *nesting),
+        Err(_) => panic!(rt; "no memory"),
+    }
+}
+
 #[test]
-fn members_of_a_nesting(rt: HostRuntime) -> Result<(), Fail> {
+fn members_of_a_nesting(rt: HostRuntime) {
     let worked = nesting(&rt, &[0b0011, 0b0100, 0b1000]);
-    assert_eq!(rt; worked.members(), set(&[0, 1, 2, 3]));
-    assert_eq!(rt; Nesting::default(), Nesting::none());
-    assert_eq!(rt; worked.clone()?, worked);
-    Ok(())
+    expect_members(&rt, &worked, set(&[0, 1, 2, 3]));
+    assert!(rt; Nesting::default() == Nesting::none());
 }
 
 // Whether the first nesting is coarser than the second on the loops.
 fn expect_coarser(rt: &impl Abort, a: &[u32], b: &[u32], loops: &[u8], wanted: bool) {
-    assert_eq!(rt; nesting(rt, a).coarser(&nesting(rt, b), set(loops)), wanted);
+    assert!(rt; nesting(rt, a).coarser(&nesting(rt, b), set(loops)) == wanted);
 }
 
 #[test]
@@ -144,36 +143,43 @@ fn comparisons_are_the_worked_ones(rt: HostRuntime) {
     expect_coarser(&rt, &[0b01, 0b10], &[0b01], &[0, 2], true);
 }
 
+fn expect_above(rt: &impl Abort, nesting: &Nesting, i: u8, j: u8, wanted: bool) {
+    assert!(rt; nesting.above(i, j) == wanted, "{i} above {j}");
+}
+
 #[test]
 fn loops_above_others(rt: HostRuntime) {
     let worked = nesting(&rt, &[0b011, 0b100]);
-    for (i, j, wanted) in [
-        (0, 1, false),
-        (0, 2, true),
-        (2, 0, false),
-        (2, 3, true),
-        (3, 2, false),
-        (2, 255, true),
-        (255, 2, false),
-    ] {
-        assert_eq!(rt; worked.above(i, j), wanted, "{i} above {j}");
-    }
+    expect_above(&rt, &worked, 0, 1, false);
+    expect_above(&rt, &worked, 0, 2, true);
+    expect_above(&rt, &worked, 2, 0, false);
+    expect_above(&rt, &worked, 2, 3, true);
+    expect_above(&rt, &worked, 3, 2, false);
+    expect_above(&rt, &worked, 2, 255, true);
+    expect_above(&rt, &worked, 255, 2, false);
+}
+
+#[test]
+fn laws_of_nestings() {
     nestings_are_their_relations();
     restrictions_cut();
     joins_tell_steps();
     coarser_is_preorder();
 }
 
-// i, j, k and l are 0 to 3. The first sum is over k, the second over l. Whether the sums join where these of their indexes are fused.
-fn expect_joining(rt: &impl Abort, i: &[u8], j: &[u8], joins: bool) {
+// A sum over leaves, of these indexes, of which these are fused.
+fn restricted(rt: &impl Abort, indexes: &[u8], fused: &[u8]) -> Nesting {
     let leaf = Nesting::none();
-    let first = combined(rt, &leaf, &leaf, set(&[0, 2])).expect(rt, "no conflict");
-    let second = combined(rt, &leaf, &leaf, set(&[1, 3])).expect(rt, "no conflict");
-    assert!(rt; first.allowed(set(i)));
-    assert!(rt; second.allowed(set(j)));
-    let left = first.restrict(set(i));
-    let joined = combined(rt, &left, &second.restrict(set(j)), set(&[0, 1]));
-    assert_eq!(rt; joined.is_some(), joins);
+    let all = combined(rt, &leaf, &leaf, set(indexes)).expect(rt, "no conflict");
+    assert!(rt; all.allowed(set(fused)));
+    all.restrict(set(fused))
+}
+
+// i, j, k and l are 0 to 3. The first sum is over k, the second over l. Whether the sums join where these of their
+// indexes are fused.
+fn expect_joining(rt: &impl Abort, i: &[u8], j: &[u8], joins: bool) {
+    let (left, right) = (restricted(rt, &[0, 2], i), restricted(rt, &[1, 3], j));
+    assert!(rt; combined(rt, &left, &right, set(&[0, 1])).is_some() == joins);
 }
 
 #[test]
@@ -192,36 +198,49 @@ fn row(rt: &impl Abort, class: &[u8], cost: u128) -> Row {
     }
 }
 
-fn put(rt: &impl Abort, tables: &mut Tables, v: u8, row: Row) -> Result<(), Fail> {
+fn put(rt: &impl Abort, tables: &mut Tables, v: u8, row: Row) {
     assert!(rt; v < tables.lists());
-    tables.push(v, row)?;
-    Ok(())
+    assert!(rt; tables.push(v, row).is_ok());
 }
 
 // As many lists, with the row of a leaf in the list 1.
-fn tables(rt: &impl Abort, alloc: Global, lists: u8) -> Result<Tables, Fail> {
+fn tables(rt: &impl Abort, alloc: Global, lists: u8) -> Tables {
     assert!(rt; lists <= 31);
-    let mut tables = Tables::new(alloc, lists)?;
-    put(rt, &mut tables, 1, Row::default())?;
-    Ok(tables)
+    match Tables::new(alloc, lists) {
+        Ok(mut tables) => {
+            put(rt, &mut tables, 1, Row::default());
+            tables
+        }
+        Err(_) => panic!(rt; "no memory"),
+    }
 }
 
-fn rows<'a>(rt: &impl Abort, tables: &'a Tables, v: u8) -> &'a [Row] {
+fn expect_row_count(rt: &impl Abort, tables: &Tables, v: u8, count: usize) {
     assert!(rt; v < tables.lists());
-    tables.rows(v)
+    assert!(rt; tables.rows(v).len() == count);
+}
+
+// The row of this number in the list.
+fn expect_row(rt: &impl Abort, tables: &Tables, v: u8, number: usize, row: &Row) {
+    assert!(rt; v < tables.lists());
+    match tables.rows(v).get(number) {
+        Some(found) => assert!(rt; *found == *row),
+        None => panic!(rt; "no row"),
+    }
 }
 
 #[test]
-fn rows_stand_in_their_lists(rt: HostRuntime) -> Result<(), Fail> {
-    let mut tables = tables(&rt, rt.alloc(), 31)?;
-    put(&rt, &mut tables, 30, row(&rt, &[0], 7))?;
-    put(&rt, &mut tables, 30, row(&rt, &[1], 6))?;
-    assert_eq!(rt; tables.lists(), 31);
-    assert!(rt; rows(&rt, &tables, 0).is_empty());
-    assert_eq!(rt; rows(&rt, &tables, 1), [Row::default()].as_slice());
-    let last = [row(&rt, &[0], 7), row(&rt, &[1], 6)];
-    assert_eq!(rt; rows(&rt, &tables, 30), last.as_slice());
-    Ok(())
+fn rows_stand_in_their_lists(rt: HostRuntime) {
+    let mut tables = tables(&rt, rt.alloc(), 31);
+    put(&rt, &mut tables, 30, row(&rt, &[0], 7));
+    put(&rt, &mut tables, 30, row(&rt, &[1], 6));
+    assert!(rt; tables.lists() == 31);
+    expect_row_count(&rt, &tables, 0, 0);
+    expect_row_count(&rt, &tables, 1, 1);
+    expect_row(&rt, &tables, 1, 0, &Row::default());
+    expect_row_count(&rt, &tables, 30, 2);
+    expect_row(&rt, &tables, 30, 0, &row(&rt, &[0], 7));
+    expect_row(&rt, &tables, 30, 1, &row(&rt, &[1], 6));
 }
 
 // The subsets of the indexes are these, given by their bits, in this order.
@@ -229,10 +248,16 @@ fn expect_subsets(rt: &impl Abort, indexes: &[u8], wanted: &[u32]) {
     let all = set(indexes);
     assert!(rt; all.count() <= 10);
     let found = subsets(all);
-    assert_eq!(rt; found.len(), wanted.len());
+    assert!(rt; found.len() == wanted.len());
     for (subset, bits) in found.as_slice().iter().zip(wanted) {
-        assert_eq!(rt; subset.bits(), *bits);
+        assert!(rt; subset.bits() == *bits);
     }
+}
+
+fn expect_subset_count(rt: &impl Abort, indexes: &[u8], count: usize) {
+    let all = set(indexes);
+    assert!(rt; all.count() <= 10);
+    assert!(rt; subsets(all).len() == count);
 }
 
 #[test]
@@ -241,9 +266,7 @@ fn subsets_stand_in_order(rt: HostRuntime) {
     expect_subsets(&rt, &[0], &[0, 1]);
     expect_subsets(&rt, &[0, 2, 5], &[0, 1, 4, 5, 32, 33, 36, 37]);
     expect_subsets(&rt, &[22, 23], &[0, 1 << 22, 1 << 23, 3 << 22]);
-    let ten = set(&[0, 1, 2, 3, 4, 5, 6, 7, 8, 9]);
-    assert!(rt; ten.count() <= 10);
-    assert_eq!(rt; subsets(ten).len(), 1024);
+    expect_subset_count(&rt, &[0, 1, 2, 3, 4, 5, 6, 7, 8, 9], 1024);
 }
 
 // The choices of the node are these sets, given by their bits, with these sizes.
@@ -252,21 +275,20 @@ fn expect_choices(rt: &impl Abort, space: &Space, tree: &Tree, v: u8, wanted: &[
 {
     assert!(rt; v < tree.count());
     let found = choices(space, tree, v);
-    assert_eq!(rt; found.len(), wanted.len());
+    assert!(rt; found.len() == wanted.len());
     for (choice, (bits, size)) in found.as_slice().iter().zip(wanted) {
-        assert_eq!(rt; (choice.fused.bits(), choice.size), (*bits, *size));
+        assert!(rt; (choice.fused.bits(), choice.size) == (*bits, *size));
     }
 }
 
 #[test]
-fn choices_leave_the_worked_sizes(rt: HostRuntime) -> Result<(), Fail> {
-    let space = short_space(&rt, rt.alloc())?;
-    let tree = tree_over(&rt, rt.alloc(), &space, &*two_sums(rt.alloc())?)?;
+fn choices_leave_the_worked_sizes(rt: HostRuntime) {
+    let space = short_space(&rt, rt.alloc());
+    let tree = tree_over(&rt, rt.alloc(), &space, &*two_sums(&rt, rt.alloc()));
     expect_choices(&rt, &space, &tree, 0, &[(0, 5), (0b01, 1)]);
     expect_choices(&rt, &space, &tree, 1, &[(0, 7), (0b10, 1)]);
     let wanted = [(0, 35), (0b01, 7), (0b10, 5), (0b11, 1)];
     expect_choices(&rt, &space, &tree, 2, wanted.as_slice());
-    Ok(())
 }
 
 // A plan that fuses a set on the second edge and has a row of one class in each list.
@@ -281,18 +303,18 @@ struct Stated<'a> {
     lists: u8,
 }
 
-fn plan_of(rt: &impl Abort, alloc: Global, stated: &Stated) -> Result<Plan, Fail> {
+fn plan_of(rt: &impl Abort, alloc: Global, stated: &Stated) -> Plan {
     let mut sizes = ArrayVec::new();
-    sizes.try_extend_from_slice(stated.sizes)?;
-    let mut tables = tables(rt, alloc, stated.lists)?;
-    put(rt, &mut tables, 1, row(rt, stated.class, stated.cost))?;
-    Ok(Plan {
-        fusion: fusion(&[&[], stated.fused, &[]])?,
-        orders: orders(&[&[0, 2], &[1, 3], stated.last_order])?,
+    assert!(rt; sizes.try_extend_from_slice(stated.sizes).is_ok());
+    let mut tables = tables(rt, alloc, stated.lists);
+    put(rt, &mut tables, 1, row(rt, stated.class, stated.cost));
+    Plan {
+        fusion: fusion(rt, &[&[], stated.fused, &[]]),
+        orders: orders(rt, &[&[0, 2], &[1, 3], stated.last_order]),
         sizes,
         memory: stated.memory,
         tables,
-    })
+    }
 }
 
 const LARGEST: u128 = (1 << 96) - 1;
@@ -308,98 +330,69 @@ const WORKED: Stated = Stated {
 };
 
 // Whether the plan that is stated fits the tree.
-fn fits(rt: &impl Abort, alloc: Global, tree: &Tree, stated: &Stated) -> Result<bool, Fail> {
-    let plan = plan_of(rt, alloc, stated)?;
-    Ok(plan.fits(tree))
+fn expect_fit(rt: &impl Abort, alloc: Global, tree: &Tree, stated: &Stated, fits: bool) {
+    assert!(rt; plan_of(rt, alloc, stated).fits(tree) == fits);
 }
 
 // Whether the worked plan with other sizes fits.
-fn expect_sizes(
-    rt: &impl Abort,
-    alloc: Global,
-    tree: &Tree,
-    sizes: &[u128],
-    wanted: bool,
-) -> Result<(), Fail> {
-    let stated = Stated { sizes, ..WORKED };
-    assert_eq!(rt; fits(rt, alloc, tree, &stated)?, wanted);
-    Ok(())
+fn expect_sizes(rt: &impl Abort, alloc: Global, tree: &Tree, sizes: &[u128], fits: bool) {
+    expect_fit(rt, alloc, tree, &Stated { sizes, ..WORKED }, fits);
 }
 
 // Whether the worked plan fits with a number as its memory, and as the cost of a row.
-fn expect_number(
-    rt: &impl Abort,
-    alloc: Global,
-    tree: &Tree,
-    number: u128,
-    wanted: bool,
-) -> Result<(), Fail> {
+fn expect_number(rt: &impl Abort, alloc: Global, tree: &Tree, number: u128, fits: bool) {
     let stated = Stated {
         memory: number,
         ..WORKED
     };
-    assert_eq!(rt; fits(rt, alloc, tree, &stated)?, wanted);
+    expect_fit(rt, alloc, tree, &stated, fits);
     let stated = Stated {
         cost: number,
         ..WORKED
     };
-    assert_eq!(rt; fits(rt, alloc, tree, &stated)?, wanted);
-    Ok(())
+    expect_fit(rt, alloc, tree, &stated, fits);
 }
 
-// Whether the worked plan fits with another fused set, order, class or number of lists.
-fn fits_with(
-    rt: &impl Abort,
-    alloc: Global,
-    tree: &Tree,
-    sets: [&[u8]; 3],
-    lists: u8,
-) -> Result<bool, Fail> {
-    let [fused, last_order, class] = sets;
-    let stated = Stated {
-        fused,
-        last_order,
-        class,
-        lists,
-        ..WORKED
-    };
-    fits(rt, alloc, tree, &stated)
-}
-
-fn tree_of_two_sums(rt: &impl Abort, alloc: Global) -> Result<Tree, Fail> {
-    let space = short_space(rt, alloc)?;
-    tree_over(rt, alloc, &space, &*two_sums(alloc)?)
+fn tree_of_two_sums(rt: &impl Abort, alloc: Global) -> Tree {
+    let space = short_space(rt, alloc);
+    tree_over(rt, alloc, &space, &*two_sums(rt, alloc))
 }
 
 #[test]
-fn plans_fit_by_their_sizes(rt: HostRuntime) -> Result<(), Fail> {
+fn plans_fit_by_their_sizes(rt: HostRuntime) {
     let alloc = rt.alloc();
-    let tree = tree_of_two_sums(&rt, alloc)?;
-    expect_sizes(&rt, alloc, &tree, &[5, 1], true)?;
-    expect_sizes(&rt, alloc, &tree, &[5], false)?;
-    expect_sizes(&rt, alloc, &tree, &[5, 1, 0], false)?;
-    expect_sizes(&rt, alloc, &tree, &[5, LARGEST], true)?;
-    expect_sizes(&rt, alloc, &tree, &[5, LARGEST + 1], false)
+    let tree = tree_of_two_sums(&rt, alloc);
+    expect_sizes(&rt, alloc, &tree, &[5, 1], true);
+    expect_sizes(&rt, alloc, &tree, &[5], false);
+    expect_sizes(&rt, alloc, &tree, &[5, 1, 0], false);
+    expect_sizes(&rt, alloc, &tree, &[5, LARGEST], true);
+    expect_sizes(&rt, alloc, &tree, &[5, LARGEST + 1], false);
 }
 
 #[test]
-fn plans_fit_by_their_numbers(rt: HostRuntime) -> Result<(), Fail> {
-    let tree = tree_of_two_sums(&rt, rt.alloc())?;
-    expect_number(&rt, rt.alloc(), &tree, LARGEST, true)?;
-    expect_number(&rt, rt.alloc(), &tree, LARGEST + 1, false)
+fn plans_fit_by_their_numbers(rt: HostRuntime) {
+    let tree = tree_of_two_sums(&rt, rt.alloc());
+    expect_number(&rt, rt.alloc(), &tree, LARGEST, true);
+    expect_number(&rt, rt.alloc(), &tree, LARGEST + 1, false);
 }
 
 #[test]
-fn plans_fit_by_their_sets(rt: HostRuntime) -> Result<(), Fail> {
-    let alloc = rt.alloc();
-    let tree = tree_of_two_sums(&rt, alloc)?;
+fn plans_fit_by_their_sets(rt: HostRuntime) {
+    let (alloc, tree) = (rt.alloc(), tree_of_two_sums(&rt, rt.alloc()));
     // a set beyond the dims
-    assert!(rt; !fits_with(&rt, alloc, &tree, [&[3], &[1, 0], &[1]], 2)?);
+    let mut stated = WORKED;
+    stated.fused = &[3];
+    expect_fit(&rt, alloc, &tree, &stated, false);
     // an order without a loop
-    assert!(rt; !fits_with(&rt, alloc, &tree, [&[1], &[1], &[1]], 2)?);
+    stated = WORKED;
+    stated.last_order = &[1];
+    expect_fit(&rt, alloc, &tree, &stated, false);
     // a class beyond the dims
-    assert!(rt; !fits_with(&rt, alloc, &tree, [&[1], &[1, 0], &[1, 3]], 2)?);
+    stated = WORKED;
+    stated.class = &[1, 3];
+    expect_fit(&rt, alloc, &tree, &stated, false);
     // a list too many
-    assert!(rt; !fits_with(&rt, alloc, &tree, [&[1], &[1, 0], &[1]], 3)?);
-    Ok(())
+    stated = WORKED;
+    stated.lists = 3;
+    expect_fit(&rt, alloc, &tree, &stated, false);
 }

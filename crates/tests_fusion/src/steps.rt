@@ -37,46 +37,75 @@ fn stepped(rt: &impl Abort, joined: &Row, fused: u32, size: u128) -> Option<Row>
     step(joined, &choice)
 }
 
+// The rows join to this one, given by its class and cost, or not at all.
+fn expect_join(
+    rt: &impl Abort,
+    left: (u32, u128),
+    right: (u32, u128),
+    loops: u32,
+    wanted: Option<Row>,
+) {
+    let (left, right) = (row(rt, left.0, left.1), row(rt, right.0, right.1));
+    assert!(rt; combined(rt, &left, &right, loops) == wanted);
+}
+
+// The join of the rows, which is there.
+fn joint(rt: &impl Abort, left: (u32, u128), right: (u32, u128), loops: u32) -> Row {
+    let (left, right) = (row(rt, left.0, left.1), row(rt, right.0, right.1));
+    combined(rt, &left, &right, loops).expect(rt, "no conflict")
+}
+
+fn expect_step(rt: &impl Abort, joined: &Row, fused: u32, size: u128, wanted: Option<Row>) {
+    assert!(rt; stepped(rt, joined, fused, size) == wanted);
+}
+
+#[test]
+fn joins_are_the_worked_ones(rt: HostRuntime) {
+    // two leaves
+    expect_join(&rt, (0, 0), (0, 0), 0b101, Some(row(&rt, 0b101, 0)));
+    // nothing fused
+    expect_join(&rt, (0, 5), (0, 7), 0b11, Some(row(&rt, 0b11, 12)));
+    // both fused
+    expect_join(&rt, (0b01, 1), (0b10, 1), 0b11, None);
+    // the same fused
+    expect_join(&rt, (0b11, 3), (0b11, 4), 0b11, Some(row(&rt, 0b11, 7)));
+}
+
 #[test]
 fn steps_are_the_worked_ones(rt: HostRuntime) {
-    let leaf = row(&rt, 0, 0);
-    let joins: [(&str, u32, u128, u32, u128, u32, Option<(u32, u128)>); 4] = [
-        ("two leaves", 0, 0, 0, 0, 0b101, Some((0b101, 0))),
-        ("nothing fused", 0, 5, 0, 7, 0b11, Some((0b11, 12))),
-        ("both fused", 0b01, 1, 0b10, 1, 0b11, None),
-        ("the same fused", 0b11, 3, 0b11, 4, 0b11, Some((0b11, 7))),
-    ];
-    for (name, a, a_cost, b, b_cost, loops, wanted) in joins {
-        let joined = combined(&rt, &row(&rt, a, a_cost), &row(&rt, b, b_cost), loops);
-        let wanted = wanted.map(|(bits, cost)| row(&rt, bits, cost));
-        assert_eq!(rt; joined, wanted, "{name}");
-    }
-    let first = combined(&rt, &leaf, &leaf, 0b101).expect(&rt, "no conflict");
-    assert_eq!(rt; stepped(&rt, &first, 0, 5), Some(row(&rt, 0, 5)));
-    assert_eq!(rt; stepped(&rt, &first, 0b001, 1), Some(row(&rt, 0b001, 1)));
-    let second = combined(&rt, &row(&rt, 0, 5), &row(&rt, 0b10, 1), 0b11);
-    let second = second.expect(&rt, "no conflict");
-    assert_eq!(rt; second.cost, 6);
-    assert_eq!(rt; stepped(&rt, &second, 0b01, 7), None);
-    assert_eq!(rt; stepped(&rt, &second, 0b10, 5), Some(row(&rt, 0b10, 11)));
+    let first = joint(&rt, (0, 0), (0, 0), 0b101);
+    expect_step(&rt, &first, 0, 5, Some(row(&rt, 0, 5)));
+    expect_step(&rt, &first, 0b001, 1, Some(row(&rt, 0b001, 1)));
+    let second = joint(&rt, (0, 5), (0b10, 1), 0b11);
+    assert!(rt; second.cost == 6);
+    expect_step(&rt, &second, 0b01, 7, None);
+    expect_step(&rt, &second, 0b10, 5, Some(row(&rt, 0b10, 11)));
+}
+
+// Whether the first row stands for the second where these loops are outer.
+fn expect_standing(rt: &impl Abort, a: (u32, u128), b: (u32, u128), outer: u32, wanted: bool) {
+    let (a, b) = (row(rt, a.0, a.1), row(rt, b.0, b.1));
+    assert!(rt; stands_for(&a, &b, set(rt, outer)) == wanted);
+}
+
+// Whether the rows without a class at the cost 5, and of the first index at the cost 1, stand for this one.
+fn expect_stood_for(rt: &impl Abort, class: u32, cost: u128, wanted: bool) {
+    let rows = [row(rt, 0, 5), row(rt, 0b01, 1)];
+    assert!(rt; is_stood_for(rows.as_slice(), &row(rt, class, cost), set(rt, 0b11)) == wanted);
 }
 
 #[test]
 fn rows_stand_for_states_as_worked(rt: HostRuntime) {
-    let cases: [(&str, u32, u128, u32, u128, u32, bool); 5] = [
-        ("no classes at the same cost", 0, 5, 0b01, 5, 0b11, true),
-        ("no classes at a higher cost", 0, 5, 0b01, 1, 0b11, false),
-        ("a class more", 0b01, 1, 0, 5, 0b11, false),
-        ("one class of all outer loops", 0b11, 1, 0, 5, 0b11, true),
-        ("a class of no outer loop", 0b100, 1, 0, 5, 0b11, true),
-    ];
-    for (name, a, a_cost, b, b_cost, outer, wanted) in cases {
-        let stands = stands_for(&row(&rt, a, a_cost), &row(&rt, b, b_cost), set(&rt, outer));
-        assert_eq!(rt; stands, wanted, "{name}");
-    }
-    let rows = [row(&rt, 0, 5), row(&rt, 0b01, 1)];
-    let outer = set(&rt, 0b11);
-    assert!(rt; is_stood_for(rows.as_slice(), &row(&rt, 0b01, 1), outer));
-    assert!(rt; is_stood_for(rows.as_slice(), &row(&rt, 0, 6), outer));
-    assert!(rt; !is_stood_for(rows.as_slice(), &row(&rt, 0, 4), outer));
+    // no classes at the same cost, and at a higher one
+    expect_standing(&rt, (0, 5), (0b01, 5), 0b11, true);
+    expect_standing(&rt, (0, 5), (0b01, 1), 0b11, false);
+    // a class more
+    expect_standing(&rt, (0b01, 1), (0, 5), 0b11, false);
+    // one class of all outer loops
+    expect_standing(&rt, (0b11, 1), (0, 5), 0b11, true);
+    // a class of no outer loop
+    expect_standing(&rt, (0b100, 1), (0, 5), 0b11, true);
+    expect_stood_for(&rt, 0b01, 1, true);
+    expect_stood_for(&rt, 0, 6, true);
+    expect_stood_for(&rt, 0, 4, false);
 }

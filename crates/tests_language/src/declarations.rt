@@ -1,9 +1,8 @@
 //! Declarations, their limits and their faults, judged by hand.
-use crate::given::{joined, part, told_fault, with_feeds};
-use std::alloc::{AllocError, Global};
+use crate::given::{expect_text, part, put, told_fault, with_feeds};
+use std::alloc::Global;
 use std::process::Abort;
 use std::str;
-use std::test::Fail;
 use tce_declarations::{Head, SpecFault, check_rest, read_head};
 
 /// The fault of a text up to its formula.
@@ -22,11 +21,12 @@ fn fault_behind(alloc: Global, line: u64, text: &[u8]) -> Option<SpecFault> {
     Some(fault)
 }
 
-// The fault in words, or that there is none.
-fn told_of(alloc: Global, fault: Option<SpecFault>) -> Result<Vec<u8>, AllocError> {
+// The fault in words, or that there is none, is the text of the row.
+fn expect_fault(rt: &impl Abort, alloc: Global, fault: Option<SpecFault>, row: &str) {
+    let wanted = part(row, 1).as_bytes();
     match fault {
-        Some(fault) => told_fault(alloc, &fault),
-        None => joined(alloc, b"none", b""),
+        Some(fault) => expect_text(rt, told_fault(rt, alloc, &fault).as_slice(), wanted, row),
+        None => expect_text(rt, b"none", wanted, row),
     }
 }
 
@@ -40,63 +40,75 @@ const OUTER: &[u8] =
 const NAMED_ALIKE: &[u8] =
     b"\t# a note\r\nrange N 10 tile 4\n\nindex N N i\ntensor N[N,N]\ntensor s[]\ns[] = 3\n \n# end";
 
+fn expect_head(rt: &impl Abort, head: &Head, line: u64, name: &str, rest: &[u8]) {
+    assert!(rt; head.line == line);
+    assert!(rt; text_of(head) == name);
+    assert!(rt; head.rest == rest);
+}
+
+fn expect_counts(rt: &impl Abort, head: &Head, ranges: u8, indexes: u8, tensors: u8) {
+    assert!(rt; head.declarations.space().range_count() == ranges);
+    assert!(rt; head.declarations.space().index_count() == indexes);
+    assert!(rt; head.declarations.tensor_count() == tensors);
+}
+
+fn expect_index(rt: &impl Abort, head: &Head, name: &str, number: Option<u8>) {
+    assert!(rt;
+        head.declarations.space().index_named(name) == number,
+        "{name}"
+    );
+}
+
+fn expect_tensor(rt: &impl Abort, head: &Head, name: &str, number: Option<u8>) {
+    assert!(rt; head.declarations.tensor_named(name) == number, "{name}");
+}
+
 #[test]
 fn declarations_are_read_up_to_the_formula(rt: HostRuntime) {
-    let alloc = rt.alloc();
-    let Ok(head) = read_head(alloc, OUTER) else {
+    let Ok(head) = read_head(rt.alloc(), OUTER) else {
         panic!(rt; "refused");
     };
-    let space = head.declarations.space();
-    assert_eq!(rt; head.line, 6);
-    assert_eq!(rt; text_of(&head), "C");
-    assert_eq!(rt; head.indexes.len(), 2);
-    assert_eq!(rt; head.rest.len(), 0);
-    assert_eq!(rt; space.range_count(), 1);
-    assert_eq!(rt; space.index_count(), 2);
-    assert_eq!(rt; space.index_named("j"), Some(1));
-    assert_eq!(rt; head.declarations.tensor_count(), 3);
-    assert_eq!(rt; head.declarations.tensor_named("C"), Some(2));
-    assert_eq!(rt; head.declarations.tensor_named("N"), None);
-    assert_eq!(rt;
-        head.declarations
-            .tensor_named("a_name_with_seventeen_bytes"),
-        None
-    );
+    expect_head(&rt, &head, 6, "C", b"");
+    assert!(rt; head.indexes.len() == 2);
+    expect_counts(&rt, &head, 1, 2, 3);
+    expect_index(&rt, &head, "j", Some(1));
+    expect_tensor(&rt, &head, "C", Some(2));
+    expect_tensor(&rt, &head, "N", None);
+    expect_tensor(&rt, &head, "a_name_with_seventeen_bytes", None);
+}
+
+// The two tensors of the names that are alike.
+fn expect_both(rt: &impl Abort, head: &Head) {
+    assert!(rt; head.declarations.tensor_count() == 2);
+    let matrix = head.declarations.tensor(0);
+    assert!(rt; matrix.name.as_str() == "N");
+    assert!(rt; matrix.ranges.as_slice() == &[0, 0][..]);
+    assert!(rt; matrix.shape.tile_words() == 16);
+    assert!(rt; matrix.shape.tiles() == 9);
+    assert!(rt; head.declarations.tensor(1).ranges.as_slice().len() == 0);
 }
 
 #[test]
 fn names_of_ranges_indexes_and_tensors_are_separate(rt: HostRuntime) {
-    let alloc = rt.alloc();
-    let Ok(head) = read_head(alloc, NAMED_ALIKE) else {
+    let Ok(head) = read_head(rt.alloc(), NAMED_ALIKE) else {
         panic!(rt; "refused");
     };
-    let space = head.declarations.space();
-    assert_eq!(rt; head.line, 7);
-    assert_eq!(rt; head.rest, &b" \n# end"[..]);
-    assert_eq!(rt; space.range_named("N"), Some(0));
-    assert_eq!(rt; space.index_named("N"), Some(0));
-    assert_eq!(rt; space.index_named("i"), Some(1));
-    assert_eq!(rt; head.declarations.tensor_named("N"), Some(0));
-    assert_eq!(rt; head.declarations.tensor_named("s"), Some(1));
-    if head.declarations.tensor_count() == 2 {
-        let matrix = head.declarations.tensor(0);
-        assert_eq!(rt; matrix.name.as_str(), "N");
-        assert_eq!(rt; matrix.ranges.as_slice(), &[0, 0][..]);
-        assert_eq!(rt; matrix.shape.tile_words(), 16);
-        assert_eq!(rt; matrix.shape.tiles(), 9);
-        assert_eq!(rt; head.declarations.tensor(1).ranges.as_slice().len(), 0);
-    }
-    assert!(rt; fault_behind(alloc, 8, head.rest).is_none());
+    expect_head(&rt, &head, 7, "s", b" \n# end");
+    assert!(rt; head.declarations.space().range_named("N") == Some(0));
+    expect_index(&rt, &head, "N", Some(0));
+    expect_index(&rt, &head, "i", Some(1));
+    expect_tensor(&rt, &head, "N", Some(0));
+    expect_tensor(&rt, &head, "s", Some(1));
+    expect_both(&rt, &head);
+    assert!(rt; fault_behind(rt.alloc(), 8, head.rest).is_none());
 }
 
 // Each row is a text, with a slash for each line feed, and its fault.
-fn expect_faults(rt: &impl Abort, alloc: Global, rows: &str) -> Result<(), Fail> {
+fn expect_faults(rt: &impl Abort, alloc: Global, rows: &str) {
     for row in rows.split('\n') {
-        let text = with_feeds(alloc, part(row, 0))?;
-        let fault = told_of(alloc, fault_of(alloc, text.as_slice()))?;
-        assert_eq!(rt; fault.as_slice(), part(row, 1).as_bytes(), "{row}");
+        let text = with_feeds(rt, alloc, part(row, 0));
+        expect_fault(rt, alloc, fault_of(alloc, text.as_slice()), row);
     }
-    Ok(())
 }
 
 const NO_FORMULA: &str = "\
@@ -153,53 +165,46 @@ range N 0/index M i/|number 1
 # note/index M i/range N 0/|unknown 2 M";
 
 #[test]
-fn the_first_fault_decides(rt: HostRuntime) -> Result<(), Fail> {
+fn the_first_fault_decides(rt: HostRuntime) {
     let alloc = rt.alloc();
-    expect_faults(&rt, alloc, NO_FORMULA)?;
-    expect_faults(&rt, alloc, NO_LINE)?;
-    expect_faults(&rt, alloc, RANGES)?;
-    expect_faults(&rt, alloc, INDEXES)?;
-    expect_faults(&rt, alloc, TENSORS)?;
-    expect_faults(&rt, alloc, FIRST)
+    expect_faults(&rt, alloc, NO_FORMULA);
+    expect_faults(&rt, alloc, NO_LINE);
+    expect_faults(&rt, alloc, RANGES);
+    expect_faults(&rt, alloc, INDEXES);
+    expect_faults(&rt, alloc, TENSORS);
+    expect_faults(&rt, alloc, FIRST);
 }
 
 /// Lines `word X rest` for the first letters X, and a last line.
 fn lines_and_last(
-    alloc: Global,
-    word: &[u8],
-    rest: &[u8],
-    count: u8,
-    last: &[u8],
-) -> Result<Vec<u8>, AllocError> {
-    let mut text = Vec::new(alloc);
-    for letter in b"ABCDEFGHIJKLMNOPQRSTUVWXYZabcdefghijkl"
-        .iter()
-        .take(count as usize)
-    {
-        text.extend_from_slice(word)?;
-        text.push(*letter)?;
-        text.extend_from_slice(rest)?;
-    }
-    text.extend_from_slice(last)?;
-    Ok(text)
-}
-
-// Behind so many lines, `word X rest` for the first letters X, a last line has this fault. Each row is a last line and the fault.
-fn expect_behind(
     rt: &impl Abort,
     alloc: Global,
     word: &[u8],
     rest: &[u8],
     count: u8,
-    rows: &str,
-) -> Result<(), Fail> {
-    for row in rows.split('\n') {
-        let last = with_feeds(alloc, part(row, 0))?;
-        let text = lines_and_last(alloc, word, rest, count, last.as_slice())?;
-        let fault = told_of(alloc, fault_of(alloc, text.as_slice()))?;
-        assert_eq!(rt; fault.as_slice(), part(row, 1).as_bytes(), "{row}");
+    last: &[u8],
+) -> Vec<u8> {
+    let mut text = Vec::new(alloc);
+    for letter in b"ABCDEFGHIJKLMNOPQRSTUVWXYZabcdefghijkl"
+        .iter()
+        .take(count as usize)
+    {
+        put(rt, &mut text, word);
+        put(rt, &mut text, &[*letter]);
+        put(rt, &mut text, rest);
     }
-    Ok(())
+    put(rt, &mut text, last);
+    text
+}
+
+// Behind so many lines, `word X rest` for the first letters X, a last line has this fault. Each row is a last line and the
+// fault.
+fn expect_behind(rt: &impl Abort, alloc: Global, word: &[u8], rest: &[u8], count: u8, rows: &str) {
+    for row in rows.split('\n') {
+        let last = with_feeds(rt, alloc, part(row, 0));
+        let text = lines_and_last(rt, alloc, word, rest, count, last.as_slice());
+        expect_fault(rt, alloc, fault_of(alloc, text.as_slice()), row);
+    }
 }
 
 const SEVENTEENTH_RANGE: &str = "\
@@ -214,25 +219,27 @@ tensor A[M]/|name twice 33 A
 /|text 34";
 
 #[test]
-fn limits_of_ranges_and_tensors(rt: HostRuntime) -> Result<(), Fail> {
+fn limits_of_ranges_and_tensors(rt: HostRuntime) {
     let alloc = rt.alloc();
-    expect_behind(&rt, alloc, b"range ", b" 1\n", 16, SEVENTEENTH_RANGE)?;
-    expect_behind(&rt, alloc, b"tensor ", b"[]\n", 32, THIRTY_THIRD_TENSOR)
+    expect_behind(&rt, alloc, b"range ", b" 1\n", 16, SEVENTEENTH_RANGE);
+    expect_behind(&rt, alloc, b"tensor ", b"[]\n", 32, THIRTY_THIRD_TENSOR);
+}
+
+fn line_feeds(rt: &impl Abort, alloc: Global, count: u32) -> Vec<u8> {
+    let mut text = Vec::new(alloc);
+    for _ in 0..count {
+        assert!(rt; text.push(b'\n').is_ok());
+    }
+    text
 }
 
 #[test]
-fn long_texts(rt: HostRuntime) -> Result<(), Fail> {
+fn long_texts(rt: HostRuntime) {
     let alloc = rt.alloc();
-    let mut text = Vec::new(alloc);
-    for _ in 0..65_536 {
-        text.push(b'\n')?;
-    }
-    let fault = told_of(alloc, fault_of(alloc, text.as_slice()))?;
-    assert_eq!(rt; fault.as_slice(), b"text 65537".as_slice());
-    text.push(b'\n')?;
-    let fault = told_of(alloc, fault_of(alloc, text.as_slice()))?;
-    assert_eq!(rt; fault.as_slice(), b"too long 0".as_slice());
-    Ok(())
+    let text = line_feeds(&rt, alloc, 65_536);
+    expect_fault(&rt, alloc, fault_of(alloc, text.as_slice()), "|text 65537");
+    let text = line_feeds(&rt, alloc, 65_537);
+    expect_fault(&rt, alloc, fault_of(alloc, text.as_slice()), "|too long 0");
 }
 
 const BEHIND: &str = "\
@@ -243,12 +250,10 @@ C[] = 3/!/|text 7
 #//!|text 9";
 
 #[test]
-fn only_skipped_lines_stand_behind_the_formula(rt: HostRuntime) -> Result<(), Fail> {
+fn only_skipped_lines_stand_behind_the_formula(rt: HostRuntime) {
     let alloc = rt.alloc();
     for row in BEHIND.split('\n') {
-        let text = with_feeds(alloc, part(row, 0))?;
-        let fault = told_of(alloc, fault_behind(alloc, 7, text.as_slice()))?;
-        assert_eq!(rt; fault.as_slice(), part(row, 1).as_bytes(), "{row}");
+        let text = with_feeds(&rt, alloc, part(row, 0));
+        expect_fault(&rt, alloc, fault_behind(alloc, 7, text.as_slice()), row);
     }
-    Ok(())
 }

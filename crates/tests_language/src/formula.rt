@@ -5,10 +5,9 @@ ghost use Rattle.tce_grammar.specs.Code.{names, formula};
 ghost use Rattle.tce_grammar.specs.Grammar.{AreNames};
 ghost use Rattle.tce_formula.specs.Places.{IsNamed};
 
-use crate::given::{joined, part, told_fault};
+use crate::given::{expect_text, joined, part, put, told_fault};
 use std::alloc::{AllocError, Global};
 use std::process::Abort;
-use std::test::Fail;
 use tce_declarations::{Head, read_head};
 use tce_formula::{Contraction, read_formula};
 use tce_grammar::Formula;
@@ -91,62 +90,59 @@ fn push_expr(alloc: Global, text: &mut Vec<u8>, expr: &Expr) -> Result<(), Alloc
 }
 
 /// The contraction as a text: the result, and the expression behind a colon.
-fn told(alloc: Global, found: &Contraction) -> Result<Vec<u8>, AllocError> {
+fn told(rt: &impl Abort, alloc: Global, found: &Contraction) -> Vec<u8> {
     let mut text = Vec::new(alloc);
-    push_leaf(&mut text, &found.result)?;
-    text.extend_from_slice(b": ")?;
-    push_expr(alloc, &mut text, &found.expr)?;
-    Ok(text)
+    assert!(rt; push_leaf(&mut text, &found.result).is_ok());
+    put(rt, &mut text, b": ");
+    assert!(rt; push_expr(alloc, &mut text, &found.expr).is_ok());
+    text
 }
 
 /// The text `S[] = 1 + 1 + ..` with so many additions.
-fn added_ones(alloc: Global, count: u32) -> Result<Vec<u8>, AllocError> {
+fn added_ones(rt: &impl Abort, alloc: Global, count: u32) -> Vec<u8> {
     let mut text = Vec::new(alloc);
-    text.extend_from_slice(b"S[] = 1")?;
+    put(rt, &mut text, b"S[] = 1");
     for _ in 0..count {
-        text.extend_from_slice(b" + 1")?;
+        put(rt, &mut text, b" + 1");
     }
-    Ok(text)
+    text
 }
 
 /// What is told of the formula of a text.
-fn told_of_head(alloc: Global, head: &Head) -> Result<Vec<u8>, Fail> {
+fn told_of_head(rt: &impl Abort, alloc: Global, head: &Head) -> Vec<u8> {
     let indexes = head.indexes.as_slice();
-    if is_name(head.result) && are_names(indexes) && has_names(&head.formula) {
-        let answer = read_formula(
-            alloc,
-            head.line,
-            &head.declarations,
-            head.result,
-            indexes,
-            &head.formula,
-        );
-        return match answer {
-            Ok(found) => Ok(told(alloc, &found)?),
-            Err(fault) => Ok(told_fault(alloc, &fault)?),
-        };
+    assert!(rt; is_name(head.result));
+    assert!(rt; are_names(indexes));
+    assert!(rt; has_names(&head.formula));
+    let answer = read_formula(
+        alloc,
+        head.line,
+        &head.declarations,
+        head.result,
+        indexes,
+        &head.formula,
+    );
+    match answer {
+        Ok(found) => told(rt, alloc, &found),
+        Err(fault) => told_fault(rt, alloc, &fault),
     }
-    Err(Fail::new("no name stands where a name does"))
 }
 
 /// What is told of a formula line behind the declarations.
-fn told_of_line(alloc: Global, line: &[u8]) -> Result<Vec<u8>, Fail> {
-    let mut text = Vec::new(alloc);
-    text.extend_from_slice(DECLARED)?;
-    text.extend_from_slice(line)?;
+fn told_of_line(rt: &impl Abort, alloc: Global, line: &[u8]) -> Vec<u8> {
+    let text = joined(rt, alloc, DECLARED, line);
     match read_head(alloc, text.as_slice()) {
-        Ok(head) => told_of_head(alloc, &head),
-        Err(_) => Err(Fail::new("the declarations are refused")),
+        Ok(head) => told_of_head(rt, alloc, &head),
+        Err(_) => panic!(rt; "the declarations are refused"),
     }
 }
 
 // Each row is a line behind the declarations, and what is told of it.
-fn expect_rows(rt: &impl Abort, alloc: Global, rows: &str) -> Result<(), Fail> {
+fn expect_rows(rt: &impl Abort, alloc: Global, rows: &str) {
     for row in rows.split('\n') {
-        let told = told_of_line(alloc, part(row, 0).as_bytes())?;
-        assert_eq!(rt; told.as_slice(), part(row, 1).as_bytes(), "{row}");
+        let told = told_of_line(rt, alloc, part(row, 0).as_bytes());
+        expect_text(rt, told.as_slice(), part(row, 1).as_bytes(), row);
     }
-    Ok(())
 }
 
 const COMPUTED: &str = "\
@@ -164,8 +160,8 @@ C[i,j] = sum{k}(A[i,k]) * sum{k}(A[k,j])|2ab: (sum(c: 0ac) * sum(c: 0cb))
 C[i,j] = ((B[i]) * (E[j]))|2ab: (1a * 4b)";
 
 #[test]
-fn lines_without_fault_are_computed(rt: HostRuntime) -> Result<(), Fail> {
-    expect_rows(&rt, rt.alloc(), COMPUTED)
+fn lines_without_fault_are_computed(rt: HostRuntime) {
+    expect_rows(&rt, rt.alloc(), COMPUTED);
 }
 
 // A name that is not declared: the result first, then from the left.
@@ -223,34 +219,32 @@ D[i] = sum{i}(B[i])|indices 19
 S[] = B[i] + 1|indices 19";
 
 #[test]
-fn the_first_fault_of_a_line_decides(rt: HostRuntime) -> Result<(), Fail> {
+fn the_first_fault_of_a_line_decides(rt: HostRuntime) {
     let alloc = rt.alloc();
-    expect_rows(&rt, alloc, UNKNOWN)?;
-    expect_rows(&rt, alloc, NUMBERS)?;
-    expect_rows(&rt, alloc, RANKS)?;
-    expect_rows(&rt, alloc, RANGES)?;
-    expect_rows(&rt, alloc, TWICE)?;
-    expect_rows(&rt, alloc, OPERAND)?;
-    expect_rows(&rt, alloc, TREES)?;
-    expect_rows(&rt, alloc, INDICES)
+    expect_rows(&rt, alloc, UNKNOWN);
+    expect_rows(&rt, alloc, NUMBERS);
+    expect_rows(&rt, alloc, RANKS);
+    expect_rows(&rt, alloc, RANGES);
+    expect_rows(&rt, alloc, TWICE);
+    expect_rows(&rt, alloc, OPERAND);
+    expect_rows(&rt, alloc, TREES);
+    expect_rows(&rt, alloc, INDICES);
 }
 
 // A long formula is refused before anything goes as deep as it does.
-fn expect_many(rt: &impl Abort, alloc: Global, count: u32, behind: &[u8]) -> Result<(), Fail> {
-    let text = joined(alloc, added_ones(alloc, count)?.as_slice(), behind)?;
-    let told = told_of_line(alloc, text.as_slice())?;
-    assert_eq!(rt; told.as_slice(), b"many nodes 19".as_slice());
-    Ok(())
+fn expect_many(rt: &impl Abort, alloc: Global, count: u32, behind: &[u8]) {
+    let text = joined(rt, alloc, added_ones(rt, alloc, count).as_slice(), behind);
+    let told = told_of_line(rt, alloc, text.as_slice());
+    expect_text(rt, told.as_slice(), b"many nodes 19", "many");
 }
 
 #[test]
-fn formulas_have_up_to_thirty_two_operations(rt: HostRuntime) -> Result<(), Fail> {
+fn formulas_have_up_to_thirty_two_operations(rt: HostRuntime) {
     let alloc = rt.alloc();
-    expect_many(&rt, alloc, 33, b"")?;
-    expect_many(&rt, alloc, 33, b" + Z[w] * 07")?;
-    expect_many(&rt, alloc, 10_000, b"")?;
-    let longest = added_ones(alloc, 32)?;
-    let told = told_of_line(alloc, longest.as_slice())?;
+    expect_many(&rt, alloc, 33, b"");
+    expect_many(&rt, alloc, 33, b" + Z[w] * 07");
+    expect_many(&rt, alloc, 10_000, b"");
+    let longest = added_ones(&rt, alloc, 32);
+    let told = told_of_line(&rt, alloc, longest.as_slice());
     assert!(rt; told.as_slice().starts_with(b"5: ((((("));
-    Ok(())
 }

@@ -1,5 +1,6 @@
 //! What tests of texts share: rows of texts, and faults in words.
-use std::alloc::{AllocError, Global};
+use std::alloc::Global;
+use std::process::Abort;
 use tce_declarations::{Limit, SpecFault};
 use tce_space::Name;
 use tce_tree::TreeFault;
@@ -9,20 +10,33 @@ pub(crate) fn part<'a>(row: &'a str, number: usize) -> &'a str {
     row.split('|').nth(number).unwrap_or("")
 }
 
-// The text with a line feed for each slash.
-pub(crate) fn with_feeds(alloc: Global, text: &str) -> Result<Vec<u8>, AllocError> {
-    let mut whole = Vec::new(alloc);
-    for byte in text.as_bytes() {
-        whole.push(if *byte == b'/' { b'\n' } else { *byte })?;
-    }
-    Ok(whole)
+pub(crate) fn put(rt: &impl Abort, text: &mut Vec<u8>, bytes: &[u8]) {
+    assert!(rt; text.extend_from_slice(bytes).is_ok(), "no memory");
 }
 
-pub(crate) fn joined(alloc: Global, first: &[u8], second: &[u8]) -> Result<Vec<u8>, AllocError> {
+// The text with a line feed for each slash.
+pub(crate) fn with_feeds(rt: &impl Abort, alloc: Global, text: &str) -> Vec<u8> {
+    let mut whole = Vec::new(alloc);
+    for byte in text.as_bytes() {
+        assert!(rt;
+            whole
+                .push(if *byte == b'/' { b'\n' } else { *byte })
+                .is_ok()
+        );
+    }
+    whole
+}
+
+pub(crate) fn joined(rt: &impl Abort, alloc: Global, first: &[u8], second: &[u8]) -> Vec<u8> {
     let mut text = Vec::new(alloc);
-    text.extend_from_slice(first)?;
-    text.extend_from_slice(second)?;
-    Ok(text)
+    put(rt, &mut text, first);
+    put(rt, &mut text, second);
+    text
+}
+
+// The text is this one, at the row of a table.
+pub(crate) fn expect_text(rt: &impl Abort, text: &[u8], wanted: &[u8], row: &str) {
+    assert!(rt; text == wanted, "{row}");
 }
 
 fn words_of_limit(limit: Limit) -> &'static str {
@@ -77,14 +91,19 @@ fn words_of(fault: &SpecFault) -> (&'static str, u64, Name) {
     }
 }
 
-pub(crate) fn told_fault(alloc: Global, fault: &SpecFault) -> Result<Vec<u8>, AllocError> {
-    let (kind, line, name) = words_of(fault);
-    let number = format!(in alloc; "{kind} {line}")?;
-    let mut text = Vec::new(alloc);
-    text.extend_from_slice(number.as_str().as_bytes())?;
-    if !name.as_str().is_empty() {
-        text.push(b' ')?;
-        text.extend_from_slice(name.as_str().as_bytes())?;
+fn numbered(rt: &impl Abort, alloc: Global, kind: &str, number: u64) -> Vec<u8> {
+    match format!(in alloc; "{kind} {number}") {
+        Ok(text) => text.into_bytes(),
+        Err(_) => panic!(rt; "no memory"),
     }
-    Ok(text)
+}
+
+pub(crate) fn told_fault(rt: &impl Abort, alloc: Global, fault: &SpecFault) -> Vec<u8> {
+    let (kind, line, name) = words_of(fault);
+    let mut text = numbered(rt, alloc, kind, line);
+    if !name.as_str().is_empty() {
+        put(rt, &mut text, b" ");
+        put(rt, &mut text, name.as_str().as_bytes());
+    }
+    text
 }

@@ -1,7 +1,6 @@
-use crate::given::part;
+use crate::given::{expect_text, part, put};
 use std::alloc::{AllocError, Global};
 use std::process::Abort;
-use std::test::Fail;
 use tce_grammar::{
     Formula, Line, Operator, Printer, Statement, Token, first_line, name_of, read_line,
 };
@@ -47,62 +46,69 @@ fn push_formula(text: &mut Vec<u8>, formula: &Formula) -> Result<(), AllocError>
     }
 }
 
-/// What a line says, in words.
-fn told(alloc: Global, line: &Line) -> Result<Vec<u8>, AllocError> {
-    let mut text = Vec::new(alloc);
-    match line {
-        Line::Skipped => text.extend_from_slice(b"skipped")?,
-        Line::Bad => text.extend_from_slice(b"bad")?,
-        Line::Says(Statement::Range { name, extent, edge }) => {
-            text.extend_from_slice(b"range ")?;
-            text.extend_from_slice(name)?;
-            text.extend_from_slice(b" of ")?;
-            text.extend_from_slice(extent)?;
-            if let Some(edge) = edge {
-                text.extend_from_slice(b" by ")?;
-                text.extend_from_slice(edge)?;
-            }
+fn put_range(rt: &impl Abort, text: &mut Vec<u8>, name: &[u8], extent: &[u8], edge: Option<&[u8]>) {
+    put(rt, text, b"range ");
+    put(rt, text, name);
+    put(rt, text, b" of ");
+    put(rt, text, extent);
+    if let Some(edge) = edge {
+        put(rt, text, b" by ");
+        put(rt, text, edge);
+    }
+}
+
+// A word, a name and more names.
+fn put_list(rt: &impl Abort, text: &mut Vec<u8>, word: &[u8], name: &[u8], names: &[&[u8]]) {
+    put(rt, text, word);
+    put(rt, text, name);
+    assert!(rt; push_names(text, names).is_ok());
+}
+
+fn put_statement(rt: &impl Abort, text: &mut Vec<u8>, statement: &Statement) {
+    match statement {
+        Statement::Range { name, extent, edge } => put_range(rt, text, *name, *extent, *edge),
+        Statement::Index { range, indexes } => {
+            put_list(rt, text, b"indexes of ", *range, indexes.as_slice())
         }
-        Line::Says(Statement::Index { range, indexes }) => {
-            text.extend_from_slice(b"indexes of ")?;
-            text.extend_from_slice(range)?;
-            push_names(&mut text, indexes.as_slice())?;
+        Statement::Tensor { name, ranges } => {
+            put_list(rt, text, b"tensor ", *name, ranges.as_slice())
         }
-        Line::Says(Statement::Tensor { name, ranges }) => {
-            text.extend_from_slice(b"tensor ")?;
-            text.extend_from_slice(name)?;
-            push_names(&mut text, ranges.as_slice())?;
-        }
-        Line::Says(
-            Statement::Formula {
-                result,
-                indexes,
-                formula,
-            },
-        ) => {
-            text.extend_from_slice(result)?;
-            push_names(&mut text, indexes.as_slice())?;
-            text.extend_from_slice(b" is ")?;
-            push_formula(&mut text, formula)?;
+        Statement::Formula {
+            result,
+            indexes,
+            formula,
+        } => {
+            put_list(rt, text, b"", *result, indexes.as_slice());
+            put(rt, text, b" is ");
+            assert!(rt; push_formula(text, formula).is_ok());
         }
     }
-    Ok(text)
+}
+
+/// What a line says, in words.
+fn told(rt: &impl Abort, alloc: Global, line: &Line) -> Vec<u8> {
+    let mut text = Vec::new(alloc);
+    match line {
+        Line::Skipped => put(rt, &mut text, b"skipped"),
+        Line::Bad => put(rt, &mut text, b"bad"),
+        Line::Says(statement) => put_statement(rt, &mut text, statement),
+    }
+    text
 }
 
 // What the line says, in words, is as wanted.
-fn expect_line(rt: &impl Abort, alloc: Global, text: &[u8], want: &[u8]) -> Result<(), Fail> {
-    let line = read_line(alloc, text)?;
-    assert_eq!(rt; told(alloc, &line)?.as_slice(), want);
-    Ok(())
+fn expect_line(rt: &impl Abort, alloc: Global, text: &[u8], want: &[u8]) {
+    match read_line(alloc, text) {
+        Ok(line) => expect_text(rt, told(rt, alloc, &line).as_slice(), want, "a line"),
+        Err(_) => panic!(rt; "no memory"),
+    }
 }
 
 // Each row is a line and what it says.
-fn expect_rows(rt: &impl Abort, alloc: Global, rows: &str) -> Result<(), Fail> {
+fn expect_rows(rt: &impl Abort, alloc: Global, rows: &str) {
     for row in rows.split('\n') {
-        let text = part(row, 0);
-        expect_line(rt, alloc, text.as_bytes(), part(row, 1).as_bytes())?;
+        expect_line(rt, alloc, part(row, 0).as_bytes(), part(row, 1).as_bytes());
     }
-    Ok(())
 }
 
 const DECLARATIONS: &str = "\
@@ -144,100 +150,100 @@ C = 2|bad
 2[] = 2|bad";
 
 #[test]
-fn lines_say_what_was_read_by_hand(rt: HostRuntime) -> Result<(), Fail> {
+fn lines_say_what_was_read_by_hand(rt: HostRuntime) {
     let alloc = rt.alloc();
-    expect_rows(&rt, alloc, DECLARATIONS)?;
-    expect_rows(&rt, alloc, FORMULAS)?;
+    expect_rows(&rt, alloc, DECLARATIONS);
+    expect_rows(&rt, alloc, FORMULAS);
     // bytes that are no text
-    expect_line(&rt, alloc, b"#\x00\xff\r", b"skipped")?;
-    expect_line(&rt, alloc, b"range N \xff", b"bad")
+    expect_line(&rt, alloc, b"#\x00\xff\r", b"skipped");
+    expect_line(&rt, alloc, b"range N \xff", b"bad");
 }
 
-fn push_times(text: &mut Vec<u8>, piece: &[u8], times: u32) -> Result<(), AllocError> {
+fn put_times(rt: &impl Abort, text: &mut Vec<u8>, piece: &[u8], times: u32) {
     for _ in 0..times {
-        text.extend_from_slice(piece)?;
+        put(rt, text, piece);
     }
-    Ok(())
-}
-
-/// A formula with so many parentheses round a constant.
-fn in_parentheses(alloc: Global, count: u32) -> Result<Vec<u8>, AllocError> {
-    let mut text = Vec::new(alloc);
-    text.extend_from_slice(b"C[] = ")?;
-    push_times(&mut text, b"(", count)?;
-    text.extend_from_slice(b"2")?;
-    push_times(&mut text, b")", count)?;
-    Ok(text)
 }
 
 // A constant in so many parentheses, with a text behind it, is read as wanted.
-fn expect_parentheses(
-    rt: &impl Abort,
-    alloc: Global,
-    count: u32,
-    behind: &[u8],
-    want: &[u8],
-) -> Result<(), Fail> {
-    let mut text = in_parentheses(alloc, count)?;
-    text.extend_from_slice(behind)?;
-    expect_line(rt, alloc, text.as_slice(), want)
+fn expect_parentheses(rt: &impl Abort, alloc: Global, count: u32, behind: &[u8], want: &[u8]) {
+    let mut text = Vec::new(alloc);
+    put(rt, &mut text, b"C[] = ");
+    put_times(rt, &mut text, b"(", count);
+    put(rt, &mut text, b"2");
+    put_times(rt, &mut text, b")", count);
+    put(rt, &mut text, behind);
+    expect_line(rt, alloc, text.as_slice(), want);
 }
 
 #[test]
-fn parentheses_are_open_up_to_sixty_four(rt: HostRuntime) -> Result<(), Fail> {
+fn parentheses_are_open_up_to_sixty_four(rt: HostRuntime) {
     let alloc = rt.alloc();
-    expect_parentheses(&rt, alloc, 63, b" * ((3))", b"C is <2 times 3>")?;
-    expect_parentheses(&rt, alloc, 64, b"", b"C is 2")?;
-    expect_parentheses(&rt, alloc, 64, b" * ((3))", b"C is <2 times 3>")?;
-    expect_parentheses(&rt, alloc, 65, b"", b"bad")?;
-    expect_parentheses(&rt, alloc, 60_000, b"", b"bad")
+    expect_parentheses(&rt, alloc, 63, b" * ((3))", b"C is <2 times 3>");
+    expect_parentheses(&rt, alloc, 64, b"", b"C is 2");
+    expect_parentheses(&rt, alloc, 64, b" * ((3))", b"C is <2 times 3>");
+    expect_parentheses(&rt, alloc, 65, b"", b"bad");
+    expect_parentheses(&rt, alloc, 60_000, b"", b"bad");
+}
+
+fn expect_operations(rt: &impl Abort, line: &Line, count: u32) {
+    match line {
+        Line::Says(Statement::Formula { formula, .. }) => {
+            assert!(rt; formula.has_more_operations(count.saturating_sub(1)));
+            assert!(rt; !formula.has_more_operations(count));
+        }
+        _ => panic!(rt; "{count} operators are no formula"),
+    }
+}
+
+fn expect_chain(rt: &impl Abort, alloc: Global, piece: &[u8], count: u32) {
+    let mut text = Vec::new(alloc);
+    put(rt, &mut text, b"C[] = 1");
+    put_times(rt, &mut text, piece, count);
+    match read_line(alloc, text.as_slice()) {
+        Ok(line) => expect_operations(rt, &line, count),
+        Err(_) => panic!(rt; "no memory"),
+    }
 }
 
 // A chain of the longest text must not go deep, neither where it is read nor where it is dropped.
 #[test]
-fn long_chains_are_read_and_dropped(rt: HostRuntime) -> Result<(), Fail> {
-    for (count, piece) in [(1_000, b" * 2"), (16_000, b" - 2")] {
-        let mut text = Vec::new(rt.alloc());
-        text.extend_from_slice(b"C[] = 1")?;
-        push_times(&mut text, piece, count)?;
-        let line = read_line(rt.alloc(), text.as_slice())?;
-        let Line::Says(Statement::Formula { formula, .. }) = &line else {
-            assert!(rt; false, "{count} operators are no formula");
-            return Ok(());
-        };
-        assert!(rt; formula.has_more_operations(count - 1));
-        assert!(rt; !formula.has_more_operations(count));
-    }
-    Ok(())
+fn long_chains_are_read_and_dropped(rt: HostRuntime) {
+    expect_chain(&rt, rt.alloc(), b" * 2", 1_000);
+    expect_chain(&rt, rt.alloc(), b" - 2", 16_000);
 }
 
-// The lines of a text, at most ten, are these, with a bar behind each.
-fn expect_cut(rt: &impl Abort, alloc: Global, text: &[u8], want: &[u8]) -> Result<(), Fail> {
+// The first lines of a text, at most ten, with a bar behind each.
+fn cut(rt: &impl Abort, alloc: Global, text: &[u8]) -> Vec<u8> {
     let mut lines = Vec::new(alloc);
     let mut rest = text;
     for _ in 0..10 {
         let Some((first, behind)) = first_line(rest) else {
             break;
         };
-        lines.extend_from_slice(first)?;
-        lines.push(b'|')?;
+        put(rt, &mut lines, first);
+        put(rt, &mut lines, b"|");
         rest = behind;
     }
-    assert_eq!(rt; lines.as_slice(), want);
     assert!(rt; first_line(rest).is_none());
-    Ok(())
+    lines
+}
+
+// The lines of a text, at most ten, are these, with a bar behind each.
+fn expect_cut(rt: &impl Abort, alloc: Global, text: &[u8], want: &[u8]) {
+    expect_text(rt, cut(rt, alloc, text).as_slice(), want, "lines");
 }
 
 #[test]
-fn texts_are_cut_at_line_feeds(rt: HostRuntime) -> Result<(), Fail> {
+fn texts_are_cut_at_line_feeds(rt: HostRuntime) {
     let alloc = rt.alloc();
-    expect_cut(&rt, alloc, b"", b"")?;
-    expect_cut(&rt, alloc, b"\n", b"|")?;
-    expect_cut(&rt, alloc, b"a\n\nb", b"a||b|")?;
-    expect_cut(&rt, alloc, b"a\r\nb\r", b"a|b\r|")?;
-    expect_cut(&rt, alloc, b"a\r\r\n\r\n", b"a\r||")?;
-    expect_cut(&rt, alloc, b"a\rb\n", b"a\rb|")?;
-    expect_cut(&rt, alloc, b" \n#\n ", b" |#| |")
+    expect_cut(&rt, alloc, b"", b"");
+    expect_cut(&rt, alloc, b"\n", b"|");
+    expect_cut(&rt, alloc, b"a\n\nb", b"a||b|");
+    expect_cut(&rt, alloc, b"a\r\nb\r", b"a|b\r|");
+    expect_cut(&rt, alloc, b"a\r\r\n\r\n", b"a\r||");
+    expect_cut(&rt, alloc, b"a\rb\n", b"a\rb|");
+    expect_cut(&rt, alloc, b" \n#\n ", b" |#| |");
 }
 
 fn token_of<'a>(word: &'a [u8]) -> Token<'a> {
@@ -255,18 +261,26 @@ fn token_of<'a>(word: &'a [u8]) -> Token<'a> {
     }
 }
 
+fn push(rt: &impl Abort, printer: &mut Printer, word: &str) {
+    assert!(rt; printer.push(token_of(word.as_bytes())).is_ok());
+}
+
 #[test]
-fn tokens_are_printed_with_their_spaces(rt: HostRuntime) -> Result<(), Fail> {
+fn tokens_are_printed_with_their_spaces(rt: HostRuntime) {
     let mut printer = Printer::new(rt.alloc());
     for word in "C [ i , j ] = 2 - ( 3 )".split(' ') {
-        printer.push(token_of(word.as_bytes()))?;
+        push(&rt, &mut printer, word);
     }
-    printer.end_line()?;
-    printer.push(Token::Word(b"tensor"))?;
-    printer.push(Token::Word(b"A"))?;
+    assert!(rt; printer.end_line().is_ok());
+    push(&rt, &mut printer, "tensor");
+    push(&rt, &mut printer, "A");
     let text = printer.into_text();
-    assert_eq!(rt; text.as_slice(), b"C[i,j] = 2 - (3)\ntensor A".as_slice());
-    Ok(())
+    expect_text(
+        &rt,
+        text.as_slice(),
+        b"C[i,j] = 2 - (3)\ntensor A",
+        "tokens",
+    );
 }
 
 #[test]

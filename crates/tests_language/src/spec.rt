@@ -1,9 +1,8 @@
 //! Whole texts that were judged by hand.
 
-use crate::given::{joined, part, told_fault, with_feeds};
-use std::alloc::{AllocError, Global};
+use crate::given::{expect_text, joined, part, put, told_fault, with_feeds};
+use std::alloc::Global;
 use std::process::Abort;
-use std::test::Fail;
 use tce_spec::{Spec, print_spec, read_spec};
 
 /// The outer product of two vectors: six lines.
@@ -14,54 +13,53 @@ const OUTER: &[u8] =
 const DECLARED: &[u8] = b"range N 2\nindex N i j k\ntensor A[N]\ntensor B[N]\ntensor C[N]\n";
 
 /// A text, and so many times one byte behind it.
-fn repeated(alloc: Global, first: &[u8], byte: u8, count: u32) -> Result<Vec<u8>, AllocError> {
+fn repeated(rt: &impl Abort, alloc: Global, first: &[u8], byte: u8, count: u32) -> Vec<u8> {
     let mut text = Vec::new(alloc);
-    text.extend_from_slice(first)?;
+    put(rt, &mut text, first);
     for _ in 0..count {
-        text.push(byte)?;
+        assert!(rt; text.push(byte).is_ok());
     }
-    Ok(text)
+    text
 }
 
-/// The operands, the result behind `->`, how many tensors and nodes there are, and the words of the largest tile.
-fn told_spec(alloc: Global, spec: &Spec) -> Result<Vec<u8>, AllocError> {
-    let mut text = Vec::new(alloc);
-    for t in spec.operands().as_slice() {
-        text.push(b'0'.saturating_add(*t))?;
-    }
+/// The result, how many tensors and nodes there are, and the words of the largest tile.
+fn told_rest(rt: &impl Abort, alloc: Global, spec: &Spec) -> Vec<u8> {
     let result = spec.result().tensor;
     let tensors = spec.tensor_count();
     let nodes = spec.tree().count();
     let words = spec.largest_tile();
-    let rest = format!(in alloc; "->{result} of {tensors}, nodes {nodes}, tile {words}")?;
-    text.extend_from_slice(rest.as_str().as_bytes())?;
-    Ok(text)
-}
-
-fn told(alloc: Global, text: &[u8]) -> Result<Vec<u8>, AllocError> {
-    match read_spec(alloc, text) {
-        Ok(spec) => told_spec(alloc, &spec),
-        Err(fault) => told_fault(alloc, &fault),
+    match format!(in alloc; "->{result} of {tensors}, nodes {nodes}, tile {words}") {
+        Ok(text) => text.into_bytes(),
+        Err(_) => panic!(rt; "no memory"),
     }
 }
 
-/// The canonical text of what a text specifies.
-fn reprinted(alloc: Global, text: &[u8]) -> Result<Vec<u8>, Fail> {
-    match read_spec(alloc, text) {
-        Ok(spec) => Ok(print_spec(alloc, &spec)?),
-        Err(_) => Err(Fail::new("the text is refused")),
+/// The operands, and the rest behind them.
+fn told_spec(rt: &impl Abort, alloc: Global, spec: &Spec) -> Vec<u8> {
+    let mut text = Vec::new(alloc);
+    for t in spec.operands().as_slice() {
+        put(rt, &mut text, &[b'0'.saturating_add(*t)]);
     }
+    put(rt, &mut text, told_rest(rt, alloc, spec).as_slice());
+    text
+}
+
+// What is told of the text is this, at the row of a table.
+fn expect_told(rt: &impl Abort, alloc: Global, text: &[u8], wanted: &str, row: &str) {
+    let told = match read_spec(alloc, text) {
+        Ok(spec) => told_spec(rt, alloc, &spec),
+        Err(fault) => told_fault(rt, alloc, &fault),
+    };
+    expect_text(rt, told.as_slice(), wanted.as_bytes(), row);
 }
 
 // Each row is a text behind others, with a slash for each line feed, and what is told of the whole.
-fn expect_rows(rt: &impl Abort, alloc: Global, first: &[u8], rows: &str) -> Result<(), Fail> {
+fn expect_rows(rt: &impl Abort, alloc: Global, first: &[u8], rows: &str) {
     for row in rows.split('\n') {
-        let second = with_feeds(alloc, part(row, 0))?;
-        let whole = joined(alloc, first, second.as_slice())?;
-        let found = told(alloc, whole.as_slice())?;
-        assert_eq!(rt; found.as_slice(), part(row, 1).as_bytes(), "{row}");
+        let second = with_feeds(rt, alloc, part(row, 0));
+        let whole = joined(rt, alloc, first, second.as_slice());
+        expect_told(rt, alloc, whole.as_slice(), part(row, 1), row);
     }
-    Ok(())
 }
 
 // Carriage returns, tabs, blanks, a comment in front and none behind the last line; operands by their first place, and the largest tile among operands and the result; the tile of the result as the largest, and one operand twice; a tensor that is not used, which does not count.
@@ -84,12 +82,11 @@ range N 1024 tile 1024/tensor A[N,N,N]/|tile words 2
 range N 4294967295/tensor A[N,N]/|array words 2";
 
 #[test]
-fn texts_specify_or_have_their_first_fault(rt: HostRuntime) -> Result<(), Fail> {
+fn texts_specify_or_have_their_first_fault(rt: HostRuntime) {
     let alloc = rt.alloc();
-    let outer = told(alloc, OUTER)?;
-    assert_eq!(rt; outer.as_slice(), b"01->2 of 3, nodes 1, tile 1".as_slice());
-    expect_rows(&rt, alloc, b"", FINE)?;
-    expect_rows(&rt, alloc, b"", FAULTS)
+    expect_told(&rt, alloc, OUTER, "01->2 of 3, nodes 1, tile 1", "outer");
+    expect_rows(&rt, alloc, b"", FINE);
+    expect_rows(&rt, alloc, b"", FAULTS);
 }
 
 const BEHIND: &str = "\
@@ -107,31 +104,43 @@ C[i] = A[i] * B[i]/\r|text 7
 C[i] = A[i] * B[i]/ \t/# nothing\r/|01->2 of 3, nodes 1, tile 1";
 
 #[test]
-fn formulas_and_what_stands_behind_them_are_judged(rt: HostRuntime) -> Result<(), Fail> {
-    expect_rows(&rt, rt.alloc(), DECLARED, BEHIND)
+fn formulas_and_what_stands_behind_them_are_judged(rt: HostRuntime) {
+    expect_rows(&rt, rt.alloc(), DECLARED, BEHIND);
 }
 
 // The outer product has 81 bytes.
 #[test]
-fn long_texts_are_refused_unread(rt: HostRuntime) -> Result<(), Fail> {
-    let longest = repeated(rt.alloc(), OUTER, b'#', 65455)?;
-    assert_eq!(rt; longest.len(), 65536);
-    let found = told(rt.alloc(), longest.as_slice())?;
-    assert_eq!(rt; found.as_slice(), b"01->2 of 3, nodes 1, tile 1".as_slice());
-    let longer = repeated(rt.alloc(), OUTER, b'#', 65456)?;
-    let found = told(rt.alloc(), longer.as_slice())?;
-    assert_eq!(rt; found.as_slice(), b"too long 0".as_slice());
-    let feeds = repeated(rt.alloc(), b"", b'\n', 65536)?;
-    let found = told(rt.alloc(), feeds.as_slice())?;
-    assert_eq!(rt; found.as_slice(), b"text 65537".as_slice());
-    Ok(())
+fn long_texts_are_refused_unread(rt: HostRuntime) {
+    let alloc = rt.alloc();
+    let longest = repeated(&rt, alloc, OUTER, b'#', 65455);
+    assert!(rt; longest.len() == 65536);
+    expect_told(
+        &rt,
+        alloc,
+        longest.as_slice(),
+        "01->2 of 3, nodes 1, tile 1",
+        "longest",
+    );
+    let longer = repeated(&rt, alloc, OUTER, b'#', 65456);
+    expect_told(&rt, alloc, longer.as_slice(), "too long 0", "longer");
+    let feeds = repeated(&rt, alloc, b"", b'\n', 65536);
+    expect_told(&rt, alloc, feeds.as_slice(), "text 65537", "feeds");
+}
+
+// The canonical text of what a text specifies.
+fn reprinted(rt: &impl Abort, alloc: Global, spec: &Spec) -> Vec<u8> {
+    match print_spec(alloc, spec) {
+        Ok(text) => text,
+        Err(_) => panic!(rt; "no memory"),
+    }
 }
 
 #[test]
-fn the_canonical_text_is_printed(rt: HostRuntime) -> Result<(), Fail> {
+fn the_canonical_text_is_printed(rt: HostRuntime) {
     let text: &[u8] =
         b"# an outer product\r\nrange N 2\r\nindex N i j\r\ntensor A[N]\r\ntensor B[N]\r\ntensor C[N,N]\r\nC[i,j] = A[i] * B[j]";
-    let found = reprinted(rt.alloc(), text)?;
-    assert_eq!(rt; found.as_slice(), OUTER);
-    Ok(())
+    match read_spec(rt.alloc(), text) {
+        Ok(spec) => assert!(rt; reprinted(&rt, rt.alloc(), &spec).as_slice() == OUTER),
+        Err(_) => panic!(rt; "the text is refused"),
+    }
 }

@@ -1,13 +1,12 @@
 //! Lines with and without a form.
 
 use std::process::Abort;
-use std::test::Fail;
 use tce_cert_lines::{has_form, read_memory_line, read_table_line};
 
 // Whether each of the lines, one below the other, has a form.
 fn expect_form(rt: &impl Abort, lines: &str, wanted: bool) {
     for line in lines.split('\n') {
-        assert_eq!(rt; has_form(line.as_bytes()), wanted, "{line}");
+        assert!(rt; has_form(line.as_bytes()) == wanted, "{line}");
     }
 }
 
@@ -25,8 +24,7 @@ fn lines_have_their_forms(rt: HostRuntime) {
 }
 
 #[test]
-fn numbers_are_read(rt: HostRuntime) -> Result<(), Fail> {
-    assert_eq!(rt; read_memory_line(b"memory 6"), Some(6));
-    assert_eq!(rt; read_table_line(b"table 1 2"), Some((1, 2)));
-    Ok(())
+fn numbers_are_read(rt: HostRuntime) {
+    assert!(rt; read_memory_line(b"memory 6") == Some(6));
+    assert!(rt; read_table_line(b"table 1 2") == Some((1, 2)));
 }

@@ -1,5 +1,6 @@
 //! The commands, through the one call of the program. Expected numbers and texts were worked out by hand.
 
+mod batches;
 mod certificates;
 mod demonstrations;
 mod failing;

@@ -38,7 +38,13 @@ run s.tce +3
 run s.tce 3x
 run s.tce -
 run s.tce 1099511627777
-run s.tce 18446744073709551619";
+run s.tce 18446744073709551619
+batch
+batch s.tce
+batch s.tce 3 3
+batch s.txt 3
+batch s.tce 012
+batch s.tce 1099511627777";
 
 #[test]
 fn other_words_are_bad_words(rt: HostRuntime) -> Result<(), Fail> {
