@@ -48,18 +48,21 @@ copy_disk() {
     git init -q .
 }
 
-# make_spent: makes `./spent COMMAND..`, which prints how many microseconds of the processor a command took
+# make_spent: makes `./spent COMMAND..`, which prints how many microseconds of the processor a command took; what the
+# command prints goes into the file that REPORT names, where it names one
 make_spent() {
     cat > spent.c <<'C'
 #include <stdio.h>
+#include <stdlib.h>
 #include <sys/resource.h>
 #include <sys/wait.h>
 #include <unistd.h>
 
 int main(int count, char **words) {
+    const char *report = getenv("REPORT");
     pid_t child = fork();
     if (child == 0) {
-        if (!freopen("/dev/null", "w", stdout)) _exit(127);
+        if (!freopen(report ? report : "/dev/null", "w", stdout)) _exit(127);
         execvp(words[1], words + 1);
         _exit(127);
     }

@@ -239,7 +239,17 @@ four_data() {
     ./array D.tca 4 "$1" "$3" "$1" "$3" "$1" "$3" "$2" "$4"
 }
 
-# compare WHAT RESULT BUDGET ROUNDS SOURCE FLAGS..: the run of job.tce beside the plain program
+# expect WHAT EXPECTED FOUND
+expect() {
+    [ "$2" = "$3" ] || { echo "$1: '$3' and not '$2'"; exit 1; }
+}
+
+# bytes FILE
+bytes() {
+    wc -c < "$1" | tr -d ' '
+}
+
+# compare WHAT RESULT BUDGET ROUNDS SOURCE FLAGS..: the run of job.tce beside the plain program; its report is in `report`
 compare() {
     what=$1 result=$2 budget=$3 times=$4 source=$5
     shift 5
@@ -249,7 +259,7 @@ compare() {
     round=0
     while [ $round -lt "$times" ]; do
         ./spent ./plain >> plain.times
-        ./spent "$program" run job.tce "$budget" >> run.times
+        REPORT=report ./spent "$program" run job.tce "$budget" >> run.times
         round=$((round + 1))
     done
     cmp -s plain.tca "$result" || { echo "$what: the results differ"; exit 1; }
@@ -292,3 +302,7 @@ compare 'all products of vectors of 49152, edge 4096' S.tca 12288 "$rounds" vect
 four_spec 40 10 8 5 > job.tce
 four_data 40 10 8 5
 compare 'four tensors of 40 and 10, edges 8 and 5, budget 65536' S.tca 65536 1 four.c -DV=40 -DO=10 -DEV=8 -DEO=5 -DTILED
+expect 'its memory' 'memory 104' "$(grep '^memory ' report)"
+expect 'its tiles' 'tiles 64000' "$(grep '^tiles ' report)"
+expect 'bytes of B.tca' 5120080 "$(bytes B.tca)"
+expect 'bytes of S.tca' 1280080 "$(bytes S.tca)"

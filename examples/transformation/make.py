@@ -2,7 +2,7 @@
 import sys
 import numpy
 
-N = 10
+N = 24
 draw = numpy.random.default_rng(7)
 V = draw.integers(-50, 50, (N, N, N, N)).astype("<i8")
 U = draw.integers(-50, 50, (N, N)).astype("<i8")

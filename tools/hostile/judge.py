@@ -8,11 +8,14 @@ SET = rb"(?:-|[A-Za-z0-9_,]+)"
 FUSED = rb"fused " + SET + rb" size " + NUMBER
 NODE = rb"node [0-9]+ (?:product|sum|add|sub) loops " + SET + rb" (?:" + FUSED + rb"|result)\n"
 NODES = rb"(?:" + NODE + rb")+memory " + NUMBER + rb"\n"
+RUN = NODES + rb"tiles " + NUMBER + rb"\n"
 WROTE = rb"wrote (?P<file>[A-Za-z0-9_./-]+) (?P<bytes>" + NUMBER + rb")\n"
+FORMULA = rb"formula [1-9][0-9]*\n" + RUN
 
 # The report of each command by its first word.
 REPORTS = {
-    b"run": NODES + rb"tiles " + NUMBER + rb"\n" + WROTE,
+    b"run": RUN + WROTE,
+    b"batch": rb"(?:" + FORMULA + rb"wrote [A-Za-z0-9_]+\.tca " + NUMBER + rb"\n)*" + FORMULA + WROTE,
     b"plan": NODES,
     b"cert": rb"memory " + NUMBER + rb"\n" + WROTE,
     b"check": rb"accepted memory " + NUMBER + rb"\n",
@@ -58,11 +61,39 @@ def of_text(command, outcome, piped):
     return [], (in_folder(found["file"].decode()), int(found["bytes"])) if "file" in found else None
 
 
+def results_of(command, before):
+    """The files of the results in the text of several formulas."""
+    if command.words[0] != b"batch":
+        return set()
+    text = before.get(command.reads[0], (None, None))[1] or b""
+    named = re.findall(rb"^[ \t]*([A-Za-z][A-Za-z0-9_]*)[ \t]*\[", text, re.M)
+    return {*(name.decode() + ".tca" for name in named), *(name for name, _ in command.earlier)}
+
+
+def of_results(command, before, after, status, left):
+    """What is wrong with the files of several results: in order some are complete, after a disk fault one may hold
+    anything, and the others are unchanged."""
+    states = []
+    for name, content in (*command.earlier, (command.output, left)):
+        held = after.get(name, (None, None))[1]
+        same = before.get(name) == after.get(name)
+        states.append("unchanged" if same else "complete" if held == content else "anything")
+    begun = sum(state != "unchanged" for state in states)
+    wrong = []
+    if "unchanged" in states[:begun]:
+        wrong.append("a later result is there without an earlier one")
+    if "anything" in (states[: begun - 1] if status == 8 else states):
+        wrong.append("a result is not complete")
+    if status in (0, 9) and begun < len(states):
+        wrong.append("a result was not written")
+    return wrong
+
+
 def of_files(command, before, after, outcome, wrote, left, leaves):
     """What is wrong with the files. `leaves`: unchanged, complete or anything, or None: as the status says."""
     output = wrote[0] if wrote else command.output
     changed = differences(before, after)
-    beside = set(command.beside) if outcome.status in (0, 8, 9, 10) else set()
+    beside = {*command.beside, *results_of(command, before)} if outcome.status in (0, 8, 9, 10) else set()
     wrong = [f"{name} changed" for name in sorted(changed - {output} - beside)]
     held = after.get(output, (None, None))[1] if output else None
     if wrote and (held is None or len(held) != wrote[1]):
@@ -75,6 +106,8 @@ def of_files(command, before, after, outcome, wrote, left, leaves):
         wrong.append("the output changed")
     if leaves == "complete" and output and held != left:
         wrong.append("the output is not complete")
+    if command.earlier and left is not None and output == command.output:
+        wrong += of_results(command, before, after, outcome.status, left)
     return wrong
 
 

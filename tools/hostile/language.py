@@ -290,14 +290,20 @@ def content_of(line):
     return (line[:-1] if line.endswith(b"\r") else line).partition(b"#")[0]
 
 
-def first_fault(text):
-    """The first fault of a text as its error line says it, or None where it is a specification."""
-    if len(text) > 65_536:
-        return "too long"
+def contents_of(text):
+    """The lines of a text without their comments. What follows the last line feed is one more unless it is empty."""
     lines = text.split(b"\n")
     last = lines.pop()
-    contents = [content_of(line) for line in lines] + ([last.partition(b"#")[0]] if last else [])
-    declared, formula = Declared(), False
+    return [content_of(line) for line in lines] + ([last.partition(b"#")[0]] if last else [])
+
+
+def first_fault(text, declared=None):
+    """The first fault of a text as its error line says it, or None where it is a specification. What it declares is put
+    into `declared`."""
+    if len(text) > 65_536:
+        return "too long"
+    contents = contents_of(text)
+    declared, formula = declared or Declared(), False
     for number, content in enumerate(contents, 1):
         if not content.strip(BLANKS):
             continue
@@ -310,6 +316,40 @@ def first_fault(text):
         except Fault as fault:
             return f"line {number}: {fault}"
     return None if formula else f"line {len(contents) + 1}: bad text"
+
+
+def is_formula_line(content):
+    """Whether a line has the form of a formula."""
+    try:
+        tokens = Tokens(tokens_of(content))
+        reference(tokens)
+        tokens.take(b"=")
+        expression(tokens)
+        return not tokens.next()
+    except NoForm:
+        return False
+
+
+def first_fault_of_batch(text):
+    """The first fault of a text with several formulas: each formula line is read with the content of the others dropped,
+    and the first of these texts that has a fault decides."""
+    if len(text) > 65_536:
+        return "too long"
+    contents, lines = contents_of(text), text.split(b"\n")
+    formulas = [at for at, content in enumerate(contents) if is_formula_line(content)]
+    for at in formulas[1:]:
+        lines[at] = b""
+    declared = Declared()
+    fault = first_fault(b"\n".join(lines), declared)
+    if fault:
+        return fault
+    # All declarations stand in front of the first formula.
+    for at in formulas[1:]:
+        try:
+            declared.formula(Tokens(tokens_of(contents[at])))
+        except Fault as found:
+            return f"line {at + 1}: {found}"
+    return None
 
 
 def read_line(declared, tokens):

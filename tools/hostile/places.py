@@ -6,6 +6,7 @@ import resource
 import shutil
 import typing
 
+from hostile.language import first_fault_of_batch
 from hostile.samples import FILES
 
 
@@ -34,7 +35,7 @@ def cases(command):
     yield from few_open_files(command)
     for name in command.reads:
         yield from bad_inputs(name)
-        yield from cut_short(name)
+        yield from cut_short(command, name)
     if command.output:
         yield from bad_outputs(command)
     yield from bad_paths(command)
@@ -110,10 +111,15 @@ def in_turn(*arrangements):
 # The folder, and files that may not be opened.
 
 
+def results_of(command):
+    """The files that a command writes, the output last."""
+    return [*(name for name, _ in command.earlier), command.output]
+
+
 def closed_folders(command):
     shut = with_mode(".", 0o555)
     if command.output:
-        there = put(command.output, b"what was there before")
+        there = in_turn(*(put(name, b"what was there before") for name in results_of(command)))
         yield Case("a read-only folder", {8}, shut, leaves="unchanged")
         yield Case("a read-only folder with the output in it", {0}, in_turn(there, shut), leaves="complete")
         yield Case("a read-only output", {8}, in_turn(there, with_mode(command.output, 0o444)), leaves="unchanged")
@@ -154,12 +160,15 @@ def bad_inputs(name):
         yield Case(f"{name} of 65,537 bytes", {2}, put(name, longest + b"#"))
 
 
-def cut_short(name):
+def cut_short(command, name):
     whole = FILES[name]
     refused = NO_FILE_OF_ITS_KIND[name.rpartition(".")[2]]
     for length in range(1, len(whole)):
         # the line feed behind a formula may be left out
         due = refused if length < len(whole) - 1 or not name.endswith(".tce") else {0}
+        if command.name == "batch" and name.endswith(".tce"):
+            # what is left may be a text with fewer formulas
+            due = refused if first_fault_of_batch(whole[:length]) else {0}
         yield Case(f"{name} cut to {length} bytes", due, put(name, whole[:length]))
 
 

@@ -7,6 +7,12 @@ ONE = b"range N 2\nindex N i j\ntensor A[N]\ntensor B[N]\ntensor C[N,N]\nC[i,j] 
 # Two elements by two, with a sum.
 SUM = b"range N 2\nindex N i j k\ntensor F[N,N]\ntensor G[N,N]\ntensor H[N,N]\nH[i,j] = sum{k}(F[i,k] * G[k,j])\n"
 
+# Two formulas over matrices: the result of the first is an operand of the second.
+STEPS = (
+    b"range N 2\nindex N i j k\ntensor F[N,N]\ntensor G[N,N]\ntensor U[N,N]\ntensor W[N,N]\n"
+    b"U[i,j] = sum{k}(F[i,k] * G[k,j])\nW[i,j] = sum{k}(U[i,k] * F[k,j])\n"
+)
+
 TWO = (
     b"range I 5\nrange J 7\nrange K 2\nindex I i\nindex J j\nindex K k l\ntensor A[I,K]\ntensor B[J,K]\ntensor C[I,J]\n"
     b"C[i,j] = (sum{k}(A[i,k])) * (sum{l}(B[j,l]))\n"
@@ -44,6 +50,7 @@ FILES = {
     "sum.tce": SUM,
     "F.tca": array([2, 2], [1, 1], [1, 2, 3, 4]),
     "G.tca": array([2, 2], [1, 1], [5, 6, 7, 8]),
+    "steps.tce": STEPS,
     "two.tce": TWO,
     "two.cert": CERTIFICATE,
     "four.tce": FOUR,
@@ -70,7 +77,8 @@ class Command:
     """A command whose run is good: its words, the files that it reads, the file that it writes, and its report.
 
     Where the bytes of the output are not fixed, `written` is None. `beside` are the files that it makes beside the
-    output; they may hold anything where it fails.
+    output; they may hold anything where it fails. `earlier` are the files of the results that it writes before the
+    output, in order, each with its bytes.
     """
 
     name: str
@@ -80,6 +88,7 @@ class Command:
     output: str = None
     written: bytes = None
     beside: tuple = ()
+    earlier: tuple = ()
 
 
 COMMANDS = [
@@ -99,6 +108,17 @@ COMMANDS = [
         b"wrote H.tca 80\n",
         "H.tca",
         array([2, 2], [1, 1], [19, 22, 43, 50]),
+    ),
+    Command(
+        "batch",
+        (b"batch", b"steps.tce", b"3"),
+        ("steps.tce", "F.tca", "G.tca"),
+        b"tce batch 1\nformula 1\nnode 0 product loops i,j,k fused i,j,k size 1\nnode 1 sum loops i,j,k result\nmemory 1\n"
+        b"tiles 3\nwrote U.tca 80\nformula 2\nnode 0 product loops i,j,k fused i,j,k size 1\n"
+        b"node 1 sum loops i,j,k result\nmemory 1\ntiles 3\nwrote W.tca 80\n",
+        "W.tca",
+        array([2, 2], [1, 1], [85, 126, 193, 286]),
+        earlier=(("U.tca", array([2, 2], [1, 1], [19, 22, 43, 50])),),
     ),
     Command("plan", (b"plan", b"four.tce"), ("four.tce",), FOUR_REPORT),
     Command(
