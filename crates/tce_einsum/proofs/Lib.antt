@@ -11,3 +11,10 @@ pub mod LabelSets
 pub mod Nodes
 pub mod Places
 pub mod FewSizes
+pub mod ProducedTexts
+pub mod Tasks
+pub mod ProducedLines
+pub mod LongTexts
+pub mod IndexLines
+pub mod Answered
+pub mod ReadInputs

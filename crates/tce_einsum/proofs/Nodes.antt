@@ -1,6 +1,7 @@
 -- Nodes behind others, and the entries that they leave.
 use Rattle.std.proofs.Common.{◌≡◌, ℕ, zero, suc, ◌+◌, ◌<◌, ◌&&◌, ◌||◌, not, Bool, true, false, nat_lt, cond, List, [], ◌∷◌, ◌++◌, map, length, get_or, fold, filter, take, drop, remove, All, refl, sym, ap, ap₂, subst, ◌∙◌, arith}
 use Rattle.std.specs.List.{list_any, AllByRecursion, range_with_len}
+use Rattle.std.proofs.lemmas.Bool.{ltb-true, ltb-false}
 use Rattle.std.proofs.lemmas.List.{length-append, get_or_append_left, get_or-map, map-append}
 use Rattle.std.proofs.lemmas.List.Sums.{fold-append}
 use Rattle.std.proofs.lemmas.List.Elements.{recursion_from_All, All-append, All-take, All-drop, All-push}
@@ -13,39 +14,56 @@ use Rattle.tce_einsum.specs.declared.entries.Node.TheVariants.{Product}
 use Rattle.tce_einsum.specs.declared.entries.Entry.{Entry}
 use Rattle.tce_einsum.specs.Entries as list
 use Rattle.tce_einsum.specs.Entries.{Labels, is_free, entry_at, labels_to_sum, with_entry}
-use Rattle.tce_einsum.specs.EntriesCode.{tree_of_node, with_node, trees_of, tree_in, IsEntry, Keeps}
+use Rattle.tce_einsum.specs.EntriesCode.{tree_of_node, with_node, trees_of, tree_in, IsEntry, IsBehind, AreOrdered, Keeps}
 use Rattle.tce_einsum.proofs.Contractions.{filtered_same}
 
-trees_long : (ts : List ContractionTree) (nodes : List Node) → length (fold with_node ts nodes) ≡ length ts + length nodes
+pub trees_long : (ts : List ContractionTree) (nodes : List Node) → length (fold with_node ts nodes) ≡ length ts + length nodes
 trees_long ts [] = omega arith
 trees_long ts (n ∷ ns) =
     let rest = trees_long (with_node ts n) ns in
     let one = length-append ts (tree_of_node ts n ∷ []) in
     omega arith
 
-trees_pushed : (nodes : List Node) (n : Node) → trees_of (nodes ++ n ∷ []) ≡ with_node (trees_of nodes) n
+pub trees_pushed : (nodes : List Node) (n : Node) → trees_of (nodes ++ n ∷ []) ≡ with_node (trees_of nodes) n
 trees_pushed nodes n = fold-append with_node [] nodes (n ∷ [])
 
-stays : (nodes : List Node) (n : Node) (k : ℕ) → k < length nodes → entry_at (trees_of (nodes ++ n ∷ [])) k ≡ entry_at (trees_of nodes) k
+pub stays : (nodes : List Node) (n : Node) (k : ℕ) → k < length nodes → entry_at (trees_of (nodes ++ n ∷ [])) k ≡ entry_at (trees_of nodes) k
 stays nodes n k inside =
     let long = trees_long [] nodes in
     ap (λ ts. entry_at ts k) (trees_pushed nodes n) ∙ get_or_append_left (trees_of nodes) (tree_of_node (trees_of nodes) n ∷ []) (constant 0) k (omega arith)
 
-newest : (nodes : List Node) (n : Node) → entry_at (trees_of (nodes ++ n ∷ [])) (length nodes) ≡ tree_of_node (trees_of nodes) n
+pub newest : (nodes : List Node) (n : Node) → entry_at (trees_of (nodes ++ n ∷ [])) (length nodes) ≡ tree_of_node (trees_of nodes) n
 newest nodes n =
     let long : length nodes ≡ length (trees_of nodes) = omega (arith, trees_long [] nodes) in
     ap (λ ts. entry_at ts (length nodes)) (trees_pushed nodes n) ∙ ap (entry_at (with_node (trees_of nodes) n)) long
     ∙ get_or-append_seam (trees_of nodes) (tree_of_node (trees_of nodes) n) [] (constant 0)
 
-pub keeps_pushed : (nodes after : List Node) (n : Node) → after ≡ nodes ++ n ∷ [] → Keeps nodes after
-keeps_pushed nodes after n e = λ entry is.
-    subst (λ ns. IsEntry ns entry × (tree_in ns entry ≡ tree_in nodes entry)) (sym e) (
-      record { inside = omega (arith, is.inside, length-append nodes (n ∷ [])); free = λ i. is.free i ∙ ap (λ t. is_free t i) (sym (stays nodes n entry.node is.inside)) },
-      stays nodes n entry.node is.inside,
-    )
+pub ordered_pushed : (nodes : List Node) (n : Node) → AreOrdered nodes → IsBehind (length nodes) n → AreOrdered (nodes ++ n ∷ [])
+ordered_pushed nodes n ordered behind k d inside = by_place (nat_lt k (length nodes)) refl
+  where
+    by_place : (b : Bool) → nat_lt k (length nodes) ≡ b → IsBehind k (get_or (nodes ++ n ∷ []) k d)
+    by_place true e =
+        let front : k < length nodes = ltb-true k (length nodes) e in
+        subst (IsBehind k) (sym (get_or_append_left nodes (n ∷ []) d k front)) (ordered k d front)
+    by_place false e =
+        let last : length nodes ≡ k = omega (arith, ltb-false k (length nodes) e, inside, length-append nodes (n ∷ [])) in
+        subst (λ j. IsBehind j (get_or (nodes ++ n ∷ []) j d)) last (subst (IsBehind (length nodes)) (sym (get_or-append_seam nodes n [] d)) behind)
+
+pub keeps_pushed : (nodes after : List Node) (n : Node) → IsBehind (length nodes) n → after ≡ nodes ++ n ∷ [] → Keeps nodes after
+keeps_pushed nodes after n behind e = record {
+  entries = λ entry is.
+      subst (λ ns. IsEntry ns entry × (tree_in ns entry ≡ tree_in nodes entry)) (sym e) (
+        record { inside = omega (arith, is.inside, length-append nodes (n ∷ [])); free = λ i. is.free i ∙ ap (λ t. is_free t i) (sym (stays nodes n entry.node is.inside)) },
+        stays nodes n entry.node is.inside,
+      );
+  ordered = λ ordered. subst AreOrdered (sym e) (ordered_pushed nodes n ordered behind);
+}
 
 pub keeps_same : (nodes after : List Node) → after ≡ nodes → Keeps nodes after
-keeps_same nodes after e = λ entry is. subst (λ ns. IsEntry ns entry × (tree_in ns entry ≡ tree_in nodes entry)) (sym e) (is, refl)
+keeps_same nodes after e = record {
+  entries = λ entry is. subst (λ ns. IsEntry ns entry × (tree_in ns entry ≡ tree_in nodes entry)) (sym e) (is, refl);
+  ordered = subst AreOrdered (sym e);
+}
 
 -- the entry of a new node
 tree_pushed : (nodes after : List Node) (n : Node) (entry : Entry) → after ≡ nodes ++ n ∷ [] → entry.node ≡ length nodes → tree_in after entry ≡ tree_of_node (trees_of nodes) n
@@ -69,7 +87,7 @@ pub product_made : (nodes after : List Node) (left right entry : Entry) → IsEn
 product_made nodes after left right entry is_left is_right e at free = record {
   tree_is = tree_pushed nodes after (Product left.node right.node) entry e at;
   is = entry_pushed nodes after (Product left.node right.node) entry e at (λ i. free i ∙ ap₂ (λ x y. x || y) (is_left.free i) (is_right.free i));
-  keeps = keeps_pushed nodes after (Product left.node right.node) e;
+  keeps = keeps_pushed nodes after (Product left.node right.node) (is_left.inside, is_right.inside) e;
 }
 
 mapped_remove : {X Y : Type 0} (f : X → Y) (xs : List X) (i : ℕ) → map f (remove xs i) ≡ remove (map f xs) i
@@ -83,10 +101,10 @@ all_remove P xs i all = All-append P (take i xs) (drop (suc i) xs) (All-take P i
 
 mapped_keeps : (nodes after : List Node) (es : List Entry) → Keeps nodes after → AllByRecursion (IsEntry nodes) es → map (tree_in after) es ≡ map (tree_in nodes) es
 mapped_keeps nodes after [] keeps are = refl
-mapped_keeps nodes after (e ∷ es) keeps are = ap₂ (λ t ts. t ∷ ts) (keeps e are.0).1 (mapped_keeps nodes after es keeps are.1)
+mapped_keeps nodes after (e ∷ es) keeps are = ap₂ (λ t ts. t ∷ ts) (keeps.entries e are.0).1 (mapped_keeps nodes after es keeps are.1)
 
 all_kept : (nodes after : List Node) (es : List Entry) → Keeps nodes after → All (IsEntry nodes) es → All (IsEntry after) es
-all_kept nodes after es keeps are = λ k d inside. (keeps (get_or es k d) (are k d inside)).0
+all_kept nodes after es keeps are = λ k d inside. (keeps.entries (get_or es k d) (are k d inside)).0
 
 free_by_entries : (nodes : List Node) (es : List Entry) (i : ℕ) → AllByRecursion (IsEntry nodes) es
     → list_any (λ (e : Entry). has e.free.bits i) es ≡ list_any (λ t. is_free t i) (map (tree_in nodes) es)
@@ -103,13 +121,13 @@ summed_none (i ∷ is) t none = absurd (omega arith)
 
 -- an entry in a sum over labels; `items` are those of the node
 pub summed_made : (nodes after : List Node) (made entry : Entry) (node : Node) (labels : List ℕ) → IsEntry nodes made → 0 < length labels
-    → tree_of_node (trees_of nodes) node ≡ sum labels (tree_in nodes made) → after ≡ nodes ++ node ∷ [] → entry.node ≡ length nodes
+    → tree_of_node (trees_of nodes) node ≡ sum labels (tree_in nodes made) → IsBehind (length nodes) node → after ≡ nodes ++ node ∷ [] → entry.node ≡ length nodes
     → ((i : ℕ) → has entry.free.bits i ≡ (has made.free.bits i && not (among labels i)))
     → IsMade nodes after entry (list.summed labels (tree_in nodes made))
-summed_made nodes after made entry node labels is some of_node e at free = record {
+summed_made nodes after made entry node labels is some of_node behind e at free = record {
   tree_is = tree_pushed nodes after node entry e at ∙ of_node ∙ sym (summed_some labels (tree_in nodes made) some);
   is = entry_pushed nodes after node entry e at (λ i. free i ∙ ap (λ x. x && not (among labels i)) (is.free i) ∙ ap (λ t. is_free t i) (sym of_node));
-  keeps = keeps_pushed nodes after node e;
+  keeps = keeps_pushed nodes after node behind e;
 }
 
 -- what an item takes out
@@ -174,10 +192,10 @@ entry_added nodes after es now entry tree are keeps is of_tree e = (
 
 -- the entry of an operand
 pub operand_made : (nodes after : List Node) (entry : Entry) (node : Node) (number : ℕ) (labels : List ℕ)
-    → tree_of_node (trees_of nodes) node ≡ leaf number labels → after ≡ nodes ++ node ∷ [] → entry.node ≡ length nodes
+    → tree_of_node (trees_of nodes) node ≡ leaf number labels → IsBehind (length nodes) node → after ≡ nodes ++ node ∷ [] → entry.node ≡ length nodes
     → ((i : ℕ) → has entry.free.bits i ≡ among labels i) → IsMade nodes after entry (leaf number labels)
-operand_made nodes after entry node number labels of_node e at free = record {
+operand_made nodes after entry node number labels of_node behind e at free = record {
   tree_is = tree_pushed nodes after node entry e at ∙ of_node;
   is = entry_pushed nodes after node entry e at (λ i. free i ∙ ap (λ t. is_free t i) (sym of_node));
-  keeps = keeps_pushed nodes after node e;
+  keeps = keeps_pushed nodes after node behind e;
 }

@@ -1,5 +1,5 @@
 -- What nodes and entries of the code stand for.
-use Rattle.std.specs.Prelude.{◌≡◌, ℕ, ◌<◌, List, [], ◌∷◌, ◌++◌, length, map, fold}
+use Rattle.std.specs.Prelude.{◌≡◌, ⊤, ℕ, ◌<◌, List, [], ◌∷◌, ◌++◌, length, map, fold, slice_index_or}
 use Rattle.std.specs.List.{All, range_with_len}
 use Rattle.tce_space.specs.IndexSet.{has}
 use Rattle.tce_tree.specs.ContractionTree.{ContractionTree, leaf, binary, sum, multiply}
@@ -36,12 +36,23 @@ pub record IsEntry (nodes : List Node) (entry : Entry) : Type 0 where
   pub inside : entry.node < length nodes
   pub free : (i : ℕ) → has entry.free.bits i ≡ is_free (tree_in nodes entry) i
 
-abbrev pub AreEntries : Entries → Type 0
-AreEntries es = All (IsEntry es.nodes.items) es.entries.items
+-- the nodes that a node at this place names stand in front of it
+abbrev pub IsBehind : ℕ → Node → Type 0
+IsBehind place (Operand number labels) = ⊤
+IsBehind place (Product left right) = (left < place) × (right < place)
+IsBehind place (Sum labels operand) = operand < place
 
--- the entries of some nodes are entries of others, with the same trees
-abbrev pub Keeps : List Node → List Node → Type 0
-Keeps before after = (entry : Entry) → IsEntry before entry → IsEntry after entry × (tree_in after entry ≡ tree_in before entry)
+abbrev pub AreOrdered : List Node → Type 0
+AreOrdered nodes = (place : ℕ) (otherwise : Node) → place < length nodes → IsBehind place (slice_index_or nodes place otherwise)
+
+pub record AreEntries (es : Entries) : Type 0 where
+  pub all : All (IsEntry es.nodes.items) es.entries.items
+  pub ordered : AreOrdered es.nodes.items
+
+-- the entries of some nodes are entries of others, with the same trees; and nodes stay in order
+pub record Keeps (before after : List Node) : Type 0 where
+  pub entries : (entry : Entry) → IsEntry before entry → IsEntry after entry × (tree_in after entry ≡ tree_in before entry)
+  pub ordered : AreOrdered before → AreOrdered after
 
 -- so many labels, and those of the output
 pub record AreKept (kept : KeptLabels) (ls : list.Labels) : Type 0 where

@@ -11,3 +11,7 @@ pub mod EinsumValue
 pub mod Numbered
 pub mod ContractionLaws
 pub mod EntriesCode
+pub mod Produced
+pub mod ProducedExamples
+pub mod ProducedCode
+pub mod Answer

@@ -32,15 +32,15 @@ pub(crate) enum Node {
 /// An entry: the place of its node, and the labels that are not summed in it.
 #[derive(Clone, Copy)]
 pub(crate) struct Entry {
-    node: usize,
+    pub(crate) node: usize,
     free: LabelSet,
 }
 
 /// The list of entries, and the nodes of their trees.
 #[derive(Drop)]
 pub(crate) struct Entries {
-    nodes: Vec<Node>,
-    entries: Vec<Entry>,
+    pub(crate) nodes: Vec<Node>,
+    pub(crate) entries: Vec<Entry>,
 }
 
 /// How many labels there are, and which of them stand in the output.
@@ -255,7 +255,8 @@ fn kept_labels(alloc: Global, whole: &Einsum) -> Result<KeptLabels, AllocError>
 pub(crate) fn contraction_of(alloc: Global, input: &Input) -> Result<Entries, AllocError>
     requires few { length input.now.einsum.sizes.items ≤ 26 }
     requires leave { Leave (length input.now.einsum.operands.items) (code.items input.now.items.items) 1 }
-    ensures { IfOk result (λ es. trees_in es ≡ model.contraction_of (code.einsum input.now.einsum) (code.items input.now.items.items) ∷ []) }
+    ensures tree { IfOk result (λ es. trees_in es ≡ model.contraction_of (code.einsum input.now.einsum) (code.items input.now.items.items) ∷ []) }
+    ensures entries { IfOk result AreEntries }
 {
     let whole = &input.einsum;
     let kept = kept_labels(alloc, whole)?;

@@ -9,6 +9,7 @@ ghost use Rattle.tce_einsum.specs.ContractionLaws.{
   SizesAreFew,
 };
 ghost use Rattle.tce_einsum.specs.Laws.{ReadingIsTheGrammar, TextsHaveOneReading};
+ghost use Rattle.tce_einsum.specs.ProducedExamples.{ExamplesProduceTheirTexts};
 ghost use Rattle.tce_einsum.specs.ValueLaws.{
   ProductsAssociate,
   ProductsCommute,
@@ -92,4 +93,9 @@ pub fn sizes_are_few()
 /// The items of a path that is read leave one entry of the operands.
 pub fn paths_leave_one_entry()
     ensures { PathsLeaveOneEntry }
+{}
+
+/// Texts that were written by hand are those that their einsums and paths produce.
+pub fn examples_produce_their_texts()
+    ensures { ExamplesProduceTheirTexts }
 {}

@@ -8,7 +8,7 @@ use crate::size::Size;
 use std::alloc::{AllocError, Global};
 
 /// The place of the size of a label.
-fn place_of(sizes: &[Size], label: u8) -> Option<usize>
+pub(crate) fn place_of(sizes: &[Size], label: u8) -> Option<usize>
     ensures { result ≡ position (λ size. size.label == label) sizes.now }
 {
     sizes.iter().position(|size| size.label == label)

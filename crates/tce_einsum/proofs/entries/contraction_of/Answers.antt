@@ -22,6 +22,9 @@ returns c =
     ∙ (λ i. list.entries_after (numbered_labels x) (start i) (code.items (c.as_slice-3.ensures.value i))) in
     let many : length (numbered_operands x) ≡ length c.args.input.now.einsum.operands.items =
     length-map (texts c.args.input.now.einsum.operands.items) (numbers_of x.sizes) ∙ length-map c.args.input.now.einsum.operands.items (λ (b : Bor (List ℕ)). b.now) in
-    after
-    ∙ only_entry (list.entries_after (numbered_labels x) (list.leaves (numbered_operands x)) items)
-    (paths_leave_their_entries (numbered_labels x) (numbered_operands x) items 1 (subst (λ n. Leave n items 1) (sym many) c.requires.leave))
+    record {
+      tree = after
+          ∙ only_entry (list.entries_after (numbered_labels x) (list.leaves (numbered_operands x)) items)
+          (paths_leave_their_entries (numbered_labels x) (numbered_operands x) items 1 (subst (λ n. Leave n items 1) (sym many) c.requires.leave));
+      entries = c.in_ok-contract_all.ensures.entries;
+    }

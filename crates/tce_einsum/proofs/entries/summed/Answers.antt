@@ -10,6 +10,6 @@ pub returns : goal.returns
 returns c =
     let some : 0 < length c.args.labels.items = grind (arith, nat_tests, c.is_empty.ensures, c.if-is_empty.false) in
     let made = summed_made c.args.nodes.now.items c.push_node.new.nodes.items c.args.made (record { node = c.in_ok-node.node; free = c.minus-free.result })
-    (Sum c.args.labels c.args.made.node) c.args.labels.items c.requires.made some refl c.in_ok-node.ensures.nodes c.in_ok-node.ensures.place
+    (Sum c.args.labels c.args.made.node) c.args.labels.items c.requires.made some refl c.requires.made.inside c.in_ok-node.ensures.nodes c.in_ok-node.ensures.place
     (λ i. c.minus-free.ensures i ∙ ap (λ b. has c.args.made.free.bits i && not b) (c.of_list.ensures i ∙ ap (λ labels. among labels i) c.as_slice.ensures.value)) in
     record { tree = made.tree_is; entry = made.is; kept = made.keeps }

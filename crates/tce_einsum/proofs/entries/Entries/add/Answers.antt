@@ -11,16 +11,16 @@ use Rattle.tce_einsum.proofs.entries.Entries.add.Goals as goal
 pub returns : goal.returns
 returns c =
     let added = entry_added c.args.self.now.nodes.items c.summed.new.nodes.items c.args.self.now.entries.items c.push.new.self.items c.in_ok-entry.entry
-    (list.summed c.in_ok-labels.labels.items (tree_in c.args.self.now.nodes.items c.args.made)) c.requires.entries c.in_ok-entry.ensures.kept c.in_ok-entry.ensures.entry
+    (list.summed c.in_ok-labels.labels.items (tree_in c.args.self.now.nodes.items c.args.made)) c.requires.entries.all c.in_ok-entry.ensures.kept c.in_ok-entry.ensures.entry
     c.in_ok-entry.ensures.tree c.in_ok-push.ensures.items in
     record {
       added = λ ls is.
           added.0
           ∙ ap (λ (labels : List ℕ). trees_in c.args.self.now ++ list.summed labels (tree_in c.args.self.now.nodes.items c.args.made) ∷ [])
           (labels_are c.args.self.now.nodes.items c.args.self.now.entries.items c.args.made ls c.minus.result.bits c.args.kept.output.bits c.free_in.result.bits
-          c.args.kept.count c.in_ok-labels.labels.items c.requires.entries c.requires.made is.all is.output
+          c.args.kept.count c.in_ok-labels.labels.items c.requires.entries.all c.requires.made is.all is.output
           (λ i. c.free_in.ensures i ∙ ap (list_any (λ (e : Entry). has e.free.bits i)) c.as_slice.ensures.value)
           (λ i. c.minus.ensures i ∙ ap (λ b. has c.args.made.free.bits i && not b) (c.union-elsewhere.ensures i)) c.in_ok-labels.ensures.members);
-      entries = added.1;
+      entries = record { all = added.1; ordered = c.in_ok-entry.ensures.kept.ordered c.requires.entries.ordered };
       longer = ap length c.in_ok-push.ensures.items ∙ length-append c.args.self.now.entries.items (c.in_ok-entry.entry ∷ []);
     }

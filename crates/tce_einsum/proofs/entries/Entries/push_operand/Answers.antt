@@ -9,8 +9,8 @@ use Rattle.tce_einsum.proofs.entries.Entries.push_operand.Goals as goal
 pub returns : goal.returns
 returns c =
     let made = operand_made c.args.self.now.nodes.items c.push_node.new.nodes.items (record { node = c.in_ok-node.node; free = c.of_list-free.result })
-    (Operand c.args.number c.args.labels) c.args.number c.args.labels.items refl c.in_ok-node.ensures.nodes c.in_ok-node.ensures.place
+    (Operand c.args.number c.args.labels) c.args.number c.args.labels.items refl tt c.in_ok-node.ensures.nodes c.in_ok-node.ensures.place
     (λ i. c.of_list-free.ensures i ∙ ap (λ labels. among labels i) c.as_slice.ensures.value) in
     let added = entry_added c.args.self.now.nodes.items c.push_node.new.nodes.items c.args.self.now.entries.items c.push.new.self.items
-    (record { node = c.in_ok-node.node; free = c.of_list-free.result }) (leaf c.args.number c.args.labels.items) c.requires.entries made.keeps made.is made.tree_is c.in_ok-push.ensures.items in
-    record { leaf = added.0; entries = added.1; longer = ap length c.in_ok-push.ensures.items ∙ length-append c.args.self.now.entries.items (record { node = c.in_ok-node.node; free = c.of_list-free.result } ∷ []) }
+    (record { node = c.in_ok-node.node; free = c.of_list-free.result }) (leaf c.args.number c.args.labels.items) c.requires.entries.all made.keeps made.is made.tree_is c.in_ok-push.ensures.items in
+    record { leaf = added.0; entries = record { all = added.1; ordered = made.keeps.ordered c.requires.entries.ordered }; longer = ap length c.in_ok-push.ensures.items ∙ length-append c.args.self.now.entries.items (record { node = c.in_ok-node.node; free = c.of_list-free.result } ∷ []) }

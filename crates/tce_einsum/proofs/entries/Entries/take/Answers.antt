@@ -9,8 +9,14 @@ use Rattle.tce_einsum.proofs.entries.Entries.take.Goals as goal
 
 pub returns-in-One-clause-others : goal.returns-in-One-clause-others
 returns-in-One-clause-others c =
-    (one_left c.args.self.now.nodes.items c.args.self.now.entries.items c.remove.new.self.items c.in-One.p c.remove.ensures.items c.requires.entries).0
+    (one_left c.args.self.now.nodes.items c.args.self.now.entries.items c.remove.new.self.items c.in-One.p c.remove.ensures.items c.requires.entries.all).0
     ∙ ap (λ s. list.others (trees_in c.args.self.now) (code.item s)) (sym c.in-One.is)
+
+pub returns-in-One-clause-entries : goal.returns-in-One-clause-entries
+returns-in-One-clause-entries c = record {
+  all = (one_left c.args.self.now.nodes.items c.args.self.now.entries.items c.remove.new.self.items c.in-One.p c.remove.ensures.items c.requires.entries.all).1;
+  ordered = c.requires.entries.ordered;
+}
 
 two_fewer : (n m : ℕ) → n + 2 ≡ m → n + 1 ≡ m - 1
 two_fewer n m e = omega arith
@@ -19,7 +25,7 @@ pub returns-in_ok-entry-in-Two : goal.returns-in_ok-entry-in-Two
 returns-in_ok-entry-in-Two c =
     let fits = subst (λ s. Fits (length c.args.self.now.entries.items) (code.item s)) c.in-Two.is c.requires.fits in
     let left = two_left c.args.self.now.nodes.items c.product.new.nodes.items c.args.self.now.entries.items c.take_two.new.entries.items c.in-Two.p c.in-Two.q
-    c.take_two.ensures.others c.in_ok-entry-in-Two.ensures.kept c.requires.entries in
+    c.take_two.ensures.others c.in_ok-entry-in-Two.ensures.kept c.requires.entries.all in
     record {
       made = c.in_ok-entry-in-Two.ensures.tree
           ∙ ap₂ (binary multiply)
@@ -28,7 +34,7 @@ returns-in_ok-entry-in-Two c =
           ∙ ap (λ s. list.made (trees_in c.args.self.now) (code.item s)) (sym c.in-Two.is);
       entry = c.in_ok-entry-in-Two.ensures.entry;
       others = left.0 ∙ ap (λ s. list.others (trees_in c.args.self.now) (code.item s)) (sym c.in-Two.is);
-      entries = left.1;
+      entries = record { all = left.1; ordered = c.in_ok-entry-in-Two.ensures.kept.ordered c.requires.entries.ordered };
       left = two_fewer (length c.take_two.new.entries.items) (length c.args.self.now.entries.items) c.take_two.ensures.left_over
           ∙ ap (λ s. left_by (length c.args.self.now.entries.items) (code.item s)) (sym c.in-Two.is);
     }

@@ -1,0 +1,10 @@
+use Rattle.std.proofs.Common.{◌≡◌, ◌++◌, length, map}
+use Rattle.tce_einsum.specs.Code as code
+use Rattle.tce_einsum.specs.Produced as produced
+use Rattle.tce_einsum.proofs.formula.letters_of.Given as goal
+
+abbrev pub invariant-loop-rest : goal.invariant-loop-rest
+invariant-loop-rest l = l.found.items ++ map (produced.label_at (code.sizes l.sizes)) l.rest ≡ map (produced.label_at (code.sizes l.sizes)) l.numbers
+
+abbrev pub decreases-loop-rest : goal.decreases-loop-rest
+decreases-loop-rest l = length l.rest

@@ -1,0 +1,18 @@
+use Rattle.tce_einsum.specs.Code as code
+use Rattle.tce_einsum.proofs.ReadInputs.{few_read, leave_read}
+use Rattle.tce_einsum.proofs.Answered.{specified_answer, told_answer}
+use Rattle.tce_einsum.proofs.specification.from_einsum.Goals as goal
+
+pub from_input-requires-clause-few : goal.from_input-requires-clause-few
+from_input-requires-clause-few c = few_read c.args.text.now c.args.path.now c.in_ok-input.input.einsum c.in_ok-input.input.items.items c.in_ok-input.ensures
+
+pub from_input-requires-clause-leave : goal.from_input-requires-clause-leave
+from_input-requires-clause-leave c = leave_read c.args.text.now c.args.path.now c.in_ok-input.input.einsum c.in_ok-input.input.items.items c.in_ok-input.ensures
+
+pub returns-in-Ok-clause-answers : goal.returns-in-Ok-clause-answers
+returns-in-Ok-clause-answers c =
+    specified_answer c.args.text.now c.args.path.now (code.einsum c.in_ok-input.input.einsum) (code.items c.in_ok-input.input.items.items) _ c.in_ok-input.ensures c.in-Ok.ensures.answers
+
+pub returns-clause-answers : goal.returns-clause-answers
+returns-clause-answers c =
+    told_answer c.args.text.now c.args.path.now (code.einsum c.in_ok-input.input.einsum) (code.items c.in_ok-input.input.items.items) c.in-Err.fault c.fault_of.result c.in_ok-input.ensures c.fault_of.ensures.answers c.in-Err.ensures.answers
