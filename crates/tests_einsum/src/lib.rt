@@ -1,0 +1,5 @@
+//! Tests of einsums as specifications.
+#![tactic(auto)]
+
+#[cfg(test)]
+mod einsum;
