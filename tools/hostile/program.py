@@ -61,7 +61,7 @@ LINES = {
 }
 
 # What a process may have: bytes of stack, bytes of address space, seconds of processor time.
-STACK = 2 * 1024 * 1024
+STACK = 4 * 1024 * 1024
 SPACE = 32 * 1024 * 1024
 SECONDS = 10
 
