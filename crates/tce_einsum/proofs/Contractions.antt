@@ -20,17 +20,17 @@ use Rattle.tce_einsum.proofs.ValueLaws.{mul_grouped, sum_over_times, sum_over-sa
 use Rattle.tce_einsum.proofs.Products.{products_have_no_order, mul_one}
 
 -- the product of all entries, and whether a label is free in one
-abbrev together : Elements → List ContractionTree → Assignment → ℕ
+abbrev pub together : Elements → List ContractionTree → Assignment → ℕ
 together e entries a = product (map (λ t. value e t a) entries)
 
-abbrev any_free : List ContractionTree → ℕ → Bool
+abbrev pub any_free : List ContractionTree → ℕ → Bool
 any_free entries i = list_any (λ t. is_free t i) entries
 
 -- the labels that are still to be summed
-abbrev is_open : Labels → List ContractionTree → ℕ → Bool
+abbrev pub is_open : Labels → List ContractionTree → ℕ → Bool
 is_open ls entries i = not (among ls.output i) && any_free entries i
 
-abbrev open_labels : Labels → List ContractionTree → List ℕ
+abbrev pub open_labels : Labels → List ContractionTree → List ℕ
 open_labels ls entries = filter (is_open ls entries) ls.all
 
 -- what all entries stand for together
@@ -38,7 +38,7 @@ abbrev total : Elements → Labels → List ContractionTree → Assignment → �
 total e ls entries a = sum_over e.extent (open_labels ls entries) (together e entries) a
 
 -- lists that are filtered
-among-filtered : (p : ℕ → Bool) (xs : List ℕ) (i : ℕ) → among (filter p xs) i ≡ (p i && among xs i)
+pub among-filtered : (p : ℕ → Bool) (xs : List ℕ) (i : ℕ) → among (filter p xs) i ≡ (p i && among xs i)
 among-filtered p [] i = elim (cases_Bool (p i)) [ inl e ↦ rw e refl | inr e ↦ rw e refl ]
 among-filtered p (x ∷ xs) i =
     elim (cases_eq x i) [
@@ -102,9 +102,9 @@ together_by_free e (t ∷ ts) a b same =
     (together_by_free e ts a b (λ i m. same i (or_right (is_free t i) (any_free ts i) m)))
 
 -- the entry that is made and the others, for the entries that were there
-record Replaces (entries rest : List ContractionTree) (entry : ContractionTree) : Type 0 where
-  worth : (e : Elements) (a : Assignment) → together e entries a ≡ wrapping_mul (value e entry a) (together e rest a)
-  free : (i : ℕ) → any_free entries i ≡ (is_free entry i || any_free rest i)
+pub record Replaces (entries rest : List ContractionTree) (entry : ContractionTree) : Type 0 where
+  pub worth : (e : Elements) (a : Assignment) → together e entries a ≡ wrapping_mul (value e entry a) (together e rest a)
+  pub free : (i : ℕ) → any_free entries i ≡ (is_free entry i || any_free rest i)
 
 together_permuted : (e : Elements) (xs ys : List ContractionTree) (a : Assignment) → IsPermutation xs ys → together e xs a ≡ together e ys a
 together_permuted e xs ys a same =
@@ -130,7 +130,7 @@ replaces_two xs rest t u same = record {
     grouped false b c = refl
 
 -- an item takes the entry that it makes out of the list
-taken : (es : List ContractionTree) (p : ℕ) → p < length es → IsPermutation es (entry_at es p ∷ remove es p)
+pub taken : (es : List ContractionTree) (p : ℕ) → p < length es → IsPermutation es (entry_at es p ∷ remove es p)
 taken es p inside = IsPermutation-remove es p (entry_at es p) inside (get_or_default es p (constant 0) (entry_at es p) inside)
 
 -- two of them, of which the first stands in front of the second
@@ -142,7 +142,7 @@ both_taken es p q less inside =
     (subst (λ t. IsPermutation (remove es q) (t ∷ remove (remove es q) p)) (get_or-remove_below es q (constant 0) p less inside)
     (taken (remove es q) p (omega arith))))
 
-either_taken : (es : List ContractionTree) (p q : ℕ) → p < length es → q < length es → p ≢ q → IsPermutation es (entry_at es p ∷ entry_at es q ∷ others es (two p q))
+pub either_taken : (es : List ContractionTree) (p q : ℕ) → p < length es → q < length es → p ≢ q → IsPermutation es (entry_at es p ∷ entry_at es q ∷ others es (two p q))
 either_taken es p q inside_p inside_q apart = by_order (nat_lt p q) refl
   where
     ne_lt : (p q : ℕ) → p ≢ q → q ≤ p → q < p
@@ -157,7 +157,7 @@ either_taken es p q inside_p inside_q apart = by_order (nat_lt p q) refl
         let other = ne_lt p q apart less in
         rw e (both_taken es q p other inside_p)
 
-replaced : (es : List ContractionTree) (item : Item) → Fits (length es) item → Replaces es (others es item) (made es item)
+pub replaced : (es : List ContractionTree) (item : Item) → Fits (length es) item → Replaces es (others es item) (made es item)
 replaced es (one p) fits = replaces_one es (remove es p) (entry_at es p) (taken es p fits)
 replaced es (two p q) fits = replaces_two es (others es (two p q)) (entry_at es p) (entry_at es q) (either_taken es p q fits.0 fits.1 fits.2)
 
@@ -191,7 +191,7 @@ with_entry_worth e ls rest t a =
             (and_parts (is_free t i && not (among ls.output i || any_free rest i)) (among ls.all i)
             (sym (among-filtered (λ k. is_free t k && not (among ls.output k || any_free rest k)) ls.all i) ∙ m)).0).1)).1
 
-with_entry_free : (ls : Labels) (rest : List ContractionTree) (t : ContractionTree) (i : ℕ)
+pub with_entry_free : (ls : Labels) (rest : List ContractionTree) (t : ContractionTree) (i : ℕ)
     → any_free (with_entry ls rest t) i ≡ ((is_free t i && not (among (labels_to_sum ls rest t) i)) || any_free rest i)
 with_entry_free ls rest t i =
     any_free_permuted (with_entry ls rest t) (summed (labels_to_sum ls rest t) t ∷ rest) i (IsPermutation-to_front rest (summed (labels_to_sum ls rest t) t))
@@ -283,7 +283,7 @@ settled_alone ls (x ∷ xs) t u alone =
     absurd (omega (arith, length-append xs (summed (labels_to_sum ls (x ∷ xs) t) t ∷ [])))
 
 -- how many entries an item leaves
-others_left : (es : List ContractionTree) (item : Item) → Fits (length es) item → length (others es item) + 1 ≡ left_by (length es) item
+pub others_left : (es : List ContractionTree) (item : Item) → Fits (length es) item → length (others es item) + 1 ≡ left_by (length es) item
 others_left es (one p) fits = length-remove es p fits
 others_left es (two p q) fits = by_order (nat_lt p q) refl
   where
@@ -302,7 +302,7 @@ others_left es (two p q) fits = by_order (nat_lt p q) refl
         let second = length-remove (remove es p) q (omega arith) in
         rw e (omega arith)
 
-contracted_left : (ls : Labels) (es : List ContractionTree) (item : Item) → Fits (length es) item → length (contracted ls es item) ≡ left_by (length es) item
+pub contracted_left : (ls : Labels) (es : List ContractionTree) (item : Item) → Fits (length es) item → length (contracted ls es item) ≡ left_by (length es) item
 contracted_left ls es item fits = length-append (others es item) (summed (labels_to_sum ls (others es item) (made es item)) (made es item) ∷ []) ∙ others_left es item fits
 
 -- the one entry that a path leaves
@@ -337,7 +337,7 @@ total_of_leaves e ls os a used =
     by_use true f e = refl
     by_use false f e = e
 
-as_many_leaves : (k : ℕ) (os : List (List ℕ)) → length (numbered leaf k os) ≡ length os
+pub as_many_leaves : (k : ℕ) (os : List (List ℕ)) → length (numbered leaf k os) ≡ length os
 as_many_leaves k [] = refl
 as_many_leaves k (o ∷ os) = ap suc (as_many_leaves (k + 1) os)
 

@@ -18,3 +18,12 @@ pub mod LongTexts
 pub mod IndexLines
 pub mod Answered
 pub mod ReadInputs
+pub mod NamesWritten
+pub mod PathTrees
+pub mod SizeRanges
+pub mod ProducedStatements
+pub mod FrontLines
+pub mod Declared
+pub mod LabelNumbers
+pub mod Specified
+pub mod HasValue

@@ -72,7 +72,7 @@ range_distinct a (suc n) =
     (false_from_ne_true (among (range_with_len (a + 1) n) a) (λ m. let bounds = range_bounds (a + 1) n a m in omega (arith, bounds.0)))
     (range_distinct (a + 1) n)
 
-sized_label : (ss : List Size) (k : ℕ) (d : Size) → list_all is_size ss ≡ true → k < length ss → is_label (get_or ss k d).label ≡ true
+pub sized_label : (ss : List Size) (k : ℕ) (d : Size) → list_all is_size ss ≡ true → k < length ss → is_label (get_or ss k d).label ≡ true
 sized_label [] k d all inside = absurd (omega arith)
 sized_label (s ∷ ss) zero d all inside = (and_parts (is_label s.label) (is_number s.extent && is_number_if_some s.edge) (and_parts (is_size s) (list_all is_size ss) all).0).0
 sized_label (s ∷ ss) (suc k) d all inside = sized_label ss k d (and_parts (is_size s) (list_all is_size ss) all).1 (omega arith)

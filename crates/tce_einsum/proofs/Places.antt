@@ -11,7 +11,7 @@ pub mapped_place : (sizes : List Size) (label : ℕ) → position_or_len (λ (s 
 mapped_place [] label = refl
 mapped_place (s ∷ ss) label = ap (λ n. cond (not (s.label == label)) (1 + n) 0) (mapped_place ss label)
 
-place_within : {X : Type 0} (p : X → Bool) (xs : List X) → position_or_len p xs ≤ length xs
+pub place_within : {X : Type 0} (p : X → Bool) (xs : List X) → position_or_len p xs ≤ length xs
 place_within p [] = omega arith
 place_within p (x ∷ xs) = by_test (p x) (place_within p xs)
   where

@@ -15,3 +15,4 @@ pub mod Produced
 pub mod ProducedExamples
 pub mod ProducedCode
 pub mod Answer
+pub mod HasValue

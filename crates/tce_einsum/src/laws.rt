@@ -8,6 +8,7 @@ ghost use Rattle.tce_einsum.specs.ContractionLaws.{
   ProductsHaveNoOrder,
   SizesAreFew,
 };
+ghost use Rattle.tce_einsum.specs.HasValue.{SpecificationsHaveTheValue};
 ghost use Rattle.tce_einsum.specs.Laws.{ReadingIsTheGrammar, TextsHaveOneReading};
 ghost use Rattle.tce_einsum.specs.ProducedExamples.{ExamplesProduceTheirTexts};
 ghost use Rattle.tce_einsum.specs.ValueLaws.{
@@ -83,6 +84,11 @@ pub fn every_path_has_the_value()
 /// A text and a path that are read give a tree with the value of the text's einsum, for all contents of the operands.
 pub fn every_text_has_its_value()
     ensures { EveryTextHasItsValue }
+{}
+
+/// What the text specifies that an einsum and a path produce has the value of the einsum, for all contents of the operands.
+pub fn specifications_have_the_value()
+    ensures { SpecificationsHaveTheValue }
 {}
 
 /// A text that is read has no more sizes than there are letters.

@@ -28,9 +28,9 @@ pub use input::{Input, read_input};
 pub use laws::{
     every_path_has_the_value, every_text_has_its_value, examples_produce_their_texts,
     paths_leave_one_entry, paths_leave_their_entries, products_associate, products_commute,
-    products_have_no_order, reading_is_the_grammar, sizes_are_few, sums_exchange,
-    sums_have_no_order, sums_join, sums_move_out_of_left_operands, sums_move_out_of_right_operands,
-    texts_have_one_reading,
+    products_have_no_order, reading_is_the_grammar, sizes_are_few, specifications_have_the_value,
+    sums_exchange, sums_have_no_order, sums_join, sums_move_out_of_left_operands,
+    sums_move_out_of_right_operands, texts_have_one_reading,
 };
 pub use path::Item;
 pub use size::Size;

@@ -9,6 +9,7 @@ ghost use Rattle.tce_spec.specs.OutcomeCode.{Answers};
 ghost use Rattle.tce_declarations.specs.declared.fault.SpecFault.TheVariants as spec_faults;
 ghost use Rattle.tce_einsum.specs.Answer.{AnswersEinsum};
 ghost use Rattle.tce_einsum.specs.Code as code;
+ghost use Rattle.tce_einsum.specs.HasValue.{HasValueOfEinsum};
 ghost use Rattle.tce_einsum.specs.Path.{Leave};
 ghost use Rattle.tce_einsum.specs.Produced.{produced_text};
 
@@ -58,6 +59,7 @@ fn fault_of(fault: SpecFault) -> EinsumFault
 /// `BadText`, else `BadSize`, else `BadPath`, else `Spec`, as [`EinsumFault`] says.
 pub fn from_einsum(alloc: Global, text: &[u8], path: &[u8]) -> Result<Spec, EinsumFault>
     ensures answers { AnswersEinsum text.now path.now result }
+    ensures value { IfOk result (λ s. HasValueOfEinsum text.now path.now s) }
     ensures names { IfOk result (λ s. HaveNames s.declarations.tensors) }
 {
     let input = read_input(alloc, text, path)?;

@@ -3,3 +3,5 @@
 
 #[cfg(test)]
 mod einsum;
+#[cfg(test)]
+mod given;

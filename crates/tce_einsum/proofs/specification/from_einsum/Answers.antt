@@ -1,5 +1,7 @@
+use Rattle.std.proofs.Common.{Ok}
 use Rattle.tce_einsum.specs.Code as code
 use Rattle.tce_einsum.proofs.ReadInputs.{few_read, leave_read}
+use Rattle.tce_einsum.proofs.HasValue.{answer_has_the_value}
 use Rattle.tce_einsum.proofs.Answered.{specified_answer, told_answer}
 use Rattle.tce_einsum.proofs.specification.from_einsum.Goals as goal
 
@@ -12,6 +14,11 @@ from_input-requires-clause-leave c = leave_read c.args.text.now c.args.path.now 
 pub returns-in-Ok-clause-answers : goal.returns-in-Ok-clause-answers
 returns-in-Ok-clause-answers c =
     specified_answer c.args.text.now c.args.path.now (code.einsum c.in_ok-input.input.einsum) (code.items c.in_ok-input.input.items.items) _ c.in_ok-input.ensures c.in-Ok.ensures.answers
+
+pub returns-in-Ok-clause-value : goal.returns-in-Ok-clause-value
+returns-in-Ok-clause-value c =
+    answer_has_the_value c.args.text.now c.args.path.now (Ok c.in-Ok.spec)
+    (specified_answer c.args.text.now c.args.path.now (code.einsum c.in_ok-input.input.einsum) (code.items c.in_ok-input.input.items.items) _ c.in_ok-input.ensures c.in-Ok.ensures.answers)
 
 pub returns-clause-answers : goal.returns-clause-answers
 returns-clause-answers c =
