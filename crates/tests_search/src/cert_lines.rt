@@ -1,7 +1,7 @@
 //! Lines with and without a form.
 
 use std::process::Abort;
-use tce_cert_lines::{has_form, read_memory_line, read_table_line};
+use tce_cert::{has_form, read_memory_line, read_table_line};
 
 // Whether each of the lines, one below the other, has a form.
 fn expect_form(rt: &impl Abort, lines: &str, wanted: bool) {

@@ -1,4 +1,4 @@
-//! Tests of the search, of the check of a plan, and of reports and certificates.
+//! Tests of the search, of the check of a plan, of pieces of trees, and of reports and certificates.
 #![tactic(auto)]
 
 #[cfg(test)]
@@ -9,6 +9,8 @@ mod cert_lines;
 mod check;
 #[cfg(test)]
 mod given;
+#[cfg(test)]
+mod pieces;
 #[cfg(test)]
 mod report;
 #[cfg(test)]

@@ -1,0 +1,4 @@
+pub mod Pieces
+pub mod Storable
+pub mod Laws
+pub mod Examples
