@@ -49,7 +49,8 @@ copy_disk() {
 }
 
 # make_spent: makes `./spent COMMAND..`, which prints how many microseconds of the processor a command took; what the
-# command prints goes into the file that REPORT names, where it names one
+# command prints goes into the file that REPORT names, and the most memory that it held, in KiB, into that of PEAK,
+# where they name one
 make_spent() {
     cat > spent.c <<'C'
 #include <stdio.h>
@@ -69,6 +70,12 @@ int main(int count, char **words) {
     int status = 0;
     struct rusage use;
     if (child < 0 || wait4(child, &status, 0, &use) < 0) return 1;
+    const char *peak = getenv("PEAK");
+    FILE *held = peak ? fopen(peak, "w") : NULL;
+    if (held) {
+        fprintf(held, "%ld\n", use.ru_maxrss);
+        fclose(held);
+    }
     printf("%ld\n", (use.ru_utime.tv_sec + use.ru_stime.tv_sec) * 1000000L + use.ru_utime.tv_usec + use.ru_stime.tv_usec);
     return WIFEXITED(status) ? WEXITSTATUS(status) : 1;
 }

@@ -1,14 +1,15 @@
 -- One more list of candidates.
-use Rattle.std.proofs.Common.{◌≡◌, ℕ, ◌<◌, List, [], ◌∷◌, ◌++◌, length, sym, ap, ◌∙◌, subst, inl, inr, arith}
+use Rattle.std.proofs.Common.{◌≡◌, ℕ, ◌+◌, ◌<◌, ◌≤◌, ◌^◌, List, [], ◌∷◌, ◌++◌, length, refl, sym, ap, ◌∙◌, subst, inl, inr, arith}
 use Rattle.std.proofs.lemmas.Bool.{cases_lt}
-use Rattle.std.proofs.lemmas.List.{get_or_append_left, length_push}
+use Rattle.std.proofs.lemmas.List.{get_or_append_left, get_or_push, length_push}
+use Rattle.std.proofs.lemmas.List.Elements.{All-push}
 use Rattle.tce_space.specs.Space.{IndexSpace}
 use Rattle.tce_tree.specs.ContractionTree.{ContractionTree, operations, node_loops}
 use Rattle.tce_states.specs.Row.{rows_at}
 use Rattle.tce_states.proofs.Choices.{later_tables_do_not_matter}
 use Rattle.tce_candidates.specs.declared.candidate.Candidate.{Candidate}
 use Rattle.tce_candidates.specs.Laws.{rows_of}
-use Rattle.tce_search.specs.CandidateLists.{candidates_at, tables_of, AreCandidates, AreFound}
+use Rattle.tce_search.specs.CandidateLists.{candidates_at, tables_of, Searched, with_next, limit_at, AreAtLeast, AreCandidates, IsFoundAt, AreFound}
 use Rattle.tce_search.proofs.Operands.{tables-at}
 
 earlier : (found : List (List Candidate)) (more : List Candidate) (v : ℕ) → v < length found → candidates_at (found ++ more ∷ []) v ≡ candidates_at found v
@@ -27,14 +28,47 @@ stay_found space tree limit found more v inside low kept = record {
   apart = λ p is. rw (earlier found more v low) (kept.apart p is);
 }
 
--- where those before are found, and one more is
-pub one_more : (space : IndexSpace) (tree : ContractionTree) (limit : ℕ) (found : List (List Candidate)) (more : List Candidate) (v : ℕ) → length found ≡ v → v < operations tree
-    → AreFound space tree limit found → AreCandidates space tree limit (found ++ more ∷ []) v → AreFound space tree limit (found ++ more ∷ [])
-one_more space tree limit found more v next inside all here u low =
-    let count = length_push found more in
-    elim (cases_lt u (length found)) [
-      | inl before ↦ stay_found space tree limit found more u (omega (arith, next, inside, before)) before (all u before)
-      | inr last ↦
-          let same : v ≡ u = omega (arith, count, next, low, last) in
-          subst (AreCandidates space tree limit (found ++ more ∷ [])) same here
-    ]
+limits_stay : (found : Searched) (limit v : ℕ) → length found.limits ≡ length found.lists → v < length found.lists → limit_at (found.limits ++ limit ∷ []) v ≡ limit_at found.limits v
+limits_stay found limit v same low = get_or_append_left found.limits (limit ∷ []) 0 v (omega (arith, same, low))
+
+module _ (space : IndexSpace) (tree : ContractionTree) (found : Searched) (more : List Candidate) (limit v : ℕ) (next : length found.lists ≡ v) (inside : v < operations tree)
+    (low : limit ≤ found.ceiling) (all : AreFound space tree found) (here : AreCandidates space tree limit (found.lists ++ more ∷ []) v) where
+  found_before : (u : ℕ) → u < length found.lists → IsFoundAt space tree (with_next found more limit) u
+  found_before u before =
+      let same = limits_stay found limit u all.count before in
+      record {
+        low = rw same ((all.each u before).low);
+        candidates = rw same (stay_found space tree (limit_at found.limits u) found.lists more u (omega (arith, next, inside, before)) before ((all.each u before).candidates));
+      }
+
+  found_last : IsFoundAt space tree (with_next found more limit) v
+  found_last =
+      let same : limit_at (found.limits ++ limit ∷ []) v ≡ limit = get_or_push found.limits limit 0 v (all.count ∙ next) in
+      record { low = rw same low; candidates = rw same here }
+
+  found_each : (u : ℕ) → u < length (found.lists ++ more ∷ []) → IsFoundAt space tree (with_next found more limit) u
+  found_each u under =
+      let count = length_push found.lists more in
+      elim (cases_lt u (length found.lists)) [
+        | inl before ↦ found_before u before
+        | inr last ↦
+            let same : v ≡ u = omega (arith, count, next, under, last) in
+            subst (IsFoundAt space tree (with_next found more limit)) same found_last
+      ]
+
+  -- where those before are found, and one more is
+  pub one_more : AreFound space tree (with_next found more limit)
+  one_more = record {
+    some = all.some;
+    small = all.small;
+    count = length_push found.limits limit ∙ ap (λ n. n + 1) all.count ∙ sym (length_push found.lists more);
+    each = found_each;
+  }
+
+-- at first there are none
+pub none_found : (space : IndexSpace) (tree : ContractionTree) (ceiling : ℕ) → 0 < ceiling → ceiling < 2 ^ 96 → AreFound space tree (record { ceiling = ceiling; limits = []; lists = [] })
+none_found space tree ceiling some small = record { some = some; small = small; count = refl; each = λ v low. absurd (omega (arith, low)) }
+
+-- one more limit
+pub still_full : (least limit : ℕ) (limits : List ℕ) → AreAtLeast least limits → least ≤ limit → AreAtLeast least (limits ++ limit ∷ [])
+still_full least limit limits full high = All-push (λ n. least ≤ n) limits limit full high

@@ -19,7 +19,7 @@ use Rattle.tce_candidates.specs.declared.candidate.Candidate.{Candidate}
 use Rattle.tce_candidates.specs.Laws.{rows_of}
 use Rattle.tce_candidates.specs.Reached.{IsStateOf}
 use Rattle.tce_search.specs.declared.root.WholeFusion.{WholeFusion}
-use Rattle.tce_search.specs.CandidateLists.{tables_of, leaf_candidate, left_candidates, right_candidates, IsStateWithin, AreFound}
+use Rattle.tce_search.specs.CandidateLists.{tables_of, leaf_candidate, left_candidates, right_candidates, left_limit, right_limit, Searched, IsStateWithin, IsLimitOf, AreFound}
 use Rattle.tce_search.specs.LeastPlan.{IsBelowFusions}
 use Rattle.tce_search.specs.Root.{IsMadeOfSome, IsAtMost, IsBound, IsBoundOfAll}
 use Rattle.tce_search.proofs.Operands.{tables-at, left_rows-are, right_rows-are, left_kept, right_kept, state_below}
@@ -55,49 +55,51 @@ best_exists loops best lefts rights bound some =
 
 -- ---- at the root
 
-module _ (space : IndexSpace) (tree : ContractionTree) (limit : ℕ) (found : List (List Candidate)) (root : ℕ) (some : 0 < limit) (all : AreFound space tree limit found)
-    (next : length found ≡ root) (last : root + 1 ≡ operations tree) where
+module _ (space : IndexSpace) (tree : ContractionTree) (limit : ℕ) (found : Searched) (root : ℕ) (all : AreFound space tree found) (is_limit : IsLimitOf tree found root limit)
+    (next : length found.lists ≡ root) (last : root + 1 ≡ operations tree) where
   is_root : root ≡ operations tree - 1
   is_root = omega arith
 
-  pub nodes_covered : NodesCovered space tree (tables_of found)
-  nodes_covered v p is = let up = parent_is tree v p is in (all v (omega (arith, up.above, up.inside, next, last))).covered p is
+  pub nodes_covered : NodesCovered space tree (tables_of found.lists)
+  nodes_covered v p is = let up = parent_is tree v p is in (all.each v (omega (arith, up.above, up.inside, next, last))).candidates.covered p is
 
-  pub pruned : ArePruned tree (tables_of found)
-  pruned v p is = let up = parent_is tree v p is in rw (tables-at found v) ((all v (omega (arith, up.above, up.inside, next, last))).apart p is)
+  pub pruned : ArePruned tree (tables_of found.lists)
+  pruned v p is = let up = parent_is tree v p is in rw (tables-at found.lists v) ((all.each v (omega (arith, up.above, up.inside, next, last))).candidates.apart p is)
 
   pub root_joins : (loops : ℕ) (best : Option WholeFusion) → loops ≡ node_loops tree root
-      → IsBoundOfAll loops best (left_candidates tree found root) (right_candidates tree found root) → IsSome best
+      → IsBoundOfAll loops best (left_candidates tree found.lists root) (right_candidates tree found.lists root) → IsSome best
   root_joins loops best is bound =
-      let joins = some_rows_join space tree (tables_of found) (omega (arith, last)) nodes_covered in
-      best_exists loops best (left_candidates tree found root) (right_candidates tree found root) bound
-      (rw (is, ← left_rows-are tree found root, ← right_rows-are tree found root, is_root) joins)
+      let joins = some_rows_join space tree (tables_of found.lists) (omega (arith, last)) nodes_covered in
+      best_exists loops best (left_candidates tree found.lists root) (right_candidates tree found.lists root) bound
+      (rw (is, ← left_rows-are tree found.lists root, ← right_rows-are tree found.lists root, is_root) joins)
 
   pub root_below : (loops : ℕ) (whole : WholeFusion) → loops ≡ node_loops tree root
-      → IsBoundOfAll loops (Some whole) (left_candidates tree found root) (right_candidates tree found root) → RootBelow tree (tables_of found) whole.memory
-  root_below loops whole is bound = rw (← is_root, left_rows-are tree found root, right_rows-are tree found root) rows_below
+      → IsBoundOfAll loops (Some whole) (left_candidates tree found.lists root) (right_candidates tree found.lists root) → RootBelow tree (tables_of found.lists) whole.memory
+  root_below loops whole is bound = rw (← is_root, left_rows-are tree found.lists root, right_rows-are tree found.lists root) rows_below
     where
-      rows_below : All (λ (left : Row). All (λ (right : Row). HasNoConflict (node_loops tree root) (rows_joined left right) → whole.memory ≤ left.cost + right.cost) (rows_of (right_candidates tree found root))) (rows_of (left_candidates tree found root))
+      rows_below : All (λ (left : Row). All (λ (right : Row). HasNoConflict (node_loops tree root) (rows_joined left right) → whole.memory ≤ left.cost + right.cost) (rows_of (right_candidates tree found.lists root))) (rows_of (left_candidates tree found.lists root))
       rows_below =
-          All-map (λ (left : Row). All (λ (right : Row). HasNoConflict (node_loops tree root) (rows_joined left right) → whole.memory ≤ left.cost + right.cost) (rows_of (right_candidates tree found root)))
-          (λ (c : Candidate). c.row) (left_candidates tree found root)
+          All-map (λ (left : Row). All (λ (right : Row). HasNoConflict (node_loops tree root) (rows_joined left right) → whole.memory ≤ left.cost + right.cost) (rows_of (right_candidates tree found.lists root)))
+          (λ (c : Candidate). c.row) (left_candidates tree found.lists root)
           (λ k d low.
-          All-map (λ (right : Row). HasNoConflict (node_loops tree root) (rows_joined (get_or (left_candidates tree found root) k d).row right) → whole.memory ≤ (get_or (left_candidates tree found root) k d).row.cost + right.cost)
-          (λ (c : Candidate). c.row) (right_candidates tree found root)
+          All-map (λ (right : Row). HasNoConflict (node_loops tree root) (rows_joined (get_or (left_candidates tree found.lists root) k d).row right) → whole.memory ≤ (get_or (left_candidates tree found.lists root) k d).row.cost + right.cost)
+          (λ (c : Candidate). c.row) (right_candidates tree found.lists root)
           (λ m e inner quiet. bound k d low m e inner (rw is quiet)))
 
   state_of : (subtree : ContractionTree) (candidate : Candidate) → IsStateOf space subtree candidate → reached.IsStateOf space subtree candidate.sets.items candidate.row
   state_of subtree candidate state = record { count = state.count; within = state.within; exists = state.has_state; relation = state.relation; cost_is = state.cost }
 
   pub root_legal : (loops : ℕ) (whole : WholeFusion) → loops ≡ node_loops tree root
-      → whole.memory < limit → IsMadeOfSome loops (left_candidates tree found root) (right_candidates tree found root) whole → IsLegalWith space tree whole.sets.items whole.memory
+      → whole.memory < limit → IsMadeOfSome loops (left_candidates tree found.lists root) (right_candidates tree found.lists root) whole → IsLegalWith space tree whole.sets.items whole.memory
   root_legal loops whole is low from =
       let inside : root < operations tree = omega (arith, last) in
       let sum = from.made.memory_is in
-      let left_within = All-contains (IsStateWithin space (left_below tree root) limit) (left_candidates tree found root) from.left (left_kept space tree limit found some all root inside next) from.from_left in
-      let right_within = All-contains (IsStateWithin space (right_below tree root) limit) (right_candidates tree found root) from.right (right_kept space tree limit found some all root inside next) from.from_right in
-      let left = state_of (left_below tree root) from.left (state_below space (left_below tree root) limit from.left left_within (omega (arith, low, sum))) in
-      let right = state_of (right_below tree root) from.right (state_below space (right_below tree root) limit from.right right_within (omega (arith, low, sum))) in
+      let beside_left = All-contains (λ (other : Candidate). limit ≤ left_limit tree found root + other.row.cost) (right_candidates tree found.lists root) from.right is_limit.left from.from_right in
+      let beside_right = All-contains (λ (other : Candidate). limit ≤ right_limit tree found root + other.row.cost) (left_candidates tree found.lists root) from.left is_limit.right from.from_left in
+      let left_within = All-contains (IsStateWithin space (left_below tree root) (left_limit tree found root)) (left_candidates tree found.lists root) from.left (left_kept space tree found all root inside next) from.from_left in
+      let right_within = All-contains (IsStateWithin space (right_below tree root) (right_limit tree found root)) (right_candidates tree found.lists root) from.right (right_kept space tree found all root inside next) from.from_right in
+      let left = state_of (left_below tree root) from.left (state_below space (left_below tree root) (left_limit tree found root) from.left left_within (omega (arith, low, sum, beside_left))) in
+      let right = state_of (right_below tree root) from.right (state_below space (right_below tree root) (right_limit tree found root) from.right right_within (omega (arith, low, sum, beside_right))) in
       rw (from.made.sets_are, from.made.memory_is)
       (root_is_reached space tree from.left.sets.items from.right.sets.items from.left.row from.right.row (omega (arith, last))
       (subst (λ r. reached.IsStateOf space (left_below tree r) from.left.sets.items from.left.row) is_root left)
@@ -106,18 +108,18 @@ module _ (space : IndexSpace) (tree : ContractionTree) (limit : ℕ) (found : Li
 
   -- what is said of the best, said of the fusion that it is
   pub whole_legal : (loops : ℕ) (best : Option WholeFusion) (whole : WholeFusion) → loops ≡ node_loops tree root → whole.memory < limit → best ≡ Some whole
-      → IfSome best (IsMadeOfSome loops (left_candidates tree found root) (right_candidates tree found root)) → IsLegalWith space tree whole.sets.items whole.memory
+      → IfSome best (IsMadeOfSome loops (left_candidates tree found.lists root) (right_candidates tree found.lists root)) → IsLegalWith space tree whole.sets.items whole.memory
   whole_legal loops best whole is low are made =
-      root_legal loops whole is low (subst (λ o. IfSome o (IsMadeOfSome loops (left_candidates tree found root) (right_candidates tree found root))) are made)
+      root_legal loops whole is low (subst (λ o. IfSome o (IsMadeOfSome loops (left_candidates tree found.lists root) (right_candidates tree found.lists root))) are made)
 
   pub whole_below : (loops : ℕ) (best : Option WholeFusion) (whole : WholeFusion) → loops ≡ node_loops tree root → best ≡ Some whole
-      → IsBoundOfAll loops best (left_candidates tree found root) (right_candidates tree found root) → RootBelow tree (tables_of found) whole.memory
+      → IsBoundOfAll loops best (left_candidates tree found.lists root) (right_candidates tree found.lists root) → RootBelow tree (tables_of found.lists) whole.memory
   whole_below loops best whole is are bound =
-      root_below loops whole is (subst (λ o. IsBoundOfAll loops o (left_candidates tree found root) (right_candidates tree found root)) are bound)
+      root_below loops whole is (subst (λ o. IsBoundOfAll loops o (left_candidates tree found.lists root) (right_candidates tree found.lists root)) are bound)
 
   -- where the best takes the limit, each legal fusion does
   pub below_fusions : (loops : ℕ) (best : Option WholeFusion) (whole : WholeFusion) → loops ≡ node_loops tree root → limit ≤ whole.memory → best ≡ Some whole
-      → IsBoundOfAll loops best (left_candidates tree found root) (right_candidates tree found root) → IsBelowFusions space tree limit
+      → IsBoundOfAll loops best (left_candidates tree found.lists root) (right_candidates tree found.lists root) → IsBelowFusions space tree limit
   below_fusions loops best whole is high are bound fusion fits legal =
-      let total = total_is_bound space tree (tables_of found) whole.memory (record { nodes = nodes_covered; root = whole_below loops best whole is are bound }) fusion fits legal in
+      let total = total_is_bound space tree (tables_of found.lists) whole.memory (record { nodes = nodes_covered; root = whole_below loops best whole is are bound }) fusion fits legal in
       omega (arith, high, total)

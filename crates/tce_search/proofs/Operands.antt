@@ -22,7 +22,7 @@ use Rattle.tce_candidates.specs.Candidates.{IsLimited, HaveRoom}
 use Rattle.tce_candidates.specs.Laws.{rows_of}
 use Rattle.tce_candidates.specs.Reached.{IsStateOf}
 use Rattle.tce_candidates.proofs.ReachedStates.{leaves_have_states}
-use Rattle.tce_search.specs.CandidateLists.{candidates_at, tables_of, leaf_candidate, operand_candidates, right_operand_candidates, left_candidates, right_candidates, IsStateWithin, AreFound}
+use Rattle.tce_search.specs.CandidateLists.{candidates_at, tables_of, leaf_candidate, operand_candidates, right_operand_candidates, left_candidates, right_candidates, Searched, operand_limit, right_operand_limit, left_limit, right_limit, IsStateWithin, AreFound, AreAtLeast}
 
 -- ---- their rows
 
@@ -89,26 +89,48 @@ pub state_below : (space : IndexSpace) (tree : ContractionTree) (limit : ℕ) (c
 state_below space tree limit candidate (inl below) low = below.state
 state_below space tree limit candidate (inr at_limit) low = absurd (let cost = ap (λ (c : Candidate). c.row.cost) at_limit in omega (arith, cost, low))
 
-module _ (space : IndexSpace) (tree : ContractionTree) (limit : ℕ) (found : List (List Candidate)) (some : 0 < limit) (all : AreFound space tree limit found) where
-  leaf_kept : (subtree : ContractionTree) → is_leaf subtree ≡ true → All (IsStateWithin space subtree limit) (leaf_candidate ∷ [])
+module _ (space : IndexSpace) (tree : ContractionTree) (found : Searched) (all : AreFound space tree found) where
+  leaf_kept : (subtree : ContractionTree) → is_leaf subtree ≡ true → All (IsStateWithin space subtree found.ceiling) (leaf_candidate ∷ [])
   leaf_kept subtree leaf_tree =
-      All-cons (IsStateWithin space subtree limit) leaf_candidate [] (inl (record { state = leaves_have_states space subtree leaf_candidate leaf_tree refl refl; cheap = some }))
-      (All-nil (IsStateWithin space subtree limit))
+      All-cons (IsStateWithin space subtree found.ceiling) leaf_candidate [] (inl (record { state = leaves_have_states space subtree leaf_candidate leaf_tree refl refl; cheap = all.some }))
+      (All-nil (IsStateWithin space subtree found.ceiling))
 
-  operand_kept : (operand : Operand) → IsBefore (length found) operand → All (IsStateWithin space (tree_of_operand tree operand) limit) (operand_candidates found operand)
+  operand_kept : (operand : Operand) → IsBefore (length found.lists) operand → All (IsStateWithin space (tree_of_operand tree operand) (operand_limit found operand)) (operand_candidates found.lists operand)
   operand_kept (Leaf reference) before = leaf_kept (leaf reference.tensor reference.indexes.items) refl
   operand_kept (Constant number) before = leaf_kept (constant number) refl
-  operand_kept (Node v) before = (all v before).states
+  operand_kept (Node v) before = (all.each v before).candidates.states
 
-  right_operand_kept : (operand : Option Operand) → IfSome operand (IsBefore (length found)) → All (IsStateWithin space (tree_of_right tree operand) limit) (right_operand_candidates found operand)
+  right_operand_kept : (operand : Option Operand) → IfSome operand (IsBefore (length found.lists)) → All (IsStateWithin space (tree_of_right tree operand) (right_operand_limit found operand)) (right_operand_candidates found.lists operand)
   right_operand_kept None before = leaf_kept (constant 0) refl
   right_operand_kept (Some operand) before = operand_kept operand before
 
-  pub left_kept : (v : ℕ) → v < operations tree → length found ≡ v → All (IsStateWithin space (left_below tree v) limit) (left_candidates tree found v)
-  left_kept v inside next = operand_kept (left_of tree v) (subst (λ n. IsBefore n (left_of tree v)) (sym next) (left_before tree v inside))
+  left_is_before : (v : ℕ) → v < operations tree → length found.lists ≡ v → IsBefore (length found.lists) (left_of tree v)
+  left_is_before v inside next = subst (λ n. IsBefore n (left_of tree v)) (sym next) (left_before tree v inside)
 
-  pub right_kept : (v : ℕ) → v < operations tree → length found ≡ v → All (IsStateWithin space (right_below tree v) limit) (right_candidates tree found v)
-  right_kept v inside next = right_operand_kept (right_of tree v) (subst (λ n. IfSome (right_of tree v) (IsBefore n)) (sym next) (right_before tree v inside))
+  right_is_before : (v : ℕ) → v < operations tree → length found.lists ≡ v → IfSome (right_of tree v) (IsBefore (length found.lists))
+  right_is_before v inside next = subst (λ n. IfSome (right_of tree v) (IsBefore n)) (sym next) (right_before tree v inside)
+
+  pub left_kept : (v : ℕ) → v < operations tree → length found.lists ≡ v → All (IsStateWithin space (left_below tree v) (left_limit tree found v)) (left_candidates tree found.lists v)
+  left_kept v inside next = operand_kept (left_of tree v) (left_is_before v inside next)
+
+  pub right_kept : (v : ℕ) → v < operations tree → length found.lists ≡ v → All (IsStateWithin space (right_below tree v) (right_limit tree found v)) (right_candidates tree found.lists v)
+  right_kept v inside next = right_operand_kept (right_of tree v) (right_is_before v inside next)
+
+  -- no limit of an operand is above the ceiling
+  operand_low : (operand : Operand) → IsBefore (length found.lists) operand → operand_limit found operand ≤ found.ceiling
+  operand_low (Leaf reference) before = omega arith
+  operand_low (Constant number) before = omega arith
+  operand_low (Node v) before = (all.each v before).low
+
+  right_operand_low : (operand : Option Operand) → IfSome operand (IsBefore (length found.lists)) → right_operand_limit found operand ≤ found.ceiling
+  right_operand_low None before = omega arith
+  right_operand_low (Some operand) before = operand_low operand before
+
+  pub left_small : (v : ℕ) → v < operations tree → length found.lists ≡ v → left_limit tree found v < 2 ^ 96
+  left_small v inside next = omega (arith, all.small, operand_low (left_of tree v) (left_is_before v inside next))
+
+  pub right_small : (v : ℕ) → v < operations tree → length found.lists ≡ v → right_limit tree found v < 2 ^ 96
+  right_small v inside next = omega (arith, all.small, right_operand_low (right_of tree v) (right_is_before v inside next))
 
 -- ---- limits
 
@@ -120,16 +142,43 @@ operand_sizes tree v inside =
     let whole = operations-node (node tree v) (node_of_some (node tree v) bounds.0) in
     rw (both.0, both.1) (omega (arith, whole, bounds))
 
-module _ (space : IndexSpace) (tree : ContractionTree) (limit : ℕ) (found : List (List Candidate)) (v : ℕ) (some : 0 < limit) (small : limit < 2 ^ 96) (few : operations tree ≤ 32)
-    (all : AreFound space tree limit found) (inside : v < operations tree) (next : length found ≡ v) where
-  pub left_limited : All IsLimited (left_candidates tree found v)
-  left_limited k d low = omega (arith, small, cost_within space (left_below tree v) limit (get_or (left_candidates tree found v) k d) (left_kept space tree limit found some all v inside next k d low))
+module _ (space : IndexSpace) (tree : ContractionTree) (found : Searched) (v : ℕ) (few : operations tree ≤ 32) (all : AreFound space tree found)
+    (inside : v < operations tree) (next : length found.lists ≡ v) where
+  pub left_limited : All IsLimited (left_candidates tree found.lists v)
+  left_limited k d low =
+      omega (
+        arith,
+        left_small space tree found all v inside next,
+        cost_within space (left_below tree v) (left_limit tree found v) (get_or (left_candidates tree found.lists v) k d) (left_kept space tree found all v inside next k d low),
+      )
 
-  pub right_limited : All IsLimited (right_candidates tree found v)
-  right_limited k d low = omega (arith, small, cost_within space (right_below tree v) limit (get_or (right_candidates tree found v) k d) (right_kept space tree limit found some all v inside next k d low))
+  pub right_limited : All IsLimited (right_candidates tree found.lists v)
+  right_limited k d low =
+      omega (
+        arith,
+        right_small space tree found all v inside next,
+        cost_within space (right_below tree v) (right_limit tree found v) (get_or (right_candidates tree found.lists v) k d) (right_kept space tree found all v inside next k d low),
+      )
 
-  pub have_room : HaveRoom (left_candidates tree found v) (right_candidates tree found v)
+  pub have_room : HaveRoom (left_candidates tree found.lists v) (right_candidates tree found.lists v)
   have_room k d low m e inner =
-      let left = sets_within space (left_below tree v) limit (get_or (left_candidates tree found v) k d) (left_kept space tree limit found some all v inside next k d low) in
-      let right = sets_within space (right_below tree v) limit (get_or (right_candidates tree found v) m e) (right_kept space tree limit found some all v inside next m e inner) in
+      let left = sets_within space (left_below tree v) (left_limit tree found v) (get_or (left_candidates tree found.lists v) k d) (left_kept space tree found all v inside next k d low) in
+      let right = sets_within space (right_below tree v) (right_limit tree found v) (get_or (right_candidates tree found.lists v) m e) (right_kept space tree found all v inside next m e inner) in
       omega (arith, few, left, right, operand_sizes tree v inside)
+
+-- where each limit of a node is at least the ceiling, so is that of an operand
+module _ (tree : ContractionTree) (found : Searched) (same : length found.limits ≡ length found.lists) (full : AreAtLeast found.ceiling found.limits) where
+  operand_full : (operand : Operand) → IsBefore (length found.lists) operand → found.ceiling ≤ operand_limit found operand
+  operand_full (Leaf reference) before = omega arith
+  operand_full (Constant number) before = omega arith
+  operand_full (Node v) before = full v 0 (omega (arith, same, before))
+
+  right_operand_full : (operand : Option Operand) → IfSome operand (IsBefore (length found.lists)) → found.ceiling ≤ right_operand_limit found operand
+  right_operand_full None before = omega arith
+  right_operand_full (Some operand) before = operand_full operand before
+
+  pub left_full : (v : ℕ) → v < operations tree → length found.lists ≡ v → found.ceiling ≤ left_limit tree found v
+  left_full v inside next = operand_full (left_of tree v) (subst (λ n. IsBefore n (left_of tree v)) (sym next) (left_before tree v inside))
+
+  pub right_full : (v : ℕ) → v < operations tree → length found.lists ≡ v → found.ceiling ≤ right_limit tree found v
+  right_full v inside next = right_operand_full (right_of tree v) (subst (λ n. IfSome (right_of tree v) (IsBefore n)) (sym next) (right_before tree v inside))

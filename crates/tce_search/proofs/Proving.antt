@@ -15,7 +15,7 @@ use Rattle.tce_nesting.specs.declared.plan.Plan.{Plan}
 use Rattle.tce_nesting.specs.Plan.{RowFits, RowsFit}
 use Rattle.tce_candidates.specs.declared.candidate.Candidate.{Candidate}
 use Rattle.tce_candidates.specs.Laws.{rows_of}
-use Rattle.tce_search.specs.CandidateLists.{candidates_at, tables_of, AreCandidates, AreFound}
+use Rattle.tce_search.specs.CandidateLists.{candidates_at, tables_of, Searched, limit_at, AreCandidates, AreFound}
 use Rattle.tce_search.specs.LeastPlan.{IsLeastPlan, IsPlanOf}
 use Rattle.tce_search.proofs.Operands.{tables-at, cost_within}
 
@@ -28,16 +28,16 @@ rows_fit_node space tree limit found v small kept =
     let cost = cost_within space (node tree v) limit (get_or (candidates_at found v) k d) (kept.states k d low) in
     record { classes = kept.classes k d low; cost = omega (arith, cost, small) })
 
-rows_fit : (space : IndexSpace) (tree : ContractionTree) (limit : ℕ) (found : List (List Candidate)) → limit < 2 ^ 96 → AreFound space tree limit found
-    → RowsFit tree (tables_of found)
-rows_fit space tree limit found small all v low =
-    let inside : v < length found = rw length-map at low in
-    rw (tables-at found v) (rows_fit_node space tree limit found v small (all v inside))
+rows_fit : (space : IndexSpace) (tree : ContractionTree) (found : Searched) → AreFound space tree found → RowsFit tree (tables_of found.lists)
+rows_fit space tree found all v low =
+    let inside : v < length found.lists = rw length-map at low in
+    let here = all.each v inside in
+    rw (tables-at found.lists v) (rows_fit_node space tree (limit_at found.limits v) found.lists v (omega (arith, here.low, all.small)) here.candidates)
 
-pub least_plan : (space : IndexSpace) (tree : ContractionTree) (limit : ℕ) (found : List (List Candidate)) (fusion : List ℕ) (total : ℕ) (plan : Plan) → limit < 2 ^ 96
-    → length found + 1 ≡ operations tree → AreFound space tree limit found → NodesCovered space tree (tables_of found) → ArePruned tree (tables_of found) → RootBelow tree (tables_of found) total
-    → IsLegalWith space tree fusion total → IsPlanOf space tree fusion (tables_of found) plan → IsLeastPlan space tree plan
-least_plan space tree limit found fusion total plan small count all covered pruned below legal made = record {
+pub least_plan : (space : IndexSpace) (tree : ContractionTree) (found : Searched) (fusion : List ℕ) (total : ℕ) (plan : Plan)
+    → length found.lists + 1 ≡ operations tree → AreFound space tree found → NodesCovered space tree (tables_of found.lists) → ArePruned tree (tables_of found.lists) → RootBelow tree (tables_of found.lists) total
+    → IsLegalWith space tree fusion total → IsPlanOf space tree fusion (tables_of found.lists) plan → IsLeastPlan space tree plan
+least_plan space tree found fusion total plan count all covered pruned below legal made = record {
   fits = record {
     fusion = fits;
     orders = made.orders_fit;
@@ -45,7 +45,7 @@ least_plan space tree limit found fusion total plan small count all covered prun
     size_limit = made.size_limit;
     memory_limit = made.memory_limit;
     tables = rw made.tables_are (rw length-map count);
-    rows = rw made.tables_are (rows_fit space tree limit found small all);
+    rows = rw made.tables_are (rows_fit space tree found all);
   };
   least = least_by_cover space tree plan.fusion.0.items plan.tables fits is_legal (subst (Covers space tree plan.tables) made.memory_is covers);
   carried = made.carried;

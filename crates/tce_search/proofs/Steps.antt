@@ -1,5 +1,5 @@
 -- The candidates of a node are found where those of its operands are.
-use Rattle.std.proofs.Common.{Result, Ok, Err, ◌≡◌, ℕ, ◌-◌, ◌<◌, not, eqb, Some, List, [], ◌∷◌, ◌++◌, map, reverse, take, length, get_or, sym, ap, ◌∙◌, subst, inl, inr, arith}
+use Rattle.std.proofs.Common.{Result, Ok, Err, ◌≡◌, ℕ, ◌+◌, ◌-◌, ◌<◌, ◌≤◌, not, eqb, Some, List, [], ◌∷◌, ◌++◌, map, reverse, take, length, get_or, sym, ap, ◌∙◌, subst, inl, inr, arith}
 use Rattle.std.specs.Prelude.{IfOk, ◌⊎◌}
 use Rattle.std.specs.declared.vec.Vec.{Vec}
 use Rattle.std.specs.List.{All, AllPairs, Contains, refill}
@@ -25,7 +25,7 @@ use Rattle.tce_candidates.specs.Laws.{rows_of}
 use Rattle.tce_candidates.specs.Reached.{IsStateOf}
 use Rattle.tce_candidates.proofs.ReachedStates.{steps_are_states}
 use Rattle.tce_candidates.proofs.Steppings.{covered_pairs_cover_steps}
-use Rattle.tce_search.specs.CandidateLists.{candidates_at, tables_of, leaf_candidate, left_candidates, right_candidates, IsStateWithin, HasClassesWithin, AreCandidates, AreFound}
+use Rattle.tce_search.specs.CandidateLists.{candidates_at, tables_of, leaf_candidate, left_candidates, right_candidates, left_limit, right_limit, Searched, IsStateWithin, HasClassesWithin, AreCandidates, IsLimitOf, AreFound}
 use Rattle.tce_search.proofs.Operands.{tables-at, left_rows-are, right_rows-are, left_candidates-push, right_candidates-push, left_kept, right_kept, state_below}
 
 -- each class of what is left lies within the fused set
@@ -55,66 +55,68 @@ rows_apart outer table apart i j d order low =
     let second = get_or-map (λ (c : Candidate). c.row) table j leaf_candidate d inner in
     rw (first, second) (apart i j leaf_candidate order inner)
 
-module _ (space : IndexSpace) (tree : ContractionTree) (limit : ℕ) (found : List (List Candidate)) (v outer : ℕ) (choices : List Choice) (table : List Candidate)
-    (some : 0 < limit) (all : AreFound space tree limit found) (inside : v < operations tree) (next : length found ≡ v)
+module _ (space : IndexSpace) (tree : ContractionTree) (limit : ℕ) (found : Searched) (v outer : ℕ) (choices : List Choice) (table : List Candidate)
+    (all : AreFound space tree found) (is_limit : IsLimitOf tree found v limit) (inside : v < operations tree) (next : length found.lists ≡ v)
     (parent_loops : (p : ℕ) → parent tree v ≡ Some p → outer ≡ node_loops tree p)
     (are_choices : AreChoices space tree v choices)
-    (covered : All (λ (left : Candidate). All (PairCovered (node_loops tree v) outer choices table left) (right_candidates tree found v)) (left_candidates tree found v))
-    (reached : All (λ (c : Candidate). IsReachedBelow limit (node_loops tree v) choices (left_candidates tree found v) (right_candidates tree found v) c ⊎ (c ≡ limit_candidate limit)) table)
+    (covered : All (λ (left : Candidate). All (PairCovered (node_loops tree v) outer choices table left) (right_candidates tree found.lists v)) (left_candidates tree found.lists v))
+    (reached : All (λ (c : Candidate). IsReachedBelow limit (node_loops tree v) choices (left_candidates tree found.lists v) (right_candidates tree found.lists v) c ⊎ (c ≡ limit_candidate limit)) table)
     (apart : AllPairs (CandidatesApart outer) table) where
-  reached_state : (candidate : Candidate) → IsReachedBelow limit (node_loops tree v) choices (left_candidates tree found v) (right_candidates tree found v) candidate → IsStateOf space (node tree v) candidate
+  reached_state : (candidate : Candidate) → IsReachedBelow limit (node_loops tree v) choices (left_candidates tree found.lists v) (right_candidates tree found.lists v) candidate → IsStateOf space (node tree v) candidate
   reached_state candidate from =
       let both = operands_are_joined tree v inside in
       let pair = from.reached in
       let cost = pair.step.step.row.cost in
       let sum = pair.step.joins.cost in
-      let left = All-contains (IsStateWithin space (left_below tree v) limit) (left_candidates tree found v) pair.left (left_kept space tree limit found some all v inside next) pair.from_left in
-      let right = All-contains (IsStateWithin space (right_below tree v) limit) (right_candidates tree found v) pair.right (right_kept space tree limit found some all v inside next) pair.from_right in
+      let beside_left = All-contains (λ (other : Candidate). limit ≤ left_limit tree found v + other.row.cost) (right_candidates tree found.lists v) pair.right is_limit.left pair.from_right in
+      let beside_right = All-contains (λ (other : Candidate). limit ≤ right_limit tree found v + other.row.cost) (left_candidates tree found.lists v) pair.left is_limit.right pair.from_left in
+      let left = All-contains (IsStateWithin space (left_below tree v) (left_limit tree found v)) (left_candidates tree found.lists v) pair.left (left_kept space tree found all v inside next) pair.from_left in
+      let right = All-contains (IsStateWithin space (right_below tree v) (right_limit tree found v)) (right_candidates tree found.lists v) pair.right (right_kept space tree found all v inside next) pair.from_right in
       steps_are_states space tree v choices pair.left pair.right candidate inside are_choices pair.step
-      (subst (λ t. IsStateOf space t pair.left) both.0 (state_below space (left_below tree v) limit pair.left left (omega (arith, from.cheap, cost, sum))))
-      (subst (λ t. IsStateOf space t pair.right) both.1 (state_below space (right_below tree v) limit pair.right right (omega (arith, from.cheap, cost, sum))))
+      (subst (λ t. IsStateOf space t pair.left) both.0 (state_below space (left_below tree v) (left_limit tree found v) pair.left left (omega (arith, from.cheap, cost, sum, beside_left))))
+      (subst (λ t. IsStateOf space t pair.right) both.1 (state_below space (right_below tree v) (right_limit tree found v) pair.right right (omega (arith, from.cheap, cost, sum, beside_right))))
 
-  reached_within : (candidate : Candidate) → IsReachedBelow limit (node_loops tree v) choices (left_candidates tree found v) (right_candidates tree found v) candidate ⊎ (candidate ≡ limit_candidate limit)
+  reached_within : (candidate : Candidate) → IsReachedBelow limit (node_loops tree v) choices (left_candidates tree found.lists v) (right_candidates tree found.lists v) candidate ⊎ (candidate ≡ limit_candidate limit)
       → IsStateWithin space (node tree v) limit candidate
   reached_within candidate (inl from) = inl (record { state = reached_state candidate from; cheap = from.cheap })
   reached_within candidate (inr at_limit) = inr at_limit
 
-  reached_classes : (candidate : Candidate) → IsReachedBelow limit (node_loops tree v) choices (left_candidates tree found v) (right_candidates tree found v) candidate ⊎ (candidate ≡ limit_candidate limit)
+  reached_classes : (candidate : Candidate) → IsReachedBelow limit (node_loops tree v) choices (left_candidates tree found.lists v) (right_candidates tree found.lists v) candidate ⊎ (candidate ≡ limit_candidate limit)
       → HasClassesWithin (node_dims tree v) candidate
   reached_classes candidate (inl from) = classes_within space tree v (node_loops tree v) choices from.reached.left from.reached.right candidate are_choices from.reached.step
   reached_classes candidate (inr at_limit) = rw at_limit (All-nil (LiesWithin (node_dims tree v)))
 
-  here : candidates_at (found ++ table ∷ []) v ≡ table
-  here = get_or_push found table [] v next
+  here : candidates_at (found.lists ++ table ∷ []) v ≡ table
+  here = get_or_push found.lists table [] v next
 
-  rows_here : rows_at (tables_of (found ++ table ∷ [])) v ≡ rows_of table
-  rows_here = tables-at (found ++ table ∷ []) v ∙ ap rows_of here
+  rows_here : rows_at (tables_of (found.lists ++ table ∷ [])) v ≡ rows_of table
+  rows_here = tables-at (found.lists ++ table ∷ []) v ∙ ap rows_of here
 
-  lefts_here : left_rows tree (tables_of (found ++ table ∷ [])) v ≡ rows_of (left_candidates tree found v)
-  lefts_here = left_rows-are tree (found ++ table ∷ []) v ∙ ap rows_of (left_candidates-push tree found table v inside next)
+  lefts_here : left_rows tree (tables_of (found.lists ++ table ∷ [])) v ≡ rows_of (left_candidates tree found.lists v)
+  lefts_here = left_rows-are tree (found.lists ++ table ∷ []) v ∙ ap rows_of (left_candidates-push tree found.lists table v inside next)
 
-  rights_here : right_rows tree (tables_of (found ++ table ∷ [])) v ≡ rows_of (right_candidates tree found v)
-  rights_here = right_rows-are tree (found ++ table ∷ []) v ∙ ap rows_of (right_candidates-push tree found table v inside next)
+  rights_here : right_rows tree (tables_of (found.lists ++ table ∷ [])) v ≡ rows_of (right_candidates tree found.lists v)
+  rights_here = right_rows-are tree (found.lists ++ table ∷ []) v ∙ ap rows_of (right_candidates-push tree found.lists table v inside next)
 
   joins_covered : (o : ℕ) → outer ≡ o → All (λ (left : Row). All (λ (right : Row). HasNoConflict (node_loops tree v) (rows_joined left right)
-      → StepsCovered space tree o v (rows_of table) left right) (rows_of (right_candidates tree found v))) (rows_of (left_candidates tree found v))
+      → StepsCovered space tree o v (rows_of table) left right) (rows_of (right_candidates tree found.lists v))) (rows_of (left_candidates tree found.lists v))
   joins_covered o is =
-      All-map (λ (left : Row). All (λ (right : Row). HasNoConflict (node_loops tree v) (rows_joined left right) → StepsCovered space tree o v (rows_of table) left right) (rows_of (right_candidates tree found v)))
-      (λ (c : Candidate). c.row) (left_candidates tree found v)
+      All-map (λ (left : Row). All (λ (right : Row). HasNoConflict (node_loops tree v) (rows_joined left right) → StepsCovered space tree o v (rows_of table) left right) (rows_of (right_candidates tree found.lists v)))
+      (λ (c : Candidate). c.row) (left_candidates tree found.lists v)
       (λ k d low.
-      All-map (λ (right : Row). HasNoConflict (node_loops tree v) (rows_joined (get_or (left_candidates tree found v) k d).row right) → StepsCovered space tree o v (rows_of table) (get_or (left_candidates tree found v) k d).row right)
-      (λ (c : Candidate). c.row) (right_candidates tree found v)
-      (λ m e inner quiet. subst (λ n. StepsCovered space tree n v (rows_of table) (get_or (left_candidates tree found v) k d).row (get_or (right_candidates tree found v) m e).row) is
-      (covered_pairs_cover_steps space tree v outer choices table (get_or (left_candidates tree found v) k d) (get_or (right_candidates tree found v) m e) inside are_choices (covered k d low m e inner) quiet)))
+      All-map (λ (right : Row). HasNoConflict (node_loops tree v) (rows_joined (get_or (left_candidates tree found.lists v) k d).row right) → StepsCovered space tree o v (rows_of table) (get_or (left_candidates tree found.lists v) k d).row right)
+      (λ (c : Candidate). c.row) (right_candidates tree found.lists v)
+      (λ m e inner quiet. subst (λ n. StepsCovered space tree n v (rows_of table) (get_or (left_candidates tree found.lists v) k d).row (get_or (right_candidates tree found.lists v) m e).row) is
+      (covered_pairs_cover_steps space tree v outer choices table (get_or (left_candidates tree found.lists v) k d) (get_or (right_candidates tree found.lists v) m e) inside are_choices (covered k d low m e inner) quiet)))
 
-  node_covered : (o : ℕ) → outer ≡ o → NodeCovered space tree (tables_of (found ++ table ∷ [])) o v
+  node_covered : (o : ℕ) → outer ≡ o → NodeCovered space tree (tables_of (found.lists ++ table ∷ [])) o v
   node_covered o is =
       rw (lefts_here, rights_here, rows_here) (joins_covered o is)
 
-  pub candidates_are : AreCandidates space tree limit (found ++ table ∷ []) v
+  pub candidates_are : AreCandidates space tree limit (found.lists ++ table ∷ []) v
   candidates_are = record {
-    states = rw here (All-weaker (λ (c : Candidate). IsReachedBelow limit (node_loops tree v) choices (left_candidates tree found v) (right_candidates tree found v) c ⊎ (c ≡ limit_candidate limit)) (IsStateWithin space (node tree v) limit) reached_within table reached);
-    classes = rw here (All-weaker (λ (c : Candidate). IsReachedBelow limit (node_loops tree v) choices (left_candidates tree found v) (right_candidates tree found v) c ⊎ (c ≡ limit_candidate limit)) (HasClassesWithin (node_dims tree v)) reached_classes table reached);
+    states = rw here (All-weaker (λ (c : Candidate). IsReachedBelow limit (node_loops tree v) choices (left_candidates tree found.lists v) (right_candidates tree found.lists v) c ⊎ (c ≡ limit_candidate limit)) (IsStateWithin space (node tree v) limit) reached_within table reached);
+    classes = rw here (All-weaker (λ (c : Candidate). IsReachedBelow limit (node_loops tree v) choices (left_candidates tree found.lists v) (right_candidates tree found.lists v) c ⊎ (c ≡ limit_candidate limit)) (HasClassesWithin (node_dims tree v)) reached_classes table reached);
     covered = λ p is. node_covered (node_loops tree p) (parent_loops p is);
     apart = λ p is. rw here (subst (λ o. AllPairs (AreApart o) (rows_of table)) (parent_loops p is) (rows_apart outer table apart));
   }
@@ -172,21 +174,21 @@ reached_reversed limit loops choices lefts rights candidate (inl from) =
     })
 
 -- the same of what the call that makes them from the choices in the other order answers
-pub candidates_of_operands_are : {T : Type 0} {E : Type 0} (space : IndexSpace) (tree : ContractionTree) (limit : ℕ) (found : List (List Candidate)) (v outer loops : ℕ) (choices given : List Choice) (lefts rights : List Candidate)
-    (answer : Result (Vec Candidate T) E) → 0 < limit → AreFound space tree limit found → v < operations tree → length found ≡ v
+pub candidates_of_operands_are : {T : Type 0} {E : Type 0} (space : IndexSpace) (tree : ContractionTree) (limit : ℕ) (found : Searched) (v outer loops : ℕ) (choices given : List Choice) (lefts rights : List Candidate)
+    (answer : Result (Vec Candidate T) E) → AreFound space tree found → IsLimitOf tree found v limit → v < operations tree → length found.lists ≡ v
     → ((p : ℕ) → parent tree v ≡ Some p → outer ≡ node_loops tree p) → AreChoices space tree v choices
-    → loops ≡ node_loops tree v → given ≡ reverse choices → lefts ≡ left_candidates tree found v → rights ≡ right_candidates tree found v
+    → loops ≡ node_loops tree v → given ≡ reverse choices → lefts ≡ left_candidates tree found.lists v → rights ≡ right_candidates tree found.lists v
     → IfOk answer (λ table. All (λ (left : Candidate). All (PairCovered loops outer given table.items left) rights) lefts)
     → IfOk answer (λ table. All (λ (c : Candidate). IsReachedBelow limit loops given lefts rights c ⊎ (c ≡ limit_candidate limit)) table.items)
     → IfOk answer (λ table. AllPairs (CandidatesApart outer) table.items)
-    → IfOk answer (λ table. AreCandidates space tree limit (found ++ table.items ∷ []) v)
-candidates_of_operands_are space tree limit found v outer loops choices given lefts rights (Err e) some all inside next parent_loops are a b c d covered reached apart = tt
-candidates_of_operands_are space tree limit found v outer loops choices given lefts rights (Ok table) some all inside next parent_loops are a b c d covered reached apart =
-    let all_covered : All (λ (left : Candidate). All (PairCovered (node_loops tree v) outer (reverse choices) table.items left) (right_candidates tree found v)) (left_candidates tree found v) =
+    → IfOk answer (λ table. AreCandidates space tree limit (found.lists ++ table.items ∷ []) v)
+candidates_of_operands_are space tree limit found v outer loops choices given lefts rights (Err e) all is_limit inside next parent_loops are a b c d covered reached apart = tt
+candidates_of_operands_are space tree limit found v outer loops choices given lefts rights (Ok table) all is_limit inside next parent_loops are a b c d covered reached apart =
+    let all_covered : All (λ (left : Candidate). All (PairCovered (node_loops tree v) outer (reverse choices) table.items left) (right_candidates tree found.lists v)) (left_candidates tree found.lists v) =
     rw (← a, ← b, ← c, ← d) covered in
-    let all_reached : All (λ (x : Candidate). IsReachedBelow limit (node_loops tree v) (reverse choices) (left_candidates tree found v) (right_candidates tree found v) x ⊎ (x ≡ limit_candidate limit)) table.items = rw (← a, ← b, ← c, ← d) reached in
-    candidates_are space tree limit found v outer choices table.items some all inside next parent_loops are
-    (λ k x low m y inner. covered_reversed (node_loops tree v) outer choices table.items (get_or (left_candidates tree found v) k x) (get_or (right_candidates tree found v) m y) (all_covered k x low m y inner))
-    (All-weaker (λ (x : Candidate). IsReachedBelow limit (node_loops tree v) (reverse choices) (left_candidates tree found v) (right_candidates tree found v) x ⊎ (x ≡ limit_candidate limit)) (λ (x : Candidate). IsReachedBelow limit (node_loops tree v) choices (left_candidates tree found v) (right_candidates tree found v) x ⊎ (x ≡ limit_candidate limit))
-    (reached_reversed limit (node_loops tree v) choices (left_candidates tree found v) (right_candidates tree found v)) table.items all_reached)
+    let all_reached : All (λ (x : Candidate). IsReachedBelow limit (node_loops tree v) (reverse choices) (left_candidates tree found.lists v) (right_candidates tree found.lists v) x ⊎ (x ≡ limit_candidate limit)) table.items = rw (← a, ← b, ← c, ← d) reached in
+    candidates_are space tree limit found v outer choices table.items all is_limit inside next parent_loops are
+    (λ k x low m y inner. covered_reversed (node_loops tree v) outer choices table.items (get_or (left_candidates tree found.lists v) k x) (get_or (right_candidates tree found.lists v) m y) (all_covered k x low m y inner))
+    (All-weaker (λ (x : Candidate). IsReachedBelow limit (node_loops tree v) (reverse choices) (left_candidates tree found.lists v) (right_candidates tree found.lists v) x ⊎ (x ≡ limit_candidate limit)) (λ (x : Candidate). IsReachedBelow limit (node_loops tree v) choices (left_candidates tree found.lists v) (right_candidates tree found.lists v) x ⊎ (x ≡ limit_candidate limit))
+    (reached_reversed limit (node_loops tree v) choices (left_candidates tree found.lists v) (right_candidates tree found.lists v)) table.items all_reached)
     apart

@@ -1,5 +1,5 @@
 -- Lists of candidates, one for each node so far by its number, and what the search keeps of them.
-use Rattle.std.specs.Prelude.{◌≡◌, ◌⊎◌, ℕ, ◌<◌, Option, List, [], ◌∷◌, map, length, slice_index_or}
+use Rattle.std.specs.Prelude.{◌≡◌, ◌⊎◌, ℕ, ◌+◌, ◌<◌, ◌≤◌, ◌^◌, Option, List, [], ◌∷◌, ◌++◌, map, length, slice_index_or}
 use Rattle.std.specs.List.{All, AllPairs}
 use Rattle.std.specs.declared.option.Option.TheVariants.{Some, None}
 use Rattle.tce_space.specs.Space.{IndexSpace}
@@ -64,6 +64,59 @@ pub record AreCandidates (space : IndexSpace) (tree : ContractionTree) (limit : 
   pub covered : (p : ℕ) → parent tree v ≡ Some p → NodeCovered space tree (tables_of found) (node_loops tree p) v
   pub apart : (p : ℕ) → parent tree v ≡ Some p → AllPairs (AreApart (node_loops tree p)) (rows_of (candidates_at found v))
 
--- so it is at each node that has a list
-abbrev pub AreFound : IndexSpace → ContractionTree → ℕ → List (List Candidate) → Type 0
-AreFound space tree limit found = (v : ℕ) → v < length found → AreCandidates space tree limit found v
+-- the candidates of the first nodes, the limit of each, below which its candidates are states, and the ceiling of all limits
+pub record Searched : Type 0 where
+  pub ceiling : ℕ
+  pub limits : List ℕ
+  pub lists : List (List Candidate)
+
+-- with those of one more node
+abbrev pub with_next : Searched → List Candidate → ℕ → Searched
+with_next found candidates limit = record { ceiling = found.ceiling; limits = found.limits ++ limit ∷ []; lists = found.lists ++ candidates ∷ [] }
+
+-- the limit of node `v`
+abbrev pub limit_at : List ℕ → ℕ → ℕ
+limit_at limits v = slice_index_or limits v 0
+
+-- that of an operand: of a leaf the ceiling
+abbrev pub operand_limit : Searched → Operand → ℕ
+operand_limit found (Leaf reference) = found.ceiling
+operand_limit found (Constant number) = found.ceiling
+operand_limit found (Node v) = limit_at found.limits v
+
+abbrev pub right_operand_limit : Searched → Option Operand → ℕ
+right_operand_limit found None = found.ceiling
+right_operand_limit found (Some operand) = operand_limit found operand
+
+-- those of the operands of node `v`
+abbrev pub left_limit : ContractionTree → Searched → ℕ → ℕ
+left_limit tree found v = operand_limit found (left_of tree v)
+
+abbrev pub right_limit : ContractionTree → Searched → ℕ → ℕ
+right_limit tree found v = right_operand_limit found (right_of tree v)
+
+-- each limit is at least this number
+abbrev pub AreAtLeast : ℕ → List ℕ → Type 0
+AreAtLeast least limits = All (λ limit. least ≤ limit) limits
+
+-- the limit of an operand and the cost of any candidate of the other one together are no less
+abbrev pub IsBeside : ℕ → ℕ → List Candidate → Type 0
+IsBeside limit operand others = All (λ other. limit ≤ operand + other.row.cost) others
+
+-- so a step of node `v` below this limit is one from states of both operands
+pub record IsLimitOf (tree : ContractionTree) (found : Searched) (v limit : ℕ) : Type 0 where
+  pub low : limit ≤ found.ceiling
+  pub left : IsBeside limit (left_limit tree found v) (right_candidates tree found.lists v)
+  pub right : IsBeside limit (right_limit tree found v) (left_candidates tree found.lists v)
+
+-- the candidates of node `v` are found below its limit
+pub record IsFoundAt (space : IndexSpace) (tree : ContractionTree) (found : Searched) (v : ℕ) : Type 0 where
+  pub low : limit_at found.limits v ≤ found.ceiling
+  pub candidates : AreCandidates space tree (limit_at found.limits v) found.lists v
+
+-- so it is at each node that has a list, and the ceiling is a number of a plan
+pub record AreFound (space : IndexSpace) (tree : ContractionTree) (found : Searched) : Type 0 where
+  pub some : 0 < found.ceiling
+  pub small : found.ceiling < 2 ^ 96
+  pub count : length found.limits ≡ length found.lists
+  pub each : (v : ℕ) → v < length found.lists → IsFoundAt space tree found v

@@ -1,33 +1,41 @@
 // The candidates of the nodes, from the leaves up.
-ghost use Rattle.std.specs.Prelude.{◌≡◌, ℕ, ◌+◌, ◌<◌, ◌^◌, [], ◌∷◌, ◌++◌, length, IfOk};
+ghost use Rattle.std.specs.Prelude.{◌≡◌, ℕ, false, ◌+◌, ◌<◌, ◌^◌, [], ◌∷◌, ◌++◌, length, IfOk};
 ghost use Rattle.tce_tree.specs.ContractionTree.{operations, node_loops, parent};
 ghost use Rattle.tce_tree.specs.Measure.{IsMeasured};
-ghost use Rattle.tce_search.specs.CandidateLists.{AreCandidates, AreFound};
+ghost use Rattle.tce_search.specs.CandidateLists.{AreCandidates, AreFound, IsLimitOf, AreAtLeast};
 
+use crate::bounds::Bounds;
 use crate::found::Found;
+use crate::limit::limit_of;
 use std::alloc::{AllocError, Global};
 use tce_candidates::{Candidate, candidates_of};
 use tce_nesting::choices;
 use tce_space::{IndexSet, Space};
 use tce_tree::Tree;
 
-/// The candidates of all nodes but the root: states that cost less than the limit, and what stands for all others.
+/// The candidates of all nodes but the root: states that cost less than the node's limit, and what stands for all others.
 pub(crate) fn find_candidates(
     alloc: Global,
     space: &Space,
     tree: &Tree,
-    limit: u128,
+    bounds: &mut Bounds,
 ) -> Result<Found, AllocError>
     requires measured { IsMeasured space.now tree.now }
-    requires some { 0 < limit }
-    requires small { limit < 2 ^ 96 }
-    ensures count { IfOk result (λ found. length found + 1 ≡ operations tree.now) }
-    ensures found { IfOk result (AreFound space.now tree.now limit) }
+    requires some { 0 < bounds.old.ceiling }
+    requires small { bounds.old.ceiling < 2 ^ 96 }
+    ensures count { IfOk result (λ found. length found.lists + 1 ≡ operations tree.now) }
+    ensures found { IfOk result (AreFound space.now tree.now) }
+    ensures ceiling { IfOk result (λ found. found.ceiling ≡ bounds.old.ceiling) }
+    ensures plain { bounds.old.learns ≡ false → IfOk result (λ found. AreAtLeast found.ceiling found.limits) }
+    ensures same { bounds.new.ceiling ≡ bounds.old.ceiling }
+    ensures learns { bounds.new.learns ≡ bounds.old.learns }
 {
-    let mut found = Found::new(alloc);
+    let mut found = Found::new(alloc, bounds.ceiling);
     for v in 0..tree.count() - 1 {
+        let limit = limit_of(space, tree, &found, v, bounds.target(tree, v));
         let candidates = candidates_of_node(alloc, space, tree, &found, v, limit)?;
-        found.push(candidates)?;
+        bounds.learn(v, candidates.as_slice());
+        found.push(candidates, limit)?;
     }
     Ok(found)
 }
@@ -42,12 +50,11 @@ fn candidates_of_node(
     limit: u128,
 ) -> Result<Vec<Candidate>, AllocError>
     requires measured { IsMeasured space.now tree.now }
-    requires some { 0 < limit }
-    requires small { limit < 2 ^ 96 }
     requires inside { v < operations tree.now }
-    requires next { length found.now ≡ v }
-    requires found { AreFound space.now tree.now limit found.now }
-    ensures { IfOk result (λ candidates. AreCandidates space.now tree.now limit (found.now ++ candidates.items ∷ []) v) }
+    requires next { length found.now.lists ≡ v }
+    requires found { AreFound space.now tree.now found.now }
+    requires limit { IsLimitOf tree.now found.now v limit }
+    ensures { IfOk result (λ candidates. AreCandidates space.now tree.now limit (found.now.lists ++ candidates.items ∷ []) v) }
 {
     let _count = tree.count();
     let leaf = [Candidate::default()];

@@ -1,5 +1,5 @@
 // Plans of least fusions.
-ghost use Rattle.std.specs.Prelude.{◌≡◌, ℕ, ◌+◌, ◌-◌, ◌<◌, ◌≤◌, ◌^◌, ◌++◌, length, slice_index, slice_set, All, IfSome, IfOk, OnOk};
+ghost use Rattle.std.specs.Prelude.{◌≡◌, ℕ, false, ◌+◌, ◌-◌, ◌<◌, ◌≤◌, ◌^◌, ◌++◌, length, slice_index, slice_set, All, IfSome, IfOk, OnOk};
 ghost use Rattle.tce_tree.specs.ContractionTree.{operations};
 ghost use Rattle.tce_tree.specs.Fusion.{FusionFits};
 ghost use Rattle.tce_tree.specs.Measure.{IsMeasured};
@@ -8,9 +8,12 @@ ghost use Rattle.tce_fusion.specs.Scope.{IsLegal};
 ghost use Rattle.tce_states.specs.Row.{rows_at};
 ghost use Rattle.tce_candidates.specs.Laws.{rows_of};
 ghost use Rattle.tce_search.specs.CandidateLists as list;
+ghost use Rattle.tce_search.specs.CandidateLists.{AreFound, AreAtLeast};
 ghost use Rattle.tce_search.specs.LeastPlan.{IsLeastPlan, IsPlanOf, IsBelowFusions};
 
+use crate::bounds::Bounds;
 use crate::found::Found;
+use crate::limit::limit_of;
 use crate::node::find_candidates;
 use crate::root::least_fusion;
 use arrayvec::ArrayVec;
@@ -35,32 +38,52 @@ pub fn search(alloc: Global, space: &Space, tree: &Tree) -> Result<Plan, AllocEr
 {
     let _indexes = space.index_count();
     let _nodes = tree.count();
-    let mut limit = 1;
-    while limit < LAST_LIMIT {
-        if let Some(plan) = search_below(alloc, space, tree, limit)? {
+    let mut bounds = Bounds::new(1, true);
+    while bounds.ceiling < LAST_LIMIT {
+        if let Some(plan) = search_below(alloc, space, tree, &mut bounds)? {
             return Ok(plan);
         }
-        limit *= 2;
+        bounds.raise();
     }
-    let last = search_below(alloc, space, tree, LAST_LIMIT)?;
-    Ok(last.unwrap())
+    let mut last = Bounds::new(LAST_LIMIT, false);
+    let plan = search_below(alloc, space, tree, &mut last)?;
+    Ok(plan.unwrap())
 }
 
-// A plan of a least fusion, where one takes less memory than the limit.
+// A plan of a least fusion, where one takes less memory than the ceiling and what is known of subtrees does not hide it.
 fn search_below(
     alloc: Global,
     space: &Space,
     tree: &Tree,
-    limit: u128,
+    bounds: &mut Bounds,
 ) -> Result<Option<Plan>, AllocError>
     requires measured { IsMeasured space.now tree.now }
-    requires some { 0 < limit }
-    requires small { limit < 2 ^ 96 }
+    requires some { 0 < bounds.old.ceiling }
+    requires small { bounds.old.ceiling < 2 ^ 96 }
     ensures plan { IfOk result (λ found. IfSome found (IsLeastPlan space.now tree.now)) }
-    ensures none { IfOk result (λ found. found ≡ None → IsBelowFusions space.now tree.now limit) }
+    ensures none { bounds.old.learns ≡ false → IfOk result (λ found. found ≡ None → IsBelowFusions space.now tree.now bounds.old.ceiling) }
+    ensures same { bounds.new.ceiling ≡ bounds.old.ceiling }
+    ensures learns { bounds.new.learns ≡ bounds.old.learns }
 {
-    let found = find_candidates(alloc, space, tree, limit)?;
+    let found = find_candidates(alloc, space, tree, bounds)?;
+    plan_below(alloc, space, tree, &found)
+}
+
+// The plan of the least fusion that the candidates of all nodes but the root make, where it takes less memory than the limit of the root.
+fn plan_below(
+    alloc: Global,
+    space: &Space,
+    tree: &Tree,
+    found: &Found,
+) -> Result<Option<Plan>, AllocError>
+    requires measured { IsMeasured space.now tree.now }
+    requires count { length found.now.lists + 1 ≡ operations tree.now }
+    requires found { AreFound space.now tree.now found.now }
+    ensures plan { IfOk result (λ found. IfSome found (IsLeastPlan space.now tree.now)) }
+    ensures none { AreAtLeast found.now.ceiling found.now.limits → IfOk result (λ plan. plan ≡ None → IsBelowFusions space.now tree.now found.now.ceiling) }
+{
     let root = tree.count() - 1;
+    let limit = limit_of(space, tree, found, root, found.ceiling());
     let leaf = [Candidate::default()];
     let lefts = found.of_left(tree, root, &leaf);
     let rights = found.of_right(tree, root, &leaf);
@@ -68,7 +91,7 @@ fn search_below(
     if limit <= whole.memory {
         return Ok(None);
     }
-    let plan = plan_of(alloc, space, tree, Fusion(whole.sets), &found)?;
+    let plan = plan_of(alloc, space, tree, Fusion(whole.sets), found)?;
     Ok(Some(plan))
 }
 
@@ -83,8 +106,8 @@ fn plan_of(
     requires measured { IsMeasured space.now tree.now }
     requires fits { FusionFits tree.now fusion.0.items }
     requires legal { IsLegal tree.now fusion.0.items }
-    requires lists { length found.now + 1 ≡ operations tree.now }
-    ensures { IfOk result (IsPlanOf space.now tree.now fusion.0.items (list.tables_of found.now)) }
+    requires lists { length found.now.lists + 1 ≡ operations tree.now }
+    ensures { IfOk result (IsPlanOf space.now tree.now fusion.0.items (list.tables_of found.now.lists)) }
 {
     let tables = tables_of(alloc, tree.count() - 1, found)?;
     Ok(Plan {
@@ -113,9 +136,9 @@ fn sizes_of(space: &Space, tree: &Tree, fusion: &Fusion) -> ArrayVec<u128, 32>
 
 // The states of the candidates of that many nodes.
 fn tables_of(alloc: Global, count: u8, found: &Found) -> Result<Tables, AllocError>
-    requires count { count ≡ length found.now }
+    requires count { count ≡ length found.now.lists }
     requires limit { count ≤ 31 }
-    ensures { IfOk result (λ tables. tables ≡ list.tables_of found.now) }
+    ensures { IfOk result (λ tables. tables ≡ list.tables_of found.now.lists) }
 {
     let mut tables = Tables::new(alloc, count)?;
     for v in 0..count {

@@ -5,9 +5,8 @@ ghost use Rattle.tce_candidates.specs.Candidates.{IsLimited, HaveRoom};
 ghost use Rattle.tce_search.specs.Root.{IsMadeOf, IsMadeOfSome, IsAtMost, IsBound, IsBoundOfAll};
 
 use arrayvec::ArrayVec;
-use tce_candidates::{Candidate, joined_sets};
+use tce_candidates::{Candidate, join_rows, joined_sets};
 use tce_space::IndexSet;
-use tce_steps::join_rows;
 
 /// A fusion of a whole tree, as the sets of its nodes, and its memory.
 #[derive(Drop)]

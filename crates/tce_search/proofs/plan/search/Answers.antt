@@ -9,4 +9,6 @@ some_where (Some x) none = refl
 
 pub unwrap-requires : goal.unwrap-requires
 unwrap-requires c =
-    some_where c.in_ok-last.last (λ is. last_limit c.args.space.now c.args.tree.now (2 ^ 95) c.index_count-indexes.ensures.limits c.requires (omega arith) (omega arith) (c.in_ok-last.ensures.none is))
+    some_where c.in_ok-plan-2.plan
+    (λ is. last_limit c.args.space.now c.args.tree.now c.new-last.result.ceiling c.index_count-indexes.ensures.limits c.requires (omega arith) (omega (arith, c.new-last.ensures.ceiling))
+    (c.in_ok-plan-2.ensures.none c.new-last.ensures.learns is))

@@ -1,0 +1,127 @@
+// What one round of the search may cost, and what earlier rounds showed subtrees to cost at least.
+ghost use Rattle.std.specs.Prelude.{◌≡◌, ◌+◌, ◌<◌, ◌≤◌, ◌^◌, false};
+ghost use Rattle.tce_tree.specs.ContractionTree.{operations};
+
+use tce_candidates::Candidate;
+use tce_tree::{Operand, Tree};
+
+// A round that keeps fewer candidates is so short that the next one may go twice as far.
+const FEW: usize = 4096;
+
+/// The ceiling of a round, below which a plan is sought, and for each node by its number the most that all its candidates were seen to cost at least.
+///
+/// These costs only choose how far each subtree is searched: what is found is shown to be least without them.
+#[derive(Clone, Copy)]
+pub(crate) struct Bounds {
+    pub(crate) ceiling: u128,
+    // Whether they are used; else each subtree is searched up to the ceiling.
+    pub(crate) learns: bool,
+    least: [u128; 32],
+    kept: usize,
+}
+
+impl Bounds {
+    /// Nothing is known of subtrees yet.
+    pub(crate) fn new(ceiling: u128, learns: bool) -> Bounds
+        ensures ceiling { result.ceiling ≡ ceiling }
+        ensures learns { result.learns ≡ learns }
+    {
+        Bounds {
+            ceiling,
+            learns,
+            least: [0; 32],
+            kept: 0,
+        }
+    }
+
+    /// How far the subtree of a node is searched: the ceiling less what is known of the operands beside the way to the root.
+    pub(crate) fn target(&self, tree: &Tree, v: u8) -> u128
+        requires { v < operations tree.now }
+        ensures small { result ≤ self.now.ceiling }
+        ensures plain { self.now.learns ≡ false → result ≡ self.now.ceiling }
+    {
+        let mut target = self.ceiling;
+        let mut below = v;
+        for p in v..tree.count() {
+            if tree.parent(below) == Some(p) {
+                target = target.saturating_sub(self.beside(tree, p, below));
+                below = p;
+            }
+        }
+        target
+    }
+
+    // What is known of the other operand of a node.
+    fn beside(&self, tree: &Tree, p: u8, below: u8) -> u128
+        requires { p < operations tree.now }
+        ensures { self.now.learns ≡ false → result ≡ 0 }
+    {
+        let left = self.of_operand(tree.left(p), below);
+        match tree.right(p) {
+            Some(right) => left.max(self.of_operand(right, below)),
+            None => left,
+        }
+    }
+
+    // What is known of an operand, where it is not the node `below`.
+    fn of_operand(&self, operand: &Operand, below: u8) -> u128
+        ensures { self.now.learns ≡ false → result ≡ 0 }
+    {
+        match operand {
+            Operand::Node(u) if *u != below => self.of_node(*u),
+            _ => 0,
+        }
+    }
+
+    fn of_node(&self, u: u8) -> u128
+        ensures { self.now.learns ≡ false → result ≡ 0 }
+    {
+        if !self.learns {
+            return 0;
+        }
+        match self.least.get(u as usize) {
+            Some(least) => *least,
+            None => 0,
+        }
+    }
+
+    /// Takes note of the candidates that a node has in this round.
+    pub(crate) fn learn(&mut self, v: u8, candidates: &[Candidate])
+        ensures ceiling { self.new.ceiling ≡ self.old.ceiling }
+        ensures learns { self.new.learns ≡ self.old.learns }
+    {
+        self.kept = self.kept.saturating_add(candidates.len());
+        let place = v as usize;
+        if place < 32 {
+            self.least[place] = self.least[place].max(least_cost(candidates));
+        }
+    }
+
+    /// Raises the ceiling for the next round: by a sixth, or to twice as much after a short round.
+    pub(crate) fn raise(&mut self)
+        requires { self.old.ceiling < 2 ^ 95 }
+        ensures more { self.old.ceiling < self.new.ceiling }
+        ensures small { self.new.ceiling < 2 ^ 96 }
+        ensures learns { self.new.learns ≡ self.old.learns }
+    {
+        let step = if self.kept < FEW {
+            self.ceiling
+        } else {
+            self.ceiling / 6
+        };
+        self.ceiling += step + 1;
+        self.kept = 0;
+    }
+}
+
+// The least cost of some candidates, and 0 of none.
+fn least_cost(candidates: &[Candidate]) -> u128 {
+    let Some(first) = candidates.first() else {
+        return 0;
+    };
+    let mut least = first.row.cost;
+    for candidate in candidates {
+        least = least.min(candidate.row.cost);
+    }
+    least
+}
