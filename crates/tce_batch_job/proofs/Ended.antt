@@ -7,9 +7,9 @@ use Rattle.std.proofs.lemmas.Option.{slice_get_within, get_or_from_slice_get}
 use Rattle.tce_outside.specs.Files.{Files, others}
 use Rattle.tce_spec.specs.Specification.{Specification, IsSpecification}
 use Rattle.tce_spec.proofs.Seen.{operand_declared}
-use Rattle.tce_result.specs.TensorFiles.{file_of}
-use Rattle.tce_result.specs.Laws.{IsTensorOf}
-use Rattle.tce_arrays.specs.Opened.{operand, operand_count, HasOperands}
+use Rattle.tce_tensors.specs.TensorFiles.{file_of}
+use Rattle.tce_tensors.specs.ResultLaws.{IsTensorOf}
+use Rattle.tce_tensors.specs.Opened.{operand, operand_count, HasOperands}
 use Rattle.tce_job.specs.declared.fault.JobFault.{JobFault}
 use Rattle.tce_job.specs.declared.fault.JobFault.TheVariants.{BudgetTooSmall, IntermediatesTooLarge, Array, Disk, Memory}
 use Rattle.tce_job.specs.Refusals.{IsAffordable, IsCause, MayBeRefused, IsFree}

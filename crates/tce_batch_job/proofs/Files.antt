@@ -16,12 +16,12 @@ use Rattle.tce_array.proofs.MadeFiles.{file-with_file}
 use Rattle.tce_declarations.specs.Declarations.{Declarations, tensor_at}
 use Rattle.tce_spec.specs.Specification.{Specification, IsSpecification}
 use Rattle.tce_spec.specs.Operands.{shape_of}
-use Rattle.tce_result.specs.TensorFiles.{file_of, bytes_in}
-use Rattle.tce_result.specs.Laws.{IsTensorOf}
-use Rattle.tce_result.specs.ResultBytes.{with_result, result_bytes}
-use Rattle.tce_result.proofs.Names.{different_files}
-use Rattle.tce_result.proofs.Results.{result_holds}
-use Rattle.tce_arrays.specs.Opened.{HasArray}
+use Rattle.tce_tensors.specs.TensorFiles.{file_of, bytes_in}
+use Rattle.tce_tensors.specs.ResultLaws.{IsTensorOf}
+use Rattle.tce_tensors.specs.ResultBytes.{with_result, result_bytes}
+use Rattle.tce_tensors.proofs.Names.{different_files}
+use Rattle.tce_tensors.proofs.Results.{result_holds}
+use Rattle.tce_tensors.specs.Opened.{HasArray}
 use Rattle.tce_batch_job.specs.Refusals.{IsSource}
 use Rattle.tce_batch_job.specs.Files.{files_after}
 use Rattle.tce_batch_job.specs.Left.{files_at}

@@ -1,4 +1,6 @@
 pub mod Afforded
+pub mod Kept
+pub mod Planned
 pub mod Openings
 pub mod Files
 pub mod Reports

@@ -3,7 +3,7 @@ use Rattle.std.specs.Prelude.{◌≡◌, ◌≢◌, ◌⊎◌, ℕ, ◌+◌, Lis
 use Rattle.std.specs.Option.{option_map}
 use Rattle.tce_outside.specs.Files.{Files, file, others}
 use Rattle.tce_spec.specs.Specification.{Specification}
-use Rattle.tce_result.specs.TensorFiles.{file_of}
+use Rattle.tce_tensors.specs.TensorFiles.{file_of}
 use Rattle.tce_job.specs.declared.fault.JobFault.{JobFault}
 use Rattle.tce_job.specs.declared.fault.JobFault.TheVariants.{Array, Disk, Memory}
 use Rattle.tce_batch_job.specs.Files.{files_after}

@@ -1,4 +1,5 @@
 pub mod Files
 pub mod Reports
+pub mod Plans
 pub mod Refusals
 pub mod Left

@@ -2,63 +2,126 @@
 ghost use Rattle.std.specs.Prelude.{◌≡◌, ◌<◌, ◌≤◌, ◌^◌, IfOk, IfErr, OnOk, IsErrAnd, Err, Some, length, slice_get, ◌⊎◌};
 ghost use Rattle.tce_spec.specs.Specification.{Specification};
 ghost use Rattle.tce_outside.specs.Files.{others};
-ghost use Rattle.tce_result.specs.TensorFiles.{file_of};
-ghost use Rattle.tce_result.specs.ResultBytes.{with_result};
-ghost use Rattle.tce_job.specs.Refusals.{IsCause, IsFree, MayBeRefused};
+ghost use Rattle.tce_tensors.specs.TensorFiles.{file_of};
+ghost use Rattle.tce_tensors.specs.ResultBytes.{with_result};
+ghost use Rattle.tce_tensors.specs.Opened.{AreOpened, operand_count};
+ghost use Rattle.tce_job.specs.Refusals.{IsAffordable, IsCause, IsFaultOf, IsFree, IsOpeningFault, MayBeRefused};
 ghost use Rattle.tce_job.specs.Run.{IsReported};
 ghost use Rattle.tce_job.specs.Prepared.{IsRoomLeft as IsRoomLeftByOne};
 ghost use Rattle.std.specs.Option.{ForSome, option_map};
-ghost use Rattle.tce_outside.specs.Fault.{HasCause};
+ghost use Rattle.tce_outside.specs.Fault.{HasCause, TellsFaults};
 ghost use Rattle.tce_job.specs.declared.fault.JobFault.{JobFault as Fault};
 ghost use Rattle.tce_batch_job.specs.Files.{files_after};
 ghost use Rattle.tce_batch_job.specs.Reports.{HasRun};
+ghost use Rattle.tce_batch_job.specs.Plans.{AreKept, IsKeptFor, IsKeptIn};
 ghost use Rattle.tce_batch_job.specs.Refusals.{AffordableBelow, SourcesBelow, IsBatchCause, IsExact};
 ghost use Rattle.tce_batch_job.specs.Left.{IsLeft, IsRoomLeft, OnlyResultsDiffer};
 
-use crate::costs::check_costs;
 use crate::fault::BatchFault;
+use crate::plans::{KeptPlan, find_plans};
 use crate::report::{BatchReport, first_line, push_section};
 use crate::sources::open_sources;
 use std::alloc::Global;
+use tce_array::ArrayFault;
 use tce_batch::Batch;
-use tce_job::{Bytes, JobFault, RunReport, run_job};
+use tce_job::{Bytes, JobFault, RunReport, run_by};
 use tce_outside::Disk;
+use tce_spec::Spec;
+use tce_tensors::{Forms, Refused, open_operands};
 use tce_words::Room;
 
-// Runs a formula by its number, from 0, and puts its lines behind the others.
-fn run_formula<D: Disk, R: Room>(
+// The fault of a run for an operand that is refused.
+fn fault_of(refused: Refused) -> JobFault
+    ensures { IsFaultOf refused result }
+{
+    match refused.fault {
+        ArrayFault::Disk => JobFault::Disk,
+        fault => JobFault::Array(refused.tensor, fault),
+    }
+}
+
+// The forms of the files of a formula's operands, once the formulas in front of it were run.
+fn opened_forms<D: Disk>(spec: &Spec, disk: &mut D) -> Result<Forms, JobFault>
+    ensures opened { IfOk result (λ forms. ForSome (D.files disk.old) (λ files. AreOpened files spec.now forms.0 (operand_count spec.now))) }
+    ensures refused { IfErr result (IsOpeningFault (D.files disk.old) spec.now) }
+    ensures same { D.files disk.new ≡ D.files disk.old }
+    ensures cause { HasCause (D.faults disk.old) (D.faults disk.new) (result ≡ Err Fault.Disk) }
+    ensures quiet { TellsFaults (D.faults disk.old) (D.faults disk.new) (result ≡ Err Fault.Disk) }
+{
+    match open_operands(spec, disk) {
+        Ok(forms) => Ok(forms),
+        Err(refused) => Err(fault_of(refused)),
+    }
+}
+
+// Runs a specification by the plan that was kept of it, as `run_job` does by one that it finds.
+fn run_kept<D: Disk, R: Room>(
     alloc: Global,
-    batch: &Batch,
-    number: usize,
+    spec: &Spec,
+    kept: &KeptPlan,
     budget: u64,
     disk: &mut D,
     room: &mut R,
 ) -> Result<RunReport, JobFault>
-    requires number { number < length batch.now }
+    requires kept { IsKeptFor spec.now kept.now }
+    requires affordable { IsAffordable spec.now budget }
     requires budget { budget ≤ 2 ^ 40 }
-    ensures told { OnOk result ((s : Specification) → slice_get batch.now number ≡ Some s → D.files disk.new ≡ option_map (with_result s) (D.files disk.old)) }
-    ensures reported { IfOk result (λ report. (s : Specification) → slice_get batch.now number ≡ Some s → IsReported s budget (R.takings room.old) (R.takings room.new) report) }
-    ensures refused { IfErr result (λ fault. (s : Specification) → slice_get batch.now number ≡ Some s → IsCause (MayBeRefused (D.files disk.old) s) s budget fault) }
+    ensures told { OnOk result (D.files disk.new ≡ option_map (with_result spec.now) (D.files disk.old)) }
+    ensures reported { IfOk result (IsReported spec.now budget (R.takings room.old) (R.takings room.new)) }
+    ensures refused { IfErr result (IsCause (MayBeRefused (D.files disk.old) spec.now) spec.now budget) }
     ensures unchanged { IfErr result (λ fault. (fault ≡ Fault.Disk) ⊎ (D.files disk.new ≡ D.files disk.old)) }
-    ensures takings { IfErr result (λ fault. (s : Specification) → slice_get batch.now number ≡ Some s → IsRoomLeftByOne fault s budget (R.takings room.old) (R.takings room.new)) }
-    ensures others { (s : Specification) → slice_get batch.now number ≡ Some s → others (file_of s s.result) (D.files disk.new) ≡ others (file_of s s.result) (D.files disk.old) }
+    ensures takings { IfErr result (λ fault. IsRoomLeftByOne fault spec.now budget (R.takings room.old) (R.takings room.new)) }
+    ensures others { others (file_of spec.now spec.now.result) (D.files disk.new) ≡ others (file_of spec.now spec.now.result) (D.files disk.old) }
     ensures cause { HasCause (D.faults disk.old) (D.faults disk.new) (result ≡ Err Fault.Disk) }
 {
-    let Ok(spec) = batch.spec(alloc, number) else {
+    // A tree has at most 32 nodes.
+    let _nodes = spec.tree().count();
+    let Ok(plan) = kept.plan(alloc) else {
         return Err(JobFault::Memory);
     };
-    run_job(alloc, &spec, budget, disk, room)
+    let forms = opened_forms(spec, disk)?;
+    let report = run_by(alloc, spec, budget, &forms, plan, disk, room)?;
+    Ok(report)
 }
 
-// Runs all formulas in turn.
+// Runs a formula by the plan that was kept of it.
+fn run_formula<D: Disk, R: Room>(
+    alloc: Global,
+    batch: &Batch,
+    kept: &KeptPlan,
+    budget: u64,
+    disk: &mut D,
+    room: &mut R,
+) -> Result<RunReport, JobFault>
+    requires number { kept.now.number < length batch.now }
+    requires kept { IsKeptIn batch.now kept.now }
+    requires affordable { AffordableBelow batch.now budget (length batch.now) }
+    requires budget { budget ≤ 2 ^ 40 }
+    ensures told { OnOk result ((s : Specification) → slice_get batch.now kept.now.number ≡ Some s → D.files disk.new ≡ option_map (with_result s) (D.files disk.old)) }
+    ensures reported { IfOk result (λ report. (s : Specification) → slice_get batch.now kept.now.number ≡ Some s → IsReported s budget (R.takings room.old) (R.takings room.new) report) }
+    ensures refused { IfErr result (λ fault. (s : Specification) → slice_get batch.now kept.now.number ≡ Some s → IsCause (MayBeRefused (D.files disk.old) s) s budget fault) }
+    ensures unchanged { IfErr result (λ fault. (fault ≡ Fault.Disk) ⊎ (D.files disk.new ≡ D.files disk.old)) }
+    ensures takings { IfErr result (λ fault. (s : Specification) → slice_get batch.now kept.now.number ≡ Some s → IsRoomLeftByOne fault s budget (R.takings room.old) (R.takings room.new)) }
+    ensures others { (s : Specification) → slice_get batch.now kept.now.number ≡ Some s → others (file_of s s.result) (D.files disk.new) ≡ others (file_of s s.result) (D.files disk.old) }
+    ensures cause { HasCause (D.faults disk.old) (D.faults disk.new) (result ≡ Err Fault.Disk) }
+{
+    let Ok(spec) = batch.spec(alloc, kept.number) else {
+        return Err(JobFault::Memory);
+    };
+    run_kept(alloc, &spec, kept, budget, disk, room)
+}
+
+// Runs all formulas in turn, by the plans that were kept of them.
 fn run_all<D: Disk, R: Room>(
     alloc: Global,
     batch: &Batch,
+    plans: &[KeptPlan],
     budget: u64,
     disk: &mut D,
     room: &mut R,
 ) -> Result<Vec<u8>, BatchFault>
     requires budget { budget ≤ 2 ^ 40 }
+    requires kept { AreKept batch.now (length batch.now) plans.now }
     requires affordable { AffordableBelow batch.now budget (length batch.now) }
     requires sources { ForSome (D.files disk.old) (λ files. SourcesBelow files batch.now (length batch.now)) }
     ensures told { OnOk result (D.files disk.new ≡ option_map (files_after batch.now) (D.files disk.old)) }
@@ -78,7 +141,7 @@ fn run_all<D: Disk, R: Room>(
     };
     for number in 0..count {
         let formula = number as u64 + 1;
-        match run_formula(alloc, batch, number, budget, disk, room) {
+        match run_formula(alloc, batch, &plans[number], budget, disk, room) {
             Ok(report) => {
                 let Ok(()) = push_section(alloc, &mut text, formula, report.text.as_slice()) else {
                     return Err(BatchFault {
@@ -100,6 +163,8 @@ fn run_all<D: Disk, R: Room>(
 /// all formulas in turn `Array` with the first operand by first use that is no earlier result and is refused. A failure
 /// of the disk, or want of memory, before the first run is told of formula 1. After `Disk` or `Memory` at a formula the
 /// results of the formulas in front of it are complete.
+///
+/// The plan of each formula is found once, at the start, and kept for its run.
 pub fn run_batch<D: Disk, R: Room>(
     alloc: Global,
     batch: &Batch,
@@ -120,9 +185,9 @@ pub fn run_batch<D: Disk, R: Room>(
     ensures others { OnlyResultsDiffer batch.now (D.files disk.old) (D.files disk.new) }
     ensures cause { HasCause (D.faults disk.old) (D.faults disk.new) (IsErrAnd result (λ refused. refused.fault ≡ Fault.Disk)) }
 {
-    check_costs(alloc, batch, budget)?;
+    let plans = find_plans(alloc, batch, budget)?;
     open_sources(alloc, batch, disk)?;
-    let text = run_all(alloc, batch, budget, disk, room)?;
+    let text = run_all(alloc, batch, plans.as_slice(), budget, disk, room)?;
     Ok(BatchReport {
         text: Bytes::of(text),
     })

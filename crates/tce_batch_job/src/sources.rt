@@ -1,14 +1,14 @@
 // The files of the operands that are no earlier result.
 ghost use Rattle.std.specs.Prelude.{◌≡◌, ◌≢◌, ◌<◌, ◌≤◌, Err, IfOk, IfErr, OnOk, OnErr, IsErrAnd, Some, length, slice_get};
 ghost use Rattle.std.specs.Option.{ForSome};
-ghost use Rattle.tce_outside.specs.Fault.{HasCause};
+ghost use Rattle.tce_outside.specs.Fault.{HasCause, TellsFaults};
 ghost use Rattle.tce_job.specs.declared.fault.JobFault.{JobFault as Fault};
 ghost use Rattle.tce_spec.specs.Specification.{Specification};
 ghost use Rattle.tce_spec.specs.Operands.{shape_of};
 ghost use Rattle.tce_array.specs.Faults.{IsFault};
-ghost use Rattle.tce_arrays.specs.Opened.{HasArray, operand_count};
+ghost use Rattle.tce_tensors.specs.Opened.{HasArray, operand_count};
 ghost use Rattle.tce_outside.specs.Files.{file};
-ghost use Rattle.tce_result.specs.TensorFiles.{file_of};
+ghost use Rattle.tce_tensors.specs.TensorFiles.{file_of};
 ghost use Rattle.tce_batch.specs.BatchCode.{results_before};
 ghost use Rattle.tce_batch_job.specs.Refusals.{IsSource, HasSources, SourcesBelow, IsOperandFault, IsSourceFault, IsOpeningFault};
 
@@ -18,8 +18,8 @@ use tce_array::{ArrayFault, open};
 use tce_batch::Batch;
 use tce_job::JobFault;
 use tce_outside::Disk;
-use tce_result::file_of;
 use tce_spec::Spec;
+use tce_tensors::file_of;
 
 // Opens the file of one tensor.
 fn open_tensor<D: Disk>(spec: &Spec, t: u8, disk: &mut D) -> Result<(), JobFault>
@@ -28,6 +28,7 @@ fn open_tensor<D: Disk>(spec: &Spec, t: u8, disk: &mut D) -> Result<(), JobFault
     ensures refused { IfErr result (IsOperandFault (D.files disk.old) spec.now t) }
     ensures same { D.files disk.new ≡ D.files disk.old }
     ensures cause { HasCause (D.faults disk.old) (D.faults disk.new) (result ≡ Err Fault.Disk) }
+    ensures quiet { TellsFaults (D.faults disk.old) (D.faults disk.new) (result ≡ Err Fault.Disk) }
 {
     let name = file_of(spec, t);
     match open(disk, name.as_str(), &spec.tensor(t).shape) {
@@ -52,6 +53,7 @@ fn open_source<D: Disk>(
     ensures refused { IfErr result (IsOperandFault (D.files disk.old) spec.now t) }
     ensures same { D.files disk.new ≡ D.files disk.old }
     ensures cause { HasCause (D.faults disk.old) (D.faults disk.new) (result ≡ Err Fault.Disk) }
+    ensures quiet { TellsFaults (D.faults disk.old) (D.faults disk.new) (result ≡ Err Fault.Disk) }
 {
     if batch.is_result_before(number, t) {
         return Ok(());
@@ -71,6 +73,7 @@ fn open_formula<D: Disk>(
     ensures refused { IfErr result (IsSourceFault (D.files disk.old) spec.now (results_before batch.now number)) }
     ensures same { D.files disk.new ≡ D.files disk.old }
     ensures cause { HasCause (D.faults disk.old) (D.faults disk.new) (result ≡ Err Fault.Disk) }
+    ensures quiet { TellsFaults (D.faults disk.old) (D.faults disk.new) (result ≡ Err Fault.Disk) }
 {
     let operands = spec.operands();
     // A specification keeps its rules.
@@ -91,6 +94,7 @@ pub(crate) fn open_sources<D: Disk>(
     ensures refused { IfErr result (IsOpeningFault (D.files disk.old) batch.now) }
     ensures same { D.files disk.new ≡ D.files disk.old }
     ensures cause { HasCause (D.faults disk.old) (D.faults disk.new) (IsErrAnd result (λ refused. refused.fault ≡ Fault.Disk)) }
+    ensures quiet { TellsFaults (D.faults disk.old) (D.faults disk.new) (IsErrAnd result (λ refused. refused.fault ≡ Fault.Disk)) }
 {
     let count = batch.len();
     for number in 0..count {

@@ -1,6 +1,7 @@
 use Rattle.std.proofs.Common.{inl, inr, ℕ, ◌+◌, ◌++◌, List, refl, ap, ◌∙◌, arith}
 use Rattle.tce_batch_job.specs.Reports.{section_of}
 use Rattle.tce_batch_job.proofs.Afforded.{some_at}
+use Rattle.tce_batch_job.proofs.Kept.{kept_place}
 use Rattle.tce_batch_job.proofs.Files.{none_after, told_more}
 use Rattle.tce_batch_job.proofs.Reports.{none_taken, run_taken, taken_more, run_more}
 use Rattle.tce_batch_job.proofs.Ended.{has_failed, failed_cause, failed_left, failed_takings}
@@ -19,12 +20,13 @@ returns-in_default-clause-takings g c =
 pub returns-in_default-push_section-clause-left : goal.returns-in_default-push_section-clause-left
 returns-in_default-push_section-clause-left g c =
     let number = c.loop-number.number in
-    let (s, at) = some_at c.args.batch.now number (omega (arith, c.loop-number-test.true, c.len-count.ensures.count)) in record {
+    let (s, at) = some_at c.args.batch.now number (omega (arith, c.loop-number-test.true, c.len-count.ensures.count)) in
+    let here = kept_place c.args.batch.now c.args.plans.now number c.index-plans-number.result s c.requires.kept (omega (arith, c.loop-number-test.true, c.len-count.ensures.count)) c.index-plans-number.is at in record {
       number = number;
       specification = s;
       counted = refl;
       at = at;
-      here = inr (told_more (g.D.Disk.files c.args.disk.now) (g.D.Disk.files c.loop-number.disk) (g.D.Disk.files c.run_formula.new.disk) c.args.batch.now number s at c.loop-number.invariant.told (c.in-Ok-run_formula.ensures.told s at));
+      here = inr (told_more (g.D.Disk.files c.args.disk.now) (g.D.Disk.files c.loop-number.disk) (g.D.Disk.files c.run_formula.new.disk) c.args.batch.now number s at c.loop-number.invariant.told (c.in-Ok-run_formula.ensures.told s here));
     }
 
 pub returns-in_default-push_section-clause-takings : goal.returns-in_default-push_section-clause-takings
@@ -33,7 +35,8 @@ returns-in_default-push_section-clause-takings g c =
     let before = g.R.Room.takings c.args.room.now in
     let now = g.R.Room.takings c.loop-number.room in
     let (s, at) = some_at c.args.batch.now number (omega (arith, c.loop-number-test.true, c.len-count.ensures.count)) in
-    let one = c.in-Ok-run_formula.ensures.reported s at in record {
+    let here = kept_place c.args.batch.now c.args.plans.now number c.index-plans-number.result s c.requires.kept (omega (arith, c.loop-number-test.true, c.len-count.ensures.count)) c.index-plans-number.is at in
+    let one = c.in-Ok-run_formula.ensures.reported s here in record {
       number = number;
       specification = s;
       counted = refl;
@@ -46,48 +49,53 @@ pub returns-in-Err-clause-refused : goal.returns-in-Err-clause-refused
 returns-in-Err-clause-refused g c =
     let number = c.loop-number.number in
     let (s, at) = some_at c.args.batch.now number (omega (arith, c.loop-number-test.true, c.len-count.ensures.count)) in
+    let here = kept_place c.args.batch.now c.args.plans.now number c.index-plans-number.result s c.requires.kept (omega (arith, c.loop-number-test.true, c.len-count.ensures.count)) c.index-plans-number.is at in
     let start = g.D.Disk.files c.args.disk.now in
     let now = g.D.Disk.files c.loop-number.disk in
-    let h = has_failed start now c.args.batch.now c.args.budget number s c.in-Err.fault c.len-count.ensures.rules at c.requires.affordable c.requires.sources c.loop-number.invariant.told (c.in-Err.ensures.refused s at) in
+    let h = has_failed start now c.args.batch.now c.args.budget number s c.in-Err.fault c.len-count.ensures.rules at c.requires.affordable c.requires.sources c.loop-number.invariant.told (c.in-Err.ensures.refused s here) in
     failed_cause start now c.args.batch.now c.args.budget number s c.in-Err.fault h
 
 pub returns-in-Err-clause-free : goal.returns-in-Err-clause-free
 returns-in-Err-clause-free g c =
     let number = c.loop-number.number in
     let (s, at) = some_at c.args.batch.now number (omega (arith, c.loop-number-test.true, c.len-count.ensures.count)) in
+    let here = kept_place c.args.batch.now c.args.plans.now number c.index-plans-number.result s c.requires.kept (omega (arith, c.loop-number-test.true, c.len-count.ensures.count)) c.index-plans-number.is at in
     let start = g.D.Disk.files c.args.disk.now in
     let now = g.D.Disk.files c.loop-number.disk in
-    let h = has_failed start now c.args.batch.now c.args.budget number s c.in-Err.fault c.len-count.ensures.rules at c.requires.affordable c.requires.sources c.loop-number.invariant.told (c.in-Err.ensures.refused s at) in
+    let h = has_failed start now c.args.batch.now c.args.budget number s c.in-Err.fault c.len-count.ensures.rules at c.requires.affordable c.requires.sources c.loop-number.invariant.told (c.in-Err.ensures.refused s here) in
     h.free
 
 pub returns-in-Err-clause-left : goal.returns-in-Err-clause-left
 returns-in-Err-clause-left g c =
     let number = c.loop-number.number in
     let (s, at) = some_at c.args.batch.now number (omega (arith, c.loop-number-test.true, c.len-count.ensures.count)) in
+    let here = kept_place c.args.batch.now c.args.plans.now number c.index-plans-number.result s c.requires.kept (omega (arith, c.loop-number-test.true, c.len-count.ensures.count)) c.index-plans-number.is at in
     let start = g.D.Disk.files c.args.disk.now in
     let now = g.D.Disk.files c.loop-number.disk in
-    let h = has_failed start now c.args.batch.now c.args.budget number s c.in-Err.fault c.len-count.ensures.rules at c.requires.affordable c.requires.sources c.loop-number.invariant.told (c.in-Err.ensures.refused s at) in
-    failed_left start now (g.D.Disk.files c.run_formula.new.disk) c.args.batch.now c.args.budget number s c.in-Err.fault h c.in-Err.ensures.unchanged (c.in-Err.ensures.others s at)
+    let h = has_failed start now c.args.batch.now c.args.budget number s c.in-Err.fault c.len-count.ensures.rules at c.requires.affordable c.requires.sources c.loop-number.invariant.told (c.in-Err.ensures.refused s here) in
+    failed_left start now (g.D.Disk.files c.run_formula.new.disk) c.args.batch.now c.args.budget number s c.in-Err.fault h c.in-Err.ensures.unchanged (c.in-Err.ensures.others s here)
 
 pub returns-in-Err-clause-takings : goal.returns-in-Err-clause-takings
 returns-in-Err-clause-takings g c =
     let number = c.loop-number.number in
     let (s, at) = some_at c.args.batch.now number (omega (arith, c.loop-number-test.true, c.len-count.ensures.count)) in
+    let here = kept_place c.args.batch.now c.args.plans.now number c.index-plans-number.result s c.requires.kept (omega (arith, c.loop-number-test.true, c.len-count.ensures.count)) c.index-plans-number.is at in
     let start = g.D.Disk.files c.args.disk.now in
     let now = g.D.Disk.files c.loop-number.disk in
     let before = g.R.Room.takings c.args.room.now in
     let then = g.R.Room.takings c.loop-number.room in
-    let h = has_failed start now c.args.batch.now c.args.budget number s c.in-Err.fault c.len-count.ensures.rules at c.requires.affordable c.requires.sources c.loop-number.invariant.told (c.in-Err.ensures.refused s at) in
+    let h = has_failed start now c.args.batch.now c.args.budget number s c.in-Err.fault c.len-count.ensures.rules at c.requires.affordable c.requires.sources c.loop-number.invariant.told (c.in-Err.ensures.refused s here) in
     failed_takings start now c.args.batch.now c.args.budget number s c.in-Err.fault before then (g.R.Room.takings c.run_formula.new.room) h
-    (run_taken _ c.args.budget before then c.loop-number.text.items c.loop-number.invariant.run) (c.in-Err.ensures.takings s at)
+    (run_taken _ c.args.budget before then c.loop-number.text.items c.loop-number.invariant.run) (c.in-Err.ensures.takings s here)
 
 pub loop-number-preserved : goal.loop-number-preserved
 loop-number-preserved g c =
     let number = c.loop-number.number in
     let text = c.loop-number.text.items in
-    let (s, at) = some_at c.args.batch.now number (omega (arith, c.loop-number-test.true, c.len-count.ensures.count)) in record {
-      told = told_more (g.D.Disk.files c.args.disk.now) (g.D.Disk.files c.loop-number.disk) (g.D.Disk.files c.run_formula.new.disk) c.args.batch.now number s at c.loop-number.invariant.told (c.in-Ok-run_formula.ensures.told s at);
+    let (s, at) = some_at c.args.batch.now number (omega (arith, c.loop-number-test.true, c.len-count.ensures.count)) in
+    let here = kept_place c.args.batch.now c.args.plans.now number c.index-plans-number.result s c.requires.kept (omega (arith, c.loop-number-test.true, c.len-count.ensures.count)) c.index-plans-number.is at in record {
+      told = told_more (g.D.Disk.files c.args.disk.now) (g.D.Disk.files c.loop-number.disk) (g.D.Disk.files c.run_formula.new.disk) c.args.batch.now number s at c.loop-number.invariant.told (c.in-Ok-run_formula.ensures.told s here);
       run = run_more c.args.budget c.args.batch.now number s (g.R.Room.takings c.args.room.now) (g.R.Room.takings c.loop-number.room) (g.R.Room.takings c.run_formula.new.room) text c.push_section.new.text.items c.in-Ok-run_formula.report at
-          c.loop-number.invariant.run (c.in-Ok-run_formula.ensures.reported s at) (c.in-Ok-push_section.ensures ∙ ap (λ (xs : List ℕ). text ++ section_of (number + 1) xs) c.as_slice.ensures);
+          c.loop-number.invariant.run (c.in-Ok-run_formula.ensures.reported s here) (c.in-Ok-push_section.ensures ∙ ap (λ (xs : List ℕ). text ++ section_of (number + 1) xs) c.as_slice.ensures);
       later = omega (arith, c.loop-number.invariant.later, c.run_formula.ensures.cause.later);
     }

@@ -8,63 +8,63 @@ use Rattle.tce_batch_job.proofs.Ended.{left_before, takings_before}
 use Rattle.tce_batch_job.proofs.Others.{left_others, same_others, told_others}
 use Rattle.tce_batch_job.proofs.run.run_batch.Goals as goal
 
-pub returns-in_err-check_costs-clause-refused : goal.returns-in_err-check_costs-clause-refused
-returns-in_err-check_costs-clause-refused g c =
-    let why = c.in_err-check_costs.ensures.refused (g.D.Disk.files c.args.disk.now) in
+pub returns-in_err-plans-clause-refused : goal.returns-in_err-plans-clause-refused
+returns-in_err-plans-clause-refused g c =
+    let why = c.in_err-plans.ensures.refused (g.D.Disk.files c.args.disk.now) in
     let p = err_from_is_err_and c.from_residual.result c.from_residual.ensures.1 in
     rw (p.1, p.2) why.2
 
-pub returns-in_err-check_costs-clause-left : goal.returns-in_err-check_costs-clause-left
-returns-in_err-check_costs-clause-left g c =
-    let r = c.in_err-check_costs.field-0.0 in
-    let why = c.in_err-check_costs.ensures.refused (g.D.Disk.files c.args.disk.now) in
+pub returns-in_err-plans-clause-left : goal.returns-in_err-plans-clause-left
+returns-in_err-plans-clause-left g c =
+    let r = c.in_err-plans.field-0.0 in
+    let why = c.in_err-plans.ensures.refused (g.D.Disk.files c.args.disk.now) in
     let p = err_from_is_err_and c.from_residual.result c.from_residual.ensures.1 in
     rw (p.1, p.2) (left_before (g.D.Disk.files c.args.disk.now) (g.D.Disk.files c.args.disk.now) c.args.batch.now c.args.budget r.formula r.fault refl why.1 why.2)
 
-pub returns-in_err-check_costs-clause-takings : goal.returns-in_err-check_costs-clause-takings
-returns-in_err-check_costs-clause-takings g c =
-    let r = c.in_err-check_costs.field-0.0 in
-    let why = c.in_err-check_costs.ensures.refused (g.D.Disk.files c.args.disk.now) in
+pub returns-in_err-plans-clause-takings : goal.returns-in_err-plans-clause-takings
+returns-in_err-plans-clause-takings g c =
+    let r = c.in_err-plans.field-0.0 in
+    let why = c.in_err-plans.ensures.refused (g.D.Disk.files c.args.disk.now) in
     let p = err_from_is_err_and c.from_residual.result c.from_residual.ensures.1 in
     rw (p.1, p.2) (takings_before (g.D.Disk.files c.args.disk.now) c.args.batch.now c.args.budget r.formula r.fault (g.R.Room.takings c.args.room.now) why.1 why.2)
 
-pub returns-in_err-check_costs-clause-cause : goal.returns-in_err-check_costs-clause-cause
-returns-in_err-check_costs-clause-cause g c =
-    let why = c.in_err-check_costs.ensures.refused (g.D.Disk.files c.args.disk.now) in
+pub returns-in_err-plans-clause-cause : goal.returns-in_err-plans-clause-cause
+returns-in_err-plans-clause-cause g c =
+    let why = c.in_err-plans.ensures.refused (g.D.Disk.files c.args.disk.now) in
     let p = err_from_is_err_and c.from_residual.result c.from_residual.ensures.1 in
     rw (p.1, p.2) (record { later = omega arith; rose = λ failed. absurd (why.0 failed) })
 
 pub returns-in_err-open_sources-clause-left : goal.returns-in_err-open_sources-clause-left
 returns-in_err-open_sources-clause-left g c =
     let r = c.in_err-open_sources.field-0.0 in
-    let why = c.in_err-open_sources.ensures.refused c.args.budget c.in_ok-check_costs.ensures.affordable in
+    let why = c.in_err-open_sources.ensures.refused c.args.budget c.in_ok-plans.ensures.affordable in
     let p = err_from_is_err_and c.from_residual-in_err-open_sources.result c.from_residual-in_err-open_sources.ensures.1 in
     rw (p.1, p.2) (left_before (g.D.Disk.files c.args.disk.now) (g.D.Disk.files c.open_sources.new.disk) c.args.batch.now c.args.budget r.formula r.fault c.in_err-open_sources.ensures.same why.0 why.1)
 
 pub returns-in_err-open_sources-clause-takings : goal.returns-in_err-open_sources-clause-takings
 returns-in_err-open_sources-clause-takings g c =
     let r = c.in_err-open_sources.field-0.0 in
-    let why = c.in_err-open_sources.ensures.refused c.args.budget c.in_ok-check_costs.ensures.affordable in
+    let why = c.in_err-open_sources.ensures.refused c.args.budget c.in_ok-plans.ensures.affordable in
     let p = err_from_is_err_and c.from_residual-in_err-open_sources.result c.from_residual-in_err-open_sources.ensures.1 in
     rw (p.1, p.2) (takings_before (g.D.Disk.files c.args.disk.now) c.args.batch.now c.args.budget r.formula r.fault (g.R.Room.takings c.args.room.now) why.0 why.1)
 
-pub returns-in_err-check_costs-clause-exactly : goal.returns-in_err-check_costs-clause-exactly
-returns-in_err-check_costs-clause-exactly g c =
-    let r = c.in_err-check_costs.field-0.0 in
-    let why = c.in_err-check_costs.ensures.refused (g.D.Disk.files c.args.disk.now) in
+pub returns-in_err-plans-clause-exactly : goal.returns-in_err-plans-clause-exactly
+returns-in_err-plans-clause-exactly g c =
+    let r = c.in_err-plans.field-0.0 in
+    let why = c.in_err-plans.ensures.refused (g.D.Disk.files c.args.disk.now) in
     let p = err_from_is_err_and c.from_residual.result c.from_residual.ensures.1 in
     rw (p.1, p.2) (λ due free cause known. one_cause (g.D.Disk.files c.args.disk.now) c.args.batch.now c.args.budget r.formula due.formula r.fault due.fault why.2 free cause known)
 
 pub returns-in_err-open_sources-clause-exactly : goal.returns-in_err-open_sources-clause-exactly
 returns-in_err-open_sources-clause-exactly g c =
     let r = c.in_err-open_sources.field-0.0 in
-    let why = c.in_err-open_sources.ensures.refused c.args.budget c.in_ok-check_costs.ensures.affordable in
+    let why = c.in_err-open_sources.ensures.refused c.args.budget c.in_ok-plans.ensures.affordable in
     let p = err_from_is_err_and c.from_residual-in_err-open_sources.result c.from_residual-in_err-open_sources.ensures.1 in
     rw (p.1, p.2) (λ due free cause known. one_cause (g.D.Disk.files c.args.disk.now) c.args.batch.now c.args.budget r.formula due.formula r.fault due.fault why.1 free cause known)
 
 pub returns-clause-exactly : goal.returns-clause-exactly
 returns-clause-exactly g c = λ due free cause known.
-    no_cause (g.D.Disk.files c.args.disk.now) c.args.batch.now c.args.budget due.formula due.fault c.in_ok-check_costs.ensures.affordable c.in_ok-open_sources.ensures.opened free cause known
+    no_cause (g.D.Disk.files c.args.disk.now) c.args.batch.now c.args.budget due.formula due.fault c.in_ok-plans.ensures.affordable c.in_ok-open_sources.ensures.opened free cause known
 
 pub returns-in_err-text-clause-exactly : goal.returns-in_err-text-clause-exactly
 returns-in_err-text-clause-exactly g c =
@@ -73,8 +73,8 @@ returns-in_err-text-clause-exactly g c =
     let p = err_from_is_err_and c.from_residual-in_err-text.result c.from_residual-in_err-text.ensures.1 in
     rw (p.1, p.2) (λ due free cause known. one_cause (g.D.Disk.files c.args.disk.now) c.args.batch.now c.args.budget r.formula due.formula r.fault due.fault why free cause known)
 
-pub returns-in_err-check_costs-clause-others : goal.returns-in_err-check_costs-clause-others
-returns-in_err-check_costs-clause-others g c = same_others c.args.batch.now _ _ refl
+pub returns-in_err-plans-clause-others : goal.returns-in_err-plans-clause-others
+returns-in_err-plans-clause-others g c = same_others c.args.batch.now _ _ refl
 
 pub returns-in_err-open_sources-clause-others : goal.returns-in_err-open_sources-clause-others
 returns-in_err-open_sources-clause-others g c = same_others c.args.batch.now (g.D.Disk.files c.args.disk.now) (g.D.Disk.files c.open_sources.new.disk) c.in_err-open_sources.ensures.same

@@ -1,7 +1,7 @@
 use Rattle.std.proofs.Common.{◌≡◌}
 use Rattle.std.specs.Option.{option_map}
 use Rattle.tce_spec.specs.Specification.{Specification}
-use Rattle.tce_result.specs.ResultBytes.{with_result}
+use Rattle.tce_tensors.specs.ResultBytes.{with_result}
 use Rattle.tce_job.specs.Refusals.{IsCause, MayBeRefused}
 use Rattle.tce_job.specs.Run.{IsReported}
 use Rattle.tce_job.specs.Prepared.{IsRoomLeft}
@@ -10,16 +10,19 @@ use Rattle.tce_batch_job.proofs.run.run_formula.Goals as goal
 
 pub returns-clause-told : goal.returns-clause-told
 returns-clause-told g c =
-    on_ok c.run_job.result (λ told s at. at_place (λ (x : Specification). g.D.Disk.files c.run_job.new.disk ≡ option_map (with_result x) (g.D.Disk.files c.args.disk.now)) c.in-Ok.spec s _ c.in-Ok.ensures told at) c.run_job.ensures.told
+    on_ok c.run_kept.result (λ told s at. at_place (λ (x : Specification). g.D.Disk.files c.run_kept.new.disk ≡ option_map (with_result x) (g.D.Disk.files c.args.disk.now)) c.in-Ok.spec s _ c.in-Ok.ensures told at) c.run_kept.ensures.told
 
 pub returns-clause-reported : goal.returns-clause-reported
 returns-clause-reported g c =
-    if_ok c.run_job.result (λ report is s at. at_place (λ (x : Specification). IsReported x c.args.budget (g.R.Room.takings c.args.room.now) (g.R.Room.takings c.run_job.new.room) report) c.in-Ok.spec s _ c.in-Ok.ensures is at) c.run_job.ensures.reported
+    if_ok c.run_kept.result (λ report is s at. at_place (λ (x : Specification). IsReported x c.args.budget (g.R.Room.takings c.args.room.now) (g.R.Room.takings c.run_kept.new.room) report) c.in-Ok.spec s _ c.in-Ok.ensures is at) c.run_kept.ensures.reported
 
 pub returns-clause-refused : goal.returns-clause-refused
 returns-clause-refused g c =
-    if_err c.run_job.result (λ fault why s at. at_place (λ (x : Specification). IsCause (MayBeRefused (g.D.Disk.files c.args.disk.now) x) x c.args.budget fault) c.in-Ok.spec s _ c.in-Ok.ensures why at) c.run_job.ensures.refused
+    if_err c.run_kept.result (λ fault why s at. at_place (λ (x : Specification). IsCause (MayBeRefused (g.D.Disk.files c.args.disk.now) x) x c.args.budget fault) c.in-Ok.spec s _ c.in-Ok.ensures why at) c.run_kept.ensures.refused
 
 pub returns-clause-takings : goal.returns-clause-takings
 returns-clause-takings g c =
-    if_err c.run_job.result (λ fault left s at. at_place (λ (x : Specification). IsRoomLeft fault x c.args.budget (g.R.Room.takings c.args.room.now) (g.R.Room.takings c.run_job.new.room)) c.in-Ok.spec s _ c.in-Ok.ensures left at) c.run_job.ensures.takings
+    if_err c.run_kept.result (λ fault left s at. at_place (λ (x : Specification). IsRoomLeft fault x c.args.budget (g.R.Room.takings c.args.room.now) (g.R.Room.takings c.run_kept.new.room)) c.in-Ok.spec s _ c.in-Ok.ensures left at) c.run_kept.ensures.takings
+
+pub run_kept-requires-clause-affordable : goal.run_kept-requires-clause-affordable
+run_kept-requires-clause-affordable g c = c.requires.affordable c.args.kept.now.number c.in-Ok.spec c.requires.number c.in-Ok.ensures

@@ -3,7 +3,7 @@ use Rattle.tce_space.specs.Space.{IndexSpace}
 use Rattle.tce_tree.specs.ContractionTree.{ContractionTree}
 use Rattle.tce_search.specs.LeastPlan.{IsLeastPlan}
 use Rattle.tce_job.proofs.Plans.{affordable}
-use Rattle.tce_batch_job.proofs.costs.check_cost.Goals as goal
+use Rattle.tce_batch_job.proofs.plans.affordable_plan.Goals as goal
 
 pub returns-clause-affordable : goal.returns-clause-affordable
 returns-clause-affordable c =

@@ -1,0 +1,129 @@
+// The plan of every formula, found before any formula is run.
+ghost use Rattle.std.specs.Prelude.{◌≡◌, ◌≢◌, ◌<◌, ◌≤◌, ◌^◌, IfOk, IfErr, OnOk, Some, length, slice_get};
+ghost use Rattle.tce_search.specs.LeastPlan.{IsLeastPlan};
+ghost use Rattle.tce_job.specs.Refusals.{IsAffordable, IsCause};
+ghost use Rattle.tce_job.specs.declared.fault.JobFault.{JobFault as Fault};
+ghost use Rattle.tce_spec.specs.Specification.{Specification};
+ghost use Rattle.tce_batch_job.specs.Plans.{AreKept, IsKeptOf, IsOneMore, IsPlanOf};
+ghost use Rattle.tce_batch_job.specs.Refusals.{AffordableBelow, IsCostFault};
+
+use crate::fault::{BatchFault, before_runs};
+use arrayvec::ArrayVec;
+use std::alloc::{AllocError, Global};
+use tce_batch::Batch;
+use tce_job::JobFault;
+use tce_nesting::{Plan, Tables};
+use tce_search::search;
+use tce_spec::Spec;
+use tce_tensors::least_budget;
+use tce_tree::{Fusion, Orders};
+
+/// The plan of a formula until it is run, without the rows that show it to be least: they may take far more memory than
+/// all else, and no run needs them.
+#[derive(Drop)]
+pub(crate) struct KeptPlan {
+    /// The number of the formula, from 0.
+    pub(crate) number: usize,
+    fusion: Fusion,
+    orders: Orders,
+    sizes: ArrayVec<u128, 32>,
+    memory: u128,
+}
+
+impl KeptPlan {
+    // What is kept of a plan.
+    fn of(number: usize, plan: Plan) -> KeptPlan
+        ensures number { result.number ≡ number }
+        ensures plan { IsKeptOf plan result }
+    {
+        KeptPlan {
+            number,
+            fusion: plan.fusion,
+            orders: plan.orders,
+            sizes: plan.sizes,
+            memory: plan.memory,
+        }
+    }
+
+    /// The plan, with no rows.
+    pub(crate) fn plan(&self, alloc: Global) -> Result<Plan, AllocError>
+        requires { length self.now.sizes.items ≤ 31 }
+        ensures { IfOk result (IsPlanOf self.now) }
+    {
+        Ok(Plan {
+            fusion: Fusion(self.fusion.0.clone()?),
+            orders: Orders(self.orders.0.clone()?),
+            sizes: self.sizes.clone()?,
+            memory: self.memory,
+            tables: Tables::new(alloc, self.sizes.len() as u8)?,
+        })
+    }
+}
+
+// The words that the intermediates of a run may take.
+const MOST_MEMORY: u128 = 1 << 40;
+
+// A plan of least memory, where the budget is enough and the plan's memory within the limit.
+fn affordable_plan(alloc: Global, spec: &Spec, budget: u64) -> Result<Plan, JobFault>
+    ensures plan { IfOk result (IsLeastPlan spec.now.declarations.space spec.now.tree) }
+    ensures small { IfOk result (λ plan. plan.memory ≤ 2 ^ 40) }
+    ensures affordable { OnOk result (IsAffordable spec.now budget) }
+    ensures refused { IfErr result (IsCause (λ _. ⊥) spec.now budget) }
+    ensures failed { IfErr result (λ fault. fault ≢ Fault.Disk) }
+{
+    let least = least_budget(spec);
+    if budget < least {
+        return Err(JobFault::BudgetTooSmall(least));
+    }
+    let Ok(plan) = search(alloc, spec.space(), spec.tree()) else {
+        return Err(JobFault::Memory);
+    };
+    if plan.memory > MOST_MEMORY {
+        return Err(JobFault::IntermediatesTooLarge(plan.memory));
+    }
+    Ok(plan)
+}
+
+// Finds the plan of a formula by its number, from 0, and puts it behind the others.
+fn find_plan(
+    alloc: Global,
+    batch: &Batch,
+    budget: u64,
+    number: usize,
+    plans: &mut Vec<KeptPlan>,
+) -> Result<(), JobFault>
+    requires { number < length batch.now }
+    ensures affordable { OnOk result ((s : Specification) → slice_get batch.now number ≡ Some s → IsAffordable s budget) }
+    ensures kept { OnOk result (IsOneMore batch.now number plans.old.items plans.new.items) }
+    ensures refused { IfErr result (λ fault. (s : Specification) → slice_get batch.now number ≡ Some s → IsCause (λ _. ⊥) s budget fault) }
+    ensures failed { IfErr result (λ fault. fault ≢ Fault.Disk) }
+{
+    let Ok(spec) = batch.spec(alloc, number) else {
+        return Err(JobFault::Memory);
+    };
+    let plan = affordable_plan(alloc, &spec, budget)?;
+    match plans.push(KeptPlan::of(number, plan)) {
+        Ok(()) => Ok(()),
+        Err(_) => Err(JobFault::Memory),
+    }
+}
+
+/// Finds the plans of all formulas, or refuses the first formula that costs too much.
+pub(crate) fn find_plans(
+    alloc: Global,
+    batch: &Batch,
+    budget: u64,
+) -> Result<Vec<KeptPlan>, BatchFault>
+    ensures affordable { OnOk result (AffordableBelow batch.now budget (length batch.now)) }
+    ensures kept { IfOk result (λ plans. AreKept batch.now (length batch.now) plans.items) }
+    ensures refused { IfErr result (IsCostFault batch.now budget) }
+{
+    let count = batch.len();
+    let mut plans = Vec::new(alloc);
+    for number in 0..count {
+        if let Err(fault) = find_plan(alloc, batch, budget, number, &mut plans) {
+            return Err(before_runs(number, fault));
+        }
+    }
+    Ok(plans)
+}
