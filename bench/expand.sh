@@ -47,7 +47,10 @@ for sign in 0 1; do
     for edge in 1 64 1024; do
         measure 4096,4096 $edge,$edge 0,1 $sign
     done
-    for positions in 0,1 1,2 0,2; do
-        measure 256,256,256 64,64,64 $positions $sign
+    # A tile has at most 2^20 elements, so that of whole rows and columns has 16 of the first dimension.
+    for edges in 1,1,1 64,64,64 16,256,256; do
+        for positions in 0,1 1,2 0,2; do
+            measure 256,256,256 $edges $positions $sign
+        done
     done
 done

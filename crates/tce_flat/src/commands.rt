@@ -3,7 +3,7 @@ ghost use Rattle.std.specs.Prelude.{◌≡◌, ◌≢◌, Err, IfOk, IfErr};
 ghost use Rattle.std.specs.Option.{ForSome};
 ghost use Rattle.std.specs.String.{string_bytes};
 ghost use Rattle.tce_outside.specs.Files.{others};
-ghost use Rattle.tce_outside.specs.Fault.{HasCause};
+ghost use Rattle.tce_outside.specs.Fault.{HasCause, TellsFaults};
 ghost use Rattle.tce_command.specs.Command as commands;
 ghost use Rattle.tce_command.specs.Command.{KeepsRules};
 ghost use Rattle.tce_flat.specs.Tensors.{array_file, converted_file};
@@ -34,6 +34,7 @@ pub fn pack<D: Disk>(
     ensures unchanged { IfErr result (λ refusal. refusal ≢ Refusal.Disk → D.files disk.new ≡ D.files disk.old) }
     ensures others { others (array_file tensor.now) (D.files disk.new) ≡ others (array_file tensor.now) (D.files disk.old) }
     ensures cause { HasCause (D.faults disk.old) (D.faults disk.new) (result ≡ Err Refusal.Disk) }
+    ensures told { TellsFaults (D.faults disk.old) (D.faults disk.new) (result ≡ Err Refusal.Disk) }
 {
     let found = find_tensor(alloc, spec, tensor, disk)?;
     let moved = pack_tensor(alloc, found.shape(), tensor, flat, disk);
@@ -56,6 +57,7 @@ pub fn unpack<D: Disk>(
     ensures unchanged { IfErr result (λ refusal. refusal ≢ Refusal.Disk → D.files disk.new ≡ D.files disk.old) }
     ensures others { others flat.now (D.files disk.new) ≡ others flat.now (D.files disk.old) }
     ensures cause { HasCause (D.faults disk.old) (D.faults disk.new) (result ≡ Err Refusal.Disk) }
+    ensures told { TellsFaults (D.faults disk.old) (D.faults disk.new) (result ≡ Err Refusal.Disk) }
 {
     let found = find_tensor(alloc, spec, tensor, disk)?;
     let moved = unpack_tensor(alloc, found.shape(), tensor, flat, disk);
@@ -79,6 +81,7 @@ pub fn convert<D: Disk>(
     ensures unchanged { IfErr result (λ refusal. refusal ≢ Refusal.Disk → D.files disk.new ≡ D.files disk.old) }
     ensures others { others (converted_file tensor.now) (D.files disk.new) ≡ others (converted_file tensor.now) (D.files disk.old) }
     ensures cause { HasCause (D.faults disk.old) (D.faults disk.new) (result ≡ Err Refusal.Disk) }
+    ensures told { TellsFaults (D.faults disk.old) (D.faults disk.new) (result ≡ Err Refusal.Disk) }
 {
     let found = find_tensor(alloc, spec, tensor, disk)?;
     let moved = convert_tensor(alloc, found.shape(), tensor, form, disk);
@@ -101,6 +104,7 @@ pub fn expand<D: Disk>(
     ensures unchanged { IfErr result (λ refusal. refusal ≢ Refusal.Disk → D.files disk.new ≡ D.files disk.old) }
     ensures others { others (array_file tensor.now) (D.files disk.new) ≡ others (array_file tensor.now) (D.files disk.old) }
     ensures cause { HasCause (D.faults disk.old) (D.faults disk.new) (result ≡ Err Refusal.Disk) }
+    ensures told { TellsFaults (D.faults disk.old) (D.faults disk.new) (result ≡ Err Refusal.Disk) }
 {
     let found = find_tensor(alloc, spec, tensor, disk)?;
     let moved = expand_tensor(alloc, found.shape(), tensor, disk);

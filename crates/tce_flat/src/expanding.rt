@@ -1,9 +1,13 @@
 // A tensor of a known shape, expanded from the elements that are stored once for each pair.
-ghost use Rattle.std.specs.Prelude.{◌≡◌, ◌≢◌, ◌⊎◌, ◌≤◌, Err, IfOk, IfErr, length};
-ghost use Rattle.std.specs.Option.{ForSome};
+ghost use Rattle.std.specs.Prelude.{◌≡◌, ◌≢◌, ◌⊎◌, ◌≤◌, Err, IfOk, IfErr, OnOk, IsErrOf, length};
+ghost use Rattle.std.specs.Option.{ForSome, IsSomeAnd};
 ghost use Rattle.std.specs.String.{string_bytes};
-ghost use Rattle.tce_outside.specs.Files.{others};
-ghost use Rattle.tce_outside.specs.Fault.{HasCause};
+ghost use Rattle.tce_outside.specs.Files.{file, others};
+ghost use Rattle.tce_outside.specs.Fault.{HasCause, TellsFaults};
+ghost use Rattle.tce_array.specs.Forms.{array_bytes};
+ghost use Rattle.tce_tools.specs.Flat.{contents};
+ghost use Rattle.tce_tools.specs.Storage.{holding_by};
+ghost use Rattle.tce_sym.specs.Storage.{AreRight, IsStored, full_cell};
 ghost use Rattle.tce_command.specs.Refusals.{IsFree};
 ghost use Rattle.tce_flat.specs.Tensors.{array_file, sym_file};
 ghost use Rattle.tce_flat.specs.Refusals.{IsSymRefusal};
@@ -16,7 +20,7 @@ use tce_array::{Form, form_len};
 use tce_command::{Refusal, SymTrouble};
 use tce_outside::{Disk, OutFault};
 use tce_space::{Name, Shape};
-use tce_sym::{SymFault, open_sym};
+use tce_sym::{MOST_LINE_WORDS, SymFault, Symmetry, expand, expand_through, open_sym};
 
 // The refusal of a tensor whose stored elements are refused.
 fn sym_refusal(fault: SymFault, tensor: &str, packed: &str) -> Refusal
@@ -34,6 +38,31 @@ fn sym_refusal(fault: SymFault, tensor: &str, packed: &str) -> Refusal
     }
 }
 
+// Makes the array file of stored elements. Where there is no memory for many lines of them, few do, and it takes longer.
+fn expand_file<D: Disk>(
+    alloc: Global,
+    shape: &Shape,
+    s: &Symmetry,
+    packed: &str,
+    array: &str,
+    disk: &mut D,
+) -> Result<(), OutFault>
+    requires names { packed.now ≢ array.now }
+    requires right { AreRight shape.now.extents s.now }
+    requires file { ForSome (D.files disk.old) (λ fs. IsSomeAnd (file fs packed.now) (λ bytes. IsStored shape.now.extents s.now bytes)) }
+    ensures expanded { OnOk result (D.files disk.new ≡ holding_by array.now (λ fs. array_bytes shape.now (full_cell shape.now.extents s.now (contents fs packed.now))) (D.files disk.old)) }
+    ensures memory { IsErrOf result OutFault.Memory → D.files disk.new ≡ D.files disk.old }
+    ensures others { others array.now (D.files disk.new) ≡ others array.now (D.files disk.old) }
+    ensures cause { HasCause (D.faults disk.old) (D.faults disk.new) (IsErrOf result OutFault.Failed) }
+    ensures told { TellsFaults (D.faults disk.old) (D.faults disk.new) (IsErrOf result OutFault.Failed) }
+{
+    let Ok(mut lines) = vec![in alloc; 0; MOST_LINE_WORDS] else {
+        return expand(disk, shape, s, packed, array);
+    };
+    let expanded = expand_through(disk, shape, s, packed, array, &mut lines);
+    expanded
+}
+
 /// Expands a tensor.
 pub fn expand_tensor<D: Disk>(
     alloc: Global,
@@ -47,6 +76,7 @@ pub fn expand_tensor<D: Disk>(
     ensures unchanged { IfErr result (λ refusal. refusal ≢ Refusal.Disk → D.files disk.new ≡ D.files disk.old) }
     ensures others { others (array_file tensor.now) (D.files disk.new) ≡ others (array_file tensor.now) (D.files disk.old) }
     ensures cause { HasCause (D.faults disk.old) (D.faults disk.new) (result ≡ Err Refusal.Disk) }
+    ensures told { TellsFaults (D.faults disk.old) (D.faults disk.new) (result ≡ Err Refusal.Disk) }
 {
     let packed = file_of(tensor, ".sym");
     let array = file_of(tensor, ".tca");
@@ -58,7 +88,7 @@ pub fn expand_tensor<D: Disk>(
         Ok(s) => s,
         Err(fault) => return Err(sym_refusal(fault, tensor, packed.as_str())),
     };
-    match tce_sym::expand(disk, shape, &s, packed.as_str(), array.as_str()) {
+    match expand_file(alloc, shape, &s, packed.as_str(), array.as_str(), disk) {
         Ok(()) => Ok(text),
         Err(OutFault::Failed) => Err(Refusal::Disk),
         Err(OutFault::Memory) => Err(Refusal::Memory),

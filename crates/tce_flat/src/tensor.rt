@@ -1,7 +1,7 @@
 // Tensors, found by their names in the file of a specification.
 ghost use Rattle.std.specs.Prelude.{◌≡◌, ◌<◌, ◌≤◌, Err, IfOk, IfErr, length};
 ghost use Rattle.std.specs.Option.{ForSome};
-ghost use Rattle.tce_outside.specs.Fault.{HasCause};
+ghost use Rattle.tce_outside.specs.Fault.{HasCause, TellsFaults};
 ghost use Rattle.tce_spec.specs.Operands.{shape_of};
 ghost use Rattle.tce_flat.specs.Tensors.{HasTensor};
 ghost use Rattle.tce_flat.specs.Refusals.{IsTensorRefusal};
@@ -43,6 +43,7 @@ pub fn find_tensor<D: Disk>(
     ensures refused { IfErr result (λ refusal. ForSome (D.files disk.old) (λ files. IsTensorRefusal files spec.now tensor.now refusal)) }
     ensures same { D.files disk.new ≡ D.files disk.old }
     ensures cause { HasCause (D.faults disk.old) (D.faults disk.new) (result ≡ Err Refusal.Disk) }
+    ensures told { TellsFaults (D.faults disk.old) (D.faults disk.new) (result ≡ Err Refusal.Disk) }
 {
     let spec = read_source(alloc, disk, spec)?;
     match spec.tensor_named(tensor) {

@@ -8,10 +8,13 @@ ghost use Rattle.tce_sym.specs.Storage.{IsPair, AreRight, stored_word, stored_co
 ghost use Rattle.tce_sym.specs.Lines.{AreLines};
 ghost use Rattle.tce_sym.specs.Cells.{AreTriangles, AreOf, IsAmong, pair_place, cell_of};
 
-use crate::lines::{Lines, SLOTS, word_at};
+use crate::lines::{SLOT, word_at};
 use crate::symmetry::{Symmetry, pairs, signed, stored_count};
 use tce_outside::{Disk, Failed};
 use tce_space::Shape;
+
+// How many slots are used, where there are so many.
+const SLOTS: u64 = 4096;
 
 /// What is stored: for each place of the other coordinates a triangle of pairs.
 #[derive(Clone, Copy)]
@@ -62,13 +65,14 @@ pub fn triangles_of(shape: &Shape, s: &Symmetry) -> Triangles
 
 // The slot of the line in which a pair is. In one tile, pairs with different second coordinates or different places of the
 // others have different slots, where there are enough.
-fn slot_of(triangles: &Triangles, pair: Pair) -> usize
-    requires among { IsAmong triangles.now pair }
-    requires extent { triangles.now.extent < 2 ^ 32 }
-    ensures { result < 4096 }
+fn slot_of(triangles: &Triangles, pair: Pair, slots: usize) -> usize
+    requires second { pair.second < 2 ^ 32 }
+    requires some { 0 < slots }
+    ensures { result < slots }
 {
-    let slots = SLOTS as u64;
-    ((pair.outer % slots * (triangles.edge % slots) + pair.second) % slots) as usize
+    let tiles = pair.outer % SLOTS * (triangles.edge % SLOTS);
+    let slot = ((tiles + pair.second) % SLOTS) as usize;
+    if slot < slots { slot } else { slot % slots }
 }
 
 // The stored word of a pair.
@@ -76,13 +80,14 @@ fn stored_at<D: Disk>(
     disk: &mut D,
     packed: &str,
     triangles: &Triangles,
-    lines: &mut Lines,
+    lines: &mut [u64],
     pair: Pair,
 ) -> Result<u64, Failed>
     requires triangles { AreTriangles triangles.now }
     requires among { IsAmong triangles.now pair }
     requires stored { IsPair triangles.now.negated pair.first pair.second }
     requires file { ForSome (D.files disk.old) (λ fs. IsSomeAnd (file fs packed.now) (λ bytes. length bytes ≡ 32 + 8 * triangles.now.count)) }
+    requires some { 32 ≤ length lines.old }
     requires lines { ForSome (D.files disk.old) (λ fs. AreLines triangles.now.count (contents fs packed.now) lines.old) }
     ensures word { IfOk result (λ word. ForSome (D.files disk.old) (λ fs. word ≡ stored_word (contents fs packed.now) (pair_place triangles.now pair))) }
     ensures lines { OnOk result (ForSome (D.files disk.old) (λ fs. AreLines triangles.now.count (contents fs packed.now) lines.new)) }
@@ -90,7 +95,7 @@ fn stored_at<D: Disk>(
     ensures cause { HasCause (D.faults disk.old) (D.faults disk.new) (IsErr result) }
     ensures told { TellsFaults (D.faults disk.old) (D.faults disk.new) (IsErr result) }
 {
-    let slot = slot_of(triangles, pair);
+    let slot = slot_of(triangles, pair, lines.len() / SLOT);
     let before = pair.outer * triangles.pairs;
     let place = before + (pairs(triangles.negated, pair.second) + pair.first);
     word_at(disk, packed, triangles.count, lines, slot, place)
@@ -101,12 +106,13 @@ pub fn cell_at<D: Disk>(
     disk: &mut D,
     packed: &str,
     triangles: &Triangles,
-    lines: &mut Lines,
+    lines: &mut [u64],
     pair: Pair,
 ) -> Result<u64, Failed>
     requires triangles { AreTriangles triangles.now }
     requires among { IsAmong triangles.now pair }
     requires file { ForSome (D.files disk.old) (λ fs. IsSomeAnd (file fs packed.now) (λ bytes. length bytes ≡ 32 + 8 * triangles.now.count)) }
+    requires some { 32 ≤ length lines.old }
     requires lines { ForSome (D.files disk.old) (λ fs. AreLines triangles.now.count (contents fs packed.now) lines.old) }
     ensures cell { IfOk result (λ cell. ForSome (D.files disk.old) (λ fs. cell ≡ cell_of triangles.now (contents fs packed.now) pair)) }
     ensures lines { OnOk result (ForSome (D.files disk.old) (λ fs. AreLines triangles.now.count (contents fs packed.now) lines.new)) }

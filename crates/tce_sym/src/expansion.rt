@@ -12,7 +12,7 @@ ghost use Rattle.tce_sym.specs.Lines.{AreLines};
 ghost use Rattle.tce_sym.specs.TileRows.{AreWords};
 
 use crate::cells::triangles_of;
-use crate::lines::{Lines, no_lines};
+use crate::lines::SLOT;
 use crate::rows::{read_row, row_of};
 use crate::symmetry::Symmetry;
 use crate::tile_rows::tile_row_at;
@@ -22,7 +22,13 @@ use tce_space::Shape;
 use tce_tools::write_words;
 
 // The most words that are written at once.
-const LONGEST_PIECE: usize = 8192;
+const LONGEST_PIECE: usize = 2048;
+
+// The words for lines that stand on the stack.
+const SHORT_LINES: usize = 64 * SLOT;
+
+/// The words for lines beyond which more make [`expand_through`] no faster: 1 MiB.
+pub const MOST_LINE_WORDS: usize = 4096 * SLOT;
 
 // Makes each word 0.
 fn clear(words: &mut [u64])
@@ -37,7 +43,7 @@ fn read_piece<D: Disk>(
     shape: &Shape,
     s: &Symmetry,
     packed: &str,
-    lines: &mut Lines,
+    lines: &mut [u64],
     start: u64,
     words: &mut [u64],
 ) -> Result<(), Failed>
@@ -45,6 +51,7 @@ fn read_piece<D: Disk>(
     requires inside { start + length words.old ≤ padded_words shape.now }
     requires fits { start + length words.old < 2 ^ 64 }
     requires file { ForSome (D.files disk.old) (λ fs. IsSomeAnd (file fs packed.now) (λ bytes. IsStored shape.now.extents s.now bytes)) }
+    requires some { 32 ≤ length lines.old }
     requires lines { ForSome (D.files disk.old) (λ fs. AreLines (stored_count shape.now.extents s.now) (contents fs packed.now) lines.old) }
     ensures read { OnOk result (ForSome (D.files disk.old) (λ fs. AreWords shape.now (full_cell shape.now.extents s.now (contents fs packed.now)) start (length words.old) words.new)) }
     ensures lines { OnOk result (ForSome (D.files disk.old) (λ fs. AreLines (stored_count shape.now.extents s.now) (contents fs packed.now) lines.new)) }
@@ -72,7 +79,8 @@ fn read_piece<D: Disk>(
 ///
 /// For want of memory (`Memory`) no file changes. Where the disk fails (`Failed`), the array file may hold anything or be
 /// absent. All other files stay in every case. The stored words are read in lines, and the array is written in pieces, tile
-/// by tile, so that the call needs no memory of its own, however large the files are.
+/// by tile, so that the call needs no memory of its own, however large the files are. [`expand_through`] does the same with
+/// more lines, and faster.
 pub fn expand<D: Disk>(
     disk: &mut D,
     shape: &Shape,
@@ -89,8 +97,32 @@ pub fn expand<D: Disk>(
     ensures cause { HasCause (D.faults disk.old) (D.faults disk.new) (IsErrOf result OutFault.Failed) }
     ensures told { TellsFaults (D.faults disk.old) (D.faults disk.new) (IsErrOf result OutFault.Failed) }
 {
+    let mut lines = [0; SHORT_LINES];
+    expand_through(disk, shape, s, packed, array, &mut lines)
+}
+
+/// What [`expand`] does, with words for the lines that the caller lends, whatever they hold: 32 for each line of 31, up to
+/// [`MOST_LINE_WORDS`]. What they hold afterwards is free.
+pub fn expand_through<D: Disk>(
+    disk: &mut D,
+    shape: &Shape,
+    s: &Symmetry,
+    packed: &str,
+    array: &str,
+    lines: &mut [u64],
+) -> Result<(), OutFault>
+    requires names { packed.now ≢ array.now }
+    requires some { 32 ≤ length lines.old }
+    requires right { AreRight shape.now.extents s.now }
+    requires file { ForSome (D.files disk.old) (λ fs. IsSomeAnd (file fs packed.now) (λ bytes. IsStored shape.now.extents s.now bytes)) }
+    ensures expanded { OnOk result (D.files disk.new ≡ holding_by array.now (λ fs. array_bytes shape.now (full_cell shape.now.extents s.now (contents fs packed.now))) (D.files disk.old)) }
+    ensures memory { IsErrOf result OutFault.Memory → D.files disk.new ≡ D.files disk.old }
+    ensures others { others array.now (D.files disk.new) ≡ others array.now (D.files disk.old) }
+    ensures cause { HasCause (D.faults disk.old) (D.faults disk.new) (IsErrOf result OutFault.Failed) }
+    ensures told { TellsFaults (D.faults disk.old) (D.faults disk.new) (IsErrOf result OutFault.Failed) }
+{
     create(disk, array, Form::One, shape)?;
-    let mut lines = no_lines();
+    clear(lines);
     let mut bytes = [0; 8 * LONGEST_PIECE];
     let mut buffer = [0; LONGEST_PIECE];
     let head = Form::One.head_len(shape);
@@ -99,7 +131,7 @@ pub fn expand<D: Disk>(
     while done < padded {
         let len = (padded - done).min(LONGEST_PIECE as u64);
         let words = &mut buffer[..len as usize];
-        let Ok(()) = read_piece(disk, shape, s, packed, &mut lines, done, words) else {
+        let Ok(()) = read_piece(disk, shape, s, packed, lines, done, words) else {
             return Err(OutFault::Failed);
         };
         let Ok(()) = write_words(disk, array, Form::One, head + 8 * done, &mut bytes, words) else {

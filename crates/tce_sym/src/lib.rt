@@ -20,7 +20,7 @@ mod rows;
 mod symmetry;
 mod tile_rows;
 
-pub use expansion::expand;
+pub use expansion::{MOST_LINE_WORDS, expand, expand_through};
 pub use fault::SymFault;
 pub use laws::stored_places_are_theirs;
 pub use opening::open_sym;

@@ -10,7 +10,6 @@ ghost use Rattle.tce_sym.specs.Lines.{AreLines};
 ghost use Rattle.tce_sym.specs.Cells.{AreTriangles, IsAmong, IsPairOf, cell_of, moved_pair};
 
 use crate::cells::{Pair, Triangles, cell_at};
-use crate::lines::Lines;
 use crate::symmetry::{Symmetry, at_others};
 use crate::tile_rows::TileRow;
 use tce_outside::{Disk, Failed};
@@ -92,13 +91,14 @@ pub fn read_row<D: Disk>(
     disk: &mut D,
     packed: &str,
     triangles: &Triangles,
-    lines: &mut Lines,
+    lines: &mut [u64],
     row: &Row,
     words: &mut [u64],
 ) -> Result<(), Failed>
     requires triangles { AreTriangles triangles.now }
     requires among { (k : ℕ) → k < length words.old → IsAmong triangles.now (moved_pair row.now k) }
     requires file { ForSome (D.files disk.old) (λ fs. IsSomeAnd (file fs packed.now) (λ bytes. length bytes ≡ 32 + 8 * triangles.now.count)) }
+    requires some { 32 ≤ length lines.old }
     requires lines { ForSome (D.files disk.old) (λ fs. AreLines triangles.now.count (contents fs packed.now) lines.old) }
     ensures read { OnOk result (ForSome (D.files disk.old) (λ fs. (k : ℕ) → k < length words.new → slice_index words.new k ≡ cell_of triangles.now (contents fs packed.now) (moved_pair row.now k))) }
     ensures lines { OnOk result (ForSome (D.files disk.old) (λ fs. AreLines triangles.now.count (contents fs packed.now) lines.new)) }

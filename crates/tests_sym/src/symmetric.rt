@@ -6,12 +6,24 @@ use std::process::Abort;
 use std::test::Fail;
 use tce_outside::{Disk, FaultyDisk, MemDisk, OutFault};
 use tce_space::Shape;
-use tce_sym::{SymFault, Symmetry, expand, open_sym};
+use tce_sym::{SymFault, Symmetry, expand, expand_through, open_sym};
 
 // Opens A.sym and expands it to A.tca.
 fn expanded<D: Disk>(disk: &mut D, shape: &Shape) -> Result<Result<(), OutFault>, SymFault> {
     match open_sym(disk, "A.sym", shape) {
         Ok(s) => Ok(expand(disk, shape, &s, "A.sym", "A.tca")),
+        Err(fault) => Err(fault),
+    }
+}
+
+// Opens A.sym and expands it to B.tca through one line, whose words held something else.
+fn expanded_through_a_line<D: Disk>(
+    disk: &mut D,
+    shape: &Shape,
+) -> Result<Result<(), OutFault>, SymFault> {
+    let mut line = [7; 32];
+    match open_sym(disk, "A.sym", shape) {
+        Ok(s) => Ok(expand_through(disk, shape, &s, "A.sym", "B.tca", &mut line)),
         Err(fault) => Err(fault),
     }
 }
@@ -32,6 +44,8 @@ fn expect_words(
     let array = file_of(rt, alloc, "TCARRAY1", words, b"")?;
     assert_eq!(rt; disk.file("A.tca"), Some(array.as_slice()), "{stored}");
     assert_eq!(rt; disk.file("A.sym"), Some(packed.as_slice()), "{stored}");
+    assert!(rt; expanded_through_a_line(&mut disk, &shape) == Ok(Ok(())));
+    assert!(rt; disk.file("B.tca") == Some(array.as_slice()));
     Ok(())
 }
 

@@ -1,3 +1,4 @@
+use Rattle.std.proofs.Common.{rules, ◌∙◌}
 use Rattle.tce_flat.specs.Refusals.{IsSymRefusal}
 use Rattle.tce_flat.proofs.Names.{short_tensor, short_spec}
 use Rattle.tce_flat.proofs.Tools.{refused_for, unchanged_from, cause_from, shaped}
@@ -28,3 +29,6 @@ returns-clause-unchanged g c = unchanged_from _ _ _ c.expand_tensor-moved.result
 
 pub returns-clause-cause : goal.returns-clause-cause
 returns-clause-cause g c = cause_from _ _ _ _ _ c.in_ok-found.ensures.cause c.expand_tensor-moved.ensures.cause
+
+pub returns-clause-told : goal.returns-clause-told
+returns-clause-told g c = λ no. c.expand_tensor-moved.ensures.told no ∙ c.in_ok-found.ensures.told (search rules)

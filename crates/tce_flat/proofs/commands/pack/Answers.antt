@@ -1,3 +1,4 @@
+use Rattle.std.proofs.Common.{rules, ◌∙◌}
 use Rattle.tce_flat.specs.Refusals.{IsFlatRefusal}
 use Rattle.tce_flat.proofs.Names.{short_tensor, short_spec, short_flat, flat_apart}
 use Rattle.tce_flat.proofs.Tools.{packed_from, refused_for, unchanged_from, cause_from, shaped}
@@ -33,3 +34,6 @@ returns-clause-unchanged g c = unchanged_from _ _ _ c.pack_tensor-moved.result c
 
 pub returns-clause-cause : goal.returns-clause-cause
 returns-clause-cause g c = cause_from _ _ _ _ _ c.in_ok-found.ensures.cause c.pack_tensor-moved.ensures.cause
+
+pub returns-clause-told : goal.returns-clause-told
+returns-clause-told g c = λ no. c.pack_tensor-moved.ensures.told no ∙ c.in_ok-found.ensures.told (search rules)

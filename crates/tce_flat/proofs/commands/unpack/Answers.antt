@@ -1,4 +1,4 @@
-use Rattle.std.proofs.Common.{sym}
+use Rattle.std.proofs.Common.{rules, ◌∙◌, sym}
 use Rattle.tce_flat.specs.Refusals.{IsArrayRefusal}
 use Rattle.tce_flat.proofs.Names.{short_tensor, short_spec, flat_apart}
 use Rattle.tce_flat.proofs.Tools.{unpacked_from, refused_for, unchanged_from, cause_from, shaped}
@@ -31,3 +31,6 @@ returns-clause-unchanged g c = unchanged_from _ _ _ c.unpack_tensor-moved.result
 
 pub returns-clause-cause : goal.returns-clause-cause
 returns-clause-cause g c = cause_from _ _ _ _ _ c.in_ok-found.ensures.cause c.unpack_tensor-moved.ensures.cause
+
+pub returns-clause-told : goal.returns-clause-told
+returns-clause-told g c = λ no. c.unpack_tensor-moved.ensures.told no ∙ c.in_ok-found.ensures.told (search rules)

@@ -1,4 +1,4 @@
-use Rattle.std.proofs.Common.{refl}
+use Rattle.std.proofs.Common.{refl, arith}
 use Rattle.tce_tools.specs.Flat.{contents}
 use Rattle.tce_sym.proofs.HeldLines.{held_word, first_word}
 use Rattle.tce_sym.proofs.lines.word_at.Goals as goal
@@ -10,4 +10,4 @@ returns-then-place-mark-clause-word g c x told =
 
 pub returns-clause-word : goal.returns-clause-word
 returns-clause-word g c x told =
-    first_word c.args.count (contents x c.args.packed.now) c.read_line.new.lines c.args.slot c.args.place c.requires.slot c.requires.place c.in_ok-read_line.ensures.held (c.in_ok-read_line.ensures.lines x told)
+    first_word c.args.count (contents x c.args.packed.now) c.read_line.new.lines c.args.slot c.args.place (omega (arith, c.requires.slot, c.read_line.auto.lines)) c.requires.place c.in_ok-read_line.ensures.held (c.in_ok-read_line.ensures.lines x told)

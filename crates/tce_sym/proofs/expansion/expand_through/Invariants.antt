@@ -8,7 +8,7 @@ use Rattle.tce_tools.specs.Storage.{stored_bytes, holding_by}
 use Rattle.tce_sym.specs.Storage.{full_cell, stored_count}
 use Rattle.tce_sym.specs.Lines.{AreLines}
 use Rattle.tce_sym.proofs.Pieces.{first_words}
-use Rattle.tce_sym.proofs.expansion.expand.Given as goal
+use Rattle.tce_sym.proofs.expansion.expand_through.Given as goal
 
 abbrev pub invariant-loop-done : goal.invariant-loop-done
 invariant-loop-done g l = record {

@@ -1,4 +1,4 @@
-use Rattle.std.proofs.Common.{rules, take, ◌≡◌, ◌∙◌, ◌+◌, ◌*◌, ◌≤◌, length, sym, ap, subst, arith, refl, List, [], ℕ, Option, Some, unwrap_or}
+use Rattle.std.proofs.Common.{rules, take, ◌≡◌, ◌∙◌, ◌+◌, ◌*◌, ◌≤◌, length, sym, ap, subst, arith, List, [], ℕ, Option, Some, unwrap_or}
 use Rattle.std.specs.Option.{IsSomeAnd}
 use Rattle.tce_space.specs.Tiling.{Tiling, padded_words}
 use Rattle.std.specs.List.{flat_map}
@@ -17,14 +17,14 @@ use Rattle.tce_sym.specs.Lines.{AreLines}
 use Rattle.tce_sym.specs.TileRows.{AreWords}
 use Rattle.tce_sym.proofs.HeldLines.{none_held}
 use Rattle.tce_sym.proofs.Pieces.{first_words, no_words, all_words, piece_change}
-use Rattle.tce_sym.proofs.expansion.expand.Goals as goal
+use Rattle.tce_sym.proofs.expansion.expand_through.Goals as goal
 
 pub loop-done-init : goal.loop-done-init
 loop-done-init g c = record {
   done = omega arith;
   files = held_same (g.D.Disk.files c.args.disk.now) _ c.args.array.now (λ fs. stored_bytes (Array One) c.args.shape.now (λ _. 0)) _ c.in_ok-create.ensures.zeros
       (λ fs. no_words c.args.shape.now c.padded_words-padded.ensures.limits (full_cell c.args.shape.now.extents c.args.s.now (contents fs c.args.packed.now)));
-  lines = λ x told. none_held 4096 c.no_lines-lines.result refl c.no_lines-lines.ensures.marks c.no_lines-lines.ensures.len (stored_count c.args.shape.now.extents c.args.s.now) (contents x c.args.packed.now);
+  lines = λ x told. none_held (length c.args.lines.now) c.clear.new.words c.clear.ensures (stored_count c.args.shape.now.extents c.args.s.now) (contents x c.args.packed.now);
   others = c.in_ok-create.ensures.others;
   later = c.in_ok-create.ensures.cause.later;
   counted = c.in_ok-create.ensures.told (search rules);
