@@ -23,6 +23,7 @@ REPORTS = {
     b"unpack": WROTE,
     b"convert": WROTE,
     b"expand": WROTE,
+    b"einsum": rb"nodes [1-9][0-9]*\n" + WROTE,
     b"demo": rb"memory " + NUMBER + rb"\ntiles " + NUMBER + rb"\nsum " + NUMBER + rb"\n",
 }
 

@@ -30,7 +30,9 @@ class Case:
 def cases(command):
     """All bad places of a command."""
     yield from failing_outputs(command)
-    yield from refused_with_failing_outputs(command)
+    if command.reads:
+        yield from refused_with_failing_outputs(command)
+        yield from bad_paths(command)
     yield from closed_folders(command)
     yield from few_open_files(command)
     for name in command.reads:
@@ -38,7 +40,7 @@ def cases(command):
         yield from cut_short(command, name)
     if command.output:
         yield from bad_outputs(command)
-    yield from bad_paths(command)
+        yield from bad_output_paths(command)
     yield from bad_words(command)
 
 
@@ -213,8 +215,11 @@ def bad_paths(command):
     yield Case("a specification by a long path", {3}, words=with_word(command, 1, long_path))
     yield Case("a specification of 200 bytes' name", {3}, words=with_word(command, 1, b"a" * 196 + b".tce"))
     yield Case("a specification of 201 bytes' name", {1}, words=with_word(command, 1, b"a" * 197 + b".tce"))
+
+
+def bad_output_paths(command):
     last = len(command.words) - 1
-    if command.output and command.words[last].decode() == command.output:
+    if command.words[last].decode() == command.output:
         words = with_word(command, last, b"none/" + command.words[last])
         yield Case("an output in a folder that is not there, by its word", {8}, words=words, leaves="unchanged")
         words = with_word(command, last, b"other.txt/" + command.words[last])
@@ -230,15 +235,19 @@ def bad_words(command):
     yield Case("ten thousand words", {1}, words=words + (b"a",) * 10_000)
     for place, word in enumerate(words):
         for what, bad in (
-            ("empty", b""),
-            ("long", b"a" * 100_000),
             ("with a byte that is no text", word + b"\xff"),
             ("of a byte that is no text", b"\x80"),
+        ):
+            yield Case(f"word {place} {what}", {1}, words=with_word(command, place, bad))
+        for what, bad in (
+            ("empty", b""),
+            ("long", b"a" * 100_000),
             ("with a letter beyond ASCII", "é".encode() + word),
             ("with a line feed", word + b"\n"),
             ("with a control byte", b"\x01" + word),
             ("with a blank", b" " + word),
         ):
-            yield Case(f"word {place} {what}", {1}, words=with_word(command, place, bad))
+            due = {14} if place in command.free else {1}
+            yield Case(f"word {place} {what}", due, words=with_word(command, place, bad))
         yield Case(f"without word {place}", {1}, words=words[:place] + words[place + 1 :])
         yield Case(f"word {place} twice", {1}, words=words[: place + 1] + words[place:])

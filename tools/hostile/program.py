@@ -57,11 +57,12 @@ LINES = {
     11: rb"flat length " + NUMBER,
     12: rb"no tensor " + NAME,
     13: rb"element " + NUMBER + rb" does not fit",
+    14: rb"bad text|size of [a-z]|path item " + NUMBER + rb"|too long|line [1-9][0-9]*: (?:" + SPEC_FAULT + rb")",
     16: NAME + rb"\.sym: (?:length|head byte) " + NUMBER,
 }
 
 # What a process may have: bytes of stack, bytes of address space, seconds of processor time.
-STACK = 4 * 1024 * 1024
+STACK = 2 * 1024 * 1024
 SPACE = 32 * 1024 * 1024
 SECONDS = 10
 

@@ -78,7 +78,8 @@ class Command:
 
     Where the bytes of the output are not fixed, `written` is None. `beside` are the files that it makes beside the
     output; they may hold anything where it fails. `earlier` are the files of the results that it writes before the
-    output, in order, each with its bytes.
+    output, in order, each with its bytes. `free` are the places of the words that may be any text: of one that is no more
+    than text the status is 14.
     """
 
     name: str
@@ -89,6 +90,7 @@ class Command:
     written: bytes = None
     beside: tuple = ()
     earlier: tuple = ()
+    free: tuple = ()
 
 
 COMMANDS = [
@@ -165,6 +167,16 @@ COMMANDS = [
         b"tce expand 1\nwrote H.tca 80\n",
         "H.tca",
         array([2, 2], [1, 1], [1, 2, 2, 3]),
+    ),
+    Command(
+        "einsum",
+        (b"einsum", b"ik,kj->ij@i=2,k=2,j=2", b"0,1", b"mm.tce"),
+        (),
+        b"tce einsum 1\nnodes 2\nwrote mm.tce 111\n",
+        "mm.tce",
+        b"range N0 2\nindex N0 i k j\ntensor X0[N0,N0]\ntensor X1[N0,N0]\ntensor Y[N0,N0]\n"
+        b"Y[i,j] = sum{k}(X0[i,k] * X1[k,j])\n",
+        free=(1, 2),
     ),
     Command(
         "demo",

@@ -1,3 +1,5 @@
 pub mod Done
 pub mod Refusals
+pub mod EinsumDone
+pub mod EinsumRefusals
 pub mod Laws

@@ -8,7 +8,7 @@ use Rattle.std.proofs.lemmas.Fmt.{decimal_injective, decimal_digit}
 use Rattle.tce_array.specs.declared.form.Form.{Form}
 use Rattle.tce_array.specs.declared.form.Form.TheVariants.{One, Narrow, Wide}
 use Rattle.tce_array.specs.Forms.{width}
-use Rattle.tce_command.specs.Command.{Command, run, batch, plan, cert, check, pack, unpack, convert, expand, demo, IsBetween, IsCommand, IsNoCommand, NamesSpec, NamesCertificate, NamesTensor, NamesFlat, verb_of, arguments_of}
+use Rattle.tce_command.specs.Command.{Command, run, batch, plan, cert, check, pack, unpack, convert, expand, einsum, demo, IsBetween, IsCommand, IsHeld, IsNoCommand, NamesSpec, NamesCertificate, NamesTensor, NamesFlat, verb_of, arguments_of}
 
 -- the words of a list, where it has two, three or four
 pub two_words : (ws : List (String Global)) (a b : String Global) → 2 ≤ length ws → length ws < 3 → a ≡ get_or ws 0 a → b ≡ get_or ws 1 b
@@ -46,6 +46,7 @@ command_length words (pack spec tensor flat) h = let e : length words ≡ 4 = ap
 command_length words (unpack spec tensor flat) h = let e : length words ≡ 4 = ap length h.words_are in (omega arith, omega arith)
 command_length words (convert spec tensor form) h = let e : length words ≡ 4 = ap length h.words_are in (omega arith, omega arith)
 command_length words (expand spec tensor) h = let e : length words ≡ 3 = ap length h.words_are in (omega arith, omega arith)
+command_length words (einsum text path spec) h = let e : length words ≡ 4 = ap length h.words_are in (omega arith, omega arith)
 command_length words (demo seed v o) h = let e : length words ≡ 4 = ap length h.words_are in (omega arith, omega arith)
 
 -- so that other numbers of words are those of no command
@@ -78,6 +79,7 @@ none_of_two verb spec refused (pack s t f) h = let e : 2 ≡ 4 = ap length h.wor
 none_of_two verb spec refused (unpack s t f) h = let e : 2 ≡ 4 = ap length h.words_are in absurd (omega (arith, e))
 none_of_two verb spec refused (convert s t f) h = let e : 2 ≡ 4 = ap length h.words_are in absurd (omega (arith, e))
 none_of_two verb spec refused (expand s t) h = let e : 2 ≡ 3 = ap length h.words_are in absurd (omega (arith, e))
+none_of_two verb spec refused (einsum t p s) h = let e : 2 ≡ 4 = ap length h.words_are in absurd (omega (arith, e))
 none_of_two verb spec refused (demo x v o) h = let e : 2 ≡ 4 = ap length h.words_are in absurd (omega (arith, e))
 
 -- what the rules say of three words, by their verb
@@ -103,6 +105,7 @@ none_of_three verb spec last refused (plan s) h = let e : 3 ≡ 2 = ap length h.
 none_of_three verb spec last refused (pack s t f) h = let e : 3 ≡ 4 = ap length h.words_are in absurd (omega (arith, e))
 none_of_three verb spec last refused (unpack s t f) h = let e : 3 ≡ 4 = ap length h.words_are in absurd (omega (arith, e))
 none_of_three verb spec last refused (convert s t f) h = let e : 3 ≡ 4 = ap length h.words_are in absurd (omega (arith, e))
+none_of_three verb spec last refused (einsum t p s) h = let e : 3 ≡ 4 = ap length h.words_are in absurd (omega (arith, e))
 none_of_three verb spec last refused (demo x v o) h = let e : 3 ≡ 4 = ap length h.words_are in absurd (omega (arith, e))
 
 -- what the rules say of four words, by their verb
@@ -110,6 +113,7 @@ pub record NoneOfFour (verb spec tensor last : List ℕ) : Type 0 where
   pub pack : verb ≡ codes "pack" → NamesSpec spec → NamesTensor tensor → NamesFlat last → ⊥
   pub unpack : verb ≡ codes "unpack" → NamesSpec spec → NamesTensor tensor → NamesFlat last → ⊥
   pub convert : verb ≡ codes "convert" → NamesSpec spec → NamesTensor tensor → (form : Form) → form ≢ One → last ≡ decimal (width form) → ⊥
+  pub einsum : verb ≡ codes "einsum" → IsHeld spec → IsHeld tensor → NamesSpec last → ⊥
   pub demo : verb ≡ codes "demo" → (seed v o : ℕ) → IsBetween 1 2147483646 seed → IsBetween 1 32 v → IsBetween 1 32 o → spec ≡ decimal seed → tensor ≡ decimal v → last ≡ decimal o → ⊥
 
 pub none_of_four : (verb spec tensor last : List ℕ) → NoneOfFour verb spec tensor last → IsNoCommand (verb ∷ spec ∷ tensor ∷ last ∷ [])
@@ -128,6 +132,9 @@ none_of_four verb spec tensor last refused (unpack s t f) h =
 none_of_four verb spec tensor last refused (convert s t f) h =
     refused.convert (word_at 0 _ _ h.words_are) (subst NamesSpec (sym (word_at 1 _ _ h.words_are)) h.rules.0)
     (subst NamesTensor (sym (word_at 2 _ _ h.words_are)) h.rules.1) f h.rules.2 (word_at 3 _ _ h.words_are)
+none_of_four verb spec tensor last refused (einsum t p s) h =
+    refused.einsum (word_at 0 _ _ h.words_are) (subst IsHeld (sym (word_at 1 _ _ h.words_are)) h.rules.0)
+    (subst IsHeld (sym (word_at 2 _ _ h.words_are)) h.rules.1) (subst NamesSpec (sym (word_at 3 _ _ h.words_are)) h.rules.2)
 none_of_four verb spec tensor last refused (demo seed v o) h =
     refused.demo (word_at 0 _ _ h.words_are) seed v o h.rules.0 h.rules.1 h.rules.2 (word_at 1 _ _ h.words_are) (word_at 2 _ _ h.words_are) (word_at 3 _ _ h.words_are)
 
@@ -139,7 +146,18 @@ no_demo seed v o refused = none_of_four (codes "demo") seed v o (record {
   pack = λ e. let k : 100 ≡ 112 = ap (λ w. get_or w 0 0) e in absurd (omega (arith, k));
   unpack = λ e. let k : 100 ≡ 117 = ap (λ w. get_or w 0 0) e in absurd (omega (arith, k));
   convert = λ e. let k : 100 ≡ 99 = ap (λ w. get_or w 0 0) e in absurd (omega (arith, k));
+  einsum = λ e. let k : 100 ≡ 101 = ap (λ w. get_or w 0 0) e in absurd (omega (arith, k));
   demo = λ e. refused;
+})
+
+-- the words of an einsum, where its specification has no name
+pub no_einsum : (text path spec : List ℕ) → (NamesSpec spec → ⊥) → IsNoCommand (codes "einsum" ∷ text ∷ path ∷ spec ∷ [])
+no_einsum text path spec refused = none_of_four (codes "einsum") text path spec (record {
+  pack = λ e. let k : 101 ≡ 112 = ap (λ w. get_or w 0 0) e in absurd (omega (arith, k));
+  unpack = λ e. let k : 101 ≡ 117 = ap (λ w. get_or w 0 0) e in absurd (omega (arith, k));
+  convert = λ e. let k : 101 ≡ 99 = ap (λ w. get_or w 0 0) e in absurd (omega (arith, k));
+  einsum = λ e held path. refused;
+  demo = λ e. let k : 101 ≡ 100 = ap (λ w. get_or w 0 0) e in absurd (omega (arith, k));
 })
 
 -- the words of an expansion, where its tensor has no name
@@ -218,6 +236,12 @@ one_command words (expand s t) (expand u v) h k =
     let specs : s ≡ u = word_at 1 _ _ e in
     let tensors : t ≡ v = word_at 2 _ _ e in
     cc
+one_command words (einsum t p s) (einsum u q r) h k =
+    let e = sym h.words_are ∙ k.words_are in
+    let texts : t ≡ u = word_at 1 _ _ e in
+    let paths : p ≡ q = word_at 2 _ _ e in
+    let specs : s ≡ r = word_at 3 _ _ e in
+    cc
 one_command words (demo x v o) (demo y w p) h k =
     let e = sym h.words_are ∙ k.words_are in
     let seeds : x ≡ y = same_small x y 2147483646 (omega arith) h.rules.0 k.rules.0 (word_at 1 _ _ e) in
@@ -256,6 +280,14 @@ one_command words (demo x v o) (convert u w g) h k = let e : 100 ≡ 99 = verb_b
 one_command words (pack s t f) (demo x v o) h k = let e : 112 ≡ 100 = verb_byte 0 _ _ (sym h.words_are ∙ k.words_are) in absurd (omega (arith, e))
 one_command words (unpack s t f) (demo x v o) h k = let e : 117 ≡ 100 = verb_byte 0 _ _ (sym h.words_are ∙ k.words_are) in absurd (omega (arith, e))
 one_command words (convert s t f) (demo x v o) h k = let e : 99 ≡ 100 = verb_byte 0 _ _ (sym h.words_are ∙ k.words_are) in absurd (omega (arith, e))
+one_command words (einsum a b d) (pack u v g) h k = let e : 101 ≡ 112 = verb_byte 0 _ _ (sym h.words_are ∙ k.words_are) in absurd (omega (arith, e))
+one_command words (pack s t f) (einsum a b d) h k = let e : 112 ≡ 101 = verb_byte 0 _ _ (sym h.words_are ∙ k.words_are) in absurd (omega (arith, e))
+one_command words (einsum a b d) (unpack u v g) h k = let e : 101 ≡ 117 = verb_byte 0 _ _ (sym h.words_are ∙ k.words_are) in absurd (omega (arith, e))
+one_command words (unpack s t f) (einsum a b d) h k = let e : 117 ≡ 101 = verb_byte 0 _ _ (sym h.words_are ∙ k.words_are) in absurd (omega (arith, e))
+one_command words (einsum a b d) (convert u v g) h k = let e : 101 ≡ 99 = verb_byte 0 _ _ (sym h.words_are ∙ k.words_are) in absurd (omega (arith, e))
+one_command words (convert s t f) (einsum a b d) h k = let e : 99 ≡ 101 = verb_byte 0 _ _ (sym h.words_are ∙ k.words_are) in absurd (omega (arith, e))
+one_command words (einsum a b d) (demo x v o) h k = let e : 101 ≡ 100 = verb_byte 0 _ _ (sym h.words_are ∙ k.words_are) in absurd (omega (arith, e))
+one_command words (demo x v o) (einsum a b d) h k = let e : 100 ≡ 101 = verb_byte 0 _ _ (sym h.words_are ∙ k.words_are) in absurd (omega (arith, e))
 one_command words a b h k =
     let e : length (verb_of a ∷ arguments_of a) ≡ length (verb_of b ∷ arguments_of b) = ap length (sym h.words_are ∙ k.words_are) in absurd (omega (arith, e))
 

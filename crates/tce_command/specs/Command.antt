@@ -1,5 +1,5 @@
 -- The commands, as lists of words. Each word is a list of bytes.
-use Rattle.std.specs.Prelude.{◌≡◌, ◌≢◌, ℕ, ◌≤◌, ◌^◌, Bool, ◌||◌, ◌&&◌, ◌==◌, nat_eq, nat_lt, nat_le, IsTrue, List, [], ◌∷◌, length, codes}
+use Rattle.std.specs.Prelude.{◌≡◌, ◌≢◌, ℕ, ◌<◌, ◌≤◌, ◌^◌, Bool, ◌||◌, ◌&&◌, ◌==◌, nat_eq, nat_lt, nat_le, IsTrue, List, [], ◌∷◌, length, codes}
 use Rattle.std.specs.List.{list_all, ends_with}
 use Rattle.std.specs.Char.{is_ascii_alphanumeric}
 use Rattle.std.specs.Fmt.{decimal}
@@ -8,7 +8,7 @@ use Rattle.tce_array.specs.declared.form.Form.{Form}
 use Rattle.tce_array.specs.declared.form.Form.TheVariants.{One}
 use Rattle.tce_array.specs.Forms.{width}
 
--- names of files and tensors, a budget in words, and a form of array files; the first name is that of the specification's file. A demonstration has the number from which its elements come, and the extents of its two ranges
+-- names of files and tensors, a budget in words, and a form of array files; the first name is that of the specification's file. An einsum has its text and its path, and then the name of the specification's file. A demonstration has the number from which its elements come, and the extents of its two ranges
 pub data Command : Type 0 where
   run : List ℕ → ℕ → Command
   batch : List ℕ → ℕ → Command
@@ -19,6 +19,7 @@ pub data Command : Type 0 where
   unpack : List ℕ → List ℕ → List ℕ → Command
   convert : List ℕ → List ℕ → Form → Command
   expand : List ℕ → List ℕ → Command
+  einsum : List ℕ → List ℕ → List ℕ → Command
   demo : ℕ → ℕ → ℕ → Command
 
 -- the first word of a command, and the words behind it
@@ -32,6 +33,7 @@ verb_of (pack spec tensor flat) = codes "pack"
 verb_of (unpack spec tensor flat) = codes "unpack"
 verb_of (convert spec tensor form) = codes "convert"
 verb_of (expand spec tensor) = codes "expand"
+verb_of (einsum text path spec) = codes "einsum"
 verb_of (demo seed v o) = codes "demo"
 
 abbrev pub arguments_of : Command → List (List ℕ)
@@ -44,6 +46,7 @@ arguments_of (pack spec tensor flat) = spec ∷ tensor ∷ flat ∷ []
 arguments_of (unpack spec tensor flat) = spec ∷ tensor ∷ flat ∷ []
 arguments_of (convert spec tensor form) = spec ∷ tensor ∷ decimal (width form) ∷ []
 arguments_of (expand spec tensor) = spec ∷ tensor ∷ []
+arguments_of (einsum text path spec) = text ∷ path ∷ spec ∷ []
 arguments_of (demo seed v o) = decimal seed ∷ decimal v ∷ decimal o ∷ []
 
 -- a byte that may stand in the name of a file: a letter, a digit, or one of `_`, `-`, `.` and `/`
@@ -68,11 +71,15 @@ NamesFlat word = IsTrue (is_file_word (codes ".flat") word)
 abbrev pub NamesTensor : List ℕ → Type 0
 NamesTensor word = IsTrue (is_name word)
 
+-- a word of any bytes; no memory holds a longer one
+abbrev pub IsHeld : List ℕ → Type 0
+IsHeld word = length word < 2 ^ 63
+
 -- a number from the least to the most
 abbrev pub IsBetween : ℕ → ℕ → ℕ → Type 0
 IsBetween least most n = (least ≤ n) × (n ≤ most)
 
--- what the words of a command keep: a budget is at most 2^40, files are converted to the second version of their format alone, and a demonstration has a number below 2^31 - 1 and extents of at most 32
+-- what the words of a command keep: a budget is at most 2^40, files are converted to the second version of their format alone, the text and the path of an einsum are any words, and a demonstration has a number below 2^31 - 1 and extents of at most 32
 abbrev pub KeepsRules : Command → Type 0
 KeepsRules (run spec budget) = NamesSpec spec × (budget ≤ 2 ^ 40)
 KeepsRules (batch spec budget) = NamesSpec spec × (budget ≤ 2 ^ 40)
@@ -83,6 +90,7 @@ KeepsRules (pack spec tensor flat) = NamesSpec spec × NamesTensor tensor × Nam
 KeepsRules (unpack spec tensor flat) = NamesSpec spec × NamesTensor tensor × NamesFlat flat
 KeepsRules (convert spec tensor form) = NamesSpec spec × NamesTensor tensor × (form ≢ One)
 KeepsRules (expand spec tensor) = NamesSpec spec × NamesTensor tensor
+KeepsRules (einsum text path spec) = IsHeld text × IsHeld path × NamesSpec spec
 KeepsRules (demo seed v o) = IsBetween 1 2147483646 seed × IsBetween 1 32 v × IsBetween 1 32 o
 
 -- the words are those of this command

@@ -51,6 +51,12 @@ pub enum Command<'a> {
         spec: &'a str,
         tensor: &'a str,
     },
+    /// Writes the specification of an einsum text, whose operands are contracted along a path.
+    Einsum {
+        text: &'a str,
+        path: &'a str,
+        spec: &'a str,
+    },
     /// Makes an example, whose elements come from the number `seed`, and runs it. Its ranges have the extents `v` and `o`.
     Demo {
         seed: u64,

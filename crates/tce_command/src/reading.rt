@@ -109,6 +109,8 @@ fn read_with_three<'a>(
 {
     if verb == "demo" {
         read_demo(first.as_bytes(), second.as_bytes(), last.as_bytes())
+    } else if verb == "einsum" {
+        read_einsum(first, second, last)
     } else {
         read_on_tensor(verb, first, second, last)
     }
@@ -123,13 +125,23 @@ fn read_demo<'a>(seed: &[u8], v: &[u8], o: &[u8]) -> Option<Command<'a>>
     Some(Command::Demo { seed, v, o })
 }
 
+fn read_einsum<'a>(text: &'a str, path: &'a str, spec: &'a str) -> Option<Command<'a>>
+    ensures { MatchOption result (IsNoCommand (codes "einsum" ∷ text.now ∷ path.now ∷ spec.now ∷ [])) (λ command. IsCommand (codes "einsum" ∷ text.now ∷ path.now ∷ spec.now ∷ []) (command_of command)) }
+{
+    if !may_name_file(".tce", spec) {
+        return None;
+    }
+    Some(Command::Einsum { text, path, spec })
+}
+
 fn read_on_tensor<'a>(
     verb: &str,
     spec: &'a str,
     tensor: &'a str,
     last: &'a str,
 ) -> Option<Command<'a>>
-    requires { verb.now ≢ codes "demo" }
+    requires demo { verb.now ≢ codes "demo" }
+    requires einsum { verb.now ≢ codes "einsum" }
     ensures { MatchOption result (IsNoCommand (verb.now ∷ spec.now ∷ tensor.now ∷ last.now ∷ [])) (λ command. IsCommand (verb.now ∷ spec.now ∷ tensor.now ∷ last.now ∷ []) (command_of command)) }
 {
     if !may_name_file(".tce", spec) || !is_name(tensor.as_bytes()) {

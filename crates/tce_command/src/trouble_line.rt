@@ -2,7 +2,7 @@
 ghost use Rattle.std.specs.Prelude.{◌≡◌, ◌+◌, ◌*◌, ◌≤◌, ◌++◌, length, codes, All};
 ghost use Rattle.tce_space.specs.Space.{IsDeclared};
 ghost use Rattle.tce_report.specs.NodeLine.{set_text};
-ghost use Rattle.tce_cert_lines.specs.Lines.{classes_text};
+ghost use Rattle.tce_cert.specs.Lines.{classes_text};
 ghost use Rattle.tce_command.specs.Report as reports;
 
 use crate::line::{joined, numbered};

@@ -4,7 +4,7 @@ use Rattle.std.proofs.Math.Seq.{take-length}
 use Rattle.std.specs.Option.{ForSome}
 use Rattle.tce_outside.specs.Files.{Files, file}
 use Rattle.tce_declarations.specs.declared.fault.SpecFault.{SpecFault}
-use Rattle.tce_command.specs.Command.{Command, run, batch, plan, cert, check, pack, unpack, convert, expand, demo}
+use Rattle.tce_command.specs.Command.{Command, run, batch, plan, cert, check, pack, unpack, convert, expand, einsum, demo, KeepsRules}
 use Rattle.tce_command.specs.Report.{status_of, ending_of, code_of, line_over, wants_memory}
 use Rattle.tce_command.specs.Refusals.{IsFree, SameRefusal}
 use Rattle.tce_command.specs.CommandRefusals.{EndsAlike, MayReplace, OnCommon}
@@ -22,6 +22,7 @@ use Rattle.tce_batch_job.specs.Reports.{HasRun, HasTaken}
 use Rattle.tce_source.proofs.Outcomes.{not_both, one_refusal as one_source_refusal}
 use Rattle.tce_run.proofs.Reasons as runs
 use Rattle.tce_run.proofs.BatchReasons as batches
+use Rattle.tce_certify.proofs.OneEinsum as einsum_answers
 use Rattle.tce_verify.proofs.OneAnswer as verifications
 use Rattle.tce_tools.specs.Answers.{HasFlat, HasArray, HasFitting}
 use Rattle.tce_flat.specs.Tensors.{array_file, sym_file}
@@ -44,38 +45,40 @@ common_free : (P : Refusal → Type 0) → ((a : Refusal) → P a → IsFree a) 
 common_free P free (Common a) p = free a p
 common_free P free (Certificate trouble line) p = absurd p
 
-one_refusal : (files : Files) (command : Command) (a b : CommandRefusal) → IsCommandRefusal files command a → IsCommandRefusal files command b → (MayReplace b → ⊥) → MayReplace a ⊎ EndsAlike a b
-one_refusal files (run spec budget) a b p q free = common_alone _ (runs.alone files spec budget) a b p q free
-one_refusal files (batch spec budget) a b p q free = common_alone _ (batches.alone_batch files spec budget) a b p q free
-one_refusal files (plan spec) a b p q free = common_alone _ (one_source_refusal spec (file files spec)) a b p q free
-one_refusal files (cert spec name) a b p q free = common_alone _ (one_source_refusal spec (file files spec)) a b p q free
-one_refusal files (check spec name) a b p q free = verifications.alone files spec name a b p q free
-one_refusal files (pack spec tensor flat) a b p q free =
+one_refusal : (files : Files) (command : Command) (a b : CommandRefusal) → KeepsRules command → IsCommandRefusal files command a → IsCommandRefusal files command b → (MayReplace b → ⊥) → MayReplace a ⊎ EndsAlike a b
+one_refusal files (run spec budget) a b rules p q free = common_alone _ (runs.alone files spec budget) a b p q free
+one_refusal files (batch spec budget) a b rules p q free = common_alone _ (batches.alone_batch files spec budget) a b p q free
+one_refusal files (plan spec) a b rules p q free = common_alone _ (one_source_refusal spec (file files spec)) a b p q free
+one_refusal files (cert spec name) a b rules p q free = common_alone _ (one_source_refusal spec (file files spec)) a b p q free
+one_refusal files (check spec name) a b rules p q free = verifications.alone files spec name a b p q free
+one_refusal files (pack spec tensor flat) a b rules p q free =
     common_alone _ (λ x y. same_refusal files spec tensor (IsFlatRefusal files flat) x y (λ shape. one_flat_refusal files flat shape x y)) a b p q free
-one_refusal files (unpack spec tensor flat) a b p q free =
+one_refusal files (unpack spec tensor flat) a b rules p q free =
     common_alone _ (λ x y. same_refusal files spec tensor (IsArrayRefusal files tensor) x y (λ shape. one_array_refusal files tensor shape x y)) a b p q free
-one_refusal files (convert spec tensor form) a b p q free =
+one_refusal files (convert spec tensor form) a b rules p q free =
     common_alone _ (λ x y. same_refusal files spec tensor (IsFormRefusal files tensor form) x y (λ shape. one_form_refusal files tensor form shape x y)) a b p q free
-one_refusal files (expand spec tensor) a b p q free =
+one_refusal files (expand spec tensor) a b rules p q free =
     common_alone _ (λ x y. same_refusal files spec tensor (IsSymRefusal files tensor) x y (λ shape. one_sym_refusal files tensor shape x y)) a b p q free
-one_refusal files (demo seed v o) a b p q free = inl (common_free IsFree (λ x free. free) a p)
+one_refusal files (einsum text path spec) a b rules p q free = common_alone _ (λ x y. einsum_answers.alone text path x y rules.0) a b p q free
+one_refusal files (demo seed v o) a b rules p q free = inl (common_free IsFree (λ x free. free) a p)
 
-can_free : (files : Files) (command : Command) (a : CommandRefusal) → CanDo files command → IsCommandRefusal files command a → MayReplace a
-can_free files (run spec budget) a can p = common_free _ (λ x. runs.granted files spec budget x can) a p
-can_free files (batch spec budget) a can p = common_free _ (λ x. batches.granted_batch files spec budget x can) a p
-can_free files (plan spec) a can p = common_free _ (λ x. not_both files spec can.0 x can.1) a p
-can_free files (cert spec name) a can p = common_free _ (λ x. not_both files spec can.0 x can.1) a p
-can_free files (check spec name) a can p = verifications.granted files spec name a can p
-can_free files (pack spec tensor flat) a can p =
+can_free : (files : Files) (command : Command) (a : CommandRefusal) → KeepsRules command → CanDo files command → IsCommandRefusal files command a → MayReplace a
+can_free files (run spec budget) a rules can p = common_free _ (λ x. runs.granted files spec budget x can) a p
+can_free files (batch spec budget) a rules can p = common_free _ (λ x. batches.granted_batch files spec budget x can) a p
+can_free files (plan spec) a rules can p = common_free _ (λ x. not_both files spec can.0 x can.1) a p
+can_free files (cert spec name) a rules can p = common_free _ (λ x. not_both files spec can.0 x can.1) a p
+can_free files (check spec name) a rules can p = verifications.granted files spec name a can p
+can_free files (pack spec tensor flat) a rules can p =
     common_free _ (λ x. ready_not_refused files spec tensor (λ shape. HasFlat shape (file files flat)) (IsFlatRefusal files flat) x (λ shape. flat_not_refused files flat shape x) can) a p
-can_free files (unpack spec tensor flat) a can p =
+can_free files (unpack spec tensor flat) a rules can p =
     common_free _ (λ x. ready_not_refused files spec tensor (λ shape. HasArray shape (file files (array_file tensor))) (IsArrayRefusal files tensor) x (λ shape. array_not_refused files tensor shape x) can) a p
-can_free files (convert spec tensor form) a can p =
+can_free files (convert spec tensor form) a rules can p =
     common_free _
     (λ x. ready_not_refused files spec tensor (λ shape. HasFitting form shape (file files (array_file tensor))) (IsFormRefusal files tensor form) x (λ shape. form_not_refused files tensor form shape x) can) a p
-can_free files (expand spec tensor) a can p =
+can_free files (expand spec tensor) a rules can p =
     common_free _ (λ x. ready_not_refused files spec tensor (λ shape. HasPairs shape (file files (sym_file tensor))) (IsSymRefusal files tensor) x (λ shape. sym_not_refused files tensor shape x) can) a p
-can_free files (demo seed v o) a can p = common_free IsFree (λ x free. free) a p
+can_free files (einsum text path spec) a rules can p = common_free _ (λ x. einsum_answers.granted text path x rules.0 can) a p
+can_free files (demo seed v o) a rules can p = common_free IsFree (λ x free. free) a p
 
 -- what is done could be done, and took what it may take
 pub done_can : (command : Command) (before after : Option Files) (taken taken_after : List (ℕ × ℕ)) (report : List ℕ) → IsDone command before after taken taken_after report
@@ -90,6 +93,7 @@ done_can (unpack spec tensor flat) before after taken taken_after report done = 
 done_can (convert spec tensor form) before after taken taken_after report done = λ files told. (done.0.shape, done.0.tensor_is files told, done.0.converting.found files told)
 done_can (expand spec tensor) before after taken taken_after report done =
     λ files told. (done.0.shape, done.0.tensor_is files told, (done.0.expanding.symmetry, done.0.expanding.found files told))
+done_can (einsum text path spec) before after taken taken_after report done = λ files told. (done.0.specification, done.0.produced)
 done_can (demo seed v o) before after taken taken_after report done = λ files told. tt
 
 -- all formulas took in turn
@@ -110,6 +114,7 @@ done_takes (pack spec tensor flat) before after taken taken_after report done = 
 done_takes (unpack spec tensor flat) before after taken taken_after report done = done.1
 done_takes (convert spec tensor form) before after taken taken_after report done = done.1
 done_takes (expand spec tensor) before after taken taken_after report done = done.1
+done_takes (einsum text path spec) before after taken taken_after report done = done.1
 done_takes (demo seed v o) before after taken taken_after report done =
     inr (record { specification = done.specification; specified = done.specified; able = done.able; taking = record { plan = done.run.plan; least = done.run.least; taken = done.run.taken } })
 
@@ -182,38 +187,38 @@ done_cause files command status (inr (inl failed)) can = subst (IsCause files co
 done_cause files command status (inr (inr memory)) can = subst (IsCause files command) (sym memory) tt
 
 -- what another cause has of the refusal that came
-other_answers : (files : Files) (command : Command) (r : CommandRefusal) (due : Status) → IsCommandRefusal files command r → (IsFault due → ⊥) → HasRefusal files command due → Answers (ending_of r) due
-other_answers files command r due p free other =
-    elim (one_refusal files command r other.refusal p other.cause (λ f. free (subst IsFault (sym other.same) (free_fault other.refusal f)))) [
+other_answers : (files : Files) (command : Command) (r : CommandRefusal) (due : Status) → KeepsRules command → IsCommandRefusal files command r → (IsFault due → ⊥) → HasRefusal files command due → Answers (ending_of r) due
+other_answers files command r due rules p free other =
+    elim (one_refusal files command r other.refusal rules p other.cause (λ f. free (subst IsFault (sym other.same) (free_fault other.refusal f)))) [
       | inl f ↦ inl (free_fault r f)
       | inr same ↦ inr (same.0 ∙ ap code_of (sym other.same), λ space. same.1 space ∙ ap (line_over space) (sym other.same))
     ]
 
-due_answers : (files : Files) (command : Command) (r : CommandRefusal) (due : Status) → IsCommandRefusal files command r → (IsFault due → ⊥) → IsCause files command due → Answers (ending_of r) due
-due_answers files command r Done p free cause = inl (free_fault r (can_free files command r cause p))
-due_answers files command r DiskFault p free cause = absurd (free tt)
-due_answers files command r SinkFault p free cause = absurd (free tt)
-due_answers files command r WantOfMemory p free cause = absurd (free tt)
-due_answers files command r due p free cause = other_answers files command r due p free cause
+due_answers : (files : Files) (command : Command) (r : CommandRefusal) (due : Status) → KeepsRules command → IsCommandRefusal files command r → (IsFault due → ⊥) → IsCause files command due → Answers (ending_of r) due
+due_answers files command r Done rules p free cause = inl (free_fault r (can_free files command r rules cause p))
+due_answers files command r DiskFault rules p free cause = absurd (free tt)
+due_answers files command r SinkFault rules p free cause = absurd (free tt)
+due_answers files command r WantOfMemory rules p free cause = absurd (free tt)
+due_answers files command r due rules p free cause = other_answers files command r due rules p free cause
 
-pub refused_answers : (files : Files) (command : Command) (r : CommandRefusal) (status due : Status) → Kept r status → IsCommandRefusal files command r → (IsFault due → ⊥) → IsCause files command due
+pub refused_answers : (files : Files) (command : Command) (r : CommandRefusal) (status due : Status) → KeepsRules command → Kept r status → IsCommandRefusal files command r → (IsFault due → ⊥) → IsCause files command due
     → Answers status due
-refused_answers files command r status due (inl kept) p free cause = subst (λ s. Answers s due) (sym kept) (due_answers files command r due p free cause)
-refused_answers files command r status due (inr memory) p free cause = inl (subst IsFault (sym memory.0) tt)
+refused_answers files command r status due rules (inl kept) p free cause = subst (λ s. Answers s due) (sym kept) (due_answers files command r due rules p free cause)
+refused_answers files command r status due rules (inr memory) p free cause = inl (subst IsFault (sym memory.0) tt)
 
-no_other : (files : Files) (command : Command) (due : Status) → CanDo files command → (IsFault due → ⊥) → HasRefusal files command due → ⊥
-no_other files command due can free other = free (subst IsFault (sym other.same) (free_fault other.refusal (can_free files command other.refusal can other.cause)))
+no_other : (files : Files) (command : Command) (due : Status) → KeepsRules command → CanDo files command → (IsFault due → ⊥) → HasRefusal files command due → ⊥
+no_other files command due rules can free other = free (subst IsFault (sym other.same) (free_fault other.refusal (can_free files command other.refusal rules can other.cause)))
 
-is_done : (files : Files) (command : Command) (due : Status) → CanDo files command → (IsFault due → ⊥) → IsCause files command due → due ≡ Done
-is_done files command Done can free cause = refl
-is_done files command DiskFault can free cause = absurd (free tt)
-is_done files command SinkFault can free cause = absurd (free tt)
-is_done files command WantOfMemory can free cause = absurd (free tt)
-is_done files command due can free cause = absurd (no_other files command due can free cause)
+is_done : (files : Files) (command : Command) (due : Status) → KeepsRules command → CanDo files command → (IsFault due → ⊥) → IsCause files command due → due ≡ Done
+is_done files command Done rules can free cause = refl
+is_done files command DiskFault rules can free cause = absurd (free tt)
+is_done files command SinkFault rules can free cause = absurd (free tt)
+is_done files command WantOfMemory rules can free cause = absurd (free tt)
+is_done files command due rules can free cause = absurd (no_other files command due rules can free cause)
 
-pub done_answers : (files : Files) (command : Command) (status due : Status) → Put status → CanDo files command → (IsFault due → ⊥) → IsCause files command due → Answers status due
-done_answers files command status due (inl done) can free cause =
-    let same : status ≡ due = done ∙ sym (is_done files command due can free cause) in
+pub done_answers : (files : Files) (command : Command) (status due : Status) → KeepsRules command → Put status → CanDo files command → (IsFault due → ⊥) → IsCause files command due → Answers status due
+done_answers files command status due rules (inl done) can free cause =
+    let same : status ≡ due = done ∙ sym (is_done files command due rules can free cause) in
     inr (ap code_of same, λ space. ap (line_over space) same)
-done_answers files command status due (inr (inl failed)) can free cause = inl (subst IsFault (sym failed) tt)
-done_answers files command status due (inr (inr memory)) can free cause = inl (subst IsFault (sym memory) tt)
+done_answers files command status due rules (inr (inl failed)) can free cause = inl (subst IsFault (sym failed) tt)
+done_answers files command status due rules (inr (inr memory)) can free cause = inl (subst IsFault (sym memory) tt)

@@ -1,10 +1,13 @@
 -- What commands leave, by how they end.
 use Rattle.std.proofs.Common.{◌≡◌, refl, sym, ap, subst, ◌∙◌, ◌⊎◌, inl, inr, ℕ, List, [], ◌++◌, Option, Some}
-use Rattle.std.specs.Option.{ForSome, option_map}
-use Rattle.tce_outside.specs.Files.{Files}
+use Rattle.std.specs.Option.{ForSome, IsSomeAnd, option_map}
+use Rattle.tce_outside.specs.Files.{Files, holding, with_file}
 use Rattle.tce_outside.specs.Fault.{Rose}
+use Rattle.tce_array.proofs.MadeFiles.{file-with_file}
 use Rattle.tce_space.specs.Space.{IndexSpace}
-use Rattle.tce_command.specs.Command.{Command, run, batch, plan, cert, check, pack, unpack, convert, expand, demo, IsCommand}
+use Rattle.tce_spec.specs.Canonical.{canonical_of}
+use Rattle.tce_source.specs.Source.{Specifies}
+use Rattle.tce_command.specs.Command.{Command, run, batch, plan, cert, check, pack, unpack, convert, expand, einsum, demo, IsCommand}
 use Rattle.tce_command.specs.Report.{LineNames, IsWellFormed, NamesNoIndex, NamesNothing, cert_line, ending_of, line_over}
 use Rattle.tce_command.specs.CommandRefusals.{HasNames, MayReplace}
 use Rattle.tce_command.proofs.Statuses.{is_plain, over}
@@ -20,7 +23,7 @@ use Rattle.tce_command.specs.declared.status.Status.{Status}
 use Rattle.tce_command.specs.declared.status.Status.TheVariants.{Done, BadWords, SpecRefused, NoFile, ArrayRefused, BudgetTooSmall, IntermediatesTooLarge, CertRefused, DiskFault, SinkFault, WantOfMemory, FlatRefused, UnknownTensor, DoesNotFit, EinsumRefused, SymRefused}
 use Rattle.tce_top.specs.Performed.{HasIndexes, IsCommandRefusal, IsDone, KeepsRoom, LeavesFormulas, MayLeaveOther, NamesItsIndexes}
 use Rattle.tce_command.proofs.Commands.{one_command}
-use Rattle.tce_top.specs.Outcome.{AreNamed, IsDemonstration, IsPartOfBatch, IsTensorOf, IsWholeRun}
+use Rattle.tce_top.specs.Outcome.{AreNamed, IsDemonstration, IsPartOfBatch, IsTensorOf, IsWholeEinsum, IsWholeRun}
 use Rattle.tce_run.specs.BatchDone.{IsBatchLeft, IsCutOff}
 use Rattle.tce_top.proofs.Joined.{Kept, Put, free_fault}
 use Rattle.tce_top.proofs.Expansions.{words_tensor}
@@ -72,6 +75,7 @@ leaves (pack spec tensor flat) r e = subst MayReplace (sym e) tt
 leaves (unpack spec tensor flat) r e = subst MayReplace (sym e) tt
 leaves (convert spec tensor form) r e = subst MayReplace (sym e) tt
 leaves (expand spec tensor) r e = subst MayReplace (sym e) tt
+leaves (einsum text path spec) r e = subst MayReplace (sym e) tt
 leaves (demo seed v o) r free = free
 
 pub unchanged : (command : Command) (r : CommandRefusal) (status : Status) (A : Type 0) → Kept r status → IsRefusal status → MayLeaveOther command r ⊎ A → A
@@ -112,6 +116,7 @@ without_memory words (pack spec tensor flat) r status before after is kept memor
 without_memory words (unpack spec tensor flat) r status before after is kept memory left (inl disk) = absurd (no_disk r status kept memory disk)
 without_memory words (convert spec tensor form) r status before after is kept memory left (inl disk) = absurd (no_disk r status kept memory disk)
 without_memory words (expand spec tensor) r status before after is kept memory left (inl disk) = absurd (no_disk r status kept memory disk)
+without_memory words (einsum text path spec) r status before after is kept memory left (inl disk) = absurd (no_disk r status kept memory disk)
 without_memory words (demo seed v o) r status before after is kept memory left (inl free) = inr (inl (seed, v, o, is))
 
 -- what several formulas leave where the disk fails
@@ -140,6 +145,7 @@ keeps_same (pack spec tensor flat) told taken taken_after same = same
 keeps_same (unpack spec tensor flat) told taken taken_after same = same
 keeps_same (convert spec tensor form) told taken taken_after same = same
 keeps_same (expand spec tensor) told taken taken_after same = same
+keeps_same (einsum text path spec) told taken taken_after same = same
 keeps_same (demo seed v o) told taken taken_after same = same
 
 -- Lines.
@@ -249,3 +255,20 @@ whole_run spec budget files put before after taken taken_after report out out_af
     within = done.within;
   },
 )
+
+-- An einsum, whole.
+
+pub whole_einsum : (text path spec : List ℕ) (files : Files) (before after : Option Files) (taken taken_after : List (ℕ × ℕ)) (report : List ℕ) → IsDone (einsum text path spec) before after taken taken_after report
+    → before ≡ Some files → (left : Files) × (after ≡ Some left) × IsWholeEinsum text path spec files left
+whole_einsum text path spec files before after taken taken_after report done told =
+    let written : List ℕ = canonical_of done.0.specification in (
+      with_file files spec written,
+      done.0.written ∙ ap (holding spec written) told,
+      record {
+        specification = done.0.specification;
+        produced = done.0.produced;
+        value = done.0.value;
+        written = refl;
+        specified = subst (λ o. IsSomeAnd o (λ bytes. Specifies bytes done.0.specification)) (sym (file-with_file files spec written)) done.0.specified;
+      },
+    )

@@ -1,5 +1,6 @@
 -- What the program leaves.
 use Rattle.std.specs.Prelude.{◌≡◌, ◌≤◌, ⊤, ℕ, List, [], ◌∷◌, ◌++◌, Option, Some}
+use Rattle.std.specs.declared.result.Result.TheVariants.{Ok}
 use Rattle.tce_outside.specs.Files.{Files, with_file}
 use Rattle.tce_space.specs.Space.{IndexSpace}
 use Rattle.tce_array.specs.declared.form.Form.TheVariants.{One}
@@ -10,9 +11,12 @@ use Rattle.tce_report.specs.NodeLine.{stated}
 use Rattle.tce_report.specs.Report.{run_text}
 use Rattle.tce_spec.specs.Specification.{Specification}
 use Rattle.tce_spec.specs.Operands.{shape_of}
-use Rattle.tce_result.specs.TensorFiles.{file_of}
-use Rattle.tce_result.specs.ResultBytes.{result_bytes}
-use Rattle.tce_takings.specs.Takings.{tile_take}
+use Rattle.tce_spec.specs.Canonical.{canonical_of}
+use Rattle.tce_einsum.specs.Answer.{Produces}
+use Rattle.tce_einsum.specs.HasValue.{HasValueOfEinsum}
+use Rattle.tce_tensors.specs.TensorFiles.{file_of}
+use Rattle.tce_tensors.specs.ResultBytes.{result_bytes}
+use Rattle.tce_tensors.specs.Takings.{tile_take}
 use Rattle.tce_source.specs.Source.{HasSpecification}
 use Rattle.tce_run.specs.BatchDone.{AreFirstRun}
 use Rattle.tce_command.specs.Command.{Command, batch, demo, expand, IsCommand}
@@ -38,6 +42,14 @@ pub record IsWholeRun (spec : List ℕ) (budget : ℕ) (files after : Files) (ta
       ≡ put ++ run_text specification.declarations.space specification.tree (stated plan) (tile_take specification budget) (file_of specification specification.result) (form_len One (shape_of specification specification.result))
   pub taken_is : taken_after ≡ taken ++ (plan.memory, tile_take specification budget) ∷ []
   pub within : tile_take specification budget ≤ budget
+
+-- an einsum whose disk tells: its file holds the canonical text of the specification that the text and the path produce, and specifies it; all other files are the old ones; and the value of the specification, at each assignment of the output's labels, is the sum over all assignments of the other labels of the product of the operands
+pub record IsWholeEinsum (text path spec : List ℕ) (files after : Files) : Type 0 where
+  pub specification : Specification
+  pub produced : Produces text path (Ok specification)
+  pub value : HasValueOfEinsum text path specification
+  pub written : after ≡ with_file files spec (canonical_of specification)
+  pub specified : HasSpecification after spec specification
 
 -- where the status is that of a refused file of stored pairs, the disk tells its files and the words are those of the expansion of this tensor
 abbrev pub IsTensorOf : List (List ℕ) → Option Files → Status → List ℕ → Type 0

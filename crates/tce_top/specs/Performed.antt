@@ -5,7 +5,7 @@ use Rattle.tce_outside.specs.Files.{Files, others}
 use Rattle.tce_space.specs.Space.{IndexSpace}
 use Rattle.tce_spec.specs.Specification.{Specification}
 use Rattle.tce_source.specs.Source.{HasSpecification}
-use Rattle.tce_command.specs.Command.{Command, run, batch, plan, cert, check, pack, unpack, convert, expand, demo}
+use Rattle.tce_command.specs.Command.{Command, run, batch, plan, cert, check, pack, unpack, convert, expand, einsum, demo}
 use Rattle.tce_command.specs.Report.{cert_line}
 use Rattle.tce_command.specs.Refusals.{IsFree}
 use Rattle.tce_command.specs.CommandRefusals.{MayReplace, OnCommon}
@@ -20,6 +20,8 @@ use Rattle.tce_plan.specs.Done.{IsPlanned}
 use Rattle.tce_plan.specs.Refusals.{CanPlan, IsPlanRefusal}
 use Rattle.tce_certify.specs.Done.{IsCertified}
 use Rattle.tce_certify.specs.Refusals.{CanCertify, IsCertifyRefusal}
+use Rattle.tce_certify.specs.EinsumDone.{IsEinsumWritten}
+use Rattle.tce_certify.specs.EinsumRefusals.{CanWriteEinsum, IsEinsumRefusal}
 use Rattle.tce_verify.specs.Done.{CanVerify, IsVerified}
 use Rattle.tce_verify.specs.Refusals.{IsVerifyRefusal}
 use Rattle.tce_flat.specs.Tensors.{array_file, converted_file}
@@ -28,7 +30,7 @@ use Rattle.tce_flat.specs.Done.{IsPacked, IsUnpacked, IsConverted, IsExpanded}
 use Rattle.tce_example.specs.Files.{DemoOthersStay}
 use Rattle.tce_demo.specs.Done.{IsDemonstrated, IsDemoTaking}
 
--- the disk has all that the command needs; a demonstration needs nothing
+-- the disk has all that the command needs; an einsum needs its words alone, and a demonstration nothing
 abbrev pub CanDo : Files → Command → Type 0
 CanDo files (run spec budget) = CanRunFile files spec budget
 CanDo files (batch spec budget) = CanRunBatch files spec budget
@@ -39,6 +41,7 @@ CanDo files (pack spec tensor flat) = CanPack files spec tensor flat
 CanDo files (unpack spec tensor flat) = CanUnpack files spec tensor
 CanDo files (convert spec tensor form) = CanConvert files spec tensor form
 CanDo files (expand spec tensor) = CanExpand files spec tensor
+CanDo files (einsum text path spec) = CanWriteEinsum text path
 CanDo files (demo seed v o) = ⊤
 
 -- why the command is refused; a demonstration is refused where the disk fails or memory is wanting alone
@@ -52,6 +55,7 @@ IsCommandRefusal files (pack spec tensor flat) refusal = OnCommon (IsPackRefusal
 IsCommandRefusal files (unpack spec tensor flat) refusal = OnCommon (IsUnpackRefusal files spec tensor) refusal
 IsCommandRefusal files (convert spec tensor form) refusal = OnCommon (IsConvertRefusal files spec tensor form) refusal
 IsCommandRefusal files (expand spec tensor) refusal = OnCommon (IsExpandRefusal files spec tensor) refusal
+IsCommandRefusal files (einsum text path spec) refusal = OnCommon (IsEinsumRefusal text path) refusal
 IsCommandRefusal files (demo seed v o) refusal = OnCommon IsFree refusal
 
 -- the command is done, with this report
@@ -65,6 +69,7 @@ IsDone (pack spec tensor flat) before after taken taken_after report = IsPacked 
 IsDone (unpack spec tensor flat) before after taken taken_after report = IsUnpacked before after spec tensor flat report × (taken_after ≡ taken)
 IsDone (convert spec tensor form) before after taken taken_after report = IsConverted before after spec tensor form report × (taken_after ≡ taken)
 IsDone (expand spec tensor) before after taken taken_after report = IsExpanded before after spec tensor report × (taken_after ≡ taken)
+IsDone (einsum text path spec) before after taken taken_after report = IsEinsumWritten before after text path spec report × (taken_after ≡ taken)
 IsDone (demo seed v o) before after taken taken_after report = IsDemonstrated before after taken taken_after seed v o report
 
 -- all files stay but this one
@@ -82,6 +87,7 @@ OthersStay (pack spec tensor flat) before after = StayBut (array_file tensor) be
 OthersStay (unpack spec tensor flat) before after = StayBut flat before after
 OthersStay (convert spec tensor form) before after = StayBut (converted_file tensor) before after
 OthersStay (expand spec tensor) before after = StayBut (array_file tensor) before after
+OthersStay (einsum text path spec) before after = StayBut spec before after
 OthersStay (demo seed v o) before after = DemoOthersStay before after
 
 -- the takings are as they were, or a run or a demonstration took once, or the first of several formulas did in turn

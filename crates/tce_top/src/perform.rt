@@ -9,7 +9,7 @@ ghost use Rattle.tce_command.specs.Report.{IsWellFormed, ending_of};
 ghost use Rattle.tce_top.specs.Performed.{IsCommandRefusal, IsDone, KeepsRoom, LeavesFormulas, MayLeaveOther, MayTake, NamesItsIndexes, OthersStay};
 
 use std::alloc::Global;
-use tce_certify::certify;
+use tce_certify::{certify, write_einsum};
 use tce_command::{Command, CommandRefusal, Refusal};
 use tce_demo::demo;
 use tce_flat::{convert, expand, pack, unpack};
@@ -55,6 +55,9 @@ pub fn perform<D: Disk, R: Room>(
             alloc, spec, tensor, form, disk,
         )?.into_bytes()),
         Command::Expand { spec, tensor } => Ok(expand(alloc, spec, tensor, disk)?.into_bytes()),
+        Command::Einsum { text, path, spec } => Ok(write_einsum(
+            alloc, text, path, spec, disk,
+        )?.into_bytes()),
         Command::Demo { seed, v, o } => Ok(demo(alloc, seed, v, o, disk, room)?.into_bytes()),
     }
 }

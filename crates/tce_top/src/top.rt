@@ -3,13 +3,13 @@ ghost use Rattle.std.specs.Prelude.{◌≡◌, ◌⊎◌, ℕ, List, Some, map};
 ghost use Rattle.std.specs.String.{string_bytes};
 ghost use Rattle.tce_outside.specs.Fault.{HasCause};
 ghost use Rattle.tce_outside.specs.Files.{Files};
-ghost use Rattle.tce_command.specs.Command.{batch, run, IsCommand, IsNoCommand};
+ghost use Rattle.tce_command.specs.Command.{batch, einsum, run, IsCommand, IsNoCommand};
 ghost use Rattle.tce_command.specs.Report.{IsWellFormed, LineNames, NamesNoIndex};
 ghost use Rattle.tce_command.specs.declared.trouble.CertTrouble.{CertTrouble};
 ghost use Rattle.tce_command.specs.Outcome.{Answers, Grew, GrewWithin, HasErrorLine, HasLine, IsFault, IsRefusal};
 ghost use Rattle.tce_top.specs.Performed.{KeepsRoom, MayTake, OthersStay};
 ghost use Rattle.tce_top.specs.Cause.{IsCause, OfCommand, Told};
-ghost use Rattle.tce_top.specs.Outcome.{AreNamed, IsDemonstration, IsFinished, IsPartOfBatch, IsTensorOf, IsWholeRun};
+ghost use Rattle.tce_top.specs.Outcome.{AreNamed, IsDemonstration, IsFinished, IsPartOfBatch, IsTensorOf, IsWholeEinsum, IsWholeRun};
 ghost use Rattle.tce_run.specs.BatchDone.{IsCutOff};
 
 use crate::perform::perform;
@@ -37,6 +37,11 @@ pub fn tce<D: Disk, K: Sink, R: Room>(
         → (files : Files) (put : List ℕ) → D.files disk.old ≡ Some files → K.bytes out.old ≡ Some put
         → (after : Files) × (put_after : List ℕ) × (D.files disk.new ≡ Some after) × (K.bytes out.new ≡ Some put_after)
         × IsWholeRun spec budget files after (R.takings room.old) (R.takings room.new) put put_after }
+
+    // An einsum that is done, where the disk tells.
+    ensures einsum { result ≡ Status.Done → (text path spec : List ℕ) → IsCommand (map string_bytes words.now) (einsum text path spec)
+        → (files : Files) → D.files disk.old ≡ Some files
+        → (after : Files) × (D.files disk.new ≡ Some after) × IsWholeEinsum text path spec files after }
 
     // When each status comes: only where its cause stands, and where a cause stands no other status but a fault.
     ensures bad_words { result ≡ Status.BadWords → IsNoCommand (map string_bytes words.now) }

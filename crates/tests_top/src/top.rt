@@ -3,6 +3,7 @@
 mod batches;
 mod certificates;
 mod demonstrations;
+mod einsums;
 mod failing;
 mod flat_files;
 mod given;

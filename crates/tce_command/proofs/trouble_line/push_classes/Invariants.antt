@@ -1,5 +1,5 @@
 use Rattle.std.proofs.Common.{◌≡◌, ◌≤◌, ◌+◌, ◌*◌, ◌++◌, ◌∷◌, length, get_or, take}
-use Rattle.tce_cert_lines.specs.Lines.{classes_text}
+use Rattle.tce_cert.specs.Lines.{classes_text}
 use Rattle.tce_command.proofs.trouble_line.push_classes.Given as goal
 
 abbrev pub invariant-loop-class : goal.invariant-loop-class

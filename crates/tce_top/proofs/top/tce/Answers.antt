@@ -1,5 +1,5 @@
 use Rattle.std.proofs.Common.{refl, inl, sym, subst, rules}
-use Rattle.tce_command.specs.Command.{batch, run}
+use Rattle.tce_command.specs.Command.{batch, einsum, run}
 use Rattle.tce_command.specs.Outcome.{Grew}
 use Rattle.tce_command.specs.Report.{ending_of}
 use Rattle.tce_command.specs.declared.status.Status.TheVariants.{BadWords}
@@ -31,6 +31,15 @@ returns-in-Ok-clause-run g c = λ done spec budget is files put told sink.
     (sym same) c.in-Ok.ensures.done)
     grew told sink
 
+pub returns-in-Ok-clause-einsum : goal.returns-in-Ok-clause-einsum
+returns-in-Ok-clause-einsum g c = λ done text path spec is files told.
+    let same = one_command _ _ (einsum text path spec) c.in-Some.ensures is in
+    left.whole_einsum text path spec files _ _ _ _ _
+    (subst
+    (λ k. IsDone k (g.D.Disk.files c.args.disk.now) (g.D.Disk.files c.perform.new.disk) (g.R.Room.takings c.args.room.now) (g.R.Room.takings c.perform.new.room) c.in-Ok.report.items)
+    (sym same) c.in-Ok.ensures.done)
+    told
+
 pub returns-in-Ok-clause-cause : goal.returns-in-Ok-clause-cause
 returns-in-Ok-clause-cause g c = λ command is files told.
     let same = one_command _ _ command c.in-Some.ensures is in
@@ -41,7 +50,7 @@ pub returns-in-Ok-clause-exactly : goal.returns-in-Ok-clause-exactly
 returns-in-Ok-clause-exactly g c = λ command is files told due free cause.
     let same = one_command _ _ command c.in-Some.ensures is in
     let can = done_can _ _ _ _ _ _ c.in-Ok.ensures.done files told in
-    done_answers files command c.finish.result due c.finish.ensures.cases (subst (CanDo files) (sym same) can) free cause
+    done_answers files command c.finish.result due is.rules c.finish.ensures.cases (subst (CanDo files) (sym same) can) free cause
 
 pub returns-in-Ok-clause-takings : goal.returns-in-Ok-clause-takings
 returns-in-Ok-clause-takings g c = λ command is.
@@ -62,7 +71,7 @@ returns-in-Err-clause-cause g c = λ command is files told.
 pub returns-in-Err-clause-exactly : goal.returns-in-Err-clause-exactly
 returns-in-Err-clause-exactly g c = λ command is files told due free cause.
     let same = one_command _ _ command c.in-Some.ensures is in
-    refused_answers files command c.in-Err.refusal c.refuse.result due c.refuse.ensures.kept
+    refused_answers files command c.in-Err.refusal c.refuse.result due is.rules c.refuse.ensures.kept
     (subst (λ k. IsCommandRefusal files k c.in-Err.refusal) (sym same) (c.in-Err.ensures.refused files told)) free cause
 
 pub returns-in-Err-clause-unchanged : goal.returns-in-Err-clause-unchanged
