@@ -11,7 +11,7 @@ use Rattle.tce_states.specs.Row.{Row, rows_joined}
 use Rattle.tce_states.proofs.ClassLists.{tally, tally-bound, tally-le, tally-lt, AreLevels, levels}
 use Rattle.tce_states.proofs.StateClasses.{Divides}
 use Rattle.tce_nesting.specs.Classes.{IsJoinOf}
-use Rattle.tce_steps.specs.Steps.{IsRowJoin}
+use Rattle.tce_candidates.specs.Steps.{IsRowJoin}
 
 one_more : (ci cj ck rki rkj rij : Bool) → (rkj ≡ true → (rki ≡ true) ⊎ (rij ≡ true)) → (not cj && (ck || rkj)) ≡ true
     → ((not ci && (ck || rki)) ≡ true) ⊎ ((not cj && (ci || rij)) ≡ true)

@@ -13,7 +13,7 @@ use Rattle.tce_nesting.specs.Classes.{restricted, AllowsSet}
 use Rattle.tce_nesting.specs.declared.choice.Choice.{Choice}
 use Rattle.tce_nesting.proofs.Joins.{in_class-above}
 use Rattle.tce_nesting.proofs.Cuts.{above-restricted}
-use Rattle.tce_steps.specs.Steps.{IsRowJoin}
+use Rattle.tce_candidates.specs.Steps.{IsRowJoin}
 use Rattle.tce_candidates.specs.declared.candidate.Candidate.{Candidate}
 use Rattle.tce_candidates.specs.Candidates.{Stands, StandForAll, ChoiceCovered, PairCovered, IsReachedBelow, IsLimited, LeavesRoom, HaveRoom, limit_candidate}
 use Rattle.tce_candidates.specs.Groups.{LeavesOpen}

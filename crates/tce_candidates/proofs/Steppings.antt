@@ -12,7 +12,7 @@ use Rattle.tce_nesting.specs.Laws.{TellsStep}
 use Rattle.tce_nesting.proofs.NestingLaws.{joins_tell_steps}
 use Rattle.tce_nesting.specs.declared.choice.Choice.{Choice}
 use Rattle.tce_nesting.specs.Choices.{AreChoices}
-use Rattle.tce_steps.specs.Steps.{IsRowJoin}
+use Rattle.tce_candidates.specs.Steps.{IsRowJoin}
 use Rattle.tce_nesting.proofs.SubsetLists.{dims_within}
 use Rattle.tce_candidates.specs.declared.candidate.Candidate.{Candidate}
 use Rattle.tce_candidates.specs.Candidates.{Stands}

@@ -5,7 +5,7 @@ use Rattle.tce_states.specs.Relation.{Relation, above, HasNoConflict}
 use Rattle.tce_states.specs.Row.{Row, StandsFor, rows_joined}
 use Rattle.tce_nesting.specs.Classes.{AllowsSet, restricted}
 use Rattle.tce_nesting.specs.declared.choice.Choice.{Choice}
-use Rattle.tce_steps.specs.Steps.{IsRowJoin, IsRestricted}
+use Rattle.tce_candidates.specs.Steps.{IsRowJoin, IsRestricted}
 use Rattle.tce_candidates.specs.declared.candidate.Candidate.{Candidate}
 
 -- the candidate's row stands for a state

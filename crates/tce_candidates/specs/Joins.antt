@@ -5,7 +5,7 @@ use Rattle.tce_states.specs.Relation.{above, HasNoConflict}
 use Rattle.tce_states.specs.Row.{rows_joined}
 use Rattle.tce_nesting.specs.Classes.{AllowsSet}
 use Rattle.tce_nesting.specs.declared.choice.Choice.{Choice}
-use Rattle.tce_steps.specs.Steps.{IsRowJoin, IsRestricted}
+use Rattle.tce_candidates.specs.Steps.{IsRowJoin, IsRestricted}
 use Rattle.tce_candidates.specs.declared.candidate.Candidate.{Candidate}
 use Rattle.tce_candidates.specs.Candidates.{Stands}
 

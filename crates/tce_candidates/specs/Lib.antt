@@ -4,3 +4,4 @@ pub mod Joins
 pub mod Laws
 pub mod Parts
 pub mod Reached
+pub mod Steps

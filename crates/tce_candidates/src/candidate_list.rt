@@ -6,12 +6,12 @@ ghost use Rattle.tce_candidates.specs.Groups.{StandsAt, group_of};
 
 use crate::candidate::Candidate;
 use crate::groups::{Entry, Groups};
+use crate::stands_for;
 use crate::upper::{marks_of, upper_parts};
 use std::alloc::{AllocError, Global};
 use std::marker::Model;
 use tce_nesting::Row;
 use tce_space::IndexSet;
-use tce_steps::stands_for;
 
 /// Candidates of a node in the order in which they came, to be compared on outer loops.
 ///

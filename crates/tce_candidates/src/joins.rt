@@ -7,10 +7,10 @@ ghost use Rattle.tce_candidates.specs.Joins.{IsJoinBelow, IsSomeJoinBelow, JoinC
 
 use crate::candidate::{Candidate, both_sets};
 use crate::candidate_list::CandidateList;
+use crate::join_rows;
 use crate::thinned::thinned;
 use std::alloc::{AllocError, Global};
 use tce_space::IndexSet;
-use tce_steps::join_rows;
 
 // Whether two operands' candidates together cost less than the limit.
 fn are_below(left: &Candidate, right: &Candidate, limit: u128) -> bool

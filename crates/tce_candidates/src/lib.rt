@@ -1,4 +1,6 @@
-//! Candidates of a node: the states that its subtree may have under some fusion, each with that fusion, and no more of them than the search for a least one needs (after Lam et al. 1999).
+//! Candidates of a node: the states that its subtree may have under some fusion, each with that fusion, and no more of
+//! them than the search for a least one needs (after Lam et al. 1999). `steps.rt` says what states of the operands of a
+//! node become there.
 #![tactic(auto)]
 
 mod candidate;
@@ -6,10 +8,12 @@ mod candidate_list;
 mod groups;
 mod joins;
 mod laws;
+mod steps;
 mod table;
 mod thinned;
 mod upper;
 
 pub use candidate::{Candidate, joined_sets};
 pub use laws::{covered_pairs_cover_steps, leaves_have_states, steps_are_states};
+pub use steps::{is_stood_for, join_rows, stands_for, step};
 pub use table::candidates_of;

@@ -9,11 +9,11 @@ ghost use Rattle.tce_candidates.specs.Joins.{IsStepFrom, IsSomeStepFrom, HasNext
 use crate::candidate::{Candidate, at_limit, with_set};
 use crate::candidate_list::CandidateList;
 use crate::joins::joins_of;
+use crate::step;
 use crate::thinned::thinned;
 use std::alloc::{AllocError, Global};
 use tce_nesting::Choice;
 use tce_space::IndexSet;
-use tce_steps::step;
 
 // Appends the step of one choice, where its set is allowed, it costs less than the limit, and no candidate stands for it.
 fn add_step(

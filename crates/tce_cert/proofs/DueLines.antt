@@ -10,8 +10,8 @@ use Rattle.tce_report.specs.NodeForm as nodes
 use Rattle.tce_report.specs.NodeLine.{Said, Says}
 use Rattle.tce_report.specs.ReadLine.{form_saying}
 use Rattle.tce_report.proofs.Reading.{saying_form, saying_text}
-use Rattle.tce_cert_lines.specs.Forms.{StatesMemory, StatesTable, StatesRow}
-use Rattle.tce_cert_lines.specs.Lines.{opening_line, end_line}
+use Rattle.tce_cert.specs.Forms.{StatesMemory, StatesTable, StatesRow}
+use Rattle.tce_cert.specs.Lines.{opening_line, end_line}
 use Rattle.tce_cert.specs.Faults.{Due, opening, node, memory, table, row, ending, IsDue}
 
 -- a line that says something of a node has the form of such a line

@@ -5,7 +5,7 @@ use Rattle.std.proofs.lemmas.Bool.{eq-eqb}
 use Rattle.std.proofs.lemmas.List.Splits.{slice_split_at, slice_split_none, length-slice_split}
 use Rattle.tce_space.specs.Space.{IndexSpace}
 use Rattle.tce_tree.specs.ContractionTree.{ContractionTree}
-use Rattle.tce_cert_lines.specs.Cut.{Lacks, IsCut}
+use Rattle.tce_cert.specs.Cut.{Lacks, IsCut}
 use Rattle.tce_cert.specs.declared.fault.CertFault.{CertFault}
 use Rattle.tce_cert.specs.declared.fault.CertFault.TheVariants.{BadText}
 use Rattle.tce_cert.specs.Faults.{Due, IsDue, IsFaultOf, IsFirstFault, IsFaultIn}

@@ -11,3 +11,7 @@ pub mod NoFault
 pub mod Nestings
 pub mod OneSaid
 pub mod OnePlan
+pub mod Cuts
+pub mod Stated
+pub mod StatedClass
+pub mod StatedRows

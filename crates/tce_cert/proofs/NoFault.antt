@@ -28,10 +28,10 @@ use Rattle.tce_report.specs.NodeForm.{Form, IsForm, IsArrayForm, ArrayForm, form
 use Rattle.tce_report.specs.NodeLine.{MaySay, Said, said_of, stated, node_line, line_saying, set_text, loops_written, kind_word}
 use Rattle.tce_report.specs.ReadLine.{form_saying}
 use Rattle.tce_report.proofs.Reading.{saying_form, saying_text}
-use Rattle.tce_cert_lines.specs.Cut.{Lacks}
-use Rattle.tce_cert_lines.specs.Lines.{opening_line, memory_line, table_line, row_line, classes_text, end_line}
-use Rattle.tce_cert_lines.proofs.Stated.{decimal_lacks}
-use Rattle.tce_cert_lines.proofs.StatedClass.{both, names_are_names, members_declared, set_declared}
+use Rattle.tce_cert.specs.Cut.{Lacks}
+use Rattle.tce_cert.specs.Lines.{opening_line, memory_line, table_line, row_line, classes_text, end_line}
+use Rattle.tce_cert.proofs.Stated.{decimal_lacks}
+use Rattle.tce_cert.proofs.StatedClass.{both, names_are_names, members_declared, set_declared}
 use Rattle.tce_cert.specs.declared.fault.CertFault.{CertFault}
 use Rattle.tce_cert.specs.declared.fault.CertFault.TheVariants.{BadText, WrongTree, Memory}
 use Rattle.tce_cert.specs.Certificate.{text_of, table_lines, certificate, certificate_lines, nodes_lines, tables_lines}

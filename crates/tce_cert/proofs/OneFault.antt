@@ -3,10 +3,10 @@ use Rattle.std.proofs.Common.{◌≡◌, ℕ, ◌+◌, List, [], ◌∷◌, ◌+
 use Rattle.std.specs.Fmt.{decimal}
 use Rattle.tce_space.specs.Space.{IndexSpace}
 use Rattle.tce_tree.specs.ContractionTree.{ContractionTree}
-use Rattle.tce_cert_lines.specs.Forms.{StatesTable}
-use Rattle.tce_cert_lines.proofs.Cuts.{cut_once}
-use Rattle.tce_cert_lines.proofs.Stated.{decimal_lacks}
-use Rattle.tce_cert_lines.proofs.StatedRows.{decimal_once}
+use Rattle.tce_cert.specs.Forms.{StatesTable}
+use Rattle.tce_cert.proofs.Cuts.{cut_once}
+use Rattle.tce_cert.proofs.Stated.{decimal_lacks}
+use Rattle.tce_cert.proofs.StatedRows.{decimal_once}
 use Rattle.tce_cert.specs.declared.fault.CertFault.{CertFault}
 use Rattle.tce_cert.specs.Faults.{Due, opening, node, memory, table, row, ending, IsDue, IsFaultOf, IsFirstFault}
 use Rattle.tce_cert.specs.Laws.{FirstFaultsAreAlone}

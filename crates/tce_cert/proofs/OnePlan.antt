@@ -22,12 +22,12 @@ use Rattle.tce_states.specs.Row.{Row, rows_at}
 use Rattle.tce_nesting.specs.Plan.{PlanFits, RowFits, LiesWithin}
 use Rattle.tce_nesting.specs.declared.plan.Plan.{Plan}
 use Rattle.tce_report.specs.NodeLine.{Said, MaySay, stated, said_of, node_line, line_saying, set_text}
-use Rattle.tce_cert_lines.specs.Forms.{StatesClasses, StatesRow, StatesTable}
-use Rattle.tce_cert_lines.specs.Lines.{opening_line, memory_line, table_line, row_line, classes_text, end_line}
-use Rattle.tce_cert_lines.proofs.Cuts.{cut_once}
-use Rattle.tce_cert_lines.proofs.Stated.{cost_once}
-use Rattle.tce_cert_lines.proofs.StatedClass.{set_declared, both}
-use Rattle.tce_cert_lines.proofs.StatedRows.{none_stated, classes_parts, decimal_once}
+use Rattle.tce_cert.specs.Forms.{StatesClasses, StatesRow, StatesTable}
+use Rattle.tce_cert.specs.Lines.{opening_line, memory_line, table_line, row_line, classes_text, end_line}
+use Rattle.tce_cert.proofs.Cuts.{cut_once}
+use Rattle.tce_cert.proofs.Stated.{cost_once}
+use Rattle.tce_cert.proofs.StatedClass.{set_declared, both}
+use Rattle.tce_cert.proofs.StatedRows.{none_stated, classes_parts, decimal_once}
 use Rattle.tce_cert.specs.Certificate.{text_of, table_lines, certificate, certificate_lines, nodes_lines, tables_lines}
 use Rattle.tce_cert.specs.Laws.{IsNestingRow, AreNestingRows, RowsAreNestings, PlansAreTheirCertificates}
 use Rattle.tce_cert.proofs.NoFault.{Fit, to_lacks, saying_lacks, row_lacks, head_lacks, number_lacks, in_both, may_say}

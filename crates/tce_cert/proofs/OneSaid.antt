@@ -25,8 +25,8 @@ use Rattle.tce_report.specs.ReadLine.{form_saying}
 use Rattle.tce_report.specs.Fields.{form_fields, array_fields}
 use Rattle.tce_report.proofs.Forms.{form_parts}
 use Rattle.tce_report.proofs.Reading.{order_is_declared, fused_is_declared, saying_form, saying_text}
-use Rattle.tce_cert_lines.proofs.StatedClass.{names_are_names, members_declared}
-use Rattle.tce_cert_lines.proofs.StatedRows.{decimal_once}
+use Rattle.tce_cert.proofs.StatedClass.{names_are_names, members_declared}
+use Rattle.tce_cert.proofs.StatedRows.{decimal_once}
 
 -- Names tell indexes apart.
 

@@ -11,7 +11,7 @@ use Rattle.tce_tree.specs.WellFormed.{IsDeclaredTree}
 use Rattle.tce_tree.proofs.NamedIndexes.{node_dims_declared}
 use Rattle.tce_states.specs.Row.{Row, rows_at}
 use Rattle.tce_nesting.specs.Plan.{RowsFit}
-use Rattle.tce_cert_lines.specs.Lines.{classes_text}
+use Rattle.tce_cert.specs.Lines.{classes_text}
 
 pub members_declared : (space : IndexSpace) (set : ℕ) → IsDeclared space set → All (λ i. i < length space.indexes) (members set)
 unfolding members

@@ -8,8 +8,8 @@ use Rattle.tce_space.specs.Space.{IndexSpace}
 use Rattle.tce_tree.specs.ContractionTree.{ContractionTree, node_dims}
 use Rattle.tce_states.specs.Row.{Row, rows_at}
 use Rattle.tce_nesting.specs.Plan.{RowFits}
-use Rattle.tce_cert_lines.specs.Forms.{StatesRow}
-use Rattle.tce_cert_lines.specs.Lines.{row_line}
+use Rattle.tce_cert.specs.Forms.{StatesRow}
+use Rattle.tce_cert.specs.Lines.{row_line}
 use Rattle.tce_cert.specs.declared.fault.CertFault.{CertFault}
 use Rattle.tce_cert.specs.Certificate.{text_of}
 use Rattle.tce_cert.specs.Faults.{Due, row, IsDue, IsFaultIn}

@@ -6,7 +6,7 @@ use Rattle.std.proofs.lemmas.List.FromFn.{map-range_with_len_more}
 use Rattle.std.proofs.lemmas.Grind.{flat_map-append}
 use Rattle.tce_fields.proofs.Ranges.{range_next}
 use Rattle.std.specs.Fmt.{decimal}
-use Rattle.tce_cert_lines.specs.Lines.{table_line}
+use Rattle.tce_cert.specs.Lines.{table_line}
 use Rattle.tce_cert.specs.Certificate.{text_of}
 
 feed : List ℕ → List ℕ

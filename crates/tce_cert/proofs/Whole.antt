@@ -7,8 +7,8 @@ use Rattle.tce_tree.specs.Orders.{lists_of}
 use Rattle.tce_nesting.specs.declared.plan.Plan.{Plan}
 use Rattle.tce_nesting.specs.Plan.{PlanFits}
 use Rattle.tce_report.specs.NodeLine.{Stated, node_line}
-use Rattle.tce_cert_lines.specs.Forms.{StatesMemory}
-use Rattle.tce_cert_lines.specs.Lines.{opening_line, memory_line, end_line}
+use Rattle.tce_cert.specs.Forms.{StatesMemory}
+use Rattle.tce_cert.specs.Lines.{opening_line, memory_line, end_line}
 use Rattle.tce_cert.specs.declared.fault.CertFault.{CertFault}
 use Rattle.tce_cert.specs.Certificate.{text_of, certificate, certificate_lines, nodes_lines, tables_lines}
 use Rattle.tce_cert.specs.Faults.{opening, node, memory, all_due, tables_due, IsFaultIn, IsFault}

@@ -6,7 +6,7 @@ use Rattle.tce_tree.specs.ContractionTree.{ContractionTree, operations}
 use Rattle.tce_states.specs.Row.{Row, rows_at}
 use Rattle.tce_nesting.specs.declared.plan.Plan.{Plan}
 use Rattle.tce_report.specs.NodeLine.{node_line, stated}
-use Rattle.tce_cert_lines.specs.Lines.{opening_line, memory_line, table_line, row_line, end_line}
+use Rattle.tce_cert.specs.Lines.{opening_line, memory_line, table_line, row_line, end_line}
 
 -- the table of node `v`, and its rows
 abbrev pub table_lines : IndexSpace → List (List Row) → ℕ → List (List ℕ)

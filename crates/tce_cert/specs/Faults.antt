@@ -6,9 +6,9 @@ use Rattle.tce_tree.specs.ContractionTree.{ContractionTree, operations, node_dim
 use Rattle.tce_states.specs.Row.{Row}
 use Rattle.tce_report.specs.NodeForm as nodes
 use Rattle.tce_report.specs.NodeLine.{Said, Says}
-use Rattle.tce_cert_lines.specs.Forms as others
-use Rattle.tce_cert_lines.specs.Forms.{StatesMemory, StatesTable, StatesRow}
-use Rattle.tce_cert_lines.specs.Lines.{opening_line, end_line}
+use Rattle.tce_cert.specs.Forms as others
+use Rattle.tce_cert.specs.Forms.{StatesMemory, StatesTable, StatesRow}
+use Rattle.tce_cert.specs.Lines.{opening_line, end_line}
 use Rattle.tce_cert.specs.declared.fault.CertFault.{CertFault}
 use Rattle.tce_cert.specs.declared.fault.CertFault.TheVariants.{BadText, WrongTree}
 

@@ -6,12 +6,12 @@ use Rattle.tce_tree.specs.ContractionTree.{ContractionTree, node_dims}
 use Rattle.tce_states.specs.Row.{Row, rows_at}
 use Rattle.tce_nesting.specs.Plan.{RowFits}
 use Rattle.tce_report.specs.NodeLine.{Stated, MaySay, said_of, node_line}
-use Rattle.tce_cert_lines.specs.Lines.{row_line}
+use Rattle.tce_cert.specs.Lines.{row_line}
 use Rattle.tce_cert.specs.declared.fault.CertFault.{CertFault}
 use Rattle.tce_cert.specs.Certificate.{text_of, tables_lines}
 use Rattle.tce_cert.specs.Faults.{Due, IsFaultIn}
 use Rattle.tce_cert.specs.Laws.{IsNestingRow, AreNestingRows}
-use Rattle.tce_cert_lines.specs.Cut.{IsCut}
+use Rattle.tce_cert.specs.Cut.{IsCut}
 
 -- the text, whose first line has number `n`, begins with this line and its line feed
 pub record ReadsLine (text : List ℕ) (n : ℕ) (line rest : List ℕ) (next : ℕ) : Type 0 where

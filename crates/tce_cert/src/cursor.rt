@@ -1,10 +1,10 @@
 // The lines of a text, one after the other.
 ghost use Rattle.std.specs.Prelude.{◌≡◌, ◌+◌, ◌<◌, ◌^◌, length, MatchResult};
-ghost use Rattle.tce_cert_lines.specs.Cut.{Lacks};
+ghost use Rattle.tce_cert.specs.Cut.{Lacks};
 ghost use Rattle.tce_cert.specs.Reading.{ReadsLine};
 
+use crate::cut_at;
 use crate::fault::CertFault;
-use tce_cert_lines::cut_at;
 
 // What is left of a text, and the number of its first line.
 #[derive(Clone, Copy)]

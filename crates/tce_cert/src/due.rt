@@ -5,14 +5,14 @@ ghost use Rattle.tce_tree.specs.WellFormed.{IsDeclaredTree};
 ghost use Rattle.tce_report.specs.NodeForm as nodes;
 ghost use Rattle.tce_report.specs.NodeLine.{Says};
 ghost use Rattle.tce_report.specs.ReadLine.{said};
-ghost use Rattle.tce_cert_lines.specs.Lines.{opening_line, end_line};
-ghost use Rattle.tce_cert_lines.specs.Forms.{StatesMemory, StatesTable, StatesRow};
+ghost use Rattle.tce_cert.specs.Lines.{opening_line, end_line};
+ghost use Rattle.tce_cert.specs.Forms.{StatesMemory, StatesTable, StatesRow};
 ghost use Rattle.tce_cert.specs.Faults.{Due, opening, node, memory, table, row, ending, IsFaultOf, IsFaultIn};
 ghost use Rattle.tce_cert.specs.Reading.{ReadsThat};
 
 use crate::cursor::Cursor;
 use crate::fault::CertFault;
-use tce_cert_lines::{
+use crate::{
     has_form, is_end_line, is_opening_line, read_memory_line, read_row_line, read_table_line,
 };
 use tce_nesting::Row;

@@ -6,7 +6,7 @@ ghost use Rattle.tce_tree.specs.ContractionTree.{operations};
 ghost use Rattle.tce_tree.specs.WellFormed.{IsDeclaredTree};
 ghost use Rattle.tce_states.specs.Row.{rows_at};
 ghost use Rattle.tce_nesting.specs.Plan.{PlanFits};
-ghost use Rattle.tce_cert_lines.specs.Lines.{row_line, classes_text};
+ghost use Rattle.tce_cert.specs.Lines.{row_line, classes_text};
 ghost use Rattle.tce_cert.specs.Certificate as lines;
 ghost use Rattle.tce_cert.specs.Laws.{IsNestingRow, RowsAreNestings};
 

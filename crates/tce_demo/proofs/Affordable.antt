@@ -9,8 +9,8 @@ use Rattle.tce_tree.specs.Memory.{size_at, size_before, memory}
 use Rattle.tce_search.proofs.LastLimit.{zeros_fit, zeros_legal}
 use Rattle.tce_spec.specs.Specification.{Specification, IsSpecification}
 use Rattle.tce_spec.specs.Operands.{operands, shape_of, largest_tile}
-use Rattle.tce_takings.specs.Takings.{tile_count, tile_take}
-use Rattle.tce_takings.proofs.Tiles.{largest_some}
+use Rattle.tce_tensors.specs.Takings.{tile_count, tile_take}
+use Rattle.tce_tensors.proofs.Tiles.{largest_some}
 use Rattle.tce_job.specs.Refusals.{IsLeastMemory, IsAffordable}
 use Rattle.tce_example.specs.Specification.{IsExtent, IsDemo, demo_space, demo_tree, demo_specification}
 use Rattle.tce_example.proofs.Bounds.{sum_le, demo_volume_le}

@@ -15,11 +15,11 @@ use Rattle.tce_tools.proofs.Told.{file_beside}
 use Rattle.tce_declarations.specs.Declarations.{IsDeclarations}
 use Rattle.tce_spec.specs.Specification.{Specification}
 use Rattle.tce_spec.specs.Operands.{shape_of}
-use Rattle.tce_result.specs.TensorFiles.{file_of, bytes_in}
-use Rattle.tce_result.specs.ResultBytes.{with_result, result_bytes, result_element}
-use Rattle.tce_result.specs.Laws.{IsTensorOf}
-use Rattle.tce_result.proofs.Names.{different_files}
-use Rattle.tce_arrays.specs.Opened.{HasArray, HasOperands, operand_count, operand}
+use Rattle.tce_tensors.specs.TensorFiles.{file_of, bytes_in}
+use Rattle.tce_tensors.specs.ResultBytes.{with_result, result_bytes, result_element}
+use Rattle.tce_tensors.specs.ResultLaws.{IsTensorOf}
+use Rattle.tce_tensors.proofs.Names.{different_files}
+use Rattle.tce_tensors.specs.Opened.{HasArray, HasOperands, operand_count, operand}
 use Rattle.tce_example.specs.Specification.{IsExtent, IsDemo, demo_specification}
 use Rattle.tce_example.specs.Files.{with_array, number_after, with_operands, with_input}
 use Rattle.tce_example.proofs.Declared.{declarations_fit}

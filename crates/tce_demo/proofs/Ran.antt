@@ -12,12 +12,12 @@ use Rattle.tce_command.specs.Refusals.{IsFree}
 use Rattle.tce_command.specs.declared.refusal.Refusal.{Refusal}
 use Rattle.tce_spec.specs.Specification.{Specification}
 use Rattle.tce_spec.specs.Operands.{shape_of}
-use Rattle.tce_result.specs.TensorFiles.{file_of}
+use Rattle.tce_tensors.specs.TensorFiles.{file_of}
 use Rattle.tce_job.specs.declared.fault.JobFault.{JobFault}
 use Rattle.tce_job.specs.declared.fault.JobFault.TheVariants.{BudgetTooSmall, IntermediatesTooLarge, Array, Disk, Memory}
 use Rattle.tce_job.specs.Refusals.{IsFree as IsFreeFault}
 use Rattle.tce_job.specs.Prepared.{HasTaken, IsRoomLeft}
-use Rattle.tce_result.specs.ResultBytes.{with_result}
+use Rattle.tce_tensors.specs.ResultBytes.{with_result}
 use Rattle.tce_job.specs.Run.{IsReported}
 use Rattle.tce_job.specs.declared.report.RunReport.{RunReport}
 use Rattle.tce_example.specs.Specification.{IsDemo, IsDemoOf, IsExtent, demo_specification}

@@ -12,8 +12,8 @@ use Rattle.tce_nesting.specs.declared.plan.Plan.{Plan}
 use Rattle.tce_search.specs.LeastPlan.{IsLeastPlan}
 use Rattle.tce_spec.specs.Specification.{Specification}
 use Rattle.tce_spec.specs.Operands.{shape_of}
-use Rattle.tce_result.specs.TensorFiles.{file_of}
-use Rattle.tce_takings.specs.Takings.{tile_take}
+use Rattle.tce_tensors.specs.TensorFiles.{file_of}
+use Rattle.tce_tensors.specs.Takings.{tile_take}
 use Rattle.tce_job.specs.Prepared.{taking_of, HasTaken}
 use Rattle.tce_job.specs.Refusals.{CanRun}
 use Rattle.tce_job.specs.declared.fault.JobFault.{JobFault}

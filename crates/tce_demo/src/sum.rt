@@ -6,13 +6,13 @@ ghost use Rattle.tce_outside.specs.Fault.{HasCause};
 ghost use Rattle.tce_array.specs.declared.form.Form.TheVariants.{One};
 ghost use Rattle.tce_array.specs.Forms.{IsForm};
 ghost use Rattle.tce_spec.specs.Operands.{shape_of};
-ghost use Rattle.tce_result.specs.TensorFiles.{file_of};
+ghost use Rattle.tce_tensors.specs.TensorFiles.{file_of};
 ghost use Rattle.tce_demo.specs.Done.{result_sum};
 
 use tce_array::Form;
 use tce_outside::{Disk, Failed};
-use tce_result::file_of;
 use tce_spec::Spec;
+use tce_tensors::file_of;
 use tce_tools::cell_sum;
 
 /// The sum of all elements of the result, modulo 2^64.

@@ -7,7 +7,7 @@ use Rattle.tce_array.specs.Forms.{array_bytes}
 use Rattle.tce_tools.specs.Demo.{drawn, demo_element}
 use Rattle.tce_spec.specs.Specification.{Specification}
 use Rattle.tce_spec.specs.Operands.{shape_of}
-use Rattle.tce_result.specs.TensorFiles.{file_of}
+use Rattle.tce_tensors.specs.TensorFiles.{file_of}
 use Rattle.tce_example.specs.Files.{IsSeed, with_array}
 use Rattle.tce_example.proofs.Seeds.{seed_goes_on}
 

@@ -3,7 +3,7 @@ use Rattle.std.proofs.Common.{◌≡◌, ◌≢◌, ◌∙◌, ℕ, zero, suc, �
 use Rattle.tce_outside.specs.Files.{Files, others}
 use Rattle.tce_outside.proofs.Told.{other_files}
 use Rattle.tce_spec.specs.Specification.{Specification}
-use Rattle.tce_result.specs.TensorFiles.{file_of}
+use Rattle.tce_tensors.specs.TensorFiles.{file_of}
 use Rattle.tce_example.specs.Specification.{IsDemo, demo_specification}
 use Rattle.tce_example.specs.Files.{found, DemoOthersStay}
 

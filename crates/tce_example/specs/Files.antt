@@ -8,8 +8,8 @@ use Rattle.tce_array.specs.Forms.{array_bytes}
 use Rattle.tce_tools.specs.Demo.{drawn, demo_element}
 use Rattle.tce_spec.specs.Specification.{Specification}
 use Rattle.tce_spec.specs.Operands.{shape_of}
-use Rattle.tce_result.specs.TensorFiles.{file_of}
-use Rattle.tce_result.specs.ResultBytes.{with_result}
+use Rattle.tce_tensors.specs.TensorFiles.{file_of}
+use Rattle.tce_tensors.specs.ResultBytes.{with_result}
 
 abbrev pub demo_names : List (List ℕ)
 demo_names = codes "demo.tce" ∷ codes "demoA.tca" ∷ codes "demoB.tca" ∷ codes "demoC.tca" ∷ codes "demoD.tca" ∷ codes "demoS.tca" ∷ []

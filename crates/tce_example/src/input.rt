@@ -1,15 +1,15 @@
 // What is run: a specification, and the arrays of its operands.
 ghost use Rattle.std.specs.Prelude.{◌≡◌, ◌≤◌, ◌<◌, OnOk, IfOk, IsErrOf};
 ghost use Rattle.std.specs.Option.{option_map};
-ghost use Rattle.tce_outside.specs.Fault.{HasCause};
+ghost use Rattle.tce_outside.specs.Fault.{HasCause, TellsFaults};
 ghost use Rattle.tce_tools.specs.Demo.{demo_text};
 ghost use Rattle.tce_example.specs.Specification.{IsDemo, demo_specification};
 ghost use Rattle.tce_example.specs.Files.{IsSeed, DemoOthersStay, with_array, number_after, with_operands, with_input};
 
 use std::alloc::{AllocError, Global};
 use tce_outside::{Disk, OutFault};
-use tce_result::file_of;
 use tce_spec::{Spec, read_spec};
+use tce_tensors::file_of;
 use tce_tools::{demo_array, demo_spec};
 use tce_writing::write_file;
 
@@ -47,6 +47,7 @@ fn write_array<D: Disk>(disk: &mut D, spec: &Spec, t: u8, number: u64) -> Result
     ensures seed { IfOk result IsSeed }
     ensures others { DemoOthersStay (D.files disk.old) (D.files disk.new) }
     ensures cause { HasCause (D.faults disk.old) (D.faults disk.new) (IsErrOf result OutFault.Failed) }
+    ensures told { TellsFaults (D.faults disk.old) (D.faults disk.new) (IsErrOf result OutFault.Failed) }
 {
     let file = file_of(spec, t);
     demo_array(disk, &spec.tensor(t).shape, file.as_str(), number)
@@ -59,6 +60,7 @@ fn write_operands<D: Disk>(disk: &mut D, spec: &Spec, seed: u64) -> Result<(), O
     ensures written { OnOk result (D.files disk.new ≡ option_map (with_operands spec.now seed) (D.files disk.old)) }
     ensures others { DemoOthersStay (D.files disk.old) (D.files disk.new) }
     ensures cause { HasCause (D.faults disk.old) (D.faults disk.new) (IsErrOf result OutFault.Failed) }
+    ensures told { TellsFaults (D.faults disk.old) (D.faults disk.new) (IsErrOf result OutFault.Failed) }
 {
     let number = write_array(disk, spec, 0, seed)?;
     let number = write_array(disk, spec, 1, number)?;
@@ -74,6 +76,7 @@ pub fn write_input<D: Disk>(disk: &mut D, example: &Example, seed: u64) -> Resul
     ensures written { OnOk result (D.files disk.new ≡ option_map (with_input example.now.spec seed example.now.text.items) (D.files disk.old)) }
     ensures others { DemoOthersStay (D.files disk.old) (D.files disk.new) }
     ensures cause { HasCause (D.faults disk.old) (D.faults disk.new) (IsErrOf result OutFault.Failed) }
+    ensures told { TellsFaults (D.faults disk.old) (D.faults disk.new) (IsErrOf result OutFault.Failed) }
 {
     write_file(disk, "demo.tce", &example.text)?;
     write_operands(disk, &example.spec, seed)

@@ -27,7 +27,7 @@ use Rattle.tce_operands.specs.NodeStates.{root, root_dims, state_of, current_cel
 use Rattle.tce_operands.specs.Laws.{IsRootAt}
 use Rattle.tce_operands.proofs.Assignments.{map-assignment, assignment_inside}
 use Rattle.tce_operands.proofs.States.{places_have_their_words}
-use Rattle.tce_tail.specs.Touches.{touch_bound}
+use Rattle.tce_walk.specs.Touches.{touch_bound}
 use Rattle.tce_walk.specs.Machine.{after}
 use Rattle.tce_walk.specs.Run.{zeros, IsCodeOf}
 use Rattle.tce_workspace.specs.declared.evaluation.Evaluation.{Evaluation}

@@ -1,3 +1,11 @@
 pub mod Keeping
 pub mod Following
 pub mod Run
+pub mod OperandWindows
+pub mod TilesOfBlocks
+pub mod WindowLaws
+pub mod Touches
+pub mod Blocks
+pub mod Along
+pub mod Windows
+pub mod Evaluations

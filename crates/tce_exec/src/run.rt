@@ -1,13 +1,13 @@
 // Whole runs of loop code.
 ghost use Rattle.std.specs.Prelude.{◌≡◌, ◌+◌, ◌≤◌, ◌^◌, false, IsTrue, OnOk, IsErr};
-ghost use Rattle.tce_outside.specs.Fault.{HasCause};
+ghost use Rattle.tce_outside.specs.Fault.{HasCause, TellsFaults};
 ghost use Rattle.tce_tree.specs.Fusion.{OrdersFit};
 ghost use Rattle.tce_tree.specs.Orders.{lists_of};
 ghost use Rattle.tce_tree.specs.WellFormed.{is_distinct};
 ghost use Rattle.tce_code.specs.CodeFor.{IsCodeFor};
 ghost use Rattle.tce_code.specs.Plan.{plan_of};
 ghost use Rattle.tce_code.specs.Program.{program_of};
-ghost use Rattle.tce_tail.specs.Touches.{touch_bound};
+ghost use Rattle.tce_walk.specs.Touches.{touch_bound};
 ghost use Rattle.tce_walk.specs.Run.{IsCodeOf};
 ghost use Rattle.tce_workspace.specs.Workspace.{workspace};
 ghost use Rattle.tce_workspace.specs.Prepared.{IsPrepared};
@@ -41,6 +41,7 @@ fn run_on<D: Disk>(runner: &mut Runner<'_, D>, code: &Code) -> Result<(), Failed
     ensures cache { runner.new.cache.ghost_name ≡ runner.old.cache.ghost_name }
     ensures disk { runner.new.disk.ghost_name ≡ runner.old.disk.ghost_name }
     ensures cause { HasCause (D.faults runner.old.disk.now) (D.faults runner.new.disk.now) (IsErr result) }
+    ensures told { TellsFaults (D.faults runner.old.disk.now) (D.faults runner.new.disk.now) (IsErr result) }
 {
     let evaluation = runner.evaluation;
     let _nodes = evaluation.tree.count();
@@ -76,6 +77,7 @@ pub fn run_code<D: Disk>(
     ensures kept { IsKept (workspace_of space.now tree.now fusion.now.0.items layout.now.0.items output.now words.old cache.old (D.files disk.old))
         (workspace_of space.now tree.now fusion.now.0.items layout.now.0.items output.now words.new cache.new (D.files disk.new)) }
     ensures cause { HasCause (D.faults disk.old) (D.faults disk.new) (IsErr result) }
+    ensures told { TellsFaults (D.faults disk.old) (D.faults disk.new) (IsErr result) }
 {
     let evaluation = Evaluation {
         space,

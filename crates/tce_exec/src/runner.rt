@@ -4,9 +4,9 @@ ghost use Rattle.tce_workspace.specs.Workspace.{workspace, setting_in, state_in}
 ghost use Rattle.tce_workspace.specs.Prepared.{IsPrepared};
 ghost use Rattle.tce_exec.specs.Keeping.{IsLater};
 
+use crate::run_tail;
 use tce_cache::Cache;
 use tce_outside::{Disk, Failed};
-use tce_tails::run_tail;
 use tce_walk::{Machine, Tail};
 use tce_words::Words;
 use tce_workspace::{Evaluation, clear_slot, operate};

@@ -32,18 +32,18 @@ use Rattle.tce_spec.specs.Specification.{Specification, IsSpecification}
 use Rattle.tce_spec.specs.Operands.{largest_tile, shape_of}
 use Rattle.tce_code.specs.Plan.{plan_of}
 use Rattle.tce_code.specs.Program.{program_of}
-use Rattle.tce_tail.specs.Touches.{touch_bound}
-use Rattle.tce_tail.proofs.TouchBound.{touches_are_few}
+use Rattle.tce_walk.specs.Touches.{touch_bound}
+use Rattle.tce_walk.proofs.TouchBound.{touches_are_few}
 use Rattle.tce_workspace.specs.Workspace.{Workspace, shape_over}
 use Rattle.tce_workspace.specs.Prepared.{IsStored, HasOperands, IsPrepared as IsWorkspace}
 use Rattle.tce_exec.specs.Run.{IsZero}
-use Rattle.tce_result.proofs.Results.{result_tiling}
-use Rattle.tce_takings.specs.Takings.{tile_count, frame_count, tile_take}
-use Rattle.tce_takings.proofs.Tiles.{largest_some}
-use Rattle.tce_arrays.specs.Arrays.{AreArraysOf, IsResultArray, IsOperandArray}
-use Rattle.tce_arrays.specs.Laws.{made_result}
-use Rattle.tce_arrays.proofs.Made.{made_zero}
-use Rattle.tce_arrays.proofs.Operands.{not_result}
+use Rattle.tce_tensors.proofs.Results.{result_tiling}
+use Rattle.tce_tensors.specs.Takings.{tile_count, frame_count, tile_take}
+use Rattle.tce_tensors.proofs.Tiles.{largest_some}
+use Rattle.tce_tensors.specs.Arrays.{AreArraysOf, IsResultArray, IsOperandArray}
+use Rattle.tce_tensors.specs.Laws.{made_result}
+use Rattle.tce_tensors.proofs.Made.{made_zero}
+use Rattle.tce_tensors.proofs.Operands.{not_result}
 use Rattle.tce_job.specs.declared.prepared.Prepared.{Prepared}
 use Rattle.tce_job.specs.Run.{IsBegun}
 

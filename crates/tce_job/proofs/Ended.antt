@@ -26,18 +26,18 @@ use Rattle.tce_operands.specs.NodeStates.{current_cell}
 use Rattle.tce_workspace.specs.Workspace.{Workspace, shape_over, setting_in, element_of, filed_element}
 use Rattle.tce_workspace.specs.Steps.{IsKept}
 use Rattle.tce_exec.specs.Run.{IsRun, HasValues}
-use Rattle.tce_result.specs.TensorFiles.{file_of, bytes_in, elements}
-use Rattle.tce_result.specs.ResultBytes.{result_element, result_bytes, with_result}
-use Rattle.tce_result.proofs.Results.{result_before}
-use Rattle.tce_result.proofs.Agreement.{same_values}
-use Rattle.tce_arrays.specs.Arrays.{AreArraysOf, IsResultArray, IsOperandArray}
-use Rattle.tce_arrays.specs.Finished.{IsFinished, IsFlushed}
-use Rattle.tce_arrays.specs.Laws.{made_result, IsOperand}
-use Rattle.tce_arrays.proofs.Operands.{is_operand}
+use Rattle.tce_tensors.specs.TensorFiles.{file_of, bytes_in, elements}
+use Rattle.tce_tensors.specs.ResultBytes.{result_element, result_bytes, with_result}
+use Rattle.tce_tensors.proofs.Results.{result_before}
+use Rattle.tce_tensors.proofs.Agreement.{same_values}
+use Rattle.tce_tensors.specs.Arrays.{AreArraysOf, IsResultArray, IsOperandArray}
+use Rattle.tce_tensors.specs.Finished.{IsFinished, IsFlushed}
+use Rattle.tce_tensors.specs.Laws.{made_result, IsOperand}
+use Rattle.tce_tensors.proofs.Operands.{is_operand}
 use Rattle.tce_spec.proofs.Seen.{operand_declared}
-use Rattle.tce_arrays.proofs.Made.{made_zero}
-use Rattle.tce_arrays.proofs.Reading.{read}
-use Rattle.tce_arrays.proofs.Flushed.{flushed, whole}
+use Rattle.tce_tensors.proofs.Made.{made_zero}
+use Rattle.tce_tensors.proofs.Reading.{read}
+use Rattle.tce_tensors.proofs.Flushed.{flushed, whole}
 use Rattle.tce_job.specs.declared.prepared.Prepared.{Prepared}
 use Rattle.tce_job.specs.Run.{IsBegun}
 use Rattle.tce_job.proofs.Begun.{workspace_with, workspace_for, array_of, result_at, result_shape_is}

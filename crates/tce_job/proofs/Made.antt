@@ -7,12 +7,12 @@ use Rattle.tce_array.proofs.MadeFiles.{file-with_file}
 use Rattle.tce_nesting.specs.declared.plan.Plan.{Plan}
 use Rattle.tce_search.specs.LeastPlan.{IsLeastPlan}
 use Rattle.tce_spec.specs.Specification.{Specification, IsSpecification}
-use Rattle.tce_result.specs.TensorFiles.{file_of}
-use Rattle.tce_takings.specs.Takings.{least_budget}
-use Rattle.tce_arrays.specs.Opened.{AreOpened, operand_count}
-use Rattle.tce_arrays.specs.Laws.{made_result}
-use Rattle.tce_arrays.specs.Reading.{HoldOperands}
-use Rattle.tce_arrays.proofs.Reading.{hold, made}
+use Rattle.tce_tensors.specs.TensorFiles.{file_of}
+use Rattle.tce_tensors.specs.Takings.{least_budget}
+use Rattle.tce_tensors.specs.Opened.{AreOpened, operand_count}
+use Rattle.tce_tensors.specs.Laws.{made_result}
+use Rattle.tce_tensors.specs.Reading.{HoldOperands}
+use Rattle.tce_tensors.proofs.Reading.{hold, made}
 use Rattle.tce_job.specs.declared.fault.JobFault.{JobFault}
 use Rattle.tce_job.specs.declared.fault.JobFault.TheVariants.{BudgetTooSmall, IntermediatesTooLarge, Array, Disk, Memory}
 use Rattle.tce_job.specs.declared.prepared.Prepared.{Prepared}

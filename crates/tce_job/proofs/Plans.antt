@@ -1,14 +1,14 @@
 -- The tests of a run.
 use Rattle.std.proofs.Common.{◌≡◌, ◌≢◌, ℕ, ◌≤◌, ◌^◌, Option, Result, Ok, Err, refl, sym, ap, ◌∙◌, subst, arith}
 use Rattle.tce_outside.specs.Files.{Files}
-use Rattle.tce_outside.specs.Fault.{HasCause}
+use Rattle.tce_outside.specs.Fault.{HasCause, TellsFaults}
 use Rattle.tce_array.specs.declared.fault.ArrayFault.{ArrayFault}
 use Rattle.tce_array.specs.declared.fault.ArrayFault.TheVariants as array_fault
 use Rattle.tce_nesting.specs.declared.plan.Plan.{Plan}
 use Rattle.tce_search.specs.LeastPlan.{IsLeastPlan}
 use Rattle.tce_spec.specs.Specification.{Specification}
-use Rattle.tce_takings.specs.Takings.{least_budget}
-use Rattle.tce_arrays.specs.declared.opening.Refused.{Refused}
+use Rattle.tce_tensors.specs.Takings.{least_budget}
+use Rattle.tce_tensors.specs.declared.opening.Refused.{Refused}
 use Rattle.tce_job.specs.declared.fault.JobFault.{JobFault}
 use Rattle.tce_job.specs.declared.fault.JobFault.TheVariants.{BudgetTooSmall, IntermediatesTooLarge, Array, Disk, Memory}
 use Rattle.tce_job.specs.Refusals.{IsAffordable, IsCause, MayBeRefused, IsFaultOf, IsOpeningFault}
@@ -63,3 +63,8 @@ fault_in (Err f) = f
 pub opening_has_cause : {A : Type 0} (before after : ℕ) (r : Refused) (f : JobFault) (answer : Result A JobFault) → answer ≡ Err f → IsFaultOf r f → HasCause before after (r.fault ≡ array_fault.Disk)
     → HasCause before after (answer ≡ Err Disk)
 opening_has_cause before after r f answer here is cause = record { later = cause.later; rose = λ e. cause.rose (disk_fault r f is (ap fault_in (sym here ∙ e))) }
+
+-- and where the run's answer tells no failure, no failure was told of an operand
+pub opening_tells : {A : Type 0} (before after : ℕ) (r : Refused) (f : JobFault) (answer : Result A JobFault) → answer ≡ Err f → IsFaultOf r f → TellsFaults before after (r.fault ≡ array_fault.Disk)
+    → TellsFaults before after (answer ≡ Err Disk)
+opening_tells before after r f answer here is told = λ none. told (λ failed. none (here ∙ ap Err (is.disk failed)))

@@ -20,9 +20,9 @@ use Rattle.tce_layout.specs.Places.{PlacesFill}
 use Rattle.tce_cache.specs.Cache.{State}
 use Rattle.tce_spec.specs.Specification.{Specification}
 use Rattle.tce_spec.specs.Operands.{largest_tile, shape_of}
-use Rattle.tce_result.specs.TensorFiles.{file_of}
-use Rattle.tce_takings.specs.Takings.{frame_count, tile_take}
-use Rattle.tce_arrays.specs.Arrays.{AreArraysOf}
+use Rattle.tce_tensors.specs.TensorFiles.{file_of}
+use Rattle.tce_tensors.specs.Takings.{frame_count, tile_take}
+use Rattle.tce_tensors.specs.Arrays.{AreArraysOf}
 use Rattle.tce_job.specs.declared.fault.JobFault.{JobFault}
 use Rattle.tce_job.specs.declared.fault.JobFault.TheVariants.{Disk, Memory}
 use Rattle.tce_job.specs.declared.report.RunReport.{RunReport}

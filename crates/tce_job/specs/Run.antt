@@ -6,10 +6,10 @@ use Rattle.tce_array.specs.declared.form.Form.{Form}
 use Rattle.tce_nesting.specs.declared.plan.Plan.{Plan}
 use Rattle.tce_search.specs.LeastPlan.{IsLeastPlan}
 use Rattle.tce_spec.specs.Specification.{Specification}
-use Rattle.tce_result.specs.TensorFiles.{file_of}
-use Rattle.tce_takings.specs.Takings.{least_budget}
-use Rattle.tce_arrays.specs.Laws.{made_result}
-use Rattle.tce_arrays.specs.Reading.{HoldOperands}
+use Rattle.tce_tensors.specs.TensorFiles.{file_of}
+use Rattle.tce_tensors.specs.Takings.{least_budget}
+use Rattle.tce_tensors.specs.Laws.{made_result}
+use Rattle.tce_tensors.specs.Reading.{HoldOperands}
 use Rattle.tce_job.specs.declared.report.RunReport.{RunReport}
 use Rattle.tce_job.specs.declared.prepared.Prepared.{Prepared}
 use Rattle.tce_job.specs.Prepared.{IsPrepared, IsReport, taking_of}

@@ -1,21 +1,20 @@
 // What a run tests before it takes its memory: the budget, the memory for intermediates, and the operands.
 ghost use Rattle.std.specs.Prelude.{◌≡◌, ◌≢◌, ◌≤◌, ◌^◌, Err, IfOk, IfErr, OnOk};
 ghost use Rattle.std.specs.Option.{ForSome};
-ghost use Rattle.tce_outside.specs.Fault.{HasCause};
+ghost use Rattle.tce_outside.specs.Fault.{HasCause, TellsFaults};
 ghost use Rattle.tce_array.specs.declared.fault.ArrayFault.TheVariants as array_fault;
 ghost use Rattle.tce_search.specs.LeastPlan.{IsLeastPlan};
-ghost use Rattle.tce_arrays.specs.Opened.{AreOpened, operand_count};
+ghost use Rattle.tce_tensors.specs.Opened.{AreOpened, operand_count};
 ghost use Rattle.tce_job.specs.Refusals.{IsAffordable, IsCause, MayBeRefused, IsOpeningFault, IsFaultOf};
 
 use crate::fault::JobFault;
 use std::alloc::Global;
 use tce_array::ArrayFault;
-use tce_arrays::{Forms, Refused, open_operands};
 use tce_nesting::Plan;
 use tce_outside::Disk;
 use tce_search::search;
 use tce_spec::Spec;
-use tce_takings::least_budget;
+use tce_tensors::{Forms, Refused, least_budget, open_operands};
 
 // The words that the intermediates of a run may take.
 const MOST_MEMORY: u128 = 1 << 40;
@@ -59,6 +58,7 @@ pub(crate) fn opened_forms<D: Disk>(spec: &Spec, disk: &mut D) -> Result<Forms, 
     ensures refused { IfErr result (IsOpeningFault (D.files disk.old) spec.now) }
     ensures same { D.files disk.new ≡ D.files disk.old }
     ensures cause { HasCause (D.faults disk.old) (D.faults disk.new) (result ≡ Err JobFault.Disk) }
+    ensures quiet { TellsFaults (D.faults disk.old) (D.faults disk.new) (result ≡ Err JobFault.Disk) }
 {
     match open_operands(spec, disk) {
         Ok(forms) => Ok(forms),
@@ -80,6 +80,7 @@ pub fn tested<D: Disk>(
     ensures refused { IfErr result (IsCause (MayBeRefused (D.files disk.old) spec.now) spec.now budget) }
     ensures same { D.files disk.new ≡ D.files disk.old }
     ensures cause { HasCause (D.faults disk.old) (D.faults disk.new) (result ≡ Err JobFault.Disk) }
+    ensures quiet { TellsFaults (D.faults disk.old) (D.faults disk.new) (result ≡ Err JobFault.Disk) }
 {
     let plan = affordable_plan(alloc, spec, budget)?;
     let forms = opened_forms(spec, disk)?;

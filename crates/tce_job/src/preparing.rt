@@ -1,13 +1,16 @@
 // A run by a plan, up to the file of its result.
 ghost use Rattle.std.specs.Prelude.{◌≡◌, ◌⊎◌, ◌≤◌, ◌^◌, ◌++◌, ◌∷◌, [], Err, IfOk, IfErr, OnOk, OnErr};
+ghost use Rattle.std.specs.Option.{ForSome};
 ghost use Rattle.tce_outside.specs.Files.{holding, others};
-ghost use Rattle.tce_outside.specs.Fault.{HasCause};
-ghost use Rattle.tce_result.specs.TensorFiles.{file_of};
-ghost use Rattle.tce_takings.specs.Takings.{least_budget};
-ghost use Rattle.tce_arrays.specs.Laws.{made_result};
+ghost use Rattle.tce_outside.specs.Fault.{HasCause, TellsFaults};
+ghost use Rattle.tce_tensors.specs.TensorFiles.{file_of};
+ghost use Rattle.tce_tensors.specs.Takings.{least_budget};
+ghost use Rattle.tce_tensors.specs.Laws.{made_result};
+ghost use Rattle.tce_tensors.specs.Opened.{AreOpened, operand_count};
 ghost use Rattle.tce_job.specs.declared.fault.JobFault.{JobFault as Fault};
 ghost use Rattle.tce_job.specs.Refusals.{IsFree};
 ghost use Rattle.tce_job.specs.Prepared.{IsCarriedPlan, IsPrepared, IsEmptyCache, IsReport, MayHaveTaken, taking_of};
+ghost use Rattle.tce_job.specs.Run.{IsBegun};
 
 use crate::bytes::Bytes;
 use crate::fault::JobFault;
@@ -15,16 +18,14 @@ use crate::prepared::Prepared;
 use crate::report::RunReport;
 use std::alloc::{AllocError, Global};
 use tce_array::{Form, create, form_len};
-use tce_arrays::{Forms, arrays_of};
 use tce_cache::Cache;
 use tce_code::generate;
 use tce_layout::lay_out;
 use tce_nesting::Plan;
 use tce_outside::{Disk, OutFault};
 use tce_report::run_text;
-use tce_result::file_of;
 use tce_spec::Spec;
-use tce_takings::{frame_count, tile_take};
+use tce_tensors::{Forms, arrays_of, file_of, frame_count, tile_take};
 use tce_words::Room;
 
 // A cache for the arrays of a run, whose frames stand behind the words of its intermediates.
@@ -108,6 +109,7 @@ fn make_result<D: Disk>(spec: &Spec, disk: &mut D) -> Result<(), JobFault>
     ensures unchanged { IfErr result (λ fault. (fault ≡ Fault.Disk) ⊎ (D.files disk.new ≡ D.files disk.old)) }
     ensures others { others (file_of spec.now spec.now.result) (D.files disk.new) ≡ others (file_of spec.now spec.now.result) (D.files disk.old) }
     ensures cause { HasCause (D.faults disk.old) (D.faults disk.new) (result ≡ Err Fault.Disk) }
+    ensures quiet { TellsFaults (D.faults disk.old) (D.faults disk.new) (result ≡ Err Fault.Disk) }
 {
     let result = spec.result().tensor;
     let name = file_of(spec, result);
@@ -118,7 +120,11 @@ fn make_result<D: Disk>(spec: &Spec, disk: &mut D) -> Result<(), JobFault>
     }
 }
 
-/// Takes the memory of a run by a plan, and makes the file of its result.
+/// Takes the memory of a run by a plan over operands that were opened, the words of the room last, and after that makes
+/// the file of its result.
+///
+/// `run_prepared` then runs it. It answers `Memory`, after which all files are as they were, or `Disk`, after which the
+/// result's file may hold anything or be absent.
 pub fn begin<D: Disk, R: Room>(
     alloc: Global,
     spec: &Spec,
@@ -132,6 +138,8 @@ pub fn begin<D: Disk, R: Room>(
     requires limit { budget ≤ 2 ^ 40 }
     requires plan { IsCarriedPlan spec.now.declarations.space spec.now.tree plan }
     requires small { plan.memory ≤ 2 ^ 40 }
+    requires opened { ForSome (D.files disk.old) (λ files. AreOpened files spec.now forms.now.0 (operand_count spec.now)) }
+    ensures begun { IfOk result (IsBegun spec.now (D.files disk.new)) }
     ensures prepared { IfOk result (IsPrepared spec.now budget forms.now.0) }
     ensures plan { IfOk result (λ p. p.plan ≡ plan) }
     ensures made { OnOk result (D.files disk.new ≡ holding (file_of spec.now spec.now.result) (made_result spec.now) (D.files disk.old)) }
@@ -141,7 +149,10 @@ pub fn begin<D: Disk, R: Room>(
     ensures takings { OnErr result (MayHaveTaken spec.now budget plan (R.takings room.old) (R.takings room.new)) }
     ensures others { others (file_of spec.now spec.now.result) (D.files disk.new) ≡ others (file_of spec.now spec.now.result) (D.files disk.old) }
     ensures cause { HasCause (D.faults disk.old) (D.faults disk.new) (result ≡ Err Fault.Disk) }
+    ensures quiet { TellsFaults (D.faults disk.old) (D.faults disk.new) (result ≡ Err Fault.Disk) }
 {
+    // Specifications keep their rules.
+    let _space = spec.space();
     let Ok(prepared) = take_memory(alloc, spec, budget, forms, plan, room) else {
         return Err(JobFault::Memory);
     };

@@ -2,11 +2,13 @@
 ghost use Rattle.std.specs.Prelude.{◌≡◌, ◌⊎◌, ◌≤◌, ◌^◌, ◌++◌, ◌∷◌, [], IfOk, IfErr, OnOk, OnErr, IsErr, Err};
 ghost use Rattle.std.specs.Option.{ForSome, option_map};
 ghost use Rattle.tce_outside.specs.Files.{others};
-ghost use Rattle.tce_outside.specs.Fault.{HasCause};
-ghost use Rattle.tce_result.specs.TensorFiles.{file_of};
-ghost use Rattle.tce_result.specs.ResultBytes.{with_result};
-ghost use Rattle.tce_takings.specs.Takings.{least_budget};
-ghost use Rattle.tce_arrays.specs.Opened.{AreOpened, operand_count};
+ghost use Rattle.tce_outside.specs.Fault.{HasCause, TellsFaults};
+ghost use Rattle.tce_tensors.specs.TensorFiles.{file_of};
+ghost use Rattle.tce_tensors.specs.ResultBytes.{with_result};
+ghost use Rattle.tce_tensors.specs.Takings.{least_budget};
+ghost use Rattle.tce_code.specs.Program.{program_of};
+ghost use Rattle.tce_walk.specs.Touches.{touch_bound};
+ghost use Rattle.tce_tensors.specs.Opened.{AreOpened, operand_count};
 ghost use Rattle.tce_job.specs.declared.fault.JobFault.{JobFault as Fault};
 ghost use Rattle.tce_job.specs.Refusals.{IsCause, MayBeRefused, MustBeRefused, CanRun, IsFree, IsRefusedAs, IsGranted};
 ghost use Rattle.tce_job.specs.Prepared.{IsCarriedPlan, IsReport, MayHaveTaken, IsRoomLeft, taking_of};
@@ -18,20 +20,29 @@ use crate::prepared::Prepared;
 use crate::preparing::begin;
 use crate::report::RunReport;
 use std::alloc::Global;
-use tce_arrays::Forms;
 use tce_exec::run_code;
 use tce_nesting::Plan;
 use tce_outside::{Disk, Failed};
 use tce_spec::Spec;
+use tce_tensors::Forms;
 use tce_words::Room;
 
-// Runs the code that was prepared, and writes the tiles of the result to its file.
-fn run_prepared<D: Disk>(spec: &Spec, prepared: &mut Prepared, disk: &mut D) -> Result<(), Failed>
+/// Runs the code of a run that was begun, and writes the tiles of the result to its file.
+///
+/// `Failed` comes only where the disk failed; then the result's file may hold anything or be absent. What was prepared
+/// is of no more use afterwards, but its cache tells how often the run touched tiles.
+pub fn run_prepared<D: Disk>(
+    spec: &Spec,
+    prepared: &mut Prepared,
+    disk: &mut D,
+) -> Result<(), Failed>
     requires { IsBegun spec.now (D.files disk.old) prepared.old }
     ensures told { OnOk result (D.files disk.new ≡ option_map (with_result spec.now) (D.files disk.old)) }
     ensures report { prepared.new.report ≡ prepared.old.report }
+    ensures touches { OnOk result (prepared.new.cache.touches ≤ touch_bound spec.now.declarations.space spec.now.tree (program_of prepared.old.code)) }
     ensures others { others (file_of spec.now spec.now.result) (D.files disk.new) ≡ others (file_of spec.now spec.now.result) (D.files disk.old) }
     ensures cause { HasCause (D.faults disk.old) (D.faults disk.new) (IsErr result) }
+    ensures quiet { TellsFaults (D.faults disk.old) (D.faults disk.new) (IsErr result) }
 {
     let tree = spec.tree();
     let _nodes = tree.count();
@@ -79,6 +90,7 @@ pub fn run_by<D: Disk, R: Room>(
     ensures takings { OnErr result (MayHaveTaken spec.now budget plan (R.takings room.old) (R.takings room.new)) }
     ensures others { others (file_of spec.now spec.now.result) (D.files disk.new) ≡ others (file_of spec.now spec.now.result) (D.files disk.old) }
     ensures cause { HasCause (D.faults disk.old) (D.faults disk.new) (result ≡ Err Fault.Disk) }
+    ensures quiet { TellsFaults (D.faults disk.old) (D.faults disk.new) (result ≡ Err Fault.Disk) }
 {
     // Specifications keep their rules.
     let _space = spec.space();
@@ -117,6 +129,7 @@ pub fn run_job<D: Disk, R: Room>(
     ensures exactly { (due : Fault) → (IsFree due → ⊥) → IsCause (MustBeRefused (D.files disk.old) spec.now) spec.now budget due → IsRefusedAs due result }
     ensures granted { ForSome (D.files disk.old) (λ files. CanRun files spec.now budget → IsGranted result) }
     ensures cause { HasCause (D.faults disk.old) (D.faults disk.new) (result ≡ Err Fault.Disk) }
+    ensures quiet { TellsFaults (D.faults disk.old) (D.faults disk.new) (result ≡ Err Fault.Disk) }
 
     // What a refused run leaves.
     ensures unchanged { IfErr result (λ fault. (fault ≡ Fault.Disk) ⊎ (D.files disk.new ≡ D.files disk.old)) }

@@ -5,7 +5,7 @@ use Rattle.std.specs.Option.{ForSome, option_map}
 use Rattle.std.proofs.lemmas.Option.{slice_get_within}
 use Rattle.tce_outside.specs.Files.{Files}
 use Rattle.tce_spec.specs.Specification.{Specification}
-use Rattle.tce_takings.specs.Takings.{tile_take}
+use Rattle.tce_tensors.specs.Takings.{tile_take}
 use Rattle.tce_job.specs.declared.fault.JobFault.{JobFault}
 use Rattle.tce_job.specs.declared.fault.JobFault.TheVariants as faults
 use Rattle.tce_job.specs.Refusals.{NamesDeclared, IsFree as IsFreeFault}

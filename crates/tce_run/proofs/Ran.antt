@@ -6,10 +6,10 @@ use Rattle.tce_outside.specs.Files.{Files, others}
 use Rattle.tce_outside.specs.Fault.{HasCause, Rose}
 use Rattle.tce_spec.specs.Specification.{Specification}
 use Rattle.tce_spec.specs.Operands.{largest_tile}
-use Rattle.tce_result.specs.TensorFiles.{file_of}
-use Rattle.tce_result.specs.ResultBytes.{with_result}
-use Rattle.tce_takings.specs.Takings.{tile_take, frame_count}
-use Rattle.tce_arrays.specs.Opened.{IsRefused}
+use Rattle.tce_tensors.specs.TensorFiles.{file_of}
+use Rattle.tce_tensors.specs.ResultBytes.{with_result}
+use Rattle.tce_tensors.specs.Takings.{tile_take, frame_count}
+use Rattle.tce_tensors.specs.Opened.{IsRefused}
 use Rattle.tce_job.specs.declared.fault.JobFault.{JobFault}
 use Rattle.tce_job.specs.declared.report.RunReport.{RunReport}
 use Rattle.tce_job.specs.Refusals.{IsCause, MayBeRefused, CanRun}

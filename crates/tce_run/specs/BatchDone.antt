@@ -3,8 +3,8 @@ use Rattle.std.specs.Prelude.{◌≡◌, ◌⊎◌, ℕ, ◌≤◌, List, length
 use Rattle.std.specs.Option.{ForSome, option_map}
 use Rattle.tce_outside.specs.Files.{Files, others}
 use Rattle.tce_spec.specs.Specification.{Specification}
-use Rattle.tce_result.specs.TensorFiles.{file_of}
-use Rattle.tce_takings.specs.Takings.{tile_take}
+use Rattle.tce_tensors.specs.TensorFiles.{file_of}
+use Rattle.tce_tensors.specs.Takings.{tile_take}
 use Rattle.tce_batch_job.specs.Files.{files_after}
 use Rattle.tce_batch_job.specs.Reports.{HasRun, HasTaken}
 use Rattle.tce_batch_job.specs.Refusals.{AffordableBelow, SourcesBelow}

@@ -10,9 +10,9 @@ use Rattle.tce_report.specs.NodeLine.{stated}
 use Rattle.tce_report.specs.Report.{run_text}
 use Rattle.tce_spec.specs.Specification.{Specification}
 use Rattle.tce_spec.specs.Operands.{shape_of}
-use Rattle.tce_result.specs.TensorFiles.{file_of}
-use Rattle.tce_result.specs.ResultBytes.{with_result}
-use Rattle.tce_takings.specs.Takings.{tile_take}
+use Rattle.tce_tensors.specs.TensorFiles.{file_of}
+use Rattle.tce_tensors.specs.ResultBytes.{with_result}
+use Rattle.tce_tensors.specs.Takings.{tile_take}
 use Rattle.tce_job.specs.Refusals.{CanRun}
 use Rattle.tce_command.specs.declared.refusal.Refusal.{Refusal}
 use Rattle.tce_command.specs.declared.refusal.Refusal.TheVariants.{Disk, Memory}

@@ -4,9 +4,9 @@ use Rattle.tce_outside.specs.Files.{Files, file}
 use Rattle.tce_array.specs.declared.fault.ArrayFault.{ArrayFault}
 use Rattle.tce_array.specs.declared.fault.ArrayFault.TheVariants.{NoFile}
 use Rattle.tce_spec.specs.Specification.{Specification}
-use Rattle.tce_result.specs.TensorFiles.{name_of, file_of}
-use Rattle.tce_takings.specs.Takings.{least_budget}
-use Rattle.tce_arrays.specs.Opened.{IsRefused}
+use Rattle.tce_tensors.specs.TensorFiles.{name_of, file_of}
+use Rattle.tce_tensors.specs.Takings.{least_budget}
+use Rattle.tce_tensors.specs.Opened.{IsRefused}
 use Rattle.tce_job.specs.Refusals.{IsLeastMemory, IsAffordable, CanRun}
 use Rattle.tce_command.specs.Report.{fault_of}
 use Rattle.tce_command.specs.declared.refusal.Refusal.{Refusal}

@@ -6,8 +6,8 @@ ghost use Rattle.tce_run.specs.Told.{IsOfFiles, IsToldAs, TellsOperand};
 use tce_array::ArrayFault;
 use tce_command::{ArrayTrouble, Refusal};
 use tce_job::JobFault;
-use tce_result::file_of;
 use tce_spec::Spec;
+use tce_tensors::file_of;
 
 // The refusal of an operand, by the number of its tensor: by its file where that is not there, else by its name.
 fn operand_refusal(spec: &Spec, t: u8, fault: ArrayFault) -> Refusal

@@ -1,31 +1,31 @@
 -- What a tail leaves is known by its closed forms.
-use Rattle.std.proofs.Common.{◌≡◌, ℕ, zero, suc, ◌+◌, ◌-◌, ◌^◌, ◌<◌, ◌≤◌, ◌⊎◌, Bool, true, false, not, ◌&&◌, ◌||◌, eqb, Option, Some, None, List, [], ◌∷◌, bytes_eq, refl, sym, ap, ap₂, ◌∙◌, inl, inr, subst, arith}
+use Rattle.std.proofs.Common.{◌≡◌, ℕ, ◌+◌, ◌-◌, ◌^◌, ◌<◌, ◌⊎◌, Bool, true, false, not, ◌||◌, eqb, Option, Some, None, List, [], ◌∷◌, bytes_eq, refl, sym, ap, ap₂, ◌∙◌, inl, inr, subst, arith}
 use mathlib.Core.Path.{fun_ext}
 use Rattle.std.proofs.lemmas.Bool.{cases_Bool, cases_eq, eq-eqb, ne_eqb, eqb-true, or_left, or_right, and_parts, or_parts, false≢true, true≢false}
 use Rattle.std.proofs.lemmas.Slice.Eq.{bytes_eq-Decides}
-use Rattle.tce_space.specs.IndexSet.{has, members, minus}
+use Rattle.tce_space.specs.IndexSet.{has, members}
 use Rattle.tce_space.proofs.IndexSetLaws.{has-minus, minus_lt}
 use Rattle.tce_tree.specs.ContractionTree.{ContractionTree, Arithmetic, multiply, leaf, constant, binary, sum, dims, loops, operations, node, node_dims, node_loops, parent}
 use Rattle.tce_tree.specs.FlatTree.{operand_of, left_operand, right_operand, left_of, right_of, first_number_of}
 use Rattle.tce_tree.specs.Fusion.{kept_dims, fused_at}
 use Rattle.tce_tree.specs.Value.{Assignment, with_number, IsInExtents}
-use Rattle.tce_tree.specs.WellFormed.{among, is_distinct}
+use Rattle.tce_tree.specs.WellFormed.{among}
 use Rattle.tce_tree.specs.declared.node.Operand.TheVariants.{Node as NodeOperand}
 use Rattle.tce_tree.proofs.Members.{node_dims_lt}
 use Rattle.tce_tree.proofs.Nodes.{size_bounds}
 use Rattle.tce_tree.proofs.Operands.{Stands, stands-node, only_child, parents_have_operands}
 use Rattle.tce_tree.proofs.Parents.{dims_within_loops, parent_is}
 use Rattle.tce_tree.proofs.Permutations.{among-members}
-use Rattle.tce_code.specs.Execution.{Setting, State, coordinates, exec, apply, with_word, repeated, left_word}
-use Rattle.tce_code.specs.Generation.{computing, followed_by}
-use Rattle.tce_code.specs.Program.{Program, stop, step, loop, compute, accumulate}
+use Rattle.tce_code.specs.Execution.{Setting, State, coordinates, exec, apply, with_word, left_word}
+use Rattle.tce_code.specs.Generation.{followed_by}
+use Rattle.tce_code.specs.Program.{Program, stop, step, compute, accumulate}
 use Rattle.tce_code.specs.Shape.{IsBinary, IsSum}
 use Rattle.tce_code.proofs.Frames.{repeated_keeps}
-use Rattle.tce_tail.specs.Laws.{dims_at, SameBut, SameButTwo, GrowsBySum, EndsAtLast, AreLoops, computed_word, state_after}
-use Rattle.tce_tail.specs.Tails.{loops_round}
-use Rattle.tce_tail.proofs.TailLaws.{sum_tails_add_up, single_tails_end_at_last, joined_tails_add_up}
-use Rattle.tce_walk.specs.Laws.{IsPlaceAt, StaysOutside, GrowsOnlyBySum, EndsOnlyAtLast, HoldsWords, SumTailsAreKnown, SingleTailsAreKnown, JoinedTailsAreKnown}
-use Rattle.tce_walk.specs.Machine.{operation_of_node, joined_sum, inside_tail, tail_program, IsTailAt, IsJoined, IsJoinedTo}
+use Rattle.tce_walk.specs.TailLaws.{dims_at, GrowsBySum, EndsAtLast, computed_word, state_after}
+use Rattle.tce_walk.specs.Tails.{loops_round}
+use Rattle.tce_walk.proofs.TailLaws.{sum_tails_add_up, single_tails_end_at_last, joined_tails_add_up}
+use Rattle.tce_walk.specs.Laws.{IsPlaceAt, GrowsOnlyBySum, EndsOnlyAtLast, SumTailsAreKnown, SingleTailsAreKnown, JoinedTailsAreKnown}
+use Rattle.tce_walk.specs.Machine.{operation_of_node, joined_sum, inside_tail, IsTailAt, IsJoined, IsJoinedTo}
 use Rattle.tce_walk.specs.declared.machine.Tail.{Tail}
 use Rattle.tce_walk.proofs.Parts.{computing-binary, computing-sum}
 

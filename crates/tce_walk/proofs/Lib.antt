@@ -5,3 +5,11 @@ pub mod Turns
 pub mod TailParts
 pub mod Walking
 pub mod KnownTails
+pub mod Tails
+pub mod TailLaws
+pub mod TouchBound
+pub mod Folds
+pub mod Places
+pub mod Closed
+pub mod Operands
+pub mod PartLaws

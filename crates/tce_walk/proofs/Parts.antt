@@ -1,22 +1,20 @@
 -- Parts of the code of a tree: what stands in their loops.
-use Rattle.std.proofs.Common.{◌≡◌, ℕ, ◌+◌, ◌*◌, ◌^◌, ◌<◌, ◌≤◌, ◌⊎◌, true, false, max, Option, Some, None, List, [], ◌∷◌, ◌++◌, length, Result, Ok, Err, OnOk, refl, sym, ap, ◌∙◌, inl, inr, subst, arith, length-append}
-use Rattle.std.proofs.lemmas.Bool.{cases_eq, or_left, or_right, ne_eqb, eq-eqb, false≢true}
+use Rattle.std.proofs.Common.{◌≡◌, ℕ, ◌<◌, ◌⊎◌, true, List, Result, Ok, Err, OnOk, refl, sym, ap, ◌∙◌, inl, inr, subst}
 use Rattle.tce_space.specs.IndexSet.{has}
 use Rattle.tce_space.specs.Space.{IndexSpace, extent_at}
 use Rattle.tce_tree.specs.ContractionTree.{ContractionTree, leaf, constant, binary, sum, Arithmetic, multiply, add, subtract, operations, node, node_loops}
 use Rattle.tce_tree.specs.Fusion.{OrdersFit, order_at}
-use Rattle.tce_tree.specs.Value.{Assignment, with_number}
+use Rattle.tce_tree.specs.Value.{Assignment}
 use Rattle.tce_tree.specs.WellFormed.{among}
 use Rattle.tce_tree.proofs.Conditions.{order-has}
-use Rattle.tce_code.specs.Execution.{Setting, State}
+use Rattle.tce_code.specs.Execution.{Setting}
 use Rattle.tce_code.specs.Generation.{computing}
-use Rattle.tce_code.specs.Program.{Action, clear, compute, accumulate, Program, stop, step, loop}
-use Rattle.tce_code.specs.Shape.{IsBinary, IsSum, EachAction, ActionFits, IsLoop, most_open}
+use Rattle.tce_code.specs.Program.{compute, accumulate, Program, stop, step}
+use Rattle.tce_code.specs.Shape.{IsBinary, IsSum}
 use Rattle.tce_code.specs.declared.op.Op.{Op}
-use Rattle.tce_code.specs.declared.op.Op.TheVariants.{Open, Close, Clear, Mul, Add, Sub, Acc}
-use Rattle.tce_tail.specs.Touches.{touch_bound}
-use Rattle.tce_walk.specs.Machine.{operation_of_node, IsNodeAt, IsInnerSum}
-use Rattle.tce_walk.specs.Positions.{IsPlain, plain_program}
+use Rattle.tce_code.specs.declared.op.Op.TheVariants.{Mul, Add, Sub, Acc}
+use Rattle.tce_walk.specs.Machine.{operation_of_node, IsNodeAt}
+use Rattle.tce_walk.specs.Positions.{plain_program}
 use Rattle.tce_walk.specs.Run.{IsPart}
 
 -- an operation of node `v` other than a `Clear`

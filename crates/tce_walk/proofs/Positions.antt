@@ -1,21 +1,19 @@
 -- Running a list of operations from a position on.
-use Rattle.std.proofs.Common.{◌≡◌, ℕ, ◌+◌, ◌-◌, ◌*◌, ◌<◌, ◌≤◌, min, true, Option, Some, None, List, [], ◌∷◌, length, get_or, set, drop, refl, sym, ap, ap₂, ◌∙◌, inl, inr, subst, arith, get_or-set_same, get_or-set_other, set-set, length-set, add-one}
-use mathlib.Core.Path.{fun_ext}
-use Rattle.std.proofs.lemmas.Bool.{cases_eq, cases_lt, ne_eqb, eq-eqb}
-use Rattle.std.proofs.lemmas.List.{drop_more, drop_all, set-get_or, get_or_default}
-use Rattle.tce_space.specs.Space.{IndexSpace, extent_at}
+use Rattle.std.proofs.Common.{◌≡◌, ℕ, ◌+◌, ◌<◌, ◌≤◌, min, Option, Some, None, List, [], ◌∷◌, length, get_or, drop, refl, sym, ap, ap₂, ◌∙◌, inl, inr, arith}
+use Rattle.std.proofs.lemmas.Bool.{cases_lt}
+use Rattle.std.proofs.lemmas.List.{drop_more, drop_all}
+use Rattle.tce_space.specs.Space.{IndexSpace}
 use Rattle.tce_tree.specs.ContractionTree.{ContractionTree, multiply, add, subtract}
-use Rattle.tce_tree.specs.Value.{Assignment, with_number}
-use Rattle.tce_code.specs.Execution.{Setting, State, apply, exec, repeated}
+use Rattle.tce_tree.specs.Value.{Assignment}
+use Rattle.tce_code.specs.Execution.{Setting, State}
 use Rattle.tce_code.specs.Program.{Action, clear, compute, accumulate, Program, stop, step, loop, op_of, read_op, first_of, others_of, programs_of}
 use Rattle.tce_code.specs.declared.op.Op.{Op}
 use Rattle.tce_code.specs.declared.op.Op.TheVariants.{Open, Close, Clear, Mul, Add, Sub, Acc}
 use Rattle.tce_code.proofs.Frames.{read-action}
-use Rattle.tce_tail.specs.Tails.{is_stop}
-use Rattle.tce_tail.specs.Touches.{touch_bound}
-use Rattle.tce_walk.specs.Machine.{after, assignment_of}
+use Rattle.tce_walk.specs.Touches.{touch_bound}
+use Rattle.tce_walk.specs.Machine.{after}
 use Rattle.tce_walk.specs.Positions.{programs_at, program_at, EndsAt, IsPlain, plain_program}
-use Rattle.tce_walk.specs.Run.{IsRun, IsEnd}
+use Rattle.tce_walk.specs.Run.{IsRun}
 
 pub programs_next : (ops : List Op) (at : ℕ) (op : Op) → at < length ops → op ≡ get_or ops at op
     → programs_at ops at ≡ read_op op (programs_at ops (at + 1))

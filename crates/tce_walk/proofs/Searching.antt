@@ -1,5 +1,5 @@
 -- What the search for a tail sees at a position.
-use Rattle.std.proofs.Common.{◌≡◌, ℕ, ◌+◌, ◌-◌, ◌<◌, ◌≤◌, ◌⊎◌, min, max, Bool, true, false, ◌&&◌, ◌||◌, Option, Some, None, List, [], ◌∷◌, ◌++◌, length, get_or, refl, sym, ap, ap₂, ◌∙◌, inl, inr, subst, arith, append_assoc, append-nil}
+use Rattle.std.proofs.Common.{◌≡◌, ℕ, ◌+◌, ◌-◌, ◌<◌, ◌≤◌, ◌⊎◌, min, Bool, true, false, ◌||◌, Option, Some, None, List, [], ◌∷◌, ◌++◌, length, get_or, refl, sym, ap, ap₂, ◌∙◌, inl, inr, subst, arith, append_assoc, append-nil}
 use Rattle.std.proofs.lemmas.Bool.{cases_Bool, cases_lt, eq-eqb, false≢true}
 use Rattle.std.proofs.lemmas.List.{get_or_default}
 use Rattle.std.specs.Option.{option_map}
@@ -11,11 +11,11 @@ use Rattle.tce_tree.proofs.Operands.{parents_have_operands}
 use Rattle.tce_tree.proofs.Parents.{parent_is}
 use Rattle.tce_code.specs.Generation.{computing, followed_by}
 use Rattle.tce_code.specs.Program.{Action, clear, compute, accumulate, Program, stop, step, loop, op_of, first_of, others_of}
-use Rattle.tce_code.specs.Shape.{IsBinary, IsSum, most_open}
+use Rattle.tce_code.specs.Shape.{IsSum, most_open}
 use Rattle.tce_code.specs.declared.op.Op.{Op}
 use Rattle.tce_code.specs.declared.op.Op.TheVariants.{Open, Close, Clear, Mul, Add, Sub, Acc}
-use Rattle.tce_tail.specs.Tails.{is_stop, tail_loops, accumulates_parent, is_number, is_tail_action, loops_round, reads_constant, is_constant}
-use Rattle.tce_walk.specs.Machine.{operation_of_node, joined_sum, inside_tail, IsJoined, IsJoinedTo}
+use Rattle.tce_walk.specs.Tails.{is_stop, tail_loops, accumulates_parent, is_number, is_tail_action, loops_round, reads_constant, is_constant}
+use Rattle.tce_walk.specs.Machine.{operation_of_node, joined_sum, inside_tail, IsJoinedTo}
 use Rattle.tce_walk.specs.Positions.{programs_at, program_at, EndsAt}
 use Rattle.tce_walk.specs.Run.{IsEnd}
 use Rattle.tce_walk.specs.Search.{IsShaped, IsSumAt, IsAlone, IsInside, IsTailOf, HasNoTail, names_constant, some_constant}

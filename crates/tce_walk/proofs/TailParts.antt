@@ -1,5 +1,5 @@
 -- What a machine is asked at a tail, from what the code says there.
-use Rattle.std.proofs.Common.{◌≡◌, ℕ, ◌+◌, ◌*◌, ◌^◌, ◌<◌, ◌≤◌, true, false, eqb, if◌then◌else◌, Option, Some, None, List, [], ◌∷◌, ◌++◌, map, fold, length, refl, sym, ap, ap₂, ◌∙◌, inl, inr, subst, arith, append_assoc, append-nil, length-append}
+use Rattle.std.proofs.Common.{◌≡◌, ℕ, ◌+◌, ◌*◌, ◌^◌, ◌<◌, ◌≤◌, true, false, eqb, Option, Some, None, List, [], ◌∷◌, ◌++◌, map, fold, length, refl, sym, ap, ◌∙◌, inl, inr, subst, arith, append_assoc, append-nil}
 use Rattle.std.proofs.Math.Nat.{mul-le-mul_left}
 use Rattle.std.proofs.lemmas.Bool.{cases_Bool, cases_eq, eq-eqb, ne_eqb, eqb-true, or_left, or_right, false≢true}
 use Rattle.std.proofs.lemmas.List.{map-append}
@@ -19,10 +19,10 @@ use Rattle.tce_tree.proofs.Permutations.{without, among-without_other, among-wit
 use Rattle.tce_code.specs.Execution.{Setting, State}
 use Rattle.tce_code.specs.Generation.{computing, followed_by}
 use Rattle.tce_code.specs.Plan.{Plan}
-use Rattle.tce_code.specs.Program.{Action, Program, stop, step, loop}
+use Rattle.tce_code.specs.Program.{Action, Program, stop, loop}
 use Rattle.tce_code.specs.Shape.{EachAction, ActionFits, IsLoop}
-use Rattle.tce_tail.specs.Tails.{loops_round, reads_constant}
-use Rattle.tce_tail.specs.Touches.{touch_bound, tail_touches}
+use Rattle.tce_walk.specs.Tails.{loops_round, reads_constant}
+use Rattle.tce_walk.specs.Touches.{touch_bound, tail_touches}
 use Rattle.tce_walk.specs.Machine.{after, inside_tail, tail_program, joined_sum, operation_of_node, touches_of_tail, IsTailAt, IsJoinedTo}
 use Rattle.tce_walk.specs.Run.{RunsOver, IsPart, IsRun}
 use Rattle.tce_walk.specs.Search.{IsShaped, IsTailOf}

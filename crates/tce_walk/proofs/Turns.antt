@@ -1,11 +1,10 @@
 -- A loop turn by turn.
-use Rattle.std.proofs.Common.{◌≡◌, ℕ, zero, suc, ◌+◌, ◌-◌, ◌*◌, ◌^◌, ◌<◌, ◌≤◌, ◌⊎◌, max, true, false, Option, Some, None, List, [], ◌∷◌, ◌++◌, length, get_or, set, refl, sym, ap, ap₂, ◌∙◌, inl, inr, subst, arith, get_or-set_same, get_or-set_other, set-set, length-set, add-one, length-append}
+use Rattle.std.proofs.Common.{◌≡◌, ℕ, ◌+◌, ◌*◌, ◌^◌, ◌<◌, ◌≤◌, true, Option, Some, None, List, [], ◌∷◌, ◌++◌, length, set, refl, sym, ap, ◌∙◌, inl, inr, subst, arith, get_or-set_same, get_or-set_other, set-set, add-one, length-append}
 use mathlib.Core.Path.{fun_ext}
 use Rattle.std.proofs.Math.Nat.{mul-le-mul_left}
 use Rattle.std.proofs.lemmas.Bool.{cases_eq, cases_Bool, ne_eqb, eq-eqb, false≢true}
-use Rattle.std.proofs.lemmas.List.{set-get_or}
 use Rattle.std.specs.Option.{option_map}
-use Rattle.tce_space.specs.Space.{IndexSpace, IsSpace, extent_at}
+use Rattle.tce_space.specs.Space.{IndexSpace, extent_at}
 use Rattle.tce_space.proofs.IndexSetLaws.{has_below}
 use Rattle.tce_space.proofs.Spaces.{index_limits}
 use Rattle.tce_tree.specs.ContractionTree.{ContractionTree, node_loops}
@@ -16,11 +15,10 @@ use Rattle.tce_tree.proofs.Members.{node_loops_lt}
 use Rattle.tce_tree.proofs.NamedIndexes.{node_loops_declared}
 use Rattle.tce_code.specs.Execution.{Setting, State, exec, repeated}
 use Rattle.tce_code.specs.Program.{Program, stop, loop}
-use Rattle.tce_code.specs.Shape.{most_open}
-use Rattle.tce_tail.specs.Tails.{tail_loops, reads_constant}
-use Rattle.tce_tail.specs.Touches.{touch_bound, tail_touches}
+use Rattle.tce_walk.specs.Tails.{reads_constant}
+use Rattle.tce_walk.specs.Touches.{touch_bound, tail_touches}
 use Rattle.tce_walk.specs.Machine.{after, assignment_of}
-use Rattle.tce_walk.specs.Run.{RunsOver, AreKept, IsPart, IsRun}
+use Rattle.tce_walk.specs.Run.{AreKept, IsPart, IsRun}
 use Rattle.tce_walk.specs.Search.{HasNoTail}
 
 -- what so many turns of a loop leave

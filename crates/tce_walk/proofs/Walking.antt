@@ -1,19 +1,18 @@
 -- Parts of the code at positions, one after the other.
-use Rattle.std.proofs.Common.{◌≡◌, ℕ, zero, suc, replicate, ◌+◌, ◌*◌, ◌^◌, ◌<◌, ◌≤◌, min, max, true, Option, List, [], ◌∷◌, ◌++◌, length, get_or, set, refl, sym, ap, ap₂, ◌∙◌, subst, arith, set-set}
+use Rattle.std.proofs.Common.{◌≡◌, ℕ, zero, suc, replicate, ◌+◌, ◌^◌, ◌<◌, ◌≤◌, min, Option, List, [], length, get_or, set, refl, sym, ap, ap₂, ◌∙◌, subst, arith, set-set}
 use mathlib.Core.Path.{fun_ext}
 use Rattle.std.proofs.lemmas.Bool.{false≢true}
 use Rattle.std.proofs.lemmas.List.{get_or_default, set-get_or}
 use Rattle.tce_outside.specs.Fault.{HasCause}
 use Rattle.tce_space.specs.Space.{IndexSpace, extent_at}
 use Rattle.tce_tree.specs.ContractionTree.{ContractionTree, multiply, add, subtract}
-use Rattle.tce_tree.specs.Value.{Assignment, with_number}
+use Rattle.tce_tree.specs.Value.{Assignment}
 use Rattle.tce_code.specs.Execution.{Setting, State}
 use Rattle.tce_code.specs.Plan.{plan_of}
 use Rattle.tce_code.specs.Program.{Action, clear, compute, accumulate, Program, stop, step, loop, op_of, first_of, others_of}
-use Rattle.tce_code.specs.Shape.{most_open}
 use Rattle.tce_code.specs.declared.op.Op.{Op}
 use Rattle.tce_code.specs.declared.op.Op.TheVariants.{Open, Close, Clear, Mul, Add, Sub, Acc}
-use Rattle.tce_tail.specs.Touches.{touch_bound}
+use Rattle.tce_walk.specs.Touches.{touch_bound}
 use Rattle.tce_walk.specs.Machine.{assignment_of}
 use Rattle.tce_walk.specs.Positions.{programs_at, program_at, EndsAt, IsPlain, plain_program}
 use Rattle.tce_walk.specs.Run.{zeros, IsCodeOf, RunsOver, IsPart, IsRun}

@@ -6,7 +6,7 @@ use Rattle.tce_tree.specs.ContractionTree.{Arithmetic, multiply, node}
 use Rattle.tce_tree.specs.Value.{Assignment, IsInExtents, sum_over}
 use Rattle.tce_code.specs.Execution.{Setting, State, coordinates, exec, left_word}
 use Rattle.tce_code.specs.Shape.{IsBinary, IsSum}
-use Rattle.tce_tail.specs.Laws.{dims_at, SameBut, SameButTwo, EndsAtLast, AreLoops, computed_word}
+use Rattle.tce_walk.specs.TailLaws.{dims_at, SameBut, SameButTwo, EndsAtLast, AreLoops, computed_word}
 use Rattle.tce_walk.specs.Machine.{tail_program, IsTailAt}
 use Rattle.tce_walk.specs.declared.machine.Tail.{Tail}
 

@@ -3,3 +3,10 @@ pub mod Positions
 pub mod Run
 pub mod Search
 pub mod Laws
+pub mod Tails
+pub mod Touches
+pub mod TailLaws
+pub mod TailExamples
+pub mod Parts
+pub mod PartLaws
+pub mod PartExamples

@@ -12,8 +12,8 @@ use Rattle.tce_code.specs.Execution.{Setting, State, exec}
 use Rattle.tce_code.specs.Generation.{computing, followed_by}
 use Rattle.tce_code.specs.Program.{Program, stop, step, accumulate}
 use Rattle.tce_code.specs.Shape.{IsBinary, IsSum}
-use Rattle.tce_tail.specs.Tails.{loops_round, reads_constant}
-use Rattle.tce_tail.specs.Touches.{block_count}
+use Rattle.tce_walk.specs.Tails.{loops_round, reads_constant}
+use Rattle.tce_walk.specs.Touches.{block_count}
 use Rattle.tce_walk.specs.declared.machine.Tail.{Tail}
 
 -- the assignment that gives each index its number in a list

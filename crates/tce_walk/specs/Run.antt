@@ -13,7 +13,7 @@ use Rattle.tce_code.specs.Plan.{Plan, plan_of}
 use Rattle.tce_code.specs.Program.{Program}
 use Rattle.tce_code.specs.Shape.{EachAction, ActionFits, IsLoop, most_open}
 use Rattle.tce_code.specs.declared.op.Op.{Op}
-use Rattle.tce_tail.specs.Touches.{touch_bound}
+use Rattle.tce_walk.specs.Touches.{touch_bound}
 use Rattle.tce_walk.specs.Machine.{after}
 use Rattle.tce_walk.specs.Positions.{EndsAt}
 

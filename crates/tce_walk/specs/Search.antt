@@ -8,7 +8,7 @@ use Rattle.tce_code.specs.Plan.{Plan}
 use Rattle.tce_code.specs.Program.{Program, stop, step, loop, accumulate}
 use Rattle.tce_code.specs.Shape.{EachAction, ActionFits, IsLoop, IsSum}
 use Rattle.tce_code.specs.declared.op.Op.{Op}
-use Rattle.tce_tail.specs.Tails.{loops_round, tail_loops, reads_constant}
+use Rattle.tce_walk.specs.Tails.{loops_round, tail_loops, reads_constant}
 use Rattle.tce_walk.specs.Machine.{inside_tail, tail_program, operation_of_node, IsJoinedTo}
 use Rattle.tce_walk.specs.Positions.{program_at}
 use Rattle.tce_walk.specs.Run.{IsEnd}

@@ -3,13 +3,24 @@
 //! The loop code of a tree is a flat list of operations. Loops that hold nothing but one operation, or that of a product
 //! and then that of the sum that takes it, are a tail. A tail without a constant operand is handed to the machine whole,
 //! so that it may run block by block; every other loop is run turn by turn.
+//!
+//! What a tail leaves does not depend on the sequence of its loops (`specs/Tails.antt`, `specs/TailLaws.antt`). A tail is
+//! cut at the edges of tiles into blocks; what a part of its loops leaves is said in closed form, as a function of
+//! states, and the parts, one after the other, leave what the tail leaves (`specs/Parts.antt`, `specs/PartLaws.antt`).
+//! The functions of `tail_laws.rt` and `part_laws.rt` do nothing: their contracts are these laws.
 #![tactic(auto)]
 
 mod laws;
 mod machine;
+mod part_laws;
 mod running;
 mod search;
+mod tail_laws;
 
 pub use laws::{joined_tails_are_known, single_tails_are_known, sum_tails_are_known};
 pub use machine::{Machine, Tail};
+pub use part_laws::{parts_keep_words, parts_make_tails};
 pub use running::run_program;
+pub use tail_laws::{
+    joined_tails_add_up, single_tails_end_at_last, sum_tails_add_up, touches_are_few,
+};

@@ -1,7 +1,7 @@
 // What loop code runs on.
 ghost use Rattle.std.specs.Prelude.{◌≡◌, ◌+◌, ◌≤◌, ◌^◌, ℕ, Option, OnOk, IsErr};
 ghost use Rattle.std.specs.Option.{option_map};
-ghost use Rattle.tce_outside.specs.Fault.{HasCause};
+ghost use Rattle.tce_outside.specs.Fault.{HasCause, TellsFaults};
 ghost use Rattle.tce_space.specs.Space.{IndexSpace};
 ghost use Rattle.tce_code.specs.Execution.{Setting, State, cleared};
 ghost use Rattle.tce_walk.specs.Machine.{assignment_of, after, operation_of_node, tail_program, touches_of_tail, IsNodeAt, IsInnerSum, IsTailAt};
@@ -51,7 +51,7 @@ pub trait Machine {
         ensures ready { ready self.new }
         ensures state { state self.new ≡ option_map (λ before. cleared before v) (state self.old) }
         ensures touches { touches self.new ≤ touches self.old }
-        ensures faults { faults self.old ≤ faults self.new }
+        ensures faults { faults self.new ≡ faults self.old }
         ensures space { space self.new ≡ space self.old }
         ensures setting { setting self.new ≡ setting self.old }
         ensures kept { keeps self.old self.new };
@@ -65,6 +65,7 @@ pub trait Machine {
         ensures state { OnOk result (state self.new ≡ after (setting self.old) (operation_of_node (setting self.old).tree v) (assignment_of numbers.now) (state self.old)) }
         ensures touches { OnOk result (touches self.new ≤ touches self.old + 3) }
         ensures cause { HasCause (faults self.old) (faults self.new) (IsErr result) }
+        ensures told { TellsFaults (faults self.old) (faults self.new) (IsErr result) }
         ensures space { space self.new ≡ space self.old }
         ensures setting { setting self.new ≡ setting self.old }
         ensures kept { keeps self.old self.new };
@@ -78,6 +79,7 @@ pub trait Machine {
         ensures state { OnOk result (state self.new ≡ after (setting self.old) (tail_program (setting self.old).tree tail.now) (assignment_of numbers.now) (state self.old)) }
         ensures touches { OnOk result (touches self.new ≤ touches self.old + touches_of_tail (space self.old) tail.now) }
         ensures cause { HasCause (faults self.old) (faults self.new) (IsErr result) }
+        ensures told { TellsFaults (faults self.old) (faults self.new) (IsErr result) }
         ensures space { space self.new ≡ space self.old }
         ensures setting { setting self.new ≡ setting self.old }
         ensures kept { keeps self.old self.new };

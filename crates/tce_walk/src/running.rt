@@ -1,9 +1,9 @@
 // Runs loop code from position to position.
 ghost use Rattle.std.specs.Prelude.{◌≡◌, ◌+◌, ◌<◌, ◌≤◌, ◌^◌, length, IfOk, OnOk, IsErr};
-ghost use Rattle.tce_outside.specs.Fault.{HasCause};
+ghost use Rattle.tce_outside.specs.Fault.{HasCause, TellsFaults};
 ghost use Rattle.tce_code.specs.Program.{stop, loop, program_of};
 ghost use Rattle.tce_space.specs.Space.{extent_at};
-ghost use Rattle.tce_tail.specs.Touches.{touch_bound};
+ghost use Rattle.tce_walk.specs.Touches.{touch_bound};
 ghost use Rattle.tce_walk.specs.Machine.{assignment_of, after};
 ghost use Rattle.tce_walk.specs.Positions.{program_at, IsPlain, plain_program};
 ghost use Rattle.tce_walk.specs.Run.{zeros, IsCodeOf, RunsOver, AreKept, IsPart, IsRun, IsEnd};
@@ -34,6 +34,7 @@ pub fn run_program<M: Machine>(
     ensures state { OnOk result (M.state machine.new ≡ after (M.setting machine.old) (program_of ops.now) zeros (M.state machine.old)) }
     ensures touches { OnOk result (M.touches machine.new ≤ M.touches machine.old + touch_bound space.now tree.now (program_of ops.now)) }
     ensures cause { HasCause (M.faults machine.old) (M.faults machine.new) (IsErr result) }
+    ensures told { TellsFaults (M.faults machine.old) (M.faults machine.new) (IsErr result) }
     ensures space { M.space machine.new ≡ M.space machine.old }
     ensures setting { M.setting machine.new ≡ M.setting machine.old }
     ensures kept { M.keeps machine.old machine.new }
@@ -56,6 +57,7 @@ fn run_action<M: Machine>(machine: &mut M, op: Op, numbers: &[u64; 24]) -> Resul
     ensures run { OnOk result (IsRun (M.space machine.old) (M.setting machine.old).tree (M.setting machine.old) (plain_program op) (assignment_of numbers.now)
         (M.state machine.old) (M.state machine.new) (M.touches machine.old) (M.touches machine.new)) }
     ensures cause { HasCause (M.faults machine.old) (M.faults machine.new) (IsErr result) }
+    ensures told { TellsFaults (M.faults machine.old) (M.faults machine.new) (IsErr result) }
     ensures space { M.space machine.new ≡ M.space machine.old }
     ensures setting { M.setting machine.new ≡ M.setting machine.old }
     ensures kept { M.keeps machine.old machine.new }
@@ -92,6 +94,7 @@ fn run_part<M: Machine>(
     ensures end { IfOk result (IsEnd ops.now start) }
     ensures numbers { OnOk result (numbers.new ≡ numbers.old) }
     ensures cause { HasCause (M.faults machine.old) (M.faults machine.new) (IsErr result) }
+    ensures told { TellsFaults (M.faults machine.old) (M.faults machine.new) (IsErr result) }
     ensures space { M.space machine.new ≡ M.space machine.old }
     ensures setting { M.setting machine.new ≡ M.setting machine.old }
     ensures kept { M.keeps machine.old machine.new }
@@ -136,6 +139,7 @@ fn run_loop<M: Machine>(
     ensures end { IfOk result (IsEnd ops.now (at + 1)) }
     ensures numbers { OnOk result (numbers.new ≡ numbers.old) }
     ensures cause { HasCause (M.faults machine.old) (M.faults machine.new) (IsErr result) }
+    ensures told { TellsFaults (M.faults machine.old) (M.faults machine.new) (IsErr result) }
     ensures space { M.space machine.new ≡ M.space machine.old }
     ensures setting { M.setting machine.new ≡ M.setting machine.old }
     ensures kept { M.keeps machine.old machine.new }
@@ -171,6 +175,7 @@ fn run_turns<M: Machine>(
     ensures end { IfOk result (IsEnd ops.now (at + 1)) }
     ensures numbers { OnOk result (numbers.new ≡ numbers.old) }
     ensures cause { HasCause (M.faults machine.old) (M.faults machine.new) (IsErr result) }
+    ensures told { TellsFaults (M.faults machine.old) (M.faults machine.new) (IsErr result) }
     ensures space { M.space machine.new ≡ M.space machine.old }
     ensures setting { M.setting machine.new ≡ M.setting machine.old }
     ensures kept { M.keeps machine.old machine.new }

@@ -4,7 +4,7 @@ ghost use Rattle.std.specs.declared.option.Option.TheVariants.{None};
 ghost use Rattle.tce_tree.specs.ContractionTree.{operations};
 ghost use Rattle.tce_code.specs.Shape.{most_open};
 ghost use Rattle.tce_code.specs.declared.op.Op.TheVariants.{Open, Mul};
-ghost use Rattle.tce_tail.specs.Tails.{is_stop, tail_loops, accumulates_parent, reads_constant};
+ghost use Rattle.tce_walk.specs.Tails.{is_stop, tail_loops, accumulates_parent, reads_constant};
 ghost use Rattle.tce_walk.specs.Machine.{operation_of_node};
 ghost use Rattle.tce_walk.specs.Positions.{program_at};
 ghost use Rattle.tce_walk.specs.Run.{IsEnd};

@@ -16,9 +16,9 @@ use Rattle.tce_block.specs.Last.{meets, last_of_part}
 use Rattle.tce_block.specs.Parts.{Part}
 use Rattle.tce_block.specs.Sums.{moved}
 use Rattle.tce_block.proofs.BoxSums.{with-same, with-other, assignment-absent}
-use Rattle.tce_blockwise.specs.Parts.{last_on_place, falls_on}
+use Rattle.tce_walk.specs.Parts.{last_on_place, falls_on}
 use Rattle.tce_code.specs.Execution.{Setting, coordinates}
-use Rattle.tce_tail.specs.Laws.{dims_at}
+use Rattle.tce_walk.specs.TailLaws.{dims_at}
 use Rattle.tce_strides.specs.Results.{assigned}
 use Rattle.tce_windows.specs.Laws.{IsSequence, lens_along}
 use Rattle.tce_windows.specs.Turns.{IsTurn, turns_of, turn_at}

@@ -18,9 +18,9 @@ use Rattle.tce_block.specs.Parts.{Part}
 use Rattle.tce_block.specs.Sums.{moved}
 use Rattle.tce_block.proofs.BoxSums.{assignment-absent, sum_over_permuted}
 use Rattle.tce_block.proofs.Words.{plus-zero}
-use Rattle.tce_blockwise.specs.Parts.{part_growth, last_on_place, falls_on}
+use Rattle.tce_walk.specs.Parts.{part_growth, last_on_place, falls_on}
 use Rattle.tce_code.specs.Execution.{Setting, State, coordinates}
-use Rattle.tce_tail.specs.Laws.{dims_at}
+use Rattle.tce_walk.specs.TailLaws.{dims_at}
 use Rattle.tce_strides.specs.Results.{assigned, HasNumbers}
 use Rattle.tce_strides.specs.Turns.{IsMade}
 use Rattle.tce_strides.proofs.Folds.{Each, each_inside, fold_idle}

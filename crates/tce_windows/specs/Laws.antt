@@ -6,7 +6,7 @@ use Rattle.tce_space.specs.Box.{places, IsInside}
 use Rattle.tce_tree.specs.Value.{Assignment}
 use Rattle.tce_tree.specs.WellFormed.{among, is_distinct}
 use Rattle.tce_block.specs.Parts.{Part}
-use Rattle.tce_blockwise.specs.Parts.{grown_by_part, set_by_part}
+use Rattle.tce_walk.specs.Parts.{grown_by_part, set_by_part}
 use Rattle.tce_code.specs.Execution.{Setting, State}
 use Rattle.tce_strides.specs.Places.{AreWithin, AreApart}
 use Rattle.tce_strides.specs.Turns.{IsMade}

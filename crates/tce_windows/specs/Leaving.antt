@@ -3,7 +3,7 @@ use Rattle.std.specs.Prelude.{◌≡◌, ◌≢◌, ℕ, ◌<◌, List, length}
 use Rattle.tce_base.specs.Word.{wrapping_mul}
 use Rattle.tce_tree.specs.Value.{Assignment}
 use Rattle.tce_block.specs.Parts.{Part}
-use Rattle.tce_blockwise.specs.Parts.{grown_by_part, set_by_part}
+use Rattle.tce_walk.specs.Parts.{grown_by_part, set_by_part}
 use Rattle.tce_code.specs.Execution.{Setting, State}
 use Rattle.tce_strides.specs.Places.{AreWithin, AreApart}
 use Rattle.tce_strides.specs.Turns.{grown, grown_by_products, computed, operate}

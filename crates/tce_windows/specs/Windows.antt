@@ -3,7 +3,7 @@ use Rattle.std.specs.Prelude.{◌≡◌, ℕ, ◌+◌, ◌-◌, ◌<◌, ◌↔�
 use Rattle.tce_tree.specs.Value.{Assignment}
 use Rattle.tce_code.specs.Execution.{Setting, State, coordinates}
 use Rattle.tce_layout.specs.Places.{steps_to}
-use Rattle.tce_tail.specs.Laws.{dims_at}
+use Rattle.tce_walk.specs.TailLaws.{dims_at}
 use Rattle.tce_windows.specs.Turns.{Turns, IsTurn}
 use Rattle.tce_windows.specs.declared.window.Window.{Window}
 

@@ -1,7 +1,7 @@
 // Elements of arrays whose tiles a cache holds.
 ghost use Rattle.std.specs.Prelude.{◌≡◌, ◌+◌, ◌<◌, ◌^◌, length, map, slice_index, All, IfOk, OnOk, IsErr, IsTrue};
 ghost use Rattle.std.specs.Option.{ForSome};
-ghost use Rattle.tce_outside.specs.Fault.{HasCause};
+ghost use Rattle.tce_outside.specs.Fault.{HasCause, TellsFaults};
 ghost use Rattle.tce_space.specs.Box.{IsInside};
 ghost use Rattle.tce_cache.specs.Cache.{IsCache, IsReady, IsArrayAt, IsWritable, HasRoom, IsSameOutsideFrames, OnlyWritableDiffers};
 ghost use Rattle.tce_cache.specs.Transfer.{HasFile};
@@ -53,6 +53,7 @@ pub fn touch_element<D: Disk>(
     ensures outside { IsSameOutsideFrames cache.old words.old words.new }
     ensures others { OnlyWritableDiffers cache.old (D.files disk.old) (D.files disk.new) }
     ensures cause { HasCause (D.faults disk.old) (D.faults disk.new) (IsErr result) }
+    ensures told { TellsFaults (D.faults disk.old) (D.faults disk.new) (IsErr result) }
 {
     // The length of the block bounds all places.
     let _len = words.len();

@@ -1,7 +1,7 @@
 // Single operations.
 ghost use Rattle.std.specs.Prelude.{◌≡◌, ◌+◌, ◌≤◌, ◌^◌, slice_index, IfOk, OnOk, IsErr};
 ghost use Rattle.std.specs.Option.{ForSome};
-ghost use Rattle.tce_outside.specs.Fault.{HasCause};
+ghost use Rattle.tce_outside.specs.Fault.{HasCause, TellsFaults};
 ghost use Rattle.tce_tree.specs.FlatTree.{right_of};
 ghost use Rattle.tce_code.specs.Execution.{exec};
 ghost use Rattle.tce_walk.specs.Machine.{operation_of_node, IsNodeAt};
@@ -47,6 +47,7 @@ fn read_second<D: Disk>(
     ensures read { OnOk result (IsRead 1 (workspace evaluation.now words.old cache.old (D.files disk.old)) (workspace evaluation.now words.new cache.new (D.files disk.new))) }
     ensures kept { IsKept (workspace evaluation.now words.old cache.old (D.files disk.old)) (workspace evaluation.now words.new cache.new (D.files disk.new)) }
     ensures cause { HasCause (D.faults disk.old) (D.faults disk.new) (IsErr result) }
+    ensures told { TellsFaults (D.faults disk.old) (D.faults disk.new) (IsErr result) }
 {
     let _nodes = evaluation.tree.count();
     match evaluation.tree.right(v) {
@@ -72,6 +73,7 @@ fn read_operation<D: Disk>(
     ensures read { OnOk result (IsRead 2 (workspace evaluation.now words.old cache.old (D.files disk.old)) (workspace evaluation.now words.new cache.new (D.files disk.new))) }
     ensures kept { IsKept (workspace evaluation.now words.old cache.old (D.files disk.old)) (workspace evaluation.now words.new cache.new (D.files disk.new)) }
     ensures cause { HasCause (D.faults disk.old) (D.faults disk.new) (IsErr result) }
+    ensures told { TellsFaults (D.faults disk.old) (D.faults disk.new) (IsErr result) }
 {
     let _nodes = evaluation.tree.count();
     let operand = evaluation.tree.left(v);
@@ -97,6 +99,7 @@ pub fn operate<D: Disk>(
         w (workspace evaluation.now words.new cache.new (D.files disk.new))) }
     ensures kept { IsKept (workspace evaluation.now words.old cache.old (D.files disk.old)) (workspace evaluation.now words.new cache.new (D.files disk.new)) }
     ensures cause { HasCause (D.faults disk.old) (D.faults disk.new) (IsErr result) }
+    ensures told { TellsFaults (D.faults disk.old) (D.faults disk.new) (IsErr result) }
 {
     let word = read_operation(evaluation, words, cache, disk, v, numbers)?;
     put_place(evaluation, words, cache, disk, v, numbers, word)

@@ -1,6 +1,6 @@
 // Words that are put at nodes' places.
 ghost use Rattle.std.specs.Prelude.{◌≡◌, ◌+◌, ◌-◌, ◌<◌, ◌≤◌, ◌^◌, ℕ, Option, length, slice_index, OnOk, IsErr};
-ghost use Rattle.tce_outside.specs.Fault.{HasCause};
+ghost use Rattle.tce_outside.specs.Fault.{HasCause, TellsFaults};
 ghost use Rattle.tce_outside.specs.Files.{Files};
 ghost use Rattle.tce_cache.specs.Cache.{State as CacheState};
 ghost use Rattle.tce_tree.specs.ContractionTree.{operations};
@@ -37,6 +37,7 @@ fn put_root<D: Disk>(
         (workspace evaluation.now words.old cache.old (D.files disk.old)) (workspace evaluation.now words.new cache.new (D.files disk.new))) }
     ensures kept { IsKept (workspace evaluation.now words.old cache.old (D.files disk.old)) (workspace evaluation.now words.new cache.new (D.files disk.new)) }
     ensures cause { HasCause (D.faults disk.old) (D.faults disk.new) (IsErr result) }
+    ensures told { TellsFaults (D.faults disk.old) (D.faults disk.new) (IsErr result) }
 {
     let at = touch_element(words, cache, disk, evaluation.result, numbers, true)?;
     words.put(at, word);
@@ -61,6 +62,7 @@ pub(crate) fn put_place<D: Disk>(
         (workspace evaluation.now words.old cache.old (D.files disk.old)) (workspace evaluation.now words.new cache.new (D.files disk.new))) }
     ensures kept { IsKept (workspace evaluation.now words.old cache.old (D.files disk.old)) (workspace evaluation.now words.new cache.new (D.files disk.new)) }
     ensures cause { HasCause (D.faults disk.old) (D.faults disk.new) (IsErr result) }
+    ensures told { TellsFaults (D.faults disk.old) (D.faults disk.new) (IsErr result) }
 {
     let count = evaluation.tree.count();
     if v + 1 == count {

@@ -55,10 +55,10 @@ pub(crate) fn expect_range(
     size: (u64, u64),
     number: u8,
 ) {
-    assert_eq!(rt; add_range(rt, space, text, size), Ok(number), "{text}");
+    assert!(rt; add_range(rt, space, text, size) == Ok(number), "{text}");
 }
 
 // The index is declared, with this number.
 pub(crate) fn expect_index(rt: &impl Abort, space: &mut Space, text: &str, range: u8, number: u8) {
-    assert_eq!(rt; add_index(rt, space, text, range), Ok(number), "{text}");
+    assert!(rt; add_index(rt, space, text, range) == Ok(number), "{text}");
 }

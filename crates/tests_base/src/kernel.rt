@@ -72,7 +72,7 @@ fn expect(rt: &impl Abort, join: Join, n: usize, found: &[u64; MOST], runs: &Run
         } else {
             old
         };
-        assert_eq!(rt; found[t], due, "{n} {t}");
+        assert!(rt; found[t] == due, "{n} {t}");
     }
 }
 
@@ -111,7 +111,7 @@ fn expect_mul_add_sv(rt: &impl Abort, runs: &Runs) {
 fn expect_dot(rt: &impl Abort, runs: &Runs) {
     let mut total: u64 = 0;
     for n in 0..MOST {
-        assert_eq!(rt; dot(&runs.a[..n], &runs.b[..n]), total, "{n}");
+        assert!(rt; dot(&runs.a[..n], &runs.b[..n]) == total, "{n}");
         total = total.wrapping_add(runs.a[n].wrapping_mul(runs.b[n]));
     }
 }
@@ -162,7 +162,7 @@ fn expect_clear(rt: &impl Abort, runs: &Runs) {
 fn expect_sum(rt: &impl Abort, runs: &Runs) {
     let mut total: u64 = 0;
     for n in 0..MOST {
-        assert_eq!(rt; sum(&runs.a[..n]), total, "{n}");
+        assert!(rt; sum(&runs.a[..n]) == total, "{n}");
         total = total.wrapping_add(runs.a[n]);
     }
 }

@@ -21,27 +21,27 @@ fn put(rt: &impl Abort, disk: &mut MemDisk, name: &str, bytes: &[u8]) {
 }
 
 fn expect_file(rt: &impl Abort, disk: &MemDisk, name: &str, bytes: Option<&[u8]>) {
-    assert_eq!(rt; disk.file(name), bytes, "the file {name}");
+    assert!(rt; disk.file(name) == bytes, "the file {name}");
 }
 
 fn expect_size(rt: &impl Abort, disk: &mut MemDisk, name: &str, size: Option<u64>) {
-    assert_eq!(rt; disk.size(name), Ok(size), "the size of {name}");
+    assert!(rt; disk.size(name) == Ok(size), "the size of {name}");
 }
 
 fn expect_made(rt: &impl Abort, disk: &mut MemDisk, len: u64, due: Result<(), OutFault>) {
-    assert_eq!(rt; disk.make("a", len), due, "a file of {len} bytes");
+    assert!(rt; disk.make("a", len) == due, "a file of {len} bytes");
 }
 
 fn write(rt: &impl Abort, disk: &mut MemDisk, at: u64, bytes: &[u8]) {
     assert!(rt; has_part(disk, "a", at, bytes.len()));
-    assert_eq!(rt; disk.write_at("a", at, bytes), Ok(()));
+    assert!(rt; disk.write_at("a", at, bytes) == Ok(()));
 }
 
 fn expect_read(rt: &impl Abort, disk: &mut MemDisk, at: u64, bytes: [u8; 2]) {
     let mut out = [7u8; 2];
     assert!(rt; has_part(disk, "a", at, out.len()));
-    assert_eq!(rt; disk.read_at("a", at, &mut out), Ok(()));
-    assert_eq!(rt; out, bytes, "bytes from {at}");
+    assert!(rt; disk.read_at("a", at, &mut out) == Ok(()));
+    assert!(rt; out == bytes, "bytes from {at}");
 }
 
 #[test]
@@ -148,8 +148,8 @@ fn expect_calls(
     second: Option<&[u8]>,
 ) {
     let mut disk = disk_failing(rt, alloc, failing);
-    assert_eq!(rt; six_calls(rt, &mut disk), done, "failing {failing:?}");
-    assert_eq!(rt; disk.faults(), failures(done), "failing {failing:?}");
+    assert!(rt; six_calls(rt, &mut disk) == done, "failing {failing:?}");
+    assert!(rt; disk.faults() == failures(done), "failing {failing:?}");
     expect_file(rt, disk.inner(), "a", Some(first));
     expect_file(rt, disk.inner(), "b", second);
 }
@@ -186,16 +186,16 @@ fn sink_failing(rt: &impl Abort, alloc: Global, failing: &[u64]) -> FaultySink {
 // The pieces that are taken, the bytes at their end, and the faults.
 fn expect_pieces(rt: &impl Abort, sink: FaultySink, taken: [bool; 3], bytes: &[u8], faults: u64) {
     let mut sink = sink;
-    assert_eq!(rt; put_three(&mut sink), taken);
-    assert_eq!(rt; sink.inner().bytes(), bytes);
-    assert_eq!(rt; sink.faults(), faults);
+    assert!(rt; put_three(&mut sink) == taken);
+    assert!(rt; sink.inner().bytes() == bytes);
+    assert!(rt; sink.faults() == faults);
 }
 
 #[test]
 fn a_sink_appends_each_piece_that_it_takes(rt: HostRuntime) {
     let mut sink = MemSink::new(rt.alloc());
-    assert_eq!(rt; put_three(&mut sink), [true; 3]);
-    assert_eq!(rt; sink.bytes(), b"abcd".as_slice());
+    assert!(rt; put_three(&mut sink) == [true; 3]);
+    assert!(rt; sink.bytes() == b"abcd".as_slice());
 }
 
 #[test]

@@ -38,11 +38,11 @@ fn sets_are_those_of_their_names(rt: HostRuntime) {
     expect_within(&rt, a, a, true);
     expect_within(&rt, a, b, false);
     expect_within(&rt, a.union(b), a, false);
-    assert_eq!(rt; (a.has(22), a.has(23)), (false, true));
+    assert!(rt; (a.has(22), a.has(23)) == (false, true));
 }
 
 fn expect_word(rt: &impl Abort, text: &str, is: bool) {
-    assert_eq!(rt; is_name(text.as_bytes()), is, "at {text}");
+    assert!(rt; is_name(text.as_bytes()) == is, "at {text}");
 }
 
 #[test]
@@ -57,40 +57,36 @@ fn names_are_words_but_no_keywords(rt: HostRuntime) {
 
 // A range or an index whose name is taken is refused.
 fn expect_twice(rt: &impl Abort, space: &mut Space, range: &str, index: &str) {
-    assert_eq!(rt;
-        add_range(rt, space, range, (5, 5)),
-        Err(SpaceFault::NameTwice)
-    );
-    assert_eq!(rt; add_index(rt, space, index, 0), Err(SpaceFault::NameTwice));
+    assert!(rt; add_range(rt, space, range, (5, 5)) == Err(SpaceFault::NameTwice));
+    assert!(rt; add_index(rt, space, index, 0) == Err(SpaceFault::NameTwice));
 }
 
 fn expect_range_named(rt: &impl Abort, space: &Space, text: &str, number: Option<u8>) {
-    assert_eq!(rt; space.range_named(text), number, "{text}");
+    assert!(rt; space.range_named(text) == number, "{text}");
 }
 
 fn expect_index_named(rt: &impl Abort, space: &Space, text: &str, number: Option<u8>) {
-    assert_eq!(rt; space.index_named(text), number, "{text}");
+    assert!(rt; space.index_named(text) == number, "{text}");
 }
 
 fn expect_range_kept(rt: &impl Abort, space: &Space, range: u8, text: &str, size: (u64, u64)) {
     assert!(rt; range < space.range_count());
-    assert_eq!(rt; space.range_name(range).as_str(), text);
-    assert_eq!(rt;
-        (space.range_extent(range), space.range_edge(range)),
-        size,
+    assert!(rt; space.range_name(range).as_str() == text);
+    assert!(rt;
+        (space.range_extent(range), space.range_edge(range)) == size,
         "{text}"
     );
 }
 
 fn expect_index_kept(rt: &impl Abort, space: &Space, index: u8, text: &str, range: u8) {
     assert!(rt; index < space.index_count());
-    assert_eq!(rt; space.index_name(index).as_str(), text);
-    assert_eq!(rt; space.range_of(index), range, "{text}");
+    assert!(rt; space.index_name(index).as_str() == text);
+    assert!(rt; space.range_of(index) == range, "{text}");
 }
 
 fn expect_size_kept(rt: &impl Abort, space: &Space, index: u8, size: (u64, u64)) {
     assert!(rt; index < space.index_count());
-    assert_eq!(rt; (space.extent(index), space.edge(index)), size);
+    assert!(rt; (space.extent(index), space.edge(index)) == size);
 }
 
 fn expect_counts(rt: &impl Abort, space: &Space, ranges: u8, indexes: u8) {
@@ -135,13 +131,16 @@ fn due(number: usize, most: u8) -> Result<u8, SpaceFault> {
 
 fn fill_ranges(rt: &impl Abort, space: &mut Space) {
     for (k, letter) in LETTERS.split(' ').enumerate() {
-        assert_eq!(rt; add_range(rt, space, letter, (7, 2)), due(k, 16), "at {k}");
+        assert!(rt;
+            add_range(rt, space, letter, (7, 2)) == due(k, 16),
+            "at {k}"
+        );
     }
 }
 
 fn fill_indexes(rt: &impl Abort, space: &mut Space) {
     for (k, letter) in LETTERS.split(' ').enumerate() {
-        assert_eq!(rt; add_index(rt, space, letter, 15), due(k, 24), "at {k}");
+        assert!(rt; add_index(rt, space, letter, 15) == due(k, 24), "at {k}");
     }
 }
 
@@ -161,7 +160,7 @@ fn volume_of(rt: &impl Abort, space: &Space, bits: u32) -> Option<u128> {
 }
 
 fn expect_volume(rt: &impl Abort, space: &Space, bits: u32, volume: Option<u128>) {
-    assert_eq!(rt; volume_of(rt, space, bits), volume, "at {bits}");
+    assert!(rt; volume_of(rt, space, bits) == volume, "at {bits}");
 }
 
 // The indexes a, b and c of extent 2 ^ 30, and i of extent 2.
@@ -283,7 +282,7 @@ fn a_scalar_has_one_element(rt: HostRuntime) {
 
 #[test]
 fn places_are_row_major(rt: HostRuntime) {
-    assert_eq!(rt; place(&[], &[]), 0);
-    assert_eq!(rt; place(&[2, 3], &[1, 0]), 3);
-    assert_eq!(rt; place(&[4, 3, 5], &[3, 1, 2]), 52);
+    assert!(rt; place(&[], &[]) == 0);
+    assert!(rt; place(&[2, 3], &[1, 0]) == 3);
+    assert!(rt; place(&[4, 3, 5], &[3, 1, 2]) == 52);
 }

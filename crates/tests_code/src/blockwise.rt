@@ -1,7 +1,7 @@
 //! Worked parts.
-ghost use Rattle.tce_blockwise.specs.Examples.{WorkedParts};
+ghost use Rattle.tce_walk.specs.PartExamples.{WorkedParts};
 
-use tce_blockwise::{parts_keep_words, parts_make_tails};
+use tce_walk::{parts_keep_words, parts_make_tails};
 
 // What the definitions give for the worked parts.
 fn worked_parts()

@@ -1,7 +1,7 @@
 //! Bounds on touches.
-ghost use Rattle.tce_tail.specs.Examples.{WorkedTouches};
+ghost use Rattle.tce_walk.specs.TailExamples.{WorkedTouches};
 
-use tce_tail::{joined_tails_add_up, single_tails_end_at_last, sum_tails_add_up, touches_are_few};
+use tce_walk::{joined_tails_add_up, single_tails_end_at_last, sum_tails_add_up, touches_are_few};
 
 // What the definitions give for the worked codes.
 fn worked_touches()

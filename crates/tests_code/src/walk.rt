@@ -12,9 +12,8 @@ use tce_code::generate;
 use tce_fusion::{is_legal, standard_orders};
 use tce_outside::Failed;
 use tce_space::{IndexSet, Name, Space};
-use tce_tail::touches_are_few;
 use tce_tree::{Expr, Fusion, Tree};
-use tce_walk::{Machine, Tail, run_program};
+use tce_walk::{Machine, Tail, run_program, touches_are_few};
 
 // Writes down the calls of a run as bytes, and fails where there is no room for more. It tells nothing of its places,
 // and its count of faults stands at its end.

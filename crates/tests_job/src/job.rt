@@ -9,3 +9,4 @@ mod refusals;
 mod rows;
 mod terms;
 mod tiled;
+mod touches;

@@ -6,7 +6,7 @@ ghost use Rattle.tce_grammar.specs.Grammar.{AreNames};
 ghost use Rattle.tce_formula.specs.Places.{IsNamed};
 
 use crate::given::{expect_text, joined, part, put, told_fault};
-use std::alloc::{AllocError, Global};
+use std::alloc::Global;
 use std::process::Abort;
 use tce_declarations::{Head, read_head};
 use tce_formula::{Contraction, read_formula};
@@ -40,61 +40,67 @@ fn has_names(written: &Formula) -> bool
 const DECLARED: &[u8] =
     b"range N 2\nrange M 3\nrange L 4294967295\nrange O 1\nindex N i j k\nindex M m\nindex L x y z\nindex O a b c d e f g h p q r\ntensor A[N,N]\ntensor B[N]\ntensor C[N,N]\ntensor D[N]\ntensor E[N]\ntensor S[]\ntensor V[M]\ntensor X[L]\ntensor O[O,O,O,O,O,O,O,O]\ntensor P[O,O,O]\n";
 
-fn push_indexes(text: &mut Vec<u8>, indexes: &[u8]) -> Result<(), AllocError> {
+fn put_indexes(rt: &impl Abort, text: &mut Vec<u8>, indexes: &[u8]) {
     for index in indexes {
-        text.push(b'a'.saturating_add(*index))?;
+        put(rt, text, &[b'a'.saturating_add(*index)]);
     }
-    Ok(())
 }
 
 /// A tensor by its digit, and its indexes by letters: `a` is index 0.
-fn push_leaf(text: &mut Vec<u8>, leaf: &Leaf) -> Result<(), AllocError> {
-    text.push(b'0'.saturating_add(leaf.tensor))?;
-    push_indexes(text, leaf.indexes.as_slice())
+fn put_leaf(rt: &impl Abort, text: &mut Vec<u8>, leaf: &Leaf) {
+    put(rt, text, &[b'0'.saturating_add(leaf.tensor)]);
+    put_indexes(rt, text, leaf.indexes.as_slice());
+}
+
+fn put_number(rt: &impl Abort, alloc: Global, text: &mut Vec<u8>, number: u64) {
+    match format!(in alloc; "{number}") {
+        Ok(digits) => put(rt, text, digits.as_str().as_bytes()),
+        Err(_) => panic!(rt; "no memory"),
+    }
 }
 
 /// An operation on two operands in parentheses, a sum in `<` and `>` with its indexes in front.
-fn push_expr(alloc: Global, text: &mut Vec<u8>, expr: &Expr) -> Result<(), AllocError> {
+fn put_expr(rt: &impl Abort, alloc: Global, text: &mut Vec<u8>, expr: &Expr) {
     match expr {
-        Expr::Leaf(leaf) => return push_leaf(text, leaf),
-        Expr::Constant(number) => {
-            let digits = format!(in alloc; "{number}")?;
-            return text.extend_from_slice(digits.as_str().as_bytes());
-        }
+        Expr::Leaf(leaf) => put_leaf(rt, text, leaf),
+        Expr::Constant(number) => put_number(rt, alloc, text, *number),
         Expr::Product(left, right) => {
-            text.extend_from_slice(b"(")?;
-            push_expr(alloc, text, left)?;
-            text.extend_from_slice(b" * ")?;
-            push_expr(alloc, text, right)?;
+            put(rt, text, b"(");
+            put_expr(rt, alloc, text, left);
+            put(rt, text, b" * ");
+            put_expr(rt, alloc, text, right);
+            put(rt, text, b")");
         }
         Expr::Add(left, right) => {
-            text.extend_from_slice(b"(")?;
-            push_expr(alloc, text, left)?;
-            text.extend_from_slice(b" + ")?;
-            push_expr(alloc, text, right)?;
+            put(rt, text, b"(");
+            put_expr(rt, alloc, text, left);
+            put(rt, text, b" + ");
+            put_expr(rt, alloc, text, right);
+            put(rt, text, b")");
         }
         Expr::Sub(left, right) => {
-            text.extend_from_slice(b"(")?;
-            push_expr(alloc, text, left)?;
-            text.extend_from_slice(b" - ")?;
-            push_expr(alloc, text, right)?;
+            put(rt, text, b"(");
+            put_expr(rt, alloc, text, left);
+            put(rt, text, b" - ");
+            put_expr(rt, alloc, text, right);
+            put(rt, text, b")");
         }
         Expr::Sum(indexes, operand) => {
-            text.extend_from_slice(b"sum(")?;
-            push_indexes(text, indexes.as_slice())?;
-            text.extend_from_slice(b": ")?;
-            push_expr(alloc, text, operand)?;
+            put(rt, text, b"sum(");
+            put_indexes(rt, text, indexes.as_slice());
+            put(rt, text, b": ");
+            put_expr(rt, alloc, text, operand);
+            put(rt, text, b")");
         }
     }
-    text.extend_from_slice(b")")
 }
 
 /// The contraction as a text: the result, and the expression behind a colon.
 fn told(rt: &impl Abort, alloc: Global, found: &Contraction) -> Vec<u8> {
     let mut text = Vec::new(alloc);
-    assert!(rt; push_leaf(&mut text, &found.result).is_ok());
+    put_leaf(rt, &mut text, &found.result);
     put(rt, &mut text, b": ");
-    assert!(rt; push_expr(alloc, &mut text, &found.expr).is_ok());
+    put_expr(rt, alloc, &mut text, &found.expr);
     text
 }
 

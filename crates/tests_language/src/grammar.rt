@@ -1,47 +1,50 @@
 use crate::given::{expect_text, part, put};
-use std::alloc::{AllocError, Global};
+use std::alloc::Global;
 use std::process::Abort;
 use tce_grammar::{
     Formula, Line, Operator, Printer, Statement, Token, first_line, name_of, read_line,
 };
 use tce_space::is_name;
 
-fn push_names(text: &mut Vec<u8>, names: &[&[u8]]) -> Result<(), AllocError> {
+fn put_names(rt: &impl Abort, text: &mut Vec<u8>, names: &[&[u8]]) {
     for name in names {
-        text.extend_from_slice(b" ")?;
-        text.extend_from_slice(name)?;
+        put(rt, text, b" ");
+        put(rt, text, name);
     }
-    Ok(())
 }
 
-fn push_formula(text: &mut Vec<u8>, formula: &Formula) -> Result<(), AllocError> {
+fn symbol_of(operator: &Operator) -> &'static [u8] {
+    match operator {
+        Operator::Times => b" times ",
+        Operator::Plus => b" plus ",
+        Operator::Minus => b" minus ",
+    }
+}
+
+fn put_formula(rt: &impl Abort, text: &mut Vec<u8>, formula: &Formula) {
     match formula {
         Formula::Tensor { name, indexes } => {
-            text.extend_from_slice(name)?;
-            push_names(text, indexes.as_slice())
+            put(rt, text, name);
+            put_names(rt, text, indexes.as_slice());
         }
-        Formula::Constant(digits) => text.extend_from_slice(digits),
+        Formula::Constant(digits) => put(rt, text, digits),
         Formula::Sum { indexes, operand } => {
-            text.extend_from_slice(b"<sum")?;
-            push_names(text, indexes.as_slice())?;
-            text.extend_from_slice(b" : ")?;
-            push_formula(text, operand)?;
-            text.extend_from_slice(b">")
+            put(rt, text, b"<sum");
+            put_names(rt, text, indexes.as_slice());
+            put(rt, text, b" : ");
+            put_formula(rt, text, operand);
+            put(rt, text, b">");
         }
         Formula::Binary {
             operator,
             left,
             right,
         } => {
-            text.extend_from_slice(b"<")?;
-            push_formula(text, left)?;
-            text.extend_from_slice(match operator {
-                Operator::Times => b" times ",
-                Operator::Plus => b" plus ",
-                Operator::Minus => b" minus ",
-            })?;
-            push_formula(text, right)?;
-            text.extend_from_slice(b">")
+            put(rt, text, b"<");
+            put_formula(rt, text, left);
+            put(rt, text, symbol_of(operator));
+            put_formula(rt, text, right);
+            put(rt, text, b">");
         }
     }
 }
@@ -61,7 +64,7 @@ fn put_range(rt: &impl Abort, text: &mut Vec<u8>, name: &[u8], extent: &[u8], ed
 fn put_list(rt: &impl Abort, text: &mut Vec<u8>, word: &[u8], name: &[u8], names: &[&[u8]]) {
     put(rt, text, word);
     put(rt, text, name);
-    assert!(rt; push_names(text, names).is_ok());
+    put_names(rt, text, names);
 }
 
 fn put_statement(rt: &impl Abort, text: &mut Vec<u8>, statement: &Statement) {
@@ -80,7 +83,7 @@ fn put_statement(rt: &impl Abort, text: &mut Vec<u8>, statement: &Statement) {
         } => {
             put_list(rt, text, b"", *result, indexes.as_slice());
             put(rt, text, b" is ");
-            assert!(rt; push_formula(text, formula).is_ok());
+            put_formula(rt, text, formula);
         }
     }
 }

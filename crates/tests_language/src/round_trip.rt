@@ -1,7 +1,6 @@
 //! Texts that were written by hand, read, printed and read again.
 
 use std::alloc::Global;
-use std::test::Fail;
 use tce_round_trip::read_back;
 use tce_spec::{SpecFault, print_spec, read_spec};
 
@@ -13,14 +12,13 @@ fn printed_twice(alloc: Global, text: &[u8]) -> Result<Vec<u8>, SpecFault> {
 }
 
 #[test]
-fn specifications_come_back(rt: HostRuntime) -> Result<(), Fail> {
+fn specifications_come_back(rt: HostRuntime) {
     let text: &[u8] =
         b"range I 5 # rows\nrange J 7 tile 1\nrange K 2 tile 2\nindex K k\nindex K l\nindex I i\nindex J j\ntensor A[I,K]\ntensor B[J,K]\ntensor C[I,J]\nC[i,j]=((sum{k}(A[i,k]))*(sum{l}(B[j,l]))) - 10";
     let canonical: &[u8] =
         b"range I 5\nrange J 7\nrange K 2 tile 2\nindex K k l\nindex I i\nindex J j\ntensor A[I,K]\ntensor B[J,K]\ntensor C[I,J]\nC[i,j] = sum{k}(A[i,k]) * sum{l}(B[j,l]) - 10\n";
-    let Ok(printed) = printed_twice(rt.alloc(), text) else {
-        return Err(Fail::new("the text is refused"));
-    };
-    assert_eq!(rt; printed.as_slice(), canonical);
-    Ok(())
+    match printed_twice(rt.alloc(), text) {
+        Ok(printed) => assert!(rt; printed.as_slice() == canonical),
+        Err(_) => panic!(rt; "the text is refused"),
+    }
 }

@@ -6,14 +6,13 @@ use crate::job::draws::Draws;
 use arrayvec::ArrayVec;
 use std::alloc::Global;
 use std::test::Fail;
-use tce_arrays::open_operands;
 use tce_fusion::{is_legal, memory, standard_orders};
-use tce_job::run_by;
+use tce_job::{begin, run_by, run_prepared};
 use tce_nesting::{Plan, Tables};
 use tce_outside::MemDisk;
 use tce_space::IndexSet;
 use tce_spec::Spec;
-use tce_takings::least_budget;
+use tce_tensors::{least_budget, open_operands};
 use tce_tree::{Fusion, Tree};
 use tce_words::HeapRoom;
 
@@ -103,4 +102,29 @@ pub fn is_run_by(
     };
     let mut room = HeapRoom::new(alloc);
     Ok(run_by(alloc, spec, budget, &forms, plan, disk, &mut room).is_ok())
+}
+
+/// How often a run by the fusion that fuses nothing touches tiles, where it succeeds.
+pub fn touches_unfused(
+    alloc: Global,
+    spec: &Spec,
+    budget: u64,
+    disk: &mut MemDisk,
+) -> Result<Option<u128>, Fail> {
+    let fusion = unfused(spec.tree());
+    let Some(plan) = plan_by(alloc, spec, fusion)? else {
+        return Ok(None);
+    };
+    if budget < least_budget(spec) || 1 << 40 < budget {
+        return Ok(None);
+    }
+    let Ok(forms) = open_operands(spec, disk) else {
+        return Ok(None);
+    };
+    let mut room = HeapRoom::new(alloc);
+    let Ok(mut prepared) = begin(alloc, spec, budget, &forms, plan, disk, &mut room) else {
+        return Ok(None);
+    };
+    let answer = run_prepared(spec, &mut prepared, disk);
+    Ok(answer.is_ok().then_some(prepared.cache.touches()))
 }

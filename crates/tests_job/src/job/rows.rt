@@ -156,6 +156,35 @@ pub const LISTS: Row<'static> = Row {
     report: OUTER_REPORT,
 };
 
+/// Elementwise, in three tiles each. The padding of an operand is not looked at, and that of the result is 0.
+pub const PADDED_LISTS: Row<'static> = Row {
+    text: PADDED,
+    operands: &[
+        Array {
+            file: "A.tca",
+            form: Form::One,
+            dimensions: &[(5, 2)],
+            words: &[1, 2, 3, 4, 5, 9],
+        },
+        Array {
+            file: "B.tca",
+            form: Form::One,
+            dimensions: &[(5, 2)],
+            words: &[1, 1, 1, 1, 1, 0],
+        },
+    ],
+    budget: 6,
+    result: Array {
+        file: "C.tca",
+        form: Form::One,
+        dimensions: &[(5, 2)],
+        words: &[1, 2, 3, 4, 5, 0],
+    },
+    memory: 0,
+    tiles: 6,
+    report: b"memory 0\ntiles 6\nwrote C.tca 80\n",
+};
+
 const PRODUCTS: &[Row<'static>] = &[
     LISTS,
     // there are eight tiles in all, so more frames are not taken
@@ -195,34 +224,7 @@ const PRODUCTS: &[Row<'static>] = &[
         tiles: 5,
         report: b"node 0 product loops i result\nmemory 0\ntiles 5\nwrote C.tca 48\n",
     },
-    // the padding of an operand is not looked at, and that of the result is 0
-    Row {
-        text: PADDED,
-        operands: &[
-            Array {
-                file: "A.tca",
-                form: Form::One,
-                dimensions: &[(5, 2)],
-                words: &[1, 2, 3, 4, 5, 9],
-            },
-            Array {
-                file: "B.tca",
-                form: Form::One,
-                dimensions: &[(5, 2)],
-                words: &[1, 1, 1, 1, 1, 0],
-            },
-        ],
-        budget: 6,
-        result: Array {
-            file: "C.tca",
-            form: Form::One,
-            dimensions: &[(5, 2)],
-            words: &[1, 2, 3, 4, 5, 0],
-        },
-        memory: 0,
-        tiles: 6,
-        report: b"memory 0\ntiles 6\nwrote C.tca 80\n",
-    },
+    PADDED_LISTS,
     Row {
         text: SCALARS,
         operands: &[

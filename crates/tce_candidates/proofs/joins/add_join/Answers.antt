@@ -3,7 +3,7 @@ use Rattle.std.specs.List.{All, Contains}
 use Rattle.std.proofs.lemmas.List.Elements.{All-push, All-weaker, All-contains_itself}
 use Rattle.tce_states.specs.Relation.{HasNoConflict}
 use Rattle.tce_states.specs.Row.{rows_joined}
-use Rattle.tce_steps.specs.Steps.{IsRowJoin}
+use Rattle.tce_candidates.specs.Steps.{IsRowJoin}
 use Rattle.tce_candidates.specs.declared.candidate.Candidate.{Candidate}
 use Rattle.tce_candidates.specs.Joins.{IsJoinBelow}
 use Rattle.tce_candidates.proofs.joins.add_join.Goals as goal

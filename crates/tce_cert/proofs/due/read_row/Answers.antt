@@ -3,7 +3,7 @@ use Rattle.std.proofs.lemmas.Result.{err_from_is_err_and}
 use Rattle.tce_space.specs.Space.{IsDeclared}
 use Rattle.tce_tree.proofs.NamedIndexes.{node_dims_declared}
 use Rattle.tce_fields.specs.Reading.{GivesExactly}
-use Rattle.tce_cert_lines.specs.Forms.{StatesRow}
+use Rattle.tce_cert.specs.Forms.{StatesRow}
 use Rattle.tce_cert.specs.Faults.{row}
 use Rattle.tce_cert.proofs.Faulty.{missing, not_due}
 use Rattle.tce_cert.proofs.DueLines.{no_row}

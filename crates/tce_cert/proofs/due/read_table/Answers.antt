@@ -1,6 +1,6 @@
 use Rattle.std.proofs.Common.{refl, subst}
 use Rattle.std.proofs.lemmas.Result.{err_from_is_err_and}
-use Rattle.tce_cert_lines.specs.Forms.{StatesTable}
+use Rattle.tce_cert.specs.Forms.{StatesTable}
 use Rattle.tce_cert.specs.Faults.{table}
 use Rattle.tce_cert.proofs.Faulty.{missing, not_due}
 use Rattle.tce_cert.proofs.DueLines.{no_table, other_table}

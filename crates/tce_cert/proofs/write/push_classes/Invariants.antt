@@ -1,5 +1,5 @@
 use Rattle.std.proofs.Common.{◌≡◌, ◌++◌, ◌∷◌, get_or, take}
-use Rattle.tce_cert_lines.specs.Lines.{classes_text}
+use Rattle.tce_cert.specs.Lines.{classes_text}
 use Rattle.tce_cert.proofs.write.push_classes.Given as goal
 
 abbrev pub invariant-loop-class : goal.invariant-loop-class

@@ -1,5 +1,5 @@
 use Rattle.std.proofs.Common.{◌≡◌, ◌++◌, ◌∷◌, length, ap, sym, ◌∙◌, arith, map}
-use Rattle.tce_cert_lines.specs.Lines.{table_line, row_line}
+use Rattle.tce_cert.specs.Lines.{table_line, row_line}
 use Rattle.tce_cert.specs.Certificate.{text_of, tables_lines, table_lines}
 use Rattle.tce_cert.proofs.Texts.{table_pushed, table_head}
 use Rattle.tce_cert.proofs.Nestings.{nestings_more}

@@ -1,6 +1,6 @@
 use Rattle.std.proofs.Common.{◌++◌, ap, ◌∙◌}
 use Rattle.tce_tree.specs.ContractionTree.{operations}
-use Rattle.tce_cert_lines.specs.Lines.{opening_line, memory_line, end_line}
+use Rattle.tce_cert.specs.Lines.{opening_line, memory_line, end_line}
 use Rattle.tce_cert.specs.Certificate.{certificate, certificate_lines, nodes_lines, tables_lines}
 use Rattle.std.proofs.Common.{length}
 use Rattle.tce_cert.proofs.Sets.{rows_declared}

@@ -1,11 +1,12 @@
-use Rattle.std.proofs.Common.{◌+◌, ◌≤◌, ◌^◌, sym, subst}
+use Rattle.std.proofs.Common.{◌≡◌, ◌+◌, ◌≤◌, ◌^◌, sym, ap, subst, arith}
 use Rattle.tce_tree.specs.FlatTree.{IsTree}
 use Rattle.tce_code.specs.Program.{program_of}
-use Rattle.tce_tail.specs.Touches.{touch_bound}
+use Rattle.tce_walk.specs.Touches.{touch_bound}
+use Rattle.tce_cache.specs.Cache.{State as CacheState}
 use Rattle.tce_workspace.specs.Prepared.{IsPrepared}
 use Rattle.tce_workspace.specs.Steps.{IsKept}
 use Rattle.tce_exec.specs.Run.{IsZero, IsRun}
-use Rattle.tce_result.specs.TensorFiles.{file_of}
+use Rattle.tce_tensors.specs.TensorFiles.{file_of}
 use Rattle.tce_job.proofs.Begun.{workspace_at, of_parts, is_workspace, is_zero, few_touches}
 use Rattle.tce_job.proofs.Ended.{ended, others_stay, others_kept, written_result}
 use Rattle.tce_job.proofs.run.run_prepared.Goals as goal
@@ -56,3 +57,11 @@ returns-clause-told g c =
     (workspace_at c.args.prepared.now c.run_code.new.words c.run_code.new.cache (g.D.Disk.files c.run_code.new.disk) space tree t is)) _ _ _ _ _ _ _ _
     c.space.ensures.space c.tree-tree.ensures.tree c.result.ensures.tensor c.result.ensures.indexes c.run_code.ensures.kept)
     c.in_ok-flush.ensures.written c.in_ok-flush.ensures.arrays c.flush.ensures.others
+
+pub returns-clause-touches : goal.returns-clause-touches
+returns-clause-touches g c =
+    let run = of_parts (λ space tree t is. IsRun (workspace_at c.args.prepared.now c.args.prepared.now.words c.args.prepared.now.cache (g.D.Disk.files c.args.disk.now) space tree t is)
+    (workspace_at c.args.prepared.now c.run_code.new.words c.run_code.new.cache (g.D.Disk.files c.run_code.new.disk) space tree t is) c.args.prepared.now.code) _ _ _ _ _ _ _ _
+    c.space.ensures.space c.tree-tree.ensures.tree c.result.ensures.tensor c.result.ensures.indexes c.in_ok-run_code.ensures.run in
+    let same : c.flush.new.self.touches ≡ c.run_code.new.cache.touches = ap (λ (k : CacheState). k.touches) c.flush.ensures.same in
+    omega (arith, same, run.touches, c.requires.prepared.cache.touches)

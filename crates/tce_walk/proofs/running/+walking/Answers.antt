@@ -1,8 +1,7 @@
-use Rattle.std.proofs.Common.{◌≡◌, ◌+◌, ◌-◌, ◌<◌, length, get_or, set, refl, sym, ap, ◌∙◌, subst, arith}
+use Rattle.std.proofs.Common.{◌≡◌, ◌+◌, ◌-◌, ◌<◌, length, get_or, set, refl, sym, ap, ◌∙◌, subst, arith, rules}
 use Rattle.tce_space.specs.Space.{extent_at}
 use Rattle.tce_code.specs.Program.{stop, loop}
 use Rattle.tce_code.specs.declared.op.Op.TheVariants.{Open}
-use Rattle.tce_tree.specs.Value.{with_number}
 use Rattle.tce_walk.specs.Machine.{assignment_of}
 use Rattle.tce_walk.specs.Positions.{program_at, IsPlain, plain_program}
 use Rattle.tce_walk.specs.Run.{RunsOver, IsPart, IsRun}
@@ -55,7 +54,7 @@ run_part-loop-at-preserved-in-Open g t c = record {
   space = c.run_loop.ensures.space ∙ c.loop-at.invariant.space;
   ready = (c.in_ok-close-in-Open.ensures).ready;
   kept = g.met.M.Machine.keeps_on c.args.machine.now c.loop-at.machine c.run_loop.new.machine c.loop-at.invariant.kept c.run_loop.ensures.kept;
-  faults = omega (arith, c.loop-at.invariant.faults, c.run_loop.ensures.cause.later);
+  counted = (c.in_ok-close-in-Open.ensures).told (search rules) ∙ c.loop-at.invariant.counted;
   left =
       open-left c.args.space.now c.args.tree.now (g.M.Machine.setting c.args.machine.now) (g.M.Machine.setting c.loop-at.machine) c.args.ops.now c.args.start c.loop-at.at
       c.in-Open.i (Open 0) c.in_ok-close-in-Open.close c.min-at.result (assignment_of c.args.numbers.now) (g.M.Machine.state c.args.machine.now)
@@ -106,7 +105,7 @@ run_part-loop-at-preserved g t c =
       space = c.run_action.ensures.space ∙ c.loop-at.invariant.space;
       ready = (c.in_ok-run_action-in_default.ensures).ready;
       kept = g.met.M.Machine.keeps_on c.args.machine.now c.loop-at.machine c.run_action.new.machine c.loop-at.invariant.kept c.run_action.ensures.kept;
-      faults = omega (arith, c.loop-at.invariant.faults, c.run_action.ensures.cause.later);
+      counted = (c.in_ok-run_action-in_default.ensures).told (search rules) ∙ c.loop-at.invariant.counted;
       left =
           plain-left c.args.space.now c.args.tree.now (g.M.Machine.space c.loop-at.machine) (g.M.Machine.setting c.args.machine.now) (g.M.Machine.setting c.loop-at.machine)
           c.args.ops.now c.args.start c.loop-at.at (Open 0) (assignment_of c.args.numbers.now) (g.M.Machine.state c.args.machine.now) (g.M.Machine.state c.loop-at.machine)
@@ -179,7 +178,7 @@ run_turns-loop-x-init g t c =
       space = c.run_part.ensures.space;
       ready = (c.in_ok-close.ensures).ready;
       kept = c.run_part.ensures.kept;
-      faults = c.run_part.ensures.cause.later;
+      counted = (c.in_ok-close.ensures).told (search rules);
       turns =
           turns-next c.args.space.now c.args.tree.now (g.M.Machine.setting c.args.machine.now) (g.M.Machine.setting c.args.machine.now) c.args.i
           (program_at c.args.ops.now (c.args.at + 1)) (assignment_of c.args.numbers.now) (assignment_of (set c.args.numbers.now c.args.i 0)) 0
@@ -236,7 +235,7 @@ run_turns-loop-x-preserved g t c =
       space = c.run_part-in-loop-x.ensures.space ∙ c.loop-x.invariant.space;
       ready = (c.in_ok-close-2.ensures).ready;
       kept = g.met.M.Machine.keeps_on c.args.machine.now c.loop-x.machine c.run_part-in-loop-x.new.machine c.loop-x.invariant.kept c.run_part-in-loop-x.ensures.kept;
-      faults = omega (arith, c.loop-x.invariant.faults, c.run_part-in-loop-x.ensures.cause.later);
+      counted = (c.in_ok-close-2.ensures).told (search rules) ∙ c.loop-x.invariant.counted;
       turns =
           turns-next c.args.space.now c.args.tree.now (g.M.Machine.setting c.args.machine.now) (g.M.Machine.setting c.loop-x.machine) c.args.i
           (program_at c.args.ops.now (c.args.at + 1)) (assignment_of c.args.numbers.now) (assignment_of (set c.loop-x.numbers c.args.i c.loop-x.x)) c.loop-x.x

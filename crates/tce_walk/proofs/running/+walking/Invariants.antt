@@ -1,4 +1,4 @@
-use Rattle.std.proofs.Common.{◌≡◌, ◌+◌, ◌-◌, ◌*◌, ◌<◌, ◌≤◌, length, set}
+use Rattle.std.proofs.Common.{◌≡◌, ◌+◌, ◌-◌, ◌*◌, ◌≤◌, length, set}
 use Rattle.tce_walk.specs.Machine.{assignment_of}
 use Rattle.tce_walk.specs.Positions.{program_at}
 use Rattle.tce_walk.specs.Run.{IsPart, IsEnd}
@@ -21,7 +21,7 @@ invariant-run_part-loop-at g l = record {
   space : g.M.Machine.space l.machine ≡ g.M.Machine.space l.fn.machine;
   ready : g.M.Machine.ready l.machine;
   kept : g.M.Machine.keeps l.fn.machine l.machine;
-  faults : g.M.Machine.faults l.fn.machine ≤ g.M.Machine.faults l.machine;
+  counted : g.M.Machine.faults l.machine ≡ g.M.Machine.faults l.fn.machine;
   left : IsLeft l.space l.tree (g.M.Machine.setting l.fn.machine) l.ops l.start l.at (assignment_of l.fn.numbers)
       (g.M.Machine.state l.fn.machine) (g.M.Machine.state l.machine) (g.M.Machine.touches l.fn.machine) (g.M.Machine.touches l.machine);
   part : IsPart l.space l.tree (program_at l.ops l.at) (assignment_of l.fn.numbers);
@@ -39,7 +39,7 @@ invariant-run_turns-loop-x g l = record {
   space : g.M.Machine.space l.machine ≡ g.M.Machine.space l.fn.machine;
   ready : g.M.Machine.ready l.machine;
   kept : g.M.Machine.keeps l.fn.machine l.machine;
-  faults : g.M.Machine.faults l.fn.machine ≤ g.M.Machine.faults l.machine;
+  counted : g.M.Machine.faults l.machine ≡ g.M.Machine.faults l.fn.machine;
   turns : AreTurns l.space l.tree (g.M.Machine.setting l.fn.machine) l.i (program_at l.ops (l.at + 1)) (assignment_of l.fn.numbers) l.x
       (g.M.Machine.state l.fn.machine) (g.M.Machine.state l.machine) (g.M.Machine.touches l.fn.machine) (g.M.Machine.touches l.machine);
   numbers_set : l.numbers ≡ set l.fn.numbers l.i (l.x - 1);

@@ -1,9 +1,9 @@
-use Rattle.std.proofs.Common.{◌+◌, ◌∷◌, [], min, sym, ap, ◌∙◌, subst, arith, rules, length, length-append}
+use Rattle.std.proofs.Common.{◌+◌, ◌∷◌, [], sym, ap, ◌∙◌, subst, arith, length, length-append}
 use Rattle.tce_code.specs.declared.op.Op.TheVariants.{Open}
-use Rattle.tce_tail.specs.Tails.{is_stop}
+use Rattle.tce_walk.specs.Tails.{is_stop}
 use Rattle.tce_walk.specs.Positions.{program_at}
 use Rattle.tce_walk.specs.Search.{IsInside}
-use Rattle.tce_walk.proofs.Searching.{loop-shaped, loop-few, inside-none, inside-more, inside-loop, inside-alone}
+use Rattle.tce_walk.proofs.Searching.{loop-shaped, loop-few, inside-loop}
 use Rattle.tce_walk.proofs.search.+find_inside.Goals as goal
 
 pub find_inside-requires : goal.find_inside-requires

@@ -1,5 +1,5 @@
 use Rattle.std.proofs.Common.{sym}
-use Rattle.tce_walk.proofs.Searching.{product-alone, product-none, product-joined}
+use Rattle.tce_walk.proofs.Searching.{product-alone}
 use Rattle.tce_walk.proofs.search.find_product.Goals as goal
 
 pub returns-then-is_end : goal.returns-then-is_end

@@ -4,7 +4,7 @@ use Rattle.tce_tree.specs.Measure.{IsMeasured}
 use Rattle.tce_code.specs.CodeFor.{IsCodeFor}
 use Rattle.tce_code.specs.Plan.{plan_of}
 use Rattle.tce_code.specs.Program.{program_of}
-use Rattle.tce_tail.specs.Touches.{touch_bound}
+use Rattle.tce_walk.specs.Touches.{touch_bound}
 use Rattle.tests_code.proofs.walk.calls_of.Goals as goal
 
 pub run_program-answer-requires-clause-few : goal.run_program-answer-requires-clause-few

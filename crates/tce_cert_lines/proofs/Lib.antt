@@ -1,4 +1,0 @@
-pub mod Cuts
-pub mod Stated
-pub mod StatedClass
-pub mod StatedRows

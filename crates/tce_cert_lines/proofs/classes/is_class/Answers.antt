@@ -1,5 +1,0 @@
-use Rattle.tce_cert_lines.proofs.Stated.{class_told}
-use Rattle.tce_cert_lines.proofs.classes.is_class.Goals as goal
-
-pub returns-in-Some : goal.returns-in-Some
-returns-in-Some c = class_told c.args.text.now c.in-Some.names.items c.is_empty.result c.in-Some.ensures c.is_empty.ensures

@@ -1,0 +1,113 @@
+-- The blocks of a box stay between its edges.
+use Rattle.std.proofs.Common.{◌≡◌, ℕ, suc, ◌+◌, ◌*◌, ◌%◌, ◌<◌, ◌≤◌, true, false, eqb, if◌then◌else◌, List, [], ◌∷◌, map, length, refl, sym, ap, ◌∙◌, subst, inl, inr, arith}
+use Rattle.std.proofs.Math.Nat.{mul-mod_left, zero-mod}
+use Rattle.std.proofs.lemmas.Bool.{cases_Bool, cases_eq, eq-eqb, ne_eqb, eqb-true, or_cases, false≢true}
+use Rattle.tce_space.specs.Tiling.{ArePositive}
+use Rattle.tce_tree.specs.Value.{assignment}
+use Rattle.tce_tree.specs.WellFormed.{among}
+use Rattle.tce_block.specs.Parts.{Part, beginnings}
+use Rattle.tce_block.specs.Laws.{AreParts}
+use Rattle.tce_block.proofs.Cover.{block_numbers}
+use Rattle.tce_block.proofs.Fitting.{fit_the_box}
+use Rattle.tce_windows.specs.Turns.{turns_of}
+use Rattle.tce_exec.specs.TilesOfBlocks.{BlocksStayInTiles}
+
+-- one loop of a part
+record IsLoop (extent edge from len : ℕ) : Type 0 where
+  some : 0 < len
+  short : len ≤ edge
+  inside : from + len ≤ extent
+
+among_later_one : (x : ℕ) (xs : List ℕ) (i : ℕ) → (i ≡ x → ⊥) → among (x ∷ xs) i ≡ true → among xs i ≡ true
+among_later_one x xs i ne m = elim (or_cases (eqb x i) (among xs i) m) [ inl e ↦ absurd (ne (sym (eqb-true x i e))) | inr r ↦ r ]
+
+-- each loop of a part, by its index
+loop_of : (extent edge : ℕ → ℕ) (order fs ls : List ℕ) (i : ℕ) → AreParts (map extent order) (map edge order) fs ls → among order i ≡ true
+    → IsLoop (extent i) (edge i) (assignment order fs i) (assignment order ls i)
+loop_of extent edge [] fs ls i h m = absurd (false≢true m)
+loop_of extent edge (x ∷ xs) [] ls i h m = absurd h
+loop_of extent edge (x ∷ xs) (f ∷ fs) [] i h m = absurd h
+loop_of extent edge (x ∷ xs) (f ∷ fs) (l ∷ ls) i h m =
+    elim (cases_eq i x) [
+      | inl e ↦
+          let from : assignment (x ∷ xs) (f ∷ fs) i ≡ f = ap (λ b. if b then f else assignment xs fs i) (eq-eqb i x e) in
+          let len : assignment (x ∷ xs) (l ∷ ls) i ≡ l = ap (λ b. if b then l else assignment xs ls i) (eq-eqb i x e) in
+          record { some = omega (arith, h.0, len); short = omega (arith, h.1, len, ap edge e); inside = omega (arith, h.2, from, len, ap extent e) }
+      | inr n ↦
+          let from : assignment (x ∷ xs) (f ∷ fs) i ≡ assignment xs fs i = ap (λ b. if b then f else assignment xs fs i) (ne_eqb i x n) in
+          let len : assignment (x ∷ xs) (l ∷ ls) i ≡ assignment xs ls i = ap (λ b. if b then l else assignment xs ls i) (ne_eqb i x n) in
+          let rest = loop_of extent edge xs fs ls i h.3 (among_later_one x xs i n m) in
+          record { some = omega (arith, rest.some, len); short = omega (arith, rest.short, len); inside = omega (arith, rest.inside, from, len) }
+    ]
+
+-- each loop of a block begins at a multiple of its edge
+begins : (edge : ℕ → ℕ) (order bs : List ℕ) (i : ℕ) → assignment order (beginnings (map edge order) bs) i % edge i ≡ 0
+begins edge [] bs i = zero-mod (edge i)
+begins edge (x ∷ xs) [] i = zero-mod (edge i)
+begins edge (x ∷ xs) (b ∷ bs) i =
+    elim (cases_eq i x) [
+      | inl e ↦
+          ap (λ t. (if t then b * edge x else assignment xs (beginnings (map edge xs) bs) i) % edge i) (eq-eqb i x e)
+          ∙ ap (λ n. b * edge x % edge n) e
+          ∙ mul-mod_left b (edge x)
+      | inr n ↦
+          ap (λ t. (if t then b * edge x else assignment xs (beginnings (map edge xs) bs) i) % edge i) (ne_eqb i x n)
+          ∙ begins edge xs bs i
+    ]
+
+-- how many numbers the loops of a part have
+record AreLens (order ls : List ℕ) : Type 0 where
+  as_many : length ls ≡ length order
+  some : ArePositive ls
+
+lens : (extent edge : ℕ → ℕ) (order fs ls : List ℕ) → AreParts (map extent order) (map edge order) fs ls → AreLens order ls
+lens extent edge [] [] [] h = record { as_many = refl; some = tt }
+lens extent edge [] [] (l ∷ ls) h = absurd h
+lens extent edge [] (f ∷ fs) ls h = absurd h
+lens extent edge (x ∷ xs) [] ls h = absurd h
+lens extent edge (x ∷ xs) (f ∷ fs) [] h = absurd h
+lens extent edge (x ∷ xs) (f ∷ fs) (l ∷ ls) h =
+    let rest = lens extent edge xs fs ls h.3 in
+    record { as_many = ap suc rest.as_many; some = (h.0, rest.some) }
+
+same_lengths : (f g : ℕ → ℕ) (xs : List ℕ) → length (map f xs) ≡ length (map g xs)
+same_lengths f g [] = refl
+same_lengths f g (x ∷ xs) = omega (arith, same_lengths f g xs)
+
+pub blocks_stay_in_tiles : BlocksStayInTiles
+blocks_stay_in_tiles extent edge order a k part positive at = record {
+  as_many = all.as_many;
+  some = all.some;
+  first = record {
+    loops = λ i m. (omega arith, omega (arith, (loop i m).some));
+    others = λ i o. refl;
+  };
+  between = λ i m. omega (arith, (loop i m).short, first i m, multiple i);
+  inside = λ set round b turn i h. elim (cases_Bool (among order i)) [
+    | inl m ↦ (let range = turn.loops i m in let upper : b i < (turns_of order a part).first i + assignment order part.len i = range.1 in omega (arith, (loop i m).inside, from i m))
+    | inr o ↦ (let here = round i h o in omega (arith, turn.others i o, other i o))
+  ];
+}
+  where
+    parts : AreParts (map extent order) (map edge order) part.from part.len
+    parts = fit_the_box (map extent order) (map edge order) (record { same_rank = same_lengths edge extent order; positive = positive }) k part at
+
+    all : AreLens order part.len
+    all = lens extent edge order part.from part.len parts
+
+    loop : (i : ℕ) → among order i ≡ true → IsLoop (extent i) (edge i) (assignment order part.from i) (assignment order part.len i)
+    loop i m = loop_of extent edge order part.from part.len i parts m
+
+    from : (i : ℕ) → among order i ≡ true → (turns_of order a part).first i ≡ assignment order part.from i
+    from i m = ap (λ t. if t then assignment order part.from i else a i) m
+
+    other : (i : ℕ) → among order i ≡ false → (turns_of order a part).first i ≡ a i
+    other i o = ap (λ t. if t then assignment order part.from i else a i) o
+
+    multiple : (i : ℕ) → assignment order part.from i % edge i ≡ 0
+    multiple i =
+        let numbers = block_numbers (map extent order) (map edge order) k part at in
+        subst (λ (p : Part). assignment order p.from i % edge i ≡ 0) (sym numbers.part_is) (begins edge order numbers.numbers i)
+
+    first : (i : ℕ) → among order i ≡ true → (turns_of order a part).first i % edge i ≡ assignment order part.from i % edge i
+    first i m = ap (λ n. n % edge i) (from i m)

@@ -1,9 +1,0 @@
-pub mod Steps
-pub mod Turns
-pub mod Edges
-pub mod FirstTurn
-pub mod TileSteps
-pub mod Shown
-pub mod Frames
-pub mod Changes
-pub mod Touches

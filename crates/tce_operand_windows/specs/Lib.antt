@@ -1,4 +1,0 @@
-pub mod Windows
-pub mod Blocks
-pub mod Laws
-pub mod Touches

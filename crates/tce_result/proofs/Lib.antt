@@ -1,4 +1,0 @@
-pub mod Shapes
-pub mod Names
-pub mod Agreement
-pub mod Results

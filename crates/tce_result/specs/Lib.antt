@@ -1,4 +1,0 @@
-pub mod TensorFiles
-pub mod ResultBytes
-pub mod Laws
-pub mod Examples

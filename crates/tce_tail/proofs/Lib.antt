@@ -1,3 +1,0 @@
-pub mod Tails
-pub mod TailLaws
-pub mod TouchBound

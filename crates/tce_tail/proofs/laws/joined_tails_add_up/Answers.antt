@@ -1,5 +1,0 @@
-use Rattle.tce_tail.proofs.TailLaws as tails
-use Rattle.tce_tail.proofs.laws.joined_tails_add_up.Goals as goal
-
-pub returns : goal.returns
-returns c = tails.joined_tails_add_up

@@ -1,5 +1,0 @@
-use Rattle.tce_tail.proofs.TailLaws as tails
-use Rattle.tce_tail.proofs.laws.sum_tails_add_up.Goals as goal
-
-pub returns : goal.returns
-returns c = tails.sum_tails_add_up

@@ -1,4 +1,0 @@
-pub mod Tails
-pub mod Touches
-pub mod Laws
-pub mod Examples

@@ -1,9 +1,0 @@
-pub mod Along
-pub mod Operands
-pub mod Touching
-pub mod Turning
-pub mod Placing
-pub mod Leaving
-pub mod Asking
-pub mod Running
-pub mod Stepping

@@ -1,4 +1,0 @@
-pub mod Blocks
-pub mod Along
-pub mod Windows
-pub mod Evaluations

@@ -1,5 +1,0 @@
-use Rattle.tce_takings.proofs.Counted.{IsCounted}
-use Rattle.tce_takings.proofs.takings.tile_count.Given as goal
-
-abbrev pub invariant-loop-t : goal.invariant-loop-t
-invariant-loop-t l = IsCounted l.spec l.t-index l.count

@@ -1,0 +1,12 @@
+pub mod Operands
+pub mod Made
+pub mod Flushed
+pub mod OpenedTensors
+pub mod ArrayLists
+pub mod Reading
+pub mod Shapes
+pub mod Names
+pub mod Agreement
+pub mod Results
+pub mod Counted
+pub mod Tiles

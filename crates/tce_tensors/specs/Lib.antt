@@ -1,0 +1,11 @@
+pub mod Opened
+pub mod Arrays
+pub mod Finished
+pub mod Laws
+pub mod Reading
+pub mod TensorFiles
+pub mod ResultBytes
+pub mod ResultLaws
+pub mod Examples
+pub mod Takings
+pub mod FrameLaws

@@ -1,0 +1,5 @@
+use Rattle.tce_walk.proofs.TailLaws as tails
+use Rattle.tce_walk.proofs.tail_laws.sum_tails_add_up.Goals as goal
+
+pub returns : goal.returns
+returns c = tails.sum_tails_add_up
