@@ -1,11 +1,9 @@
 //! Demonstrations.
 
-use super::given::{check_files, check_taking, check_text_file, words_of};
+use super::given::{check, check_files, check_taking, check_text_file, must, perform};
 use std::alloc::Global;
 use std::process::Abort;
-use std::test::Fail;
 use tce_outside::{FaultySink, MemDisk, MemSink};
-use tce_top::tce;
 use tce_words::{HeapRoom, RefusingRoom};
 
 const SMALLEST: &str =
@@ -14,29 +12,34 @@ const SMALLEST: &str =
 const SMALLEST_ARRAYS: &str =
     "demoA 4 1*8 1;demoB 4 1*8 4;demoC 4 1*8 6;demoD 4 1*8 7;demoS 4 1*8 168";
 
-#[test]
-fn the_smallest_demonstration_is_the_product_of_four_numbers(rt: HostRuntime) -> Result<(), Fail> {
-    let alloc = rt.alloc();
-    let mut disk = MemDisk::new(alloc);
-    let report = "tce demo 1\nmemory 5\ntiles 5\nsum 168\n";
-    check_taking(&rt, alloc, &mut disk, "demo 1 1 1", 0, report, &[(5, 5)])?;
-    assert_eq!(rt; disk.file("demo.tce"), Some(SMALLEST.as_bytes()));
-    check_files(&rt, alloc, &disk, SMALLEST_ARRAYS)
+// The six files of the smallest demonstration.
+fn check_smallest(rt: &impl Abort, alloc: Global, disk: &MemDisk) {
+    check_text_file(rt, disk, "demo.tce", SMALLEST);
+    must(rt, check_files(rt, alloc, disk, SMALLEST_ARRAYS));
 }
 
 #[test]
-fn a_failing_sink_leaves_all_six_files(rt: HostRuntime) -> Result<(), Fail> {
+fn the_smallest_demonstration_is_the_product_of_four_numbers(rt: HostRuntime) {
     let alloc = rt.alloc();
     let mut disk = MemDisk::new(alloc);
-    let mut failing = Vec::new(alloc);
-    failing.push(0)?;
-    let mut out = FaultySink::new(MemSink::new(alloc), failing);
+    let report = "tce demo 1\nmemory 5\ntiles 5\nsum 168\n";
+    let takings = [(5, 5)];
+    must(
+        &rt,
+        check_taking(&rt, alloc, &mut disk, "demo 1 1 1", 0, report, &takings),
+    );
+    check_smallest(&rt, alloc, &disk);
+}
+
+#[test]
+fn a_failing_sink_leaves_all_six_files(rt: HostRuntime) {
+    let alloc = rt.alloc();
+    let mut disk = MemDisk::new(alloc);
+    let mut out = FaultySink::new(MemSink::new(alloc), must(&rt, vec![in alloc; 0]));
     let mut room = HeapRoom::new(alloc);
-    let words = words_of(alloc, "demo 1 1 1")?;
-    let status = tce(alloc, &words, &mut disk, &mut out, &mut room);
-    assert_eq!(rt; status.code(), 9);
-    check_text_file(&rt, &disk, "demo.tce", SMALLEST);
-    check_files(&rt, alloc, &disk, SMALLEST_ARRAYS)
+    let ended = perform(alloc, "demo 1 1 1", &mut disk, &mut out, &mut room);
+    check(&rt, must(&rt, ended) == 9, "the sink has failed");
+    check_smallest(&rt, alloc, &disk);
 }
 
 // What a demonstration puts on a sink.
@@ -47,57 +50,52 @@ fn put_by(
     words: &str,
     begin: &[u8],
     taking: (u64, u64),
-) -> Result<MemSink, Fail> {
+) -> MemSink {
     let mut out = MemSink::new(alloc);
     let mut room = HeapRoom::new(alloc);
-    let given = words_of(alloc, words)?;
-    let status = tce(alloc, &given, disk, &mut out, &mut room);
-    assert_eq!(rt; status.code(), 0, "{words}");
-    assert!(rt; out.bytes().starts_with(begin), "{words}");
-    assert_eq!(rt; room.takings(), [taking].as_slice(), "{words}");
-    Ok(out)
+    let ended = perform(alloc, words, disk, &mut out, &mut room);
+    check(rt, must(rt, ended) == 0, words);
+    check(rt, out.bytes().starts_with(begin), words);
+    check(rt, room.takings() == [taking].as_slice(), words);
+    out
 }
 
 // The second time it puts the same.
-fn check_twice(
-    rt: &impl Abort,
-    alloc: Global,
-    words: &str,
-    begin: &[u8],
-    taking: (u64, u64),
-) -> Result<(), Fail> {
+fn check_twice(rt: &impl Abort, alloc: Global, words: &str, begin: &[u8], taking: (u64, u64)) {
     let mut disk = MemDisk::new(alloc);
-    let first = put_by(rt, alloc, &mut disk, words, begin, taking)?;
-    let second = put_by(rt, alloc, &mut disk, words, begin, taking)?;
-    assert_eq!(rt; first.bytes(), second.bytes(), "{words}");
-    Ok(())
+    let first = put_by(rt, alloc, &mut disk, words, begin, taking);
+    let second = put_by(rt, alloc, &mut disk, words, begin, taking);
+    check(rt, first.bytes() == second.bytes(), words);
 }
 
 #[test]
-fn a_demonstration_has_one_sum(rt: HostRuntime) -> Result<(), Fail> {
+fn a_demonstration_has_one_sum(rt: HostRuntime) {
     let begin = b"tce demo 1\nmemory 68\ntiles 16384\nsum ";
-    check_twice(&rt, rt.alloc(), "demo 1 16 8", begin, (68, 16384))
+    check_twice(&rt, rt.alloc(), "demo 1 16 8", begin, (68, 16384));
 }
 
 // The fused loops have 50 million steps, the plain sum 2^40. It is to end within a minute.
 #[test]
-fn the_fused_loops_of_a_demonstration_end(rt: HostRuntime) -> Result<(), Fail> {
+fn the_fused_loops_of_a_demonstration_end(rt: HostRuntime) {
     let begin = b"tce demo 1\nmemory 260\ntiles 16384\nsum ";
-    check_twice(&rt, rt.alloc(), "demo 1 16 16", begin, (260, 16384))
+    check_twice(&rt, rt.alloc(), "demo 1 16 16", begin, (260, 16384));
 }
 
 #[test]
-fn a_demonstration_may_want_memory(rt: HostRuntime) -> Result<(), Fail> {
+fn a_demonstration_may_want_memory(rt: HostRuntime) {
     let alloc = rt.alloc();
     let mut disk = MemDisk::new(alloc);
-    disk.put_file("other.tce", b"range")?;
+    must(&rt, disk.put_file("other.tce", b"range"));
     let mut out = MemSink::new(alloc);
     let mut room = RefusingRoom::new(alloc, 0);
-    let words = words_of(alloc, "demo 1 1 1")?;
-    let status = tce(alloc, &words, &mut disk, &mut out, &mut room);
-    assert_eq!(rt; status.code(), 10);
-    assert_eq!(rt; out.bytes(), b"error 10: want of memory\n".as_slice());
-    assert_eq!(rt; disk.file("other.tce"), Some(b"range".as_slice()));
-    assert_eq!(rt; room.takings().len(), 0);
-    Ok(())
+    let ended = perform(alloc, "demo 1 1 1", &mut disk, &mut out, &mut room);
+    let line = b"error 10: want of memory\n";
+    check(&rt, must(&rt, ended) == 10, "the room refuses");
+    check(
+        &rt,
+        out.bytes() == line.as_slice(),
+        "the line of the refusal",
+    );
+    check_text_file(&rt, &disk, "other.tce", "range");
+    check(&rt, room.takings().is_empty(), "nothing is taken");
 }

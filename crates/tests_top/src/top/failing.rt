@@ -1,13 +1,13 @@
 //! Disks that fail at one call, each in turn, and sinks that fail.
 
-use super::given::{OUTER, OUTER_ARRAYS, check_files, check_text_file, disk_of, words_of};
+use super::given::{
+    OUTER, OUTER_ARRAYS, check, check_absent, check_files, check_text_file, disk_of, must, perform,
+};
 use super::plans::TWO_SUMS;
 use super::runs::{TILED_ARRAYS, TILED_MATRICES};
 use std::alloc::Global;
 use std::process::Abort;
-use std::test::Fail;
 use tce_outside::{FaultyDisk, FaultySink, MemDisk, MemSink};
-use tce_top::tce;
 use tce_words::HeapRoom;
 
 // A command that is done where nothing fails: what is there before, the words, the one taking if there is one, and the
@@ -27,92 +27,93 @@ const FLAT: &str = "range N 5 tile 2\nindex N i\ntensor A[N]\ntensor C[N]\nC[i] 
 const CERTIFICATE: &str =
     "tce certificate 1\nnode 0 sum loops i,k fused - size 5\nnode 1 sum loops j,l fused j size 1\nnode 2 product loops j,i result\nmemory 6\ntable 0 2\nrow 5 -\nrow 1 i\ntable 1 2\nrow 7 -\nrow 1 j\nend\n";
 
-fn disk_before(rt: &impl Abort, alloc: Global, trial: &Trial<'_>) -> Result<MemDisk, Fail> {
-    let mut disk = disk_of(rt, alloc, trial.spec, trial.files)?;
-    disk.put_file("e.cert", trial.cert.as_bytes())?;
-    Ok(disk)
+fn disk_before(rt: &impl Abort, alloc: Global, trial: &Trial<'_>) -> MemDisk {
+    let mut disk = must(rt, disk_of(rt, alloc, trial.spec, trial.files));
+    must(rt, disk.put_file("e.cert", trial.cert.as_bytes()));
+    disk
 }
 
 // What was there before is there still.
-fn check_before(
-    rt: &impl Abort,
-    alloc: Global,
-    trial: &Trial<'_>,
-    disk: &MemDisk,
-) -> Result<(), Fail> {
+fn check_before(rt: &impl Abort, alloc: Global, trial: &Trial<'_>, disk: &MemDisk) {
     check_text_file(rt, disk, "s.tce", trial.spec);
     check_text_file(rt, disk, "e.cert", trial.cert);
-    check_files(rt, alloc, disk, trial.files)
+    must(rt, check_files(rt, alloc, disk, trial.files));
 }
 
-fn check_takings(rt: &impl Abort, trial: &Trial<'_>, takings: &[(u64, u64)]) {
-    match (takings, trial.taking) {
-        ([], _) => (),
-        ([taking], Some(due)) => assert_eq!(rt; *taking, due),
-        _ => panic!(rt; "more was taken"),
-    }
+// The number of the one call that fails.
+fn failing(rt: &impl Abort, alloc: Global, call: u64) -> Vec<u64> {
+    must(rt, vec![in alloc; call])
+}
+
+// A command that was cut off took what it takes or nothing.
+fn check_takings(rt: &impl Abort, trial: &Trial<'_>, code: u8, takings: &[(u64, u64)]) {
+    let is_whole = takings.len() < 2 && takings.first().copied() == trial.taking;
+    let is_as_due = is_whole || code != 0 && takings.is_empty();
+    check(rt, is_as_due, trial.words);
+}
+
+// A command that is not done tells of the one fault.
+fn check_ending(rt: &impl Abort, call: u64, code: u8, out: &MemSink, faults: u64) {
+    let is_as_due = match code {
+        0 => faults == 0,
+        8 => faults == 1 && out.bytes() == b"error 8: disk fault\n".as_slice(),
+        _ => false,
+    };
+    assert!(rt; is_as_due, "call {call}");
 }
 
 // Whether the command is done where this call of the disk fails.
-fn is_done(rt: &impl Abort, alloc: Global, trial: &Trial<'_>, call: u64) -> Result<bool, Fail> {
-    let mut failing = Vec::new(alloc);
-    failing.push(call)?;
-    let mut disk = FaultyDisk::new(disk_before(rt, alloc, trial)?, failing);
+fn is_done(rt: &impl Abort, alloc: Global, trial: &Trial<'_>, call: u64) -> bool {
+    let mut disk = FaultyDisk::new(disk_before(rt, alloc, trial), failing(rt, alloc, call));
     let mut out = MemSink::new(alloc);
     let mut room = HeapRoom::new(alloc);
-    let words = words_of(alloc, trial.words)?;
-    let status = tce(alloc, &words, &mut disk, &mut out, &mut room);
-    check_before(rt, alloc, trial, disk.inner())?;
-    check_takings(rt, trial, room.takings());
-    if status.code() == 0 {
-        assert_eq!(rt; disk.faults(), 0, "call {call}");
-        assert_eq!(rt; room.takings().first().copied(), trial.taking);
-        return Ok(true);
-    }
-    assert_eq!(rt; status.code(), 8, "call {call}");
-    assert_eq!(rt;
-        out.bytes(),
-        b"error 8: disk fault\n".as_slice(),
-        "call {call}"
-    );
-    assert_eq!(rt; disk.faults(), 1, "call {call}");
-    Ok(false)
+    let ended = perform(alloc, trial.words, &mut disk, &mut out, &mut room);
+    let code = must(rt, ended);
+    check_before(rt, alloc, trial, disk.inner());
+    check_takings(rt, trial, code, room.takings());
+    check_ending(rt, call, code, &out, disk.faults());
+    code == 0
 }
 
-fn check_trial(rt: &impl Abort, alloc: Global, trial: &Trial<'_>) -> Result<(), Fail> {
+fn check_trial(rt: &impl Abort, alloc: Global, trial: &Trial<'_>) {
     for call in 0..100_000 {
-        if is_done(rt, alloc, trial, call)? {
-            assert!(rt; call > 1, "each command calls its disk");
-            return check_failing_sink(rt, alloc, trial);
+        if is_done(rt, alloc, trial, call) {
+            check(rt, call > 1, "each command calls its disk");
+            check_failing_sink(rt, alloc, trial);
+            return;
         }
     }
     panic!(rt; "so many calls are not made");
 }
 
+// What a command leaves where nothing fails.
+fn disk_after(rt: &impl Abort, alloc: Global, trial: &Trial<'_>) -> MemDisk {
+    let mut disk = disk_before(rt, alloc, trial);
+    let mut out = MemSink::new(alloc);
+    let mut room = HeapRoom::new(alloc);
+    let ended = perform(alloc, trial.words, &mut disk, &mut out, &mut room);
+    check(rt, must(rt, ended) == 0, trial.words);
+    disk
+}
+
 // A sink that fails leaves all that the command writes.
-fn check_failing_sink(rt: &impl Abort, alloc: Global, trial: &Trial<'_>) -> Result<(), Fail> {
-    let words = words_of(alloc, trial.words)?;
-    let mut whole = disk_before(rt, alloc, trial)?;
+fn check_failing_sink(rt: &impl Abort, alloc: Global, trial: &Trial<'_>) {
+    let whole = disk_after(rt, alloc, trial);
+    let mut out = FaultySink::new(MemSink::new(alloc), failing(rt, alloc, 0));
+    let mut disk = disk_before(rt, alloc, trial);
     let mut room = HeapRoom::new(alloc);
-    let status = tce(
-        alloc,
-        &words,
-        &mut whole,
-        &mut MemSink::new(alloc),
-        &mut room,
-    );
-    assert_eq!(rt; status.code(), 0);
-    let mut failing = Vec::new(alloc);
-    failing.push(0)?;
-    let mut out = FaultySink::new(MemSink::new(alloc), failing);
-    let mut disk = disk_before(rt, alloc, trial)?;
-    let mut room = HeapRoom::new(alloc);
-    let status = tce(alloc, &words, &mut disk, &mut out, &mut room);
-    assert_eq!(rt; status.code(), 9);
-    assert_eq!(rt; out.inner().bytes().len(), 0);
-    assert_eq!(rt; out.faults(), 1);
-    assert_eq!(rt; disk.file(trial.written), whole.file(trial.written));
-    check_before(rt, alloc, trial, &disk)
+    let ended = perform(alloc, trial.words, &mut disk, &mut out, &mut room);
+    check_cut_short(rt, trial.words, must(rt, ended) == 9, &out);
+    let is_whole = disk.file(trial.written) == whole.file(trial.written);
+    check(rt, is_whole, trial.words);
+    check_before(rt, alloc, trial, &disk);
+}
+
+// A command ended with the status that is due, and nothing went out.
+fn check_cut_short(rt: &impl Abort, words: &str, is_due: bool, out: &FaultySink) {
+    check(rt, is_due, words);
+    check(rt, out.inner().bytes().is_empty(), words);
+    check(rt, out.faults() == 1, words);
 }
 
 // A run with this one taking.
@@ -123,7 +124,7 @@ fn check_run(
     files: &str,
     words: &str,
     taking: (u64, u64),
-) -> Result<(), Fail> {
+) {
     let trial = Trial {
         spec,
         files,
@@ -132,21 +133,15 @@ fn check_run(
         taking: Some(taking),
         written: "C.tca",
     };
-    check_trial(rt, alloc, &trial)
+    check_trial(rt, alloc, &trial);
 }
 
 #[test]
-fn each_call_of_a_run_may_fail(rt: HostRuntime) -> Result<(), Fail> {
-    check_run(&rt, rt.alloc(), OUTER, OUTER_ARRAYS, "run s.tce 3", (0, 3))?;
+fn each_call_of_a_run_may_fail(rt: HostRuntime) {
+    let alloc = rt.alloc();
+    check_run(&rt, alloc, OUTER, OUTER_ARRAYS, "run s.tce 3", (0, 3));
     let words = "run s.tce 12";
-    check_run(
-        &rt,
-        rt.alloc(),
-        TILED_MATRICES,
-        TILED_ARRAYS,
-        words,
-        (1, 12),
-    )
+    check_run(&rt, alloc, TILED_MATRICES, TILED_ARRAYS, words, (1, 12));
 }
 
 // A command that takes nothing.
@@ -157,7 +152,7 @@ fn check_plain(
     files: &str,
     words: &str,
     written: &str,
-) -> Result<(), Fail> {
+) {
     let trial = Trial {
         spec,
         files,
@@ -166,30 +161,30 @@ fn check_plain(
         taking: None,
         written,
     };
-    check_trial(rt, alloc, &trial)
+    check_trial(rt, alloc, &trial);
 }
 
 #[test]
-fn each_call_of_a_move_may_fail(rt: HostRuntime) -> Result<(), Fail> {
+fn each_call_of_a_move_may_fail(rt: HostRuntime) {
     let alloc = rt.alloc();
     let words = "pack s.tce A a.flat";
-    check_plain(&rt, alloc, FLAT, "=a.flat 1 2 3 4 5", words, "A.tca")?;
+    check_plain(&rt, alloc, FLAT, "=a.flat 1 2 3 4 5", words, "A.tca");
     let array = "A 1 5 2 1 2 3 4 5 0";
     let words = "unpack s.tce A b.flat";
-    check_plain(&rt, alloc, FLAT, array, words, "b.flat")?;
-    check_plain(&rt, alloc, FLAT, array, "convert s.tce A 4", "A.v2.tca")
+    check_plain(&rt, alloc, FLAT, array, words, "b.flat");
+    check_plain(&rt, alloc, FLAT, array, "convert s.tce A 4", "A.v2.tca");
 }
 
 #[test]
-fn each_call_of_a_command_without_arrays_may_fail(rt: HostRuntime) -> Result<(), Fail> {
+fn each_call_of_a_command_without_arrays_may_fail(rt: HostRuntime) {
     let alloc = rt.alloc();
-    check_plain(&rt, alloc, TWO_SUMS, "", "plan s.tce", "s.tce")?;
-    check_plain(&rt, alloc, TWO_SUMS, "", "cert s.tce s.cert", "s.cert")?;
-    check_plain(&rt, alloc, TWO_SUMS, "", "check s.tce e.cert", "s.tce")
+    check_plain(&rt, alloc, TWO_SUMS, "", "plan s.tce", "s.tce");
+    check_plain(&rt, alloc, TWO_SUMS, "", "cert s.tce s.cert", "s.cert");
+    check_plain(&rt, alloc, TWO_SUMS, "", "check s.tce e.cert", "s.tce");
 }
 
 #[test]
-fn each_call_of_a_demonstration_may_fail(rt: HostRuntime) -> Result<(), Fail> {
+fn each_call_of_a_demonstration_may_fail(rt: HostRuntime) {
     let trial = Trial {
         spec: OUTER,
         files: OUTER_ARRAYS,
@@ -198,30 +193,25 @@ fn each_call_of_a_demonstration_may_fail(rt: HostRuntime) -> Result<(), Fail> {
         taking: Some((5, 5)),
         written: "demoS.tca",
     };
-    check_trial(&rt, rt.alloc(), &trial)
+    check_trial(&rt, rt.alloc(), &trial);
 }
 
 // A command over the outer product and a sink that fails ends with this status.
-fn check_refusal(rt: &impl Abort, alloc: Global, words: &str, code: u8) -> Result<(), Fail> {
-    let mut failing = Vec::new(alloc);
-    failing.push(0)?;
-    let mut disk = disk_of(rt, alloc, OUTER, OUTER_ARRAYS)?;
-    let mut out = FaultySink::new(MemSink::new(alloc), failing);
+fn check_refusal(rt: &impl Abort, alloc: Global, words: &str, code: u8) {
+    let mut disk = must(rt, disk_of(rt, alloc, OUTER, OUTER_ARRAYS));
+    let mut out = FaultySink::new(MemSink::new(alloc), failing(rt, alloc, 0));
     let mut room = HeapRoom::new(alloc);
-    let given = words_of(alloc, words)?;
-    let status = tce(alloc, &given, &mut disk, &mut out, &mut room);
-    assert_eq!(rt; status.code(), code, "{words}");
-    assert_eq!(rt; disk.file("C.tca"), None, "{words}");
-    assert_eq!(rt; out.inner().bytes().len(), 0, "{words}");
-    assert_eq!(rt; out.faults(), 1, "{words}");
-    Ok(())
+    let ended = perform(alloc, words, &mut disk, &mut out, &mut room);
+    check_cut_short(rt, words, must(rt, ended) == code, &out);
+    check_absent(rt, &disk, "C.tca");
 }
 
 #[test]
-fn a_failing_sink_keeps_each_refusal(rt: HostRuntime) -> Result<(), Fail> {
-    check_refusal(&rt, rt.alloc(), "run t.tce 3", 3)?;
-    check_refusal(&rt, rt.alloc(), "run s.tce 2", 5)?;
-    check_refusal(&rt, rt.alloc(), "run", 1)?;
-    check_refusal(&rt, rt.alloc(), "check s.tce t.cert", 3)?;
-    check_refusal(&rt, rt.alloc(), "unpack s.tce Z z.flat", 12)
+fn a_failing_sink_keeps_each_refusal(rt: HostRuntime) {
+    let alloc = rt.alloc();
+    check_refusal(&rt, alloc, "run t.tce 3", 3);
+    check_refusal(&rt, alloc, "run s.tce 2", 5);
+    check_refusal(&rt, alloc, "run", 1);
+    check_refusal(&rt, alloc, "check s.tce t.cert", 3);
+    check_refusal(&rt, alloc, "unpack s.tce Z z.flat", 12);
 }

@@ -3,9 +3,9 @@
 use std::alloc::Global;
 use std::process::Abort;
 use std::test::Fail;
-use tce_outside::{MemDisk, MemSink};
+use tce_outside::{Disk, MemDisk, MemSink, Sink};
 use tce_top::tce;
-use tce_words::HeapRoom;
+use tce_words::{HeapRoom, Room};
 
 /// The outer product of two vectors.
 pub const OUTER: &str =
@@ -18,6 +18,19 @@ pub const OUTER_RESULT: &str = "C 2 2 2 1 1 3 4 6 8";
 
 pub const OUTER_REPORT: &str =
     "tce run 1\nnode 0 product loops i,j result\nmemory 0\ntiles 3\nwrote C.tca 80\n";
+
+/// Ends the test where this does not hold, with what it is about.
+pub fn check(rt: &impl Abort, holds: bool, what: &str) {
+    assert!(rt; holds, "{what}");
+}
+
+/// What was made. The test ends where it could not be made.
+pub fn must<T, E>(rt: &impl Abort, made: Result<T, E>) -> T {
+    match made {
+        Ok(made) => made,
+        Err(_) => panic!(rt; "this cannot be made"),
+    }
+}
 
 /// The part of a row with this number, where bars part it; nothing where there is none.
 pub fn part<'a>(row: &'a str, number: usize) -> &'a str {
@@ -32,19 +45,30 @@ pub fn code_of(rt: &impl Abort, text: &str) -> u8 {
     code
 }
 
+// Appends a part of a text, with a line feed for a slash at its end.
+fn push_part(whole: &mut String, part: &str) -> Result<(), Fail> {
+    match part.strip_suffix('/') {
+        Some(line) => {
+            whole.push_str(line)?;
+            whole.push_str("\n")?;
+        }
+        None => whole.push_str(part)?,
+    }
+    Ok(())
+}
+
 /// The text with a line feed for each slash.
 pub fn with_feeds(alloc: Global, text: &str) -> Result<String, Fail> {
     let mut whole = String::new(alloc);
     for part in text.split_inclusive('/') {
-        match part.strip_suffix('/') {
-            Some(line) => {
-                whole.push_str(line)?;
-                whole.push_str("\n")?;
-            }
-            None => whole.push_str(part)?,
-        }
+        push_part(&mut whole, part)?;
     }
     Ok(whole)
+}
+
+fn push_word(alloc: Global, words: &mut Vec<String>, word: &str) -> Result<(), Fail> {
+    words.push(String::from_str(alloc, word)?)?;
+    Ok(())
 }
 
 /// The words of a text, between its spaces. The empty text has none.
@@ -54,7 +78,7 @@ pub fn words_of(alloc: Global, text: &str) -> Result<Vec<String>, Fail> {
         return Ok(words);
     }
     for word in text.split(' ') {
-        words.push(String::from_str(alloc, word)?)?;
+        push_word(alloc, &mut words, word)?;
     }
     Ok(words)
 }
@@ -77,24 +101,33 @@ fn push_numbers(rt: &impl Abort, bytes: &mut Vec<u8>, text: &str) -> Result<(), 
     Ok(())
 }
 
-/// The name of a file and its contents: `A 1 2 1 7 8` is the file `A.tca` in the first version of the format, with the
-/// rank, the extents, the edges and the words of its tiles; `=a.flat 7 8` a file of these words alone.
-pub fn file_of(rt: &impl Abort, alloc: Global, text: &str) -> Result<(String, Vec<u8>), Fail> {
-    let Some((name, numbers)) = text.split_once(' ') else {
-        panic!(rt; "{text} has no numbers");
-    };
-    let mut bytes = Vec::new(alloc);
-    let name = match name.strip_prefix('=') {
+// The name of the file that a text describes.
+fn name_of(alloc: Global, text: &str) -> Result<String, Fail> {
+    let name = text.split(' ').next().unwrap_or("");
+    Ok(match name.strip_prefix('=') {
         Some(whole) => String::from_str(alloc, whole)?,
-        None => {
-            bytes.extend_from_slice(b"TCARRAY1")?;
-            format!(in alloc; "{name}.tca")?
-        }
-    };
-    for number in numbers.split(' ') {
+        None => format!(in alloc; "{name}.tca")?,
+    })
+}
+
+// The bytes of that file.
+fn bytes_of(rt: &impl Abort, alloc: Global, text: &str) -> Result<Vec<u8>, Fail> {
+    let mut bytes = Vec::new(alloc);
+    if !text.starts_with('=') {
+        bytes.extend_from_slice(b"TCARRAY1")?;
+    }
+    for number in text.split(' ').skip(1) {
         push_numbers(rt, &mut bytes, number)?;
     }
-    Ok((name, bytes))
+    Ok(bytes)
+}
+
+// Puts a file on a disk: `A 1 2 1 7 8` is the file `A.tca` in the first version of the format, with the rank, the
+// extents, the edges and the words of its tiles; `=a.flat 7 8` a file of these words alone.
+fn put_file(rt: &impl Abort, alloc: Global, disk: &mut MemDisk, text: &str) {
+    let name = must(rt, name_of(alloc, text));
+    let bytes = must(rt, bytes_of(rt, alloc, text));
+    must(rt, disk.put_file(&name, &bytes));
 }
 
 /// Puts the files of a text, between its semicolons, on a disk.
@@ -104,12 +137,10 @@ pub fn put_files(
     disk: &mut MemDisk,
     files: &str,
 ) -> Result<(), Fail> {
-    if files.is_empty() {
-        return Ok(());
-    }
-    for text in files.split(';') {
-        let (name, bytes) = file_of(rt, alloc, text)?;
-        disk.put_file(&name, &bytes)?;
+    if !files.is_empty() {
+        for text in files.split(';') {
+            put_file(rt, alloc, disk, text);
+        }
     }
     Ok(())
 }
@@ -117,9 +148,15 @@ pub fn put_files(
 /// A disk with the specification `s.tce` and these files.
 pub fn disk_of(rt: &impl Abort, alloc: Global, spec: &str, files: &str) -> Result<MemDisk, Fail> {
     let mut disk = MemDisk::new(alloc);
-    disk.put_file("s.tce", spec.as_bytes())?;
-    put_files(rt, alloc, &mut disk, files)?;
+    must(rt, disk.put_file("s.tce", spec.as_bytes()));
+    must(rt, put_files(rt, alloc, &mut disk, files));
     Ok(disk)
+}
+
+fn check_file(rt: &impl Abort, alloc: Global, disk: &MemDisk, text: &str) {
+    let name = must(rt, name_of(alloc, text));
+    let bytes = must(rt, bytes_of(rt, alloc, text));
+    check(rt, disk.file(&name) == Some(bytes.as_slice()), text);
 }
 
 /// The disk has these files, as the text says.
@@ -129,22 +166,40 @@ pub fn check_files(
     disk: &MemDisk,
     files: &str,
 ) -> Result<(), Fail> {
-    if files.is_empty() {
-        return Ok(());
-    }
-    for text in files.split(';') {
-        let (name, bytes) = file_of(rt, alloc, text)?;
-        assert_eq!(rt; disk.file(&name), Some(bytes.as_slice()), "{text}");
+    if !files.is_empty() {
+        for text in files.split(';') {
+            check_file(rt, alloc, disk, text);
+        }
     }
     Ok(())
 }
 
 /// The disk has this text in a file.
 pub fn check_text_file(rt: &impl Abort, disk: &MemDisk, name: &str, text: &str) {
-    match disk.file(name) {
-        Some(bytes) => assert_eq!(rt; bytes, text.as_bytes(), "{name}"),
-        None => panic!(rt; "{name} is not there"),
-    }
+    check(rt, disk.file(name) == Some(text.as_bytes()), name);
+}
+
+/// The disk has no file of this name.
+pub fn check_absent(rt: &impl Abort, disk: &MemDisk, name: &str) {
+    check(rt, disk.file(name).is_none(), name);
+}
+
+/// A file without its last byte.
+pub fn cut_off(rt: &impl Abort, alloc: Global, disk: &MemDisk, name: &str) -> Vec<u8> {
+    let bytes = disk.file(name).unwrap_or(b"");
+    must(rt, bytes[..bytes.len().saturating_sub(1)].to_vec(alloc))
+}
+
+/// Does what the words say, and answers the exit status.
+pub fn perform<D: Disk, K: Sink, R: Room>(
+    alloc: Global,
+    words: &str,
+    disk: &mut D,
+    out: &mut K,
+    room: &mut R,
+) -> Result<u8, Fail> {
+    let given = words_of(alloc, words)?;
+    Ok(tce(alloc, &given, disk, out, room).code())
 }
 
 /// Does what the words say, and compares the exit status, the text and the takings.
@@ -159,11 +214,10 @@ pub fn check_taking(
 ) -> Result<(), Fail> {
     let mut out = MemSink::new(alloc);
     let mut room = HeapRoom::new(alloc);
-    let given = words_of(alloc, words)?;
-    let status = tce(alloc, &given, disk, &mut out, &mut room);
-    assert_eq!(rt; status.code(), code, "{words}");
-    assert_eq!(rt; out.bytes(), text.as_bytes(), "{words}");
-    assert_eq!(rt; room.takings(), takings, "{words}");
+    let ended = must(rt, perform(alloc, words, disk, &mut out, &mut room));
+    check(rt, ended == code, words);
+    check(rt, out.bytes() == text.as_bytes(), words);
+    check(rt, room.takings() == takings, words);
     Ok(())
 }
 

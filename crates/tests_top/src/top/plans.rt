@@ -1,11 +1,9 @@
 //! Plans.
 
-use super::given::{check_text, check_text_file, disk_of, words_of};
+use super::given::{check, check_text, check_text_file, disk_of, must, perform};
 use std::alloc::Global;
 use std::process::Abort;
-use std::test::Fail;
 use tce_outside::MemSink;
-use tce_top::tce;
 use tce_words::HeapRoom;
 
 /// Two sums, of which one index can be fused and not both.
@@ -28,18 +26,17 @@ pub const FOUR_TENSORS: &str =
 const FOUR_TENSORS_PLAN: &str =
     "tce plan 1\nnode 0 product loops b,c,d,f,e,l fused b,c,d,e,f,l size 1\nnode 1 sum loops b,c,d,f,e,l fused b,c,d,f size 1\nnode 2 product loops b,c,d,f,j,k fused b,c,d,f,j,k size 1\nnode 3 sum loops b,c,d,f,j,k fused b,c size 10000\nnode 4 product loops b,c,a,i,j,k fused a,b,c,i,j,k size 1\nnode 5 sum loops b,c,a,i,j,k result\nmemory 10004\n";
 
-fn check_plan(rt: &impl Abort, alloc: Global, spec: &str, plan: &str) -> Result<(), Fail> {
-    let mut disk = disk_of(rt, alloc, spec, "")?;
-    check_text(rt, alloc, &mut disk, "plan s.tce", 0, plan)?;
+fn check_plan(rt: &impl Abort, alloc: Global, spec: &str, plan: &str) {
+    let mut disk = must(rt, disk_of(rt, alloc, spec, ""));
+    must(rt, check_text(rt, alloc, &mut disk, "plan s.tce", 0, plan));
     check_text_file(rt, &disk, "s.tce", spec);
-    Ok(())
 }
 
 #[test]
-fn plans_are_least_and_reported(rt: HostRuntime) -> Result<(), Fail> {
-    check_plan(&rt, rt.alloc(), TWO_SUMS, TWO_SUMS_PLAN)?;
-    check_plan(&rt, rt.alloc(), TILED, TILED_PLAN)?;
-    check_plan(&rt, rt.alloc(), FOUR_TENSORS, FOUR_TENSORS_PLAN)
+fn plans_are_least_and_reported(rt: HostRuntime) {
+    check_plan(&rt, rt.alloc(), TWO_SUMS, TWO_SUMS_PLAN);
+    check_plan(&rt, rt.alloc(), TILED, TILED_PLAN);
+    check_plan(&rt, rt.alloc(), FOUR_TENSORS, FOUR_TENSORS_PLAN);
 }
 
 const WIDE_RESULT: &str =
@@ -49,19 +46,17 @@ const LARGE: &str =
     "range N 2097152\nrange K 1\nindex N a b c d\nindex K k\ntensor A[N,N,K]\ntensor B[N,N,K]\ntensor S[N,N]\nS[c,d] = sum{a,b}(sum{k}(A[a,b,k]) * sum{k}(B[c,d,k]))\n";
 
 // Several plans are least, so that only the end of the report is given.
-fn check_end(rt: &impl Abort, alloc: Global, spec: &str, end: &[u8]) -> Result<(), Fail> {
-    let mut disk = disk_of(rt, alloc, spec, "")?;
+fn check_end(rt: &impl Abort, alloc: Global, spec: &str, end: &[u8]) {
+    let mut disk = must(rt, disk_of(rt, alloc, spec, ""));
     let mut out = MemSink::new(alloc);
     let mut room = HeapRoom::new(alloc);
-    let words = words_of(alloc, "plan s.tce")?;
-    let status = tce(alloc, &words, &mut disk, &mut out, &mut room);
-    assert_eq!(rt; status.code(), 0);
-    assert!(rt; out.bytes().ends_with(end));
-    Ok(())
+    let ended = perform(alloc, "plan s.tce", &mut disk, &mut out, &mut room);
+    check(rt, must(rt, ended) == 0, spec);
+    check(rt, out.bytes().ends_with(end), spec);
 }
 
 #[test]
-fn each_least_plan_has_this_memory(rt: HostRuntime) -> Result<(), Fail> {
-    check_end(&rt, rt.alloc(), WIDE_RESULT, b"\nmemory 4\n")?;
-    check_end(&rt, rt.alloc(), LARGE, b"\nmemory 4398046511106\n")
+fn each_least_plan_has_this_memory(rt: HostRuntime) {
+    check_end(&rt, rt.alloc(), WIDE_RESULT, b"\nmemory 4\n");
+    check_end(&rt, rt.alloc(), LARGE, b"\nmemory 4398046511106\n");
 }

@@ -1,11 +1,12 @@
 //! Tensors that are stored once for each pair.
 
-use super::given::{check_files, check_text, code_of, disk_of, part, words_of};
+use super::given::{
+    check, check_absent, check_files, check_text, code_of, disk_of, must, part, perform,
+};
 use std::alloc::Global;
 use std::process::Abort;
 use std::test::Fail;
-use tce_outside::MemSink;
-use tce_top::tce;
+use tce_outside::{MemDisk, MemSink};
 use tce_words::HeapRoom;
 
 const SQUARE: &str =
@@ -27,48 +28,61 @@ const ROWS: &str = "\
 =B.sym 3544417901347029844 0 1 0 1 2 3 4 5 6|A|3|error 3: no file A.sym
 =Z.sym 3544417901347029844 0 1 0 1 2 3 4 5 6|Z|12|error 12: no tensor Z";
 
-fn check_refused(rt: &impl Abort, alloc: Global, row: &str) -> Result<(), Fail> {
-    let mut disk = disk_of(rt, alloc, SQUARE, part(row, 0))?;
-    let words = format!(in alloc; "expand s.tce {}", part(row, 1))?;
-    let line = format!(in alloc; "{}\n", part(row, 3))?;
+// The words that expand the tensor of a row.
+fn words_in(alloc: Global, row: &str) -> Result<String, Fail> {
+    Ok(format!(in alloc; "expand s.tce {}", part(row, 1))?)
+}
+
+// The line that a row tells.
+fn line_in(alloc: Global, row: &str) -> Result<String, Fail> {
+    Ok(format!(in alloc; "{}\n", part(row, 3))?)
+}
+
+fn check_refused(rt: &impl Abort, alloc: Global, row: &str) {
+    let mut disk = must(rt, disk_of(rt, alloc, SQUARE, part(row, 0)));
+    let words = must(rt, words_in(alloc, row));
+    let line = must(rt, line_in(alloc, row));
     let code = code_of(rt, part(row, 2));
-    check_text(rt, alloc, &mut disk, words.as_str(), code, line.as_str())?;
-    assert_eq!(rt; disk.file("A.tca"), None, "{row}");
-    check_files(rt, alloc, &disk, part(row, 0))
+    must(rt, check_text(rt, alloc, &mut disk, &words, code, &line));
+    check_absent(rt, &disk, "A.tca");
+    must(rt, check_files(rt, alloc, &disk, part(row, 0)));
 }
 
 #[test]
-fn files_of_stored_pairs_are_refused(rt: HostRuntime) -> Result<(), Fail> {
+fn files_of_stored_pairs_are_refused(rt: HostRuntime) {
     for row in ROWS.split('\n') {
-        check_refused(&rt, rt.alloc(), row)?;
+        check_refused(&rt, rt.alloc(), row);
     }
-    Ok(())
+}
+
+// The disk behind the expansion of A from this file.
+fn expanded(rt: &impl Abort, alloc: Global, stored: &str, whole: &str) -> MemDisk {
+    let mut disk = must(rt, disk_of(rt, alloc, SQUARE, stored));
+    let report = "tce expand 1\nwrote A.tca 120\n";
+    let made = check_text(rt, alloc, &mut disk, "expand s.tce A", 0, report);
+    must(rt, made);
+    must(rt, check_files(rt, alloc, &disk, whole));
+    must(rt, check_files(rt, alloc, &disk, stored));
+    disk
 }
 
 #[test]
-fn a_symmetric_matrix_is_expanded_and_squared(rt: HostRuntime) -> Result<(), Fail> {
+fn a_symmetric_matrix_is_expanded_and_squared(rt: HostRuntime) {
     let alloc = rt.alloc();
-    let mut disk = disk_of(&rt, alloc, SQUARE, SYMMETRIC)?;
-    let report = "tce expand 1\nwrote A.tca 120\n";
-    check_text(&rt, alloc, &mut disk, "expand s.tce A", 0, report)?;
-    check_files(&rt, alloc, &disk, "A 2 3 3 1 1 1 2 4 2 3 5 4 5 6")?;
+    let mut disk = expanded(&rt, alloc, SYMMETRIC, "A 2 3 3 1 1 1 2 4 2 3 5 4 5 6");
     let mut out = MemSink::new(alloc);
     let mut room = HeapRoom::new(alloc);
-    let words = words_of(alloc, "run s.tce 3")?;
-    let status = tce(alloc, &words, &mut disk, &mut out, &mut room);
-    assert_eq!(rt; status.code(), 0);
-    check_files(&rt, alloc, &disk, "C 2 3 3 1 1 21 28 38 28 38 53 38 53 77")?;
-    check_files(&rt, alloc, &disk, SYMMETRIC)
+    let ended = perform(alloc, "run s.tce 3", &mut disk, &mut out, &mut room);
+    check(&rt, must(&rt, ended) == 0, "the square is run");
+    let square = "C 2 3 3 1 1 21 28 38 28 38 53 38 53 77";
+    must(&rt, check_files(&rt, alloc, &disk, square));
+    must(&rt, check_files(&rt, alloc, &disk, SYMMETRIC));
 }
 
 #[test]
-fn an_antisymmetric_matrix_is_expanded(rt: HostRuntime) -> Result<(), Fail> {
-    let alloc = rt.alloc();
+fn an_antisymmetric_matrix_is_expanded(rt: HostRuntime) {
     let stored = "=A.sym 3544417901347029844 0 1 1 1 2 3";
-    let mut disk = disk_of(&rt, alloc, SQUARE, stored)?;
-    let report = "tce expand 1\nwrote A.tca 120\n";
-    check_text(&rt, alloc, &mut disk, "expand s.tce A", 0, report)?;
     let whole =
         "A 2 3 3 1 1 0 1 2 18446744073709551615 0 3 18446744073709551614 18446744073709551613 0";
-    check_files(&rt, alloc, &disk, whole)
+    let _disk = expanded(&rt, rt.alloc(), stored, whole);
 }
