@@ -1,7 +1,6 @@
 //! The certificate of `(sum{k}(A[i,k])) * (sum{l}(B[j,l]))` with i of extent 5, j of 7, k and l of 2, as written by hand.
 
-use crate::given::TWO_SUMS;
-use std::test::Fail;
+use crate::given::{TWO_SUMS, check, must};
 use tce_certify::certify;
 use tce_outside::MemDisk;
 
@@ -12,16 +11,14 @@ const BEGINNING: &[u8] =
 const REPORT: &[u8] = b"tce cert 1\nmemory 6\nwrote two.cert 187\n";
 
 #[test]
-fn a_certificate_is_written(rt: HostRuntime) -> Result<(), Fail> {
+fn a_certificate_is_written(rt: HostRuntime) {
     let alloc = rt.alloc();
     let mut disk = MemDisk::new(alloc);
-    disk.put_file("two.tce", TWO_SUMS)?;
-    match certify(alloc, "two.tce", "two.cert", &mut disk) {
-        Ok(report) => assert_eq!(rt; report.as_str().as_bytes(), REPORT),
-        Err(_) => return Err(Fail::new("the plan is refused")),
-    }
+    must(&rt, disk.put_file("two.tce", TWO_SUMS));
+    let report = must(&rt, certify(alloc, "two.tce", "two.cert", &mut disk));
+    let is_reported = report.as_str().as_bytes() == REPORT;
+    check(&rt, is_reported, "the report");
     let written = disk.file("two.cert").unwrap_or(b"");
-    assert_eq!(rt; written.len(), 187);
-    assert!(rt; written.starts_with(BEGINNING));
-    Ok(())
+    check(&rt, written.len() == 187, "the length");
+    check(&rt, written.starts_with(BEGINNING), "the beginning");
 }

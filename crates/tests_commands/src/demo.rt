@@ -1,8 +1,8 @@
 //! Examples whose arrays, memory and sums were worked out by hand.
 
+use crate::given::{check, must};
 use std::alloc::Global;
 use std::process::Abort;
-use std::test::Fail;
 use tce_command::Refusal;
 use tce_demo::demo;
 use tce_outside::{Disk, FaultyDisk, MemDisk};
@@ -15,10 +15,14 @@ const HEAD: &[u8] =
     b"TCARRAY1\x04\0\0\0\0\0\0\0\x01\0\0\0\0\0\0\0\x01\0\0\0\0\0\0\0\x01\0\0\0\0\0\0\0\x01\0\0\0\0\0\0\0\x01\0\0\0\0\0\0\0\x01\0\0\0\0\0\0\0\x01\0\0\0\0\0\0\0\x01\0\0\0\0\0\0\0";
 
 // A disk with a file of another name.
-fn disk_with_other(alloc: Global) -> Result<MemDisk, Fail> {
+fn disk_with_other(rt: &impl Abort, alloc: Global) -> MemDisk {
     let mut disk = MemDisk::new(alloc);
-    disk.put_file("other.tce", OTHER)?;
-    Ok(disk)
+    must(rt, disk.put_file("other.tce", OTHER));
+    disk
+}
+
+fn check_other(rt: &impl Abort, disk: &MemDisk) {
+    check(rt, disk.file("other.tce") == Some(OTHER), "another file");
 }
 
 // The report, where there is no refusal.
@@ -38,39 +42,50 @@ fn reported<D: Disk, R: Room>(
 // Whether the array of one element with this name has this element.
 fn has_element(rt: &impl Abort, disk: &MemDisk, name: &str, element: u8) {
     let bytes = disk.file(name).unwrap_or(b"");
-    assert_eq!(rt; bytes.len(), 88, "{name}");
-    assert!(rt; bytes.starts_with(HEAD), "{name}");
-    assert_eq!(rt; bytes[80], element, "{name}");
-    for byte in &bytes[81..] {
-        assert_eq!(rt; *byte, 0, "{name}");
+    let last = [element, 0, 0, 0, 0, 0, 0, 0];
+    check(rt, bytes.strip_prefix(HEAD) == Some(last.as_slice()), name);
+}
+
+const BEGINNING: &[u8] =
+    b"range V 1\nrange O 1\nindex V a b c d e f\nindex O i j k l\ntensor demoA[V,V,O,O]\n";
+
+// The report of an example that is not refused, and its one taking.
+fn check_report(
+    rt: &impl Abort,
+    alloc: Global,
+    numbers: (u64, u64, u64),
+    disk: &mut MemDisk,
+    report: &str,
+    taking: (u64, u64),
+) {
+    let mut room = HeapRoom::new(alloc);
+    let found = reported(alloc, numbers, disk, &mut room);
+    check(rt, is_text(&found, report), report);
+    check(rt, room.takings() == [taking].as_slice(), report);
+}
+
+// Whether there is a text, and it is this one.
+fn is_text(found: &Option<String>, text: &str) -> bool {
+    match found {
+        Some(found) => found.as_str() == text,
+        None => false,
     }
 }
 
 #[test]
-fn the_smallest_example(rt: HostRuntime) -> Result<(), Fail> {
+fn the_smallest_example(rt: HostRuntime) {
     let alloc = rt.alloc();
-    let mut disk = disk_with_other(alloc)?;
-    let mut room = HeapRoom::new(alloc);
-    let report = demo(alloc, 1, 1, 1, &mut disk, &mut room);
-    let Ok(report) = report else {
-        return Err(Fail::new("the example is refused"));
-    };
-    let want = "tce demo 1\nmemory 5\ntiles 5\nsum 168\n";
-    assert_eq!(rt; report.as_str(), want);
+    let mut disk = disk_with_other(&rt, alloc);
+    let report = "tce demo 1\nmemory 5\ntiles 5\nsum 168\n";
+    check_report(&rt, alloc, (1, 1, 1), &mut disk, report, (5, 5));
     has_element(&rt, &disk, "demoA.tca", 1);
     has_element(&rt, &disk, "demoB.tca", 4);
     has_element(&rt, &disk, "demoC.tca", 6);
     has_element(&rt, &disk, "demoD.tca", 7);
     has_element(&rt, &disk, "demoS.tca", 168);
     let text = disk.file("demo.tce").unwrap_or(b"");
-    assert!(rt;
-        text.starts_with(
-            b"range V 1\nrange O 1\nindex V a b c d e f\nindex O i j k l\ntensor demoA[V,V,O,O]\n"
-        )
-    );
-    assert_eq!(rt; disk.file("other.tce"), Some(OTHER));
-    assert_eq!(rt; room.takings(), [(5, 5)].as_slice());
-    Ok(())
+    check(&rt, text.starts_with(BEGINNING), "the specification");
+    check_other(&rt, &disk);
 }
 
 // The report of an example with this seed and these extents of V and O ends with this line.
@@ -80,90 +95,84 @@ fn expect_sum(
     disk: &mut MemDisk,
     numbers: (u64, u64, u64),
     line: &str,
-) -> Result<(), Fail> {
+) {
     let mut room = HeapRoom::new(alloc);
-    let Some(report) = reported(alloc, numbers, disk, &mut room) else {
-        return Err(Fail::new("an example is refused"));
-    };
-    assert!(rt; report.as_str().ends_with(line), "{line}");
-    assert_eq!(rt; room.takings().len(), 1, "{line}");
-    Ok(())
+    let found = reported(alloc, numbers, disk, &mut room);
+    check(rt, ends_with(&found, line), line);
+    check(rt, room.takings().len() == 1, line);
+}
+
+// Whether there is a text, and it has this end.
+fn ends_with(found: &Option<String>, end: &str) -> bool {
+    match found {
+        Some(found) => found.as_str().ends_with(end),
+        None => false,
+    }
 }
 
 // All are made on one disk, over one another.
 #[test]
-fn sums_of_examples(rt: HostRuntime) -> Result<(), Fail> {
+fn sums_of_examples(rt: HostRuntime) {
     let alloc = rt.alloc();
-    let mut disk = disk_with_other(alloc)?;
-    expect_sum(&rt, alloc, &mut disk, (1, 5, 1), "\nsum 6955242\n")?;
-    expect_sum(&rt, alloc, &mut disk, (7, 2, 3), "\nsum 2330062\n")?;
+    let mut disk = disk_with_other(&rt, alloc);
+    expect_sum(&rt, alloc, &mut disk, (1, 5, 1), "\nsum 6955242\n");
+    expect_sum(&rt, alloc, &mut disk, (7, 2, 3), "\nsum 2330062\n");
     let last = (2147483646, 3, 5);
-    expect_sum(&rt, alloc, &mut disk, last, "\nsum 204588136\n")?;
-    expect_sum(&rt, alloc, &mut disk, (1, 1, 1), "\nsum 168\n")?;
-    assert_eq!(rt; disk.file("other.tce"), Some(OTHER));
-    Ok(())
+    expect_sum(&rt, alloc, &mut disk, last, "\nsum 204588136\n");
+    expect_sum(&rt, alloc, &mut disk, (1, 1, 1), "\nsum 168\n");
+    check_other(&rt, &disk);
 }
 
 #[test]
-fn a_larger_example_has_one_sum(rt: HostRuntime) -> Result<(), Fail> {
+fn a_larger_example_has_one_sum(rt: HostRuntime) {
     let alloc = rt.alloc();
-    let mut disk = disk_with_other(alloc)?;
-    for _ in 0..2 {
-        let mut room = HeapRoom::new(alloc);
-        let Some(report) = reported(alloc, (1, 16, 8), &mut disk, &mut room) else {
-            return Err(Fail::new("the example is refused"));
-        };
-        let want = "tce demo 1\nmemory 68\ntiles 16384\nsum 28707270205499\n";
-        assert_eq!(rt; report.as_str(), want);
-        assert_eq!(rt; room.takings(), [(68, 16384)].as_slice());
-    }
-    Ok(())
+    let mut disk = disk_with_other(&rt, alloc);
+    let report = "tce demo 1\nmemory 68\ntiles 16384\nsum 28707270205499\n";
+    check_report(&rt, alloc, (1, 16, 8), &mut disk, report, (68, 16384));
+    check_report(&rt, alloc, (1, 16, 8), &mut disk, report, (68, 16384));
 }
 
 // More than the calls of the disk in the smallest example.
 const CALLS: u64 = 64;
 
-#[test]
-fn each_failing_call_of_the_disk_is_a_disk_fault(rt: HostRuntime) -> Result<(), Fail> {
-    let alloc = rt.alloc();
-    let mut failures = 0;
-    for call in 0..CALLS {
-        let mut disk = FaultyDisk::new(disk_with_other(alloc)?, vec![in alloc; call]?);
-        let mut room = HeapRoom::new(alloc);
-        let ended = demo(alloc, 1, 1, 1, &mut disk, &mut room);
-        let as_due = match ended {
-            Ok(_) => disk.faults() == 0,
-            Err(Refusal::Disk) => disk.faults() == 1,
-            Err(_) => false,
-        };
-        assert!(rt; as_due, "call {call}");
-        assert_eq!(rt; disk.inner().file("other.tce"), Some(OTHER), "call {call}");
-        if disk.faults() == 1 {
-            assert_eq!(rt; failures, call, "calls up to {call}");
-            failures += 1;
-        }
-    }
-    assert!(rt;
-        failures > 12,
-        "twelve calls write the text, the operands and the result"
-    );
-    assert!(rt; failures < CALLS, "the last call is none of the disk");
-    Ok(())
+// How many faults an example tells where this call of the disk fails.
+fn faults_at(rt: &impl Abort, alloc: Global, call: u64) -> u64 {
+    let failing = must(rt, vec![in alloc; call]);
+    let mut disk = FaultyDisk::new(disk_with_other(rt, alloc), failing);
+    let mut room = HeapRoom::new(alloc);
+    let told = match demo(alloc, 1, 1, 1, &mut disk, &mut room) {
+        Ok(_) => 0,
+        Err(Refusal::Disk) => 1,
+        Err(_) => 2,
+    };
+    assert!(rt; told < 2 && disk.faults() == told, "call {call}");
+    check_other(rt, disk.inner());
+    told
 }
 
 #[test]
-fn a_refusing_room_is_want_of_memory(rt: HostRuntime) -> Result<(), Fail> {
+fn each_failing_call_of_the_disk_is_a_disk_fault(rt: HostRuntime) {
+    let mut failures = 0;
+    for call in 0..CALLS {
+        if faults_at(&rt, rt.alloc(), call) == 1 {
+            check(&rt, failures == call, "no call fails behind the last");
+            failures = call + 1;
+        }
+    }
+    // twelve calls write the text, the operands and the result, and the last call is none of the disk
+    check(&rt, 12 < failures && failures < CALLS, "calls of the disk");
+}
+
+#[test]
+fn a_refusing_room_is_want_of_memory(rt: HostRuntime) {
     let alloc = rt.alloc();
-    let mut disk = disk_with_other(alloc)?;
+    let mut disk = disk_with_other(&rt, alloc);
     let mut room = RefusingRoom::new(alloc, 0);
-    let refused = matches!(
-        demo(alloc, 1, 1, 1, &mut disk, &mut room),
-        Err(Refusal::Memory)
-    );
-    assert!(rt; refused);
-    assert_eq!(rt; room.takings().len(), 0);
-    assert_eq!(rt; disk.file("other.tce"), Some(OTHER));
-    assert!(rt; reported(alloc, (1, 1, 1), &mut disk, &mut room).is_some());
-    assert_eq!(rt; room.takings(), [(5, 5)].as_slice());
-    Ok(())
+    let ended = demo(alloc, 1, 1, 1, &mut disk, &mut room);
+    check(&rt, matches!(ended, Err(Refusal::Memory)), "it is refused");
+    check(&rt, room.takings().is_empty(), "nothing is taken");
+    check_other(&rt, &disk);
+    let found = reported(alloc, (1, 1, 1), &mut disk, &mut room);
+    check(&rt, found.is_some(), "it is refused once");
+    check(&rt, room.takings() == [(5, 5)].as_slice(), "the taking");
 }

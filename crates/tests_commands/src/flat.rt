@@ -1,8 +1,8 @@
 //! Elements that move between files, over a disk that fails at each call in turn.
 
+use crate::given::{check, must};
 use std::alloc::Global;
 use std::process::Abort;
-use std::test::Fail;
 use tce_array::Form;
 use tce_command::Refusal;
 use tce_flat::{convert, pack, unpack};
@@ -23,7 +23,7 @@ const NARROW: &[u8] =
 // A file that no command names.
 const OTHER: &[u8] = b"another file";
 
-#[derive(Clone, Copy, Debug)]
+#[derive(Clone, Copy)]
 enum Move {
     Pack,
     Unpack,
@@ -31,7 +31,7 @@ enum Move {
 }
 
 // What a move reads and writes, with what is then in the file that it writes, and its report.
-#[derive(Clone, Copy, Debug)]
+#[derive(Clone, Copy)]
 struct Row {
     made: Move,
     input: &'static str,
@@ -78,63 +78,62 @@ fn moved<D: Disk>(alloc: Global, made: Move, disk: &mut D) -> Result<String, Ref
 }
 
 // A disk whose call of this number fails.
-fn disk_of(alloc: Global, row: &Row, call: u64) -> Result<FaultyDisk, Fail> {
+fn disk_of(rt: &impl Abort, alloc: Global, row: &Row, call: u64) -> FaultyDisk {
     let mut disk = MemDisk::new(alloc);
-    disk.put_file("s.tce", TILED)?;
-    disk.put_file(row.input, row.before)?;
-    disk.put_file("other.tce", OTHER)?;
-    let mut failing = Vec::new(alloc);
-    failing.push(call)?;
-    Ok(FaultyDisk::new(disk, failing))
+    must(rt, disk.put_file("s.tce", TILED));
+    must(rt, disk.put_file(row.input, row.before));
+    must(rt, disk.put_file("other.tce", OTHER));
+    FaultyDisk::new(disk, must(rt, vec![in alloc; call]))
+}
+
+// The files that no move changes are as they were, and where it was done the file that it writes is whole.
+fn check_files(rt: &impl Abort, row: &Row, disk: &MemDisk, is_done: bool) {
+    check(rt, disk.file("s.tce") == Some(TILED), row.report);
+    check(rt, disk.file(row.input) == Some(row.before), row.report);
+    check(rt, disk.file("other.tce") == Some(OTHER), row.report);
+    let is_whole = disk.file(row.output) == Some(row.after);
+    check(rt, is_whole || !is_done, row.report);
+}
+
+// Whether a move was done, where it was done or only the disk failed.
+fn is_reported(rt: &impl Abort, row: &Row, ended: &Result<String, Refusal>) -> bool {
+    match ended {
+        Ok(report) => {
+            check(rt, report.as_str() == row.report, row.report);
+            true
+        }
+        Err(refusal) => {
+            check(rt, matches!(refusal, Refusal::Disk), row.report);
+            false
+        }
+    }
 }
 
 // Makes a move over a disk whose call of this number fails, and answers whether it was done.
-fn is_done(rt: &impl Abort, alloc: Global, row: &Row, call: u64) -> Result<bool, Fail> {
-    let made = row.made;
-    let mut disk = disk_of(alloc, row, call)?;
-    let done = match moved(alloc, made, &mut disk) {
-        Ok(report) => {
-            assert_eq!(rt; report.as_str(), row.report);
-            true
-        }
-        Err(Refusal::Disk) => false,
-        Err(_) => return Err(Fail::new("only the disk fails")),
-    };
-    assert_eq!(rt;
-        disk.faults(),
-        if done { 0 } else { 1 },
-        "{made:?}, call {call}"
-    );
-    let files = disk.inner();
-    for (name, bytes) in [
-        ("s.tce", TILED),
-        (row.input, row.before),
-        ("other.tce", OTHER),
-    ] {
-        assert_eq!(rt; files.file(name), Some(bytes), "{made:?}, call {call}");
-    }
-    if done {
-        assert_eq!(rt; files.file(row.output), Some(row.after), "{made:?}");
-    }
-    Ok(done)
+fn is_done(rt: &impl Abort, alloc: Global, row: &Row, call: u64) -> bool {
+    let mut disk = disk_of(rt, alloc, row, call);
+    let ended = moved(alloc, row.made, &mut disk);
+    let is_done = is_reported(rt, row, &ended);
+    check(rt, disk.faults() == u64::from(!is_done), row.report);
+    check_files(rt, row, disk.inner(), is_done);
+    is_done
 }
 
-// How many calls of the disk a move makes: each of them fails it, and no later one.
-fn calls_of(rt: &impl Abort, alloc: Global, row: &Row) -> Result<u64, Fail> {
+// Each call of the disk that a move makes fails it, and no later one.
+fn check_calls(rt: &impl Abort, alloc: Global, row: &Row) {
     for call in 0..100 {
-        if is_done(rt, alloc, row, call)? {
-            return Ok(call);
+        if is_done(rt, alloc, row, call) {
+            // two for the specification, and for the input and the output two or more
+            check(rt, 6 <= call, row.report);
+            return;
         }
     }
-    Err(Fail::new("a move makes fewer calls"))
+    check(rt, false, "a move makes fewer calls");
 }
 
 #[test]
-fn each_failing_call_of_the_disk_fails_the_move(rt: HostRuntime) -> Result<(), Fail> {
+fn each_failing_call_of_the_disk_fails_the_move(rt: HostRuntime) {
     for row in &ROWS {
-        let calls = calls_of(&rt, rt.alloc(), row)?;
-        // two for the specification, and for the input and the output two or more
-        assert!(rt; 6 <= calls, "{calls}");
+        check_calls(&rt, rt.alloc(), row);
     }
-    Ok(())
 }

@@ -1,4 +1,19 @@
-//! Specifications that several commands are given.
+//! What commands are given, and what tests compare.
+
+use std::process::Abort;
+
+/// Ends the test where this does not hold, with what it is about.
+pub(crate) fn check(rt: &impl Abort, holds: bool, what: &str) {
+    assert!(rt; holds, "{what}");
+}
+
+/// What was made. The test ends where it could not be made.
+pub(crate) fn must<T, E>(rt: &impl Abort, made: Result<T, E>) -> T {
+    match made {
+        Ok(made) => made,
+        Err(_) => panic!(rt; "this cannot be made"),
+    }
+}
 
 pub(crate) const TWO_SUMS: &[u8] =
     b"range I 5\nrange J 7\nrange K 2\nindex I i\nindex J j\nindex K k l\ntensor A[I,K]\ntensor B[J,K]\ntensor C[I,J]\nC[i,j] = (sum{k}(A[i,k])) * (sum{l}(B[j,l]))\n";

@@ -1,9 +1,10 @@
 //! Plans of specifications in files, reported as written by hand, and what is refused.
 
-use crate::given::{SHARED_INDEX, THREE_SUMS, TWO_CONSTANTS, TWO_SUMS, WITH_CONSTANTS};
+use crate::given::{
+    SHARED_INDEX, THREE_SUMS, TWO_CONSTANTS, TWO_SUMS, WITH_CONSTANTS, check, must,
+};
 use std::alloc::Global;
 use std::process::Abort;
-use std::test::Fail;
 use tce_outside::MemDisk;
 use tce_plan::plan;
 
@@ -37,13 +38,10 @@ const SHORT_SUMS: &[u8] =
     b"range V 1\nrange O 1\nindex V a b c d e f\nindex O i j k l\ntensor A[V,V,O,O]\ntensor B[V,V,V,O]\ntensor C[V,V,O,O]\ntensor D[V,V,V,O]\ntensor S[V,V,V,O,O,O]\nS[a,b,c,i,j,k] = sum{d,f}(sum{e,l}(B[b,e,f,l] * D[c,d,e,l]) * C[d,f,j,k]) * A[a,c,i,k]\n";
 
 // The report of the plan of a text.
-fn report_of(alloc: Global, text: &[u8]) -> Result<Vec<u8>, Fail> {
+fn report_of(rt: &impl Abort, alloc: Global, text: &[u8]) -> Vec<u8> {
     let mut disk = MemDisk::new(alloc);
-    disk.put_file("sums.tce", text)?;
-    match plan(alloc, "sums.tce", &mut disk) {
-        Ok(report) => Ok(report),
-        Err(_) => Err(Fail::new("the plan is refused")),
-    }
+    must(rt, disk.put_file("sums.tce", text));
+    must(rt, plan(alloc, "sums.tce", &mut disk))
 }
 
 // The exit status of a refused plan.
@@ -55,52 +53,52 @@ fn refused_code(alloc: Global, disk: &mut MemDisk) -> u8 {
 }
 
 // The least plan of the text has this report.
-fn expect(rt: &impl Abort, alloc: Global, text: &[u8], wanted: &[u8]) -> Result<(), Fail> {
-    assert_eq!(rt; report_of(alloc, text)?.as_slice(), wanted);
-    Ok(())
+fn expect(rt: &impl Abort, alloc: Global, text: &[u8], wanted: &[u8]) {
+    let report = report_of(rt, alloc, text);
+    check(rt, report.as_slice() == wanted, "another report");
 }
 
 #[test]
-fn least_plans_of_sums_are_reported(rt: HostRuntime) -> Result<(), Fail> {
+fn least_plans_of_sums_are_reported(rt: HostRuntime) {
     let alloc = rt.alloc();
-    expect(&rt, alloc, TWO_SUMS, REPORT)?;
-    expect(&rt, alloc, THREE_SUMS, LONG_REPORT)?;
-    expect(&rt, alloc, PRODUCT_SUM, PRODUCT_SUM_REPORT)?;
-    expect(&rt, alloc, SHARED_INDEX, SHARED_INDEX_REPORT)?;
-    let short = report_of(alloc, SHORT_SUMS)?;
-    assert!(rt; short.as_slice().ends_with(b"\nmemory 4\n"));
-    Ok(())
+    expect(&rt, alloc, TWO_SUMS, REPORT);
+    expect(&rt, alloc, THREE_SUMS, LONG_REPORT);
+    expect(&rt, alloc, PRODUCT_SUM, PRODUCT_SUM_REPORT);
+    expect(&rt, alloc, SHARED_INDEX, SHARED_INDEX_REPORT);
+    let short = report_of(&rt, alloc, SHORT_SUMS);
+    let is_least = short.as_slice().ends_with(b"\nmemory 4\n");
+    check(&rt, is_least, "the memory of the short sums");
 }
 
 #[test]
-fn least_plans_of_other_operations_are_reported(rt: HostRuntime) -> Result<(), Fail> {
+fn least_plans_of_other_operations_are_reported(rt: HostRuntime) {
     let alloc = rt.alloc();
-    expect(&rt, alloc, WITH_CONSTANTS, WITH_CONSTANTS_REPORT)?;
-    expect(&rt, alloc, ADDITION, ADDITION_REPORT)?;
-    expect(&rt, alloc, TWO_CONSTANTS, TWO_CONSTANTS_REPORT)
+    expect(&rt, alloc, WITH_CONSTANTS, WITH_CONSTANTS_REPORT);
+    expect(&rt, alloc, ADDITION, ADDITION_REPORT);
+    expect(&rt, alloc, TWO_CONSTANTS, TWO_CONSTANTS_REPORT);
 }
 
 // The text is no specification.
-fn expect_faulty(rt: &impl Abort, alloc: Global, text: &[u8]) -> Result<(), Fail> {
+fn expect_faulty(rt: &impl Abort, alloc: Global, text: &[u8]) {
     let mut disk = MemDisk::new(alloc);
-    disk.put_file("sums.tce", text)?;
-    assert_eq!(rt; refused_code(alloc, &mut disk), 2);
-    Ok(())
+    must(rt, disk.put_file("sums.tce", text));
+    check(rt, refused_code(alloc, &mut disk) == 2, "it has a fault");
 }
 
 #[test]
-fn faulty_formulas_have_no_plan(rt: HostRuntime) -> Result<(), Fail> {
+fn faulty_formulas_have_no_plan(rt: HostRuntime) {
     let alloc = rt.alloc();
-    expect_faulty(&rt, alloc, b"tensor C[]\nC[] = 3\n")?;
+    expect_faulty(&rt, alloc, b"tensor C[]\nC[] = 3\n");
     let zero = b"range N 2\nindex N i\ntensor A[N]\ntensor C[N]\nC[i] = 07 * A[i]\n";
-    expect_faulty(&rt, alloc, zero)?;
+    expect_faulty(&rt, alloc, zero);
     let absent = b"range N 2\nindex N i\ntensor C[]\nC[] = sum{i}(3)\n";
-    expect_faulty(&rt, alloc, absent)?;
-    expect_faulty(&rt, alloc, b"")
+    expect_faulty(&rt, alloc, absent);
+    expect_faulty(&rt, alloc, b"");
 }
 
 #[test]
 fn no_specification_is_no_plan(rt: HostRuntime) {
     let mut disk = MemDisk::new(rt.alloc());
-    assert_eq!(rt; refused_code(rt.alloc(), &mut disk), 3);
+    let code = refused_code(rt.alloc(), &mut disk);
+    check(&rt, code == 3, "there is no file");
 }
