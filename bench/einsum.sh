@@ -2,7 +2,7 @@
 # Times `einsum` and prints the milliseconds of the processor, the least of some rounds. To be run by hand: sh bench/einsum.sh [PROGRAM]
 #
 # PROGRAM is the built program; where none is named, crates/tce/out/tce is built by `rt run`. Exit status 1 where a chain of 31
-# matrices took more than 10 ms, or texts of many operands more than 100 ms.
+# operands took more than 10 ms, or texts of many operands more than 100 ms.
 set -eu
 rounds=${ROUNDS:-5}
 . "$(dirname "$0")/build.sh"
