@@ -11,3 +11,4 @@ pub mod Tiles
 pub mod Told
 pub mod OneAnswer
 pub mod Fitting
+pub mod Heads

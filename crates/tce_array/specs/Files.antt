@@ -1,5 +1,6 @@
 -- What holds of all array files.
-use Rattle.std.specs.Prelude.{◌≡◌, ◌≢◌, ◌⊎◌, ◌↔◌, ℕ, ◌+◌, ◌*◌, ◌^◌, ◌<◌, ◌≤◌, List, take, drop, length, slice_index, EachIndex}
+use Rattle.std.specs.Prelude.{◌≡◌, ◌≢◌, ◌⊎◌, ◌↔◌, ℕ, ◌+◌, ◌*◌, ◌^◌, ◌<◌, ◌≤◌, List, take, drop, length, slice_index, EachIndex, Option, Some, IfSome}
+use Rattle.std.specs.Option.{option_map}
 use Rattle.std.specs.List.{flat_map}
 use Rattle.tce_base.specs.Word.{word_bytes}
 use Rattle.tce_space.specs.Box.{place, IsInside}
@@ -7,7 +8,7 @@ use Rattle.tce_space.specs.Tiling.{Tiling, IsTiling, tile_counts, tile_words, ti
 use Rattle.tce_outside.specs.Files.{overwritten}
 use Rattle.tce_array.specs.declared.form.Form.{Form}
 use Rattle.tce_array.specs.declared.form.Form.TheVariants.{One, Narrow, Wide}
-use Rattle.tce_array.specs.Forms.{width, word_in, tile_of_words, form_bytes, form_of, IsForm, Fits, cell, address, word_place, word_at, form_len, head_len}
+use Rattle.tce_array.specs.Forms.{width, word_in, tile_of_words, form_bytes, form_of, IsForm, Fits, cell, address, word_place, word_at, form_len, head, head_len}
 
 -- different elements are stored at different places, each behind the head and inside the file
 abbrev pub PlacesAreApart : Type 0
@@ -91,3 +92,30 @@ pub record WordsFit : Type 0 where
 -- a file has one form
 abbrev pub FormsAreTold : Type 0
 FormsAreTold = (form : Form) (s : Tiling) (bytes : List ℕ) → IsForm form s bytes → form_of bytes ≡ form
+
+-- a file is complete once its head is written over it, and no word changes by it
+pub record IsCompleted (form : Form) (s : Tiling) (bytes new : List ℕ) : Type 0 where
+  pub has_form : IsForm form s new
+  pub words : (k : ℕ) → word_at form s new k ≡ word_at form s bytes k
+
+abbrev pub HeadsCompleteFiles : Type 0
+HeadsCompleteFiles = (form : Form) (s : Tiling) (bytes : List ℕ) → length bytes ≡ form_len form s → IsCompleted form s bytes (overwritten bytes 0 (head form s))
+
+-- the first eight bytes, as far as they are there, are 0
+abbrev pub BeginsWithZeros : List ℕ → Type 0
+BeginsWithZeros bytes = (i : ℕ) → i < 8 → slice_index bytes i ≡ 0
+
+-- an array does not begin with zeros, whatever its shape
+abbrev pub ArraysDoNotBeginWithZeros : Type 0
+ArraysDoNotBeginWithZeros = (form : Form) (s : Tiling) (bytes : List ℕ) → IsForm form s bytes → BeginsWithZeros bytes → ⊥
+
+-- what a file that is to hold these bytes may be, wherever its maker ends: as it was, absent or without a head, or whole but for its head
+abbrev pub LeavesNoHalf : ℕ → List ℕ → Option (List ℕ) → Option (List ℕ) → Type 0
+LeavesNoHalf head_end whole old new =
+    (new ≡ old) ⊎ (IfSome new BeginsWithZeros ⊎ (option_map (λ bytes. drop head_end bytes) new ≡ Some (drop head_end whole)))
+
+-- so where it is an array of that form and shape, it is what was there before, or whole
+abbrev pub NoHalfFileIsAnArray : Type 0
+NoHalfFileIsAnArray =
+    (form : Form) (s : Tiling) (whole bytes : List ℕ) (old : Option (List ℕ)) → IsForm form s whole → IsForm form s bytes
+    → LeavesNoHalf (head_len form s) whole old (Some bytes) → (Some bytes ≡ old) ⊎ (bytes ≡ whole)

@@ -1,5 +1,5 @@
 // What holds of all array files.
-ghost use Rattle.tce_array.specs.Files.{PlacesAreApart, FilesHoldTheirElements, PaddingIsZero, TilesStandTogether, PartsHoldTheirWords, WritesChangeTheirWords, TileWritesStayInTheirTile, FilesAreTheirElements, FormsAreTold, WordsFit};
+ghost use Rattle.tce_array.specs.Files.{PlacesAreApart, FilesHoldTheirElements, PaddingIsZero, TilesStandTogether, PartsHoldTheirWords, WritesChangeTheirWords, TileWritesStayInTheirTile, FilesAreTheirElements, FormsAreTold, WordsFit, HeadsCompleteFiles, ArraysDoNotBeginWithZeros, NoHalfFileIsAnArray};
 
 /// Different elements are stored at different places, each behind the head and inside the file.
 pub fn places_are_apart()
@@ -49,4 +49,12 @@ pub fn forms_are_told()
 /// Eight bytes hold every word, and four those that as signed numbers are from -2^31 to 2^31 - 1.
 pub fn words_that_fit()
     ensures { WordsFit }
+{}
+
+/// A file of the right length is an array once its head is written over it, and before that it may begin with zeros, as
+/// no array does. So what is left of a file whose head was to come last is no array, or was there before, or is whole.
+pub fn heads_come_last()
+    ensures complete { HeadsCompleteFiles }
+    ensures no_zeros { ArraysDoNotBeginWithZeros }
+    ensures no_half { NoHalfFileIsAnArray }
 {}

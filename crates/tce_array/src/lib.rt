@@ -20,9 +20,9 @@ pub use element::address;
 pub use fault::ArrayFault;
 pub use form::Form;
 pub use laws::{
-    files_are_their_elements, files_hold_their_elements, forms_are_told, padding_is_zero,
-    parts_hold_their_words, places_are_apart, tile_writes_stay_in_their_tile, tiles_stand_together,
-    words_that_fit, writes_change_their_words,
+    files_are_their_elements, files_hold_their_elements, forms_are_told, heads_come_last,
+    padding_is_zero, parts_hold_their_words, places_are_apart, tile_writes_stay_in_their_tile,
+    tiles_stand_together, words_that_fit, writes_change_their_words,
 };
-pub use opening::{create, open};
+pub use opening::{create, open, write_head};
 pub use place::form_len;

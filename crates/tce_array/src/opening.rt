@@ -1,9 +1,9 @@
 // Opening and creating array files.
 ghost use Rattle.std.specs.Prelude.{◌≡◌, ℕ, ◌+◌, ◌*◌, ◌≤◌, ◌<◌, List, length, take, drop, IfOk, IfErr, OnOk, IsErr, IsErrOf, Err, codes, ◌++◌};
 ghost use Rattle.std.specs.Option.{ForSome, IsSomeAnd};
-ghost use Rattle.tce_outside.specs.Files.{file, others, holding};
+ghost use Rattle.tce_outside.specs.Files.{file, others, holding, written, bytes_from};
 ghost use Rattle.tce_outside.specs.Fault.{HasCause, TellsFaults};
-ghost use Rattle.tce_array.specs.Forms.{form_of, form_bytes, IsArray};
+ghost use Rattle.tce_array.specs.Forms.{form_of, form_bytes, head, head_len, IsArray};
 ghost use Rattle.tce_array.specs.Faults.{IsFault, IsOnlyAnswer};
 ghost use Rattle.std.specs.Str.{bytes_eq};
 ghost use Rattle.tce_base.specs.Word.{word_of_bytes};
@@ -113,4 +113,26 @@ pub fn create<D: Disk>(disk: &mut D, name: &str, form: Form, shape: &Shape) -> R
         Ok(()) => Ok(()),
         Err(Failed) => Err(OutFault::Failed),
     }
+}
+
+/// Writes the head of an array of this form and shape over the first bytes of the file of this name.
+///
+/// It comes last where a file is made that is an array only when all its elements are there: before that the file is
+/// of zeros where its head is to be. Where the disk fails, these first bytes may hold anything. All that stands behind
+/// them and all other files stay in every case.
+pub fn write_head<D: Disk>(
+    disk: &mut D,
+    name: &str,
+    form: Form,
+    shape: &Shape,
+) -> Result<(), Failed>
+    requires { ForSome (D.files disk.old) (λ fs. IsSomeAnd (file fs name.now) (λ bytes. head_len form shape.now ≤ length bytes)) }
+    ensures written { OnOk result (D.files disk.new ≡ written name.now 0 (head form shape.now) (D.files disk.old)) }
+    ensures behind { bytes_from name.now (head_len form shape.now) (D.files disk.new) ≡ bytes_from name.now (head_len form shape.now) (D.files disk.old) }
+    ensures others { others name.now (D.files disk.new) ≡ others name.now (D.files disk.old) }
+    ensures cause { HasCause (D.faults disk.old) (D.faults disk.new) (IsErr result) }
+    ensures told { TellsFaults (D.faults disk.old) (D.faults disk.new) (IsErr result) }
+{
+    let head = head(form, shape);
+    disk.write_at(name, 0, head.as_slice())
 }

@@ -1,8 +1,8 @@
 -- The files of a disk as a finite map from names to contents, both lists of bytes.
-use Rattle.std.specs.Prelude.{ℕ, ◌+◌, ◌≤◌, List, [], ◌++◌, length, take, drop, Option, unwrap_or}
+use Rattle.std.specs.Prelude.{◌≡◌, ◌⊎◌, ℕ, ◌+◌, ◌≤◌, List, [], ◌++◌, length, take, drop, replicate, Option, IfSome, unwrap_or}
 use Rattle.std.specs.Ordering.{nat_cmp}
 use Rattle.std.specs.Cmp.Lexicographic.{slice_cmp}
-use Rattle.std.specs.Option.{IsSomeAnd, option_map}
+use Rattle.std.specs.Option.{ForSome, IsSomeAnd, option_map}
 use Rattle.std.specs.FinMap as map
 
 -- the contents of each file that is there
@@ -50,3 +50,15 @@ holding name bytes told = option_map (λ files. with_file files name bytes) told
 -- the files with these bytes written over a part of the one of this name
 abbrev pub written : List ℕ → ℕ → List ℕ → Option Files → Option Files
 written name at bytes told = option_map (λ files. with_part files name at bytes) told
+
+-- what a file has before a place, and what it has from a place on, if it is there
+abbrev pub bytes_before : List ℕ → ℕ → Option Files → Option (Option (List ℕ))
+bytes_before name at told = option_map (λ files. option_map (λ bytes. take at bytes) (file files name)) told
+
+abbrev pub bytes_from : List ℕ → ℕ → Option Files → Option (Option (List ℕ))
+bytes_from name at told = option_map (λ files. option_map (λ bytes. drop at bytes) (file files name)) told
+
+-- the file is as it was, or has only zeros, or is absent
+abbrev pub IsKeptOrZeros : List ℕ → Option Files → Option Files → Type 0
+IsKeptOrZeros name before after =
+    ForSome before (λ old. ForSome after (λ new. (file new name ≡ file old name) ⊎ IfSome (file new name) (λ bytes. bytes ≡ replicate (length bytes) 0)))

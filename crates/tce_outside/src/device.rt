@@ -1,7 +1,7 @@
 // A disk and a sink, with what they mean and how often they failed.
-ghost use Rattle.std.specs.Prelude.{◌≡◌, ◌++◌, List, ℕ, length, replicate, Option, IfOk, OnOk, IsErr, IsErrOf, take};
+ghost use Rattle.std.specs.Prelude.{◌≡◌, ◌+◌, ◌++◌, List, ℕ, length, replicate, Option, IfOk, OnOk, IsErr, IsErrOf, take};
 ghost use Rattle.std.specs.Option.{ForSome, option_map};
-ghost use Rattle.tce_outside.specs.Files.{Files, file, HasPart, part, others, holding, written};
+ghost use Rattle.tce_outside.specs.Files.{Files, file, HasPart, part, others, holding, written, bytes_before, bytes_from, IsKeptOrZeros};
 ghost use Rattle.tce_outside.specs.Fault.{HasCause, TellsFaults};
 
 use thiserror::Error;
@@ -47,11 +47,12 @@ pub trait Disk {
 
     /// Puts a file of `len` zero bytes in the place of whatever has this name.
     ///
-    /// For want of memory no file changes. Where the disk fails, the file of this name may hold anything or
-    /// be absent. All other files stay in every case.
+    /// For want of memory no file changes. Where the disk fails, the file of this name may be as it was, have
+    /// zeros alone, fewer or more of them, or be absent. All other files stay in every case.
     fn make(&mut self, name: &str, len: u64) -> Result<(), OutFault>
         ensures made { OnOk result (files self.new ≡ holding name.now (replicate len 0) (files self.old)) }
         ensures memory { IsErrOf result OutFault.Memory → files self.new ≡ files self.old }
+        ensures zeros { IsKeptOrZeros name.now (files self.old) (files self.new) }
         ensures others { others name.now (files self.new) ≡ others name.now (files self.old) }
         ensures cause { HasCause (faults self.old) (faults self.new) (IsErrOf result OutFault.Failed) }
         ensures told { TellsFaults (faults self.old) (faults self.new) (IsErrOf result OutFault.Failed) };
@@ -67,11 +68,13 @@ pub trait Disk {
 
     /// Writes all of `bytes` over the same number of bytes of a file from place `at` on.
     ///
-    /// Where the disk fails, the file of this name may hold anything or be absent. All other files stay in
-    /// every case.
+    /// Where the disk fails, that part of the file may hold anything, and the file may end in it. What stands before
+    /// the part and behind it, if anything, stays in every case, and so do all other files.
     fn write_at(&mut self, name: &str, at: u64, bytes: &[u8]) -> Result<(), Failed>
         requires { ForSome (files self.old) (λ fs. HasPart fs name.now at (length bytes.now)) }
         ensures written { OnOk result (files self.new ≡ written name.now at bytes.now (files self.old)) }
+        ensures before { bytes_before name.now at (files self.new) ≡ bytes_before name.now at (files self.old) }
+        ensures behind { bytes_from name.now (at + length bytes.now) (files self.new) ≡ bytes_from name.now (at + length bytes.now) (files self.old) }
         ensures others { others name.now (files self.new) ≡ others name.now (files self.old) }
         ensures cause { HasCause (faults self.old) (faults self.new) (IsErr result) }
         ensures told { TellsFaults (faults self.old) (faults self.new) (IsErr result) };

@@ -1,7 +1,7 @@
 // A disk in memory that fails at stated calls.
-ghost use Rattle.std.specs.Prelude.{◌≡◌, ◌↔◌, IsTrue, IsErr, IsErrOf, OnOk, OnErr, IfOk, Some, length, replicate};
+ghost use Rattle.std.specs.Prelude.{◌≡◌, ◌+◌, ◌↔◌, IsTrue, IsErr, IsErrOf, OnOk, OnErr, IfOk, Some, length, replicate};
 ghost use Rattle.std.specs.Option.{option_map};
-ghost use Rattle.tce_outside.specs.Files.{file, with_file, without_file, with_part, HasPart, part};
+ghost use Rattle.tce_outside.specs.Files.{file, with_file, without_file, with_part, HasPart, part, bytes_before, bytes_from, IsKeptOrZeros};
 ghost use Rattle.tce_outside.specs.Schedule.{new_schedule, fails_next, after_call};
 
 use crate::schedule::FaultSchedule;
@@ -77,6 +77,7 @@ impl Disk for FaultyDisk {
         ensures fails { IsErrOf result OutFault.Failed ↔ IsTrue (fails_next self.old.schedule) }
         ensures made { OnOk result (self.new.files ≡ with_file self.old.files name.now (replicate len 0)) }
         ensures err { OnErr result (self.new.files ≡ self.old.files) }
+        ensures zeros { IsKeptOrZeros name.now (Some self.old.files) (Some self.new.files) }
         ensures others { without_file self.new.files name.now ≡ without_file self.old.files name.now }
         ensures counted { self.new.schedule ≡ after_call self.old.schedule }
     {
@@ -105,6 +106,8 @@ impl Disk for FaultyDisk {
         ensures fails { IsErr result ↔ IsTrue (fails_next self.old.schedule) }
         ensures written { OnOk result (self.new.files ≡ with_part self.old.files name.now at bytes.now) }
         ensures err { OnErr result (self.new.files ≡ self.old.files) }
+        ensures before { bytes_before name.now at (Some self.new.files) ≡ bytes_before name.now at (Some self.old.files) }
+        ensures behind { bytes_from name.now (at + length bytes.now) (Some self.new.files) ≡ bytes_from name.now (at + length bytes.now) (Some self.old.files) }
         ensures others { without_file self.new.files name.now ≡ without_file self.old.files name.now }
         ensures counted { self.new.schedule ≡ after_call self.old.schedule }
     {
