@@ -94,12 +94,12 @@ impl<'a, R: Files<File = File>> FileDisk<'a, R> {
         ensures { self.new.faults ≡ self.old.faults }
     {
         if let Some(file) = self.writing.get(name) {
-            return is_written(file, at, bytes);
+            return is_written_in_order(file, at, bytes);
         }
         let Ok(file) = OpenOptions::new().write(true).open(self.files, name) else {
             return false;
         };
-        let wrote = is_written(&file, at, bytes);
+        let wrote = is_written_in_order(&file, at, bytes);
         self.writing.keep(name, file);
         wrote
     }
@@ -108,6 +108,12 @@ impl<'a, R: Files<File = File>> FileDisk<'a, R> {
 // Reads until `out` is full, however few bytes one call of the system gives.
 pub(crate) fn is_filled<F: FileExt>(file: &F, at: u64, out: &mut [u8]) -> bool {
     file.read_exact_at(out, at).is_ok()
+}
+
+// Writes all of the bytes. Before those that begin a file the rest of it is flushed, so that a system which is interrupted, or
+// tells a failed write only then, has no head of an array on its disk without the elements.
+fn is_written_in_order(file: &File, at: u64, bytes: &[u8]) -> bool {
+    (at > 0 || file.sync_data().is_ok()) && is_written(file, at, bytes)
 }
 
 // Writes all of the bytes, however few one call of the system takes.

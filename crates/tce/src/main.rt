@@ -22,6 +22,7 @@ use std::fs::File;
 use std::io::ErrorKind;
 use std::process::ExitCode;
 use std::rt::{Env, Files};
+use tce_holes::SparseDisk;
 use tce_outside::Sink;
 use tce_top::{Status, tce};
 use tce_words::HeapRoom;
@@ -50,14 +51,14 @@ fn exit_of(status: Status) -> ExitCode
     ExitCode::from(status.code())
 }
 
-// Does what the words say over the files of the system.
+// Does what the words say over the files of the system, of which holes are not read.
 fn answer<R: Files<File = File>, K: Sink>(
     alloc: Global,
     words: &[String],
     files: &R,
     out: &mut K,
 ) -> ExitCode {
-    let mut disk = FileDisk::new(alloc, files);
+    let mut disk = SparseDisk::new(alloc, FileDisk::new(alloc, files));
     let mut room = HeapRoom::new(alloc);
     exit_of(tce(alloc, words, &mut disk, out, &mut room))
 }

@@ -254,4 +254,4 @@ all_written c held n fs gs words same none a t k lt = by_tile (look_up held a t)
     by_tile (Some h) e = sym (same.kept.clean a t h e (none a t h e) k lt) ∙ sym (current_held (stored c gs) (layout c) held words a t k h e)
 
 pub differ_again : (c : State) (held : List Held) (n : ℕ) (old new : Option Files) → OnlyWritableDiffers (with_held c held n) old new → OnlyWritableDiffers c old new
-differ_again c held n old new d = record { tells = d.tells; same = d.same }
+differ_again c held n old new d = record { tells = d.tells; begins = d.begins; same = d.same }

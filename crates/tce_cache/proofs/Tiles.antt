@@ -6,8 +6,10 @@ use Rattle.std.proofs.lemmas.Option.{slice_get_read, slice_get_cases}
 use Rattle.std.proofs.Math.Nat.{mul-le-mul_left, mul-le-mul_right}
 use Rattle.tce_space.specs.Tiling.{Tiling, tile_words, tiles, padded_words}
 use Rattle.tce_space.proofs.Tilings.{word-lt}
-use Rattle.tce_outside.specs.Files.{Files, file, others}
+use Rattle.tce_outside.specs.Files.{Files, file, others, bytes_before}
+use Rattle.tce_outside.proofs.Places.{same_name}
 use Rattle.tce_outside.proofs.Told.{other_files, disks_tell}
+use Rattle.std.proofs.lemmas.List.{take-take}
 use Rattle.tce_array.specs.Files.{AreBytes}
 use Rattle.tce_array.specs.Forms.{head_len, word_at}
 use Rattle.tce_frames.specs.Current.{place, IsSameOutside}
@@ -141,9 +143,33 @@ pub told_from : (old new : Option Files) (now : Files) → is_some new ≡ is_so
 told_from None new now same is = (let both : true ≡ is_some {T = Files} None = sym (ap is_some is) ∙ same in absurd (cc))
 told_from (Some files) new now same is = (files, refl)
 
-pub writes_differ : (c : State) (a : ArrayRef) (array : ℕ) (old new : Option Files) → slice_get c.arrays array ≡ Some a → a.writable ≡ true → others a.file.bytes new ≡ others a.file.bytes old → OnlyWritableDiffers c old new
-writes_differ c a array old new here writable same = record {
+-- the first bytes of other files stay
+begins_as_before : (name q : List ℕ) (old new : Option Files) → others name new ≡ others name old → q ≢ name → bytes_before q 8 new ≡ bytes_before q 8 old
+begins_as_before name q None None same differs = refl
+begins_as_before name q (Some fs) (Some gs) same differs = ap (λ o. Some (option_map (λ bytes. take 8 bytes) o)) (other_files name q fs gs same differs)
+begins_as_before name q None (Some gs) same differs = absurd (let both : true ≡ is_some {T = Files} None = disks_tell name None (Some gs) same in cc)
+begins_as_before name q (Some fs) None same differs = absurd (let both : is_some {T = Files} None ≡ true = disks_tell name (Some fs) None same in cc)
+
+-- what stays before a place stays at the beginning
+pub begins_so : (name : List ℕ) (at : ℕ) (old new : Option Files) → 8 ≤ at → bytes_before name at new ≡ bytes_before name at old → bytes_before name 8 new ≡ bytes_before name 8 old
+begins_so name at old new le same = sym (shorter new) ∙ ap (option_map (option_map (λ bytes. take 8 bytes))) same ∙ shorter old
+  where
+    in_file : (o : Option (List ℕ)) → option_map (λ bytes. take 8 bytes) (option_map (λ bytes. take at bytes) o) ≡ option_map (λ bytes. take 8 bytes) o
+    in_file None = refl
+    in_file (Some bytes) = ap Some (take-take 8 at bytes le)
+
+    shorter : (told : Option Files) → option_map (option_map (λ bytes. take 8 bytes)) (bytes_before name at told) ≡ bytes_before name 8 told
+    shorter None = refl
+    shorter (Some files) = ap Some (in_file (file files name))
+
+pub writes_differ : (c : State) (a : ArrayRef) (array : ℕ) (old new : Option Files) → slice_get c.arrays array ≡ Some a → a.writable ≡ true → others a.file.bytes new ≡ others a.file.bytes old
+    → bytes_before a.file.bytes 8 new ≡ bytes_before a.file.bytes 8 old → OnlyWritableDiffers c old new
+writes_differ c a array old new here writable same begins = record {
   tells = disks_tell a.file.bytes old new same;
+  begins = λ q. elim (same_name q a.file.bytes) [
+    | inl is ↦ ap (λ name. bytes_before name 8 new) is.1 ∙ begins ∙ ap (λ name. bytes_before name 8 old) (sym is.1)
+    | inr is ↦ begins_as_before a.file.bytes q old new same is.1
+  ];
   same = λ name not before told after now.
       other_files a.file.bytes name before after
       (ap (others a.file.bytes) (sym now) ∙ same ∙ ap (others a.file.bytes) told)
@@ -153,6 +179,7 @@ writes_differ c a array old new here writable same = record {
 pub nothing_differs : (c : State) (old new : Option Files) → new ≡ old → OnlyWritableDiffers c old new
 nothing_differs c old new same = record {
   tells = ap is_some same;
+  begins = λ name. ap (bytes_before name 8) same;
   same = λ name not before told after now.
       let both : Some after ≡ Some before = sym now ∙ same ∙ told in
       ap (λ o. file (unwrap_or o before) name) both;
@@ -161,6 +188,7 @@ nothing_differs c old new same = record {
 pub both_differ : (c : State) (old middle new : Option Files) → OnlyWritableDiffers c old middle → OnlyWritableDiffers c middle new → OnlyWritableDiffers c old new
 both_differ c old middle new first second = record {
   tells = second.tells ∙ first.tells;
+  begins = λ name. second.begins name ∙ first.begins name;
   same = λ name not before told after now.
       let between = told_from middle new after second.tells now in
       second.same name not between.0 between.1 after now ∙ first.same name not before told between.0 between.1;

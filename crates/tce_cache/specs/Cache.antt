@@ -1,7 +1,7 @@
 -- A cache of the tiles of arrays: what it holds, and what the current words of its arrays are.
 use Rattle.std.specs.Prelude.{◌≡◌, ◌≢◌, ◌⊎◌, ℕ, ◌+◌, ◌*◌, ◌<◌, ◌≤◌, true, List, length, slice_get, slice_index, Option, is_some, Some, None}
 use Rattle.std.specs.Option.{IsSomeAnd, ForSome}
-use Rattle.tce_outside.specs.Files.{Files, file}
+use Rattle.tce_outside.specs.Files.{Files, file, bytes_before}
 use Rattle.tce_space.specs.Tiling.{tile_words, tiles}
 use Rattle.tce_array.specs.declared.form.Form.TheVariants.{One}
 use Rattle.tce_frames.specs.Held.{Held, look_up, AreApart}
@@ -80,7 +80,8 @@ pub record IsSameOutsideFrames (c : State) (old new : List ℕ) : Type 0 where
   pub same_length : length new ≡ length old
   pub same : (p : ℕ) → (p < c.at) ⊎ (c.at + c.frames * c.frame_words ≤ p) → slice_index new p ≡ slice_index old p
 
--- of the files of a disk that tells them, all but that of the writable array are the same
+-- of the files of a disk that tells them, all but that of the writable array are the same, and each is there still and begins as before: with an array's first eight bytes, or with what stands in their place
 pub record OnlyWritableDiffers (c : State) (old new : Option Files) : Type 0 where
   pub tells : is_some new ≡ is_some old
+  pub begins : (name : List ℕ) → bytes_before name 8 new ≡ bytes_before name 8 old
   pub same : (name : List ℕ) → ((i : ℕ) (a : ArrayRef) → slice_get c.arrays i ≡ Some a → a.writable ≡ true → a.file.bytes ≢ name) → ForSome old (λ fs. ForSome new (λ gs. file gs name ≡ file fs name))

@@ -5,7 +5,7 @@
 //! writing is marked, and is written to its file before its frame is given to another tile, or by a flush. So the
 //! current word of a tile, which is the one in its frame or else the one in its file, never changes by a call here.
 //!
-//! Tiles pass between files and frames in pieces of 4,096 bytes, which stand outside the words of the run. The tables
+//! Tiles pass between files and frames in pieces of at most 32 KiB, which stand outside the words of the run. The tables
 //! are taken when a cache is made. `specs/Cache.antt` has the model, `specs/Touch.antt` says what a touch and a flush
 //! do, and `specs/Transfer.antt` what is read and written.
 #![tactic(auto)]

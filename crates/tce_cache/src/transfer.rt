@@ -1,7 +1,7 @@
 // Words between files and a block of words, in pieces.
 ghost use Rattle.std.specs.Prelude.{◌≡◌, ◌+◌, ◌*◌, ◌/◌, ◌%◌, ◌^◌, ◌<◌, ◌≤◌, length, OnOk, IsErr};
 ghost use Rattle.std.specs.Option.{ForSome};
-ghost use Rattle.tce_outside.specs.Files.{others};
+ghost use Rattle.tce_outside.specs.Files.{others, bytes_before};
 ghost use Rattle.tce_outside.specs.Fault.{HasCause, TellsFaults};
 ghost use Rattle.tce_space.specs.Tiling.{IsTiling, padded_words};
 ghost use Rattle.tce_array.specs.Forms.{width, word_in, word_place};
@@ -14,10 +14,13 @@ use tce_outside::{Disk, Failed};
 use tce_words::Words;
 
 // How many bytes one transfer moves at most. They stand outside the block of words.
-const PIECE: usize = 4096;
+const PIECE: usize = 0x8000;
 
-// So many words fit into a piece in every form.
-const PIECE_WORDS: u64 = 512;
+// A buffer is cleared before it is used, so that few words get a short one, which takes so many bytes.
+const SHORT: usize = 4096;
+
+// So many words fit into a short buffer in every form.
+const SHORT_WORDS: u64 = 512;
 
 // Makes the words from `at` on those of one piece.
 fn load_piece(words: &mut Words, at: u64, form: Form, piece: &[u8])
@@ -69,6 +72,41 @@ fn read_piece<D: Disk>(
     Ok(())
 }
 
+// Reads words through a buffer, as many at a time as fit into it.
+fn read_through<D: Disk>(
+    disk: &mut D,
+    array: &ArrayRef,
+    from: u64,
+    words: &mut Words,
+    at: u64,
+    n: u64,
+    buffer: &mut [u8],
+) -> Result<(), Failed>
+    requires some { 8 ≤ length buffer.old }
+    requires limits { IsTiling array.now.shape }
+    requires inside { from + n ≤ padded_words array.now.shape }
+    requires room { at + n ≤ length words.old }
+    requires bounded { length words.old < 2 ^ 60 }
+    requires file { ForSome (D.files disk.old) (λ fs. HasFile array.now fs) }
+    ensures read { OnOk result (ForSome (D.files disk.old) (λ fs. AreWordsOf array.now fs from words.new at n)) }
+    ensures len { length words.new ≡ length words.old }
+    ensures others { IsSameBut at n words.old words.new }
+    ensures same { D.files disk.new ≡ D.files disk.old }
+    ensures cause { HasCause (D.faults disk.old) (D.faults disk.new) (IsErr result) }
+    ensures told { TellsFaults (D.faults disk.old) (D.faults disk.new) (IsErr result) }
+{
+    let width = array.form.width();
+    let most = buffer.len() as u64 / 8;
+    let mut done = 0;
+    while done < n {
+        let count = (n - done).min(most);
+        let piece = &mut buffer[..(width * count) as usize];
+        read_piece(disk, array, from + done, words, at + done, count, piece)?;
+        done += count;
+    }
+    Ok(())
+}
+
 /// Reads `n` words of an array's file, from the number `from` on, into those from `at` on.
 ///
 /// Where the disk fails, these words may be anything. All others stay in every case.
@@ -92,16 +130,12 @@ pub(crate) fn read_words<D: Disk>(
     ensures cause { HasCause (D.faults disk.old) (D.faults disk.new) (IsErr result) }
     ensures told { TellsFaults (D.faults disk.old) (D.faults disk.new) (IsErr result) }
 {
-    let mut buffer = [0; PIECE];
-    let width = array.form.width();
-    let mut done = 0;
-    while done < n {
-        let count = (n - done).min(PIECE_WORDS);
-        let piece = &mut buffer[..(width * count) as usize];
-        read_piece(disk, array, from + done, words, at + done, count, piece)?;
-        done += count;
+    if n <= SHORT_WORDS {
+        let mut buffer = [0; SHORT];
+        return read_through(disk, array, from, words, at, n, &mut buffer);
     }
-    Ok(())
+    let mut buffer = [0; PIECE];
+    read_through(disk, array, from, words, at, n, &mut buffer)
 }
 
 // Writes the words of one piece.
@@ -123,6 +157,7 @@ fn write_piece<D: Disk>(
     requires file { ForSome (D.files disk.old) (λ fs. HasFile array.now fs) }
     ensures written { OnOk result (ForSome (D.files disk.old) (λ fs. ForSome (D.files disk.new) (λ gs. IsWritten array.now fs gs from words.now at n))) }
     ensures others { others array.now.file.bytes (D.files disk.new) ≡ others array.now.file.bytes (D.files disk.old) }
+    ensures begins { bytes_before array.now.file.bytes 8 (D.files disk.new) ≡ bytes_before array.now.file.bytes 8 (D.files disk.old) }
     ensures cause { HasCause (D.faults disk.old) (D.faults disk.new) (IsErr result) }
     ensures told { TellsFaults (D.faults disk.old) (D.faults disk.new) (IsErr result) }
 {
@@ -133,9 +168,44 @@ fn write_piece<D: Disk>(
     Ok(())
 }
 
+// Writes words through a buffer, as many at a time as fit into it.
+fn write_through<D: Disk>(
+    disk: &mut D,
+    array: &ArrayRef,
+    from: u64,
+    words: &Words,
+    at: u64,
+    n: u64,
+    buffer: &mut [u8],
+) -> Result<(), Failed>
+    requires some { 8 ≤ length buffer.old }
+    requires one { array.now.form ≡ Form.One }
+    requires limits { IsTiling array.now.shape }
+    requires inside { from + n ≤ padded_words array.now.shape }
+    requires room { at + n ≤ length words.now }
+    requires bounded { length words.now < 2 ^ 60 }
+    requires file { ForSome (D.files disk.old) (λ fs. HasFile array.now fs) }
+    ensures written { OnOk result (ForSome (D.files disk.old) (λ fs. ForSome (D.files disk.new) (λ gs. IsWritten array.now fs gs from words.now at n))) }
+    ensures others { others array.now.file.bytes (D.files disk.new) ≡ others array.now.file.bytes (D.files disk.old) }
+    ensures begins { bytes_before array.now.file.bytes 8 (D.files disk.new) ≡ bytes_before array.now.file.bytes 8 (D.files disk.old) }
+    ensures cause { HasCause (D.faults disk.old) (D.faults disk.new) (IsErr result) }
+    ensures told { TellsFaults (D.faults disk.old) (D.faults disk.new) (IsErr result) }
+{
+    let most = buffer.len() as u64 / 8;
+    let mut done = 0;
+    while done < n {
+        let count = (n - done).min(most);
+        let piece = &mut buffer[..(8 * count) as usize];
+        write_piece(disk, array, from + done, words, at + done, count, piece)?;
+        done += count;
+    }
+    Ok(())
+}
+
 /// Writes the `n` words from `at` on over those of an array's file from the number `from` on.
 ///
-/// Where the disk fails, the file may hold anything. All other files stay in every case.
+/// Where the disk fails, these words of the file may be anything. Its first eight bytes and all other files stay in every
+/// case.
 pub(crate) fn write_words<D: Disk>(
     disk: &mut D,
     array: &ArrayRef,
@@ -152,16 +222,14 @@ pub(crate) fn write_words<D: Disk>(
     requires file { ForSome (D.files disk.old) (λ fs. HasFile array.now fs) }
     ensures written { OnOk result (ForSome (D.files disk.old) (λ fs. ForSome (D.files disk.new) (λ gs. IsWritten array.now fs gs from words.now at n))) }
     ensures others { others array.now.file.bytes (D.files disk.new) ≡ others array.now.file.bytes (D.files disk.old) }
+    ensures begins { bytes_before array.now.file.bytes 8 (D.files disk.new) ≡ bytes_before array.now.file.bytes 8 (D.files disk.old) }
     ensures cause { HasCause (D.faults disk.old) (D.faults disk.new) (IsErr result) }
     ensures told { TellsFaults (D.faults disk.old) (D.faults disk.new) (IsErr result) }
 {
-    let mut buffer = [0; PIECE];
-    let mut done = 0;
-    while done < n {
-        let count = (n - done).min(PIECE_WORDS);
-        let piece = &mut buffer[..(8 * count) as usize];
-        write_piece(disk, array, from + done, words, at + done, count, piece)?;
-        done += count;
+    if n <= SHORT_WORDS {
+        let mut buffer = [0; SHORT];
+        return write_through(disk, array, from, words, at, n, &mut buffer);
     }
-    Ok(())
+    let mut buffer = [0; PIECE];
+    write_through(disk, array, from, words, at, n, &mut buffer)
 }

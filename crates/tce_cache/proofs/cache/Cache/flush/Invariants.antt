@@ -1,4 +1,4 @@
-use Rattle.std.proofs.Common.{◌≡◌, ◌<◌, ◌≤◌, ℕ, Some, false, length, map}
+use Rattle.std.proofs.Common.{◌≡◌, ◌<◌, ℕ, Some, false, length, map}
 use Rattle.tce_frames.specs.Held.{Held, look_up}
 use Rattle.tce_cache.specs.Cache.{IsCache, OnlyWritableDiffers}
 use Rattle.tce_cache.specs.Touch.{with_held, unmarked, KeepsArrays}

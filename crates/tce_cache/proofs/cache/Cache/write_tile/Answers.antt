@@ -45,7 +45,7 @@ pub returns-in_err-write_words-clause-others : goal.returns-in_err-write_words-c
 returns-in_err-write_words-clause-others g c =
     let a = c.index-array.result.now in
     let here = array_at (λ (x : ArrayRef). c.args.tile < tiles x.shape) c.self.inside.arrays.items c.args.self.now.arrays c.args.array a (ap (λ (s : State). s.arrays) c.self.view_is) c.requires.exists c.index-array.ensures in
-    writes_differ c.args.self.now a c.args.array _ _ here.0 (at_array (λ (b : ArrayRef). b.writable ≡ true) c.args.self.now.arrays c.args.array a c.requires.writable here.0) c.write_words.ensures.others
+    writes_differ c.args.self.now a c.args.array _ _ here.0 (at_array (λ (b : ArrayRef). b.writable ≡ true) c.args.self.now.arrays c.args.array a c.requires.writable here.0) c.write_words.ensures.others c.write_words.ensures.begins
 
 pub returns-clause-written : goal.returns-clause-written
 returns-clause-written g c x told y now =
@@ -60,4 +60,4 @@ pub returns-clause-others : goal.returns-clause-others
 returns-clause-others g c =
     let a = c.index-array.result.now in
     let here = array_at (λ (x : ArrayRef). c.args.tile < tiles x.shape) c.self.inside.arrays.items c.args.self.now.arrays c.args.array a (ap (λ (s : State). s.arrays) c.self.view_is) c.requires.exists c.index-array.ensures in
-    writes_differ c.args.self.now a c.args.array _ _ here.0 (at_array (λ (b : ArrayRef). b.writable ≡ true) c.args.self.now.arrays c.args.array a c.requires.writable here.0) c.in_ok-write_words.ensures.others
+    writes_differ c.args.self.now a c.args.array _ _ here.0 (at_array (λ (b : ArrayRef). b.writable ≡ true) c.args.self.now.arrays c.args.array a c.requires.writable here.0) c.write_words.ensures.others c.write_words.ensures.begins

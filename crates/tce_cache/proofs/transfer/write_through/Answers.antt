@@ -1,7 +1,7 @@
 use Rattle.std.proofs.Common.{arith, rules, ◌≡◌, ◌∙◌, subst}
 use Rattle.tce_cache.specs.Transfer.{IsWritten}
 use Rattle.tce_cache.proofs.Transfers.{told_before, written_joined}
-use Rattle.tce_cache.proofs.transfer.write_words.Goals as goal
+use Rattle.tce_cache.proofs.transfer.write_through.Goals as goal
 
 pub overflow_add-from : goal.overflow_add-from
 overflow_add-from g c = omega (arith, c.requires.limits.room, c.requires.inside, c.loop-done.invariant.done)
@@ -18,6 +18,7 @@ loop-done-preserved g c =
     record {
       done = omega (arith, c.min-count.ensures);
       others = piece.others ∙ before.others;
+      begins = piece.begins ∙ before.begins;
       counted = piece.told (search rules) ∙ before.counted;
       written = λ x told y now.
           let middle = told_before c.args.array.now.file.bytes _ _ y piece.others now in

@@ -1,6 +1,6 @@
 use Rattle.std.proofs.Common.{arith, rules, ◌∙◌}
 use Rattle.tce_cache.proofs.Transfers.{words_joined, others_joined}
-use Rattle.tce_cache.proofs.transfer.read_words.Goals as goal
+use Rattle.tce_cache.proofs.transfer.read_through.Goals as goal
 
 pub overflow_add-from : goal.overflow_add-from
 overflow_add-from g c = omega (arith, c.requires.limits.room, c.requires.inside, c.loop-done.invariant.done)
