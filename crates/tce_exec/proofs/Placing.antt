@@ -124,7 +124,7 @@ tile_changes y t w new is s at long differ = record {
     cache = refl;
     same_length = long;
     outside = λ p low out. (alone map_of.empty).outside.same p out;
-    files = record { tells = refl; same = λ name ne fs told gs now. cc };
+    files = record { tells = refl; begins = λ name. refl; same = λ name ne fs told gs now. cc };
   };
   prepared = prepared_with y new is long (λ fs told. (alone fs).ready (is.ready fs told));
   continued = fronts_stay y new (λ fs told tile k pad. (alone fs).current y.tensor tile k (short k pad.0) (λ d turn same number place. pad.1 (map d y.places.result) (root_inside y d is (at d turn)) number place));

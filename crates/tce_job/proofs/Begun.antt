@@ -201,7 +201,7 @@ module _ (s : Specification) (told : Option Files) (p : Prepared) (rules : IsSpe
         array = at_array (λ x. x.shape ≡ shape_over s.declarations.space s.indexes) s.result a found (own.shape ∙ sym result_shape_is);
         file = λ files e. at_array (λ x. HasFile x files) s.result a found
             (subst (λ o. IsSomeAnd o (λ bytes. length bytes ≡ form_len a.form a.shape)) (sym (made_there files e a own))
-            ((made_zero s).array.whole ∙ sym (ap₂ form_len own.form own.shape)));
+            ((made_zero s).whole ∙ sym (ap₂ form_len own.form own.shape)));
       }
 
   result_bytes : (a : ArrayRef) → slice_get p.cache.arrays s.result ≡ Some a → (files : Files) → told ≡ Some files → IsArrayAt p.cache.arrays s.result (λ x. AreBytes (contents x files))

@@ -1,19 +1,26 @@
 -- What the run of the code and the flush leave.
-use Rattle.std.proofs.Common.{◌≡◌, ◌≢◌, ℕ, Bool, ◌+◌, ◌*◌, ◌<◌, true, false, List, [], length, slice_get, Option, Some, None, is_some, unwrap_or, if◌then◌else◌, refl, sym, ap, ◌∙◌, subst}
-use Rattle.std.specs.Option.{IsSomeAnd, option_map}
+use Rattle.std.proofs.Common.{◌≡◌, ◌≢◌, ◌++◌, ℕ, Bool, ◌+◌, ◌*◌, ◌<◌, true, false, List, [], length, slice_get, Option, Some, None, is_some, unwrap_or, if◌then◌else◌, refl, sym, ap, ◌∙◌, subst}
+use Rattle.std.specs.Option.{ForSome, IsSomeAnd, option_map}
 use Rattle.std.specs.FinMap.{same_map, get-remove, slice_cmp-IsAntisymmetric, nat_cmp-IsAntisymmetric}
 use Rattle.std.proofs.lemmas.Cmp.{nat_list_cmp_total}
-use Rattle.std.proofs.Common.{cond, ◌⊎◌, inl, inr}
+use Rattle.std.proofs.Common.{cond, ◌⊎◌, inl, inr, take, drop, ◌≤◌, ap₂, arith, IfSome, slice_index, replicate}
+use Rattle.std.proofs.lemmas.Option.{none-some}
 use Rattle.std.proofs.lemmas.Bool.{true≢false, false≢true}
-use Rattle.tce_outside.specs.Files.{Files, file, with_file, without_file, others, holding}
+use Rattle.tce_outside.specs.Files.{Files, file, with_file, without_file, with_part, overwritten, others, holding, written, bytes_before, bytes_from, IsKeptOrZeros}
+use Rattle.tce_outside.proofs.Files.{without_file-with_file}
+use Rattle.tce_outside.proofs.Told.{other_files, disks_tell}
+use Rattle.tce_cache.proofs.Tiles.{told_from}
+use Rattle.std.proofs.Math.Seq.{drop-append_seam}
 use Rattle.tce_outside.proofs.Places.{tied, same_name}
 use Rattle.tce_space.specs.Box.{IsInside}
 use Rattle.tce_space.specs.Space.{extent_at}
 use Rattle.tce_space.specs.Tiling.{Tiling, tile_words, tiles, tile_number, place_in_tile, word_number}
 use Rattle.tce_array.specs.declared.form.Form.TheVariants.{One}
-use Rattle.tce_array.specs.Forms.{IsForm}
-use Rattle.tce_array.specs.Files.{AreBytes, IsPadding}
-use Rattle.tce_array.proofs.MadeFiles.{with_file-with_file}
+use Rattle.tce_array.specs.Forms.{form_len, head, head_len}
+use Rattle.tce_array.specs.Files.{AreBytes, IsPadding, LeavesNoHalf, BeginsWithZeros}
+use Rattle.tce_array.proofs.Heads.{begins_still, with_head, zeros_at, zeros_begin}
+use Rattle.tce_array.proofs.Contents.{length-head}
+use Rattle.tce_array.proofs.MadeFiles.{file-with_file, with_file-with_file}
 use Rattle.tce_cache.specs.declared.array.ArrayRef.{ArrayRef}
 use Rattle.tce_cache.specs.Cache.{State as CacheState, OnlyWritableDiffers, word_of_tile}
 use Rattle.tce_cache.specs.Transfer.{contents, word_in_file}
@@ -32,7 +39,7 @@ use Rattle.tce_tensors.proofs.Results.{result_before}
 use Rattle.tce_tensors.proofs.Agreement.{same_values}
 use Rattle.tce_tensors.specs.Arrays.{AreArraysOf, IsResultArray, IsOperandArray}
 use Rattle.tce_tensors.specs.Finished.{IsFinished, IsFlushed}
-use Rattle.tce_tensors.specs.Laws.{made_result, IsOperand}
+use Rattle.tce_tensors.specs.Laws.{made_result, IsOperand, LeavesNoHalfResult}
 use Rattle.tce_tensors.proofs.Operands.{is_operand}
 use Rattle.tce_spec.proofs.Seen.{operand_declared}
 use Rattle.tce_tensors.proofs.Made.{made_zero}
@@ -44,14 +51,26 @@ use Rattle.tce_job.proofs.Begun.{workspace_with, workspace_for, array_of, result
 
 -- ---- files that keep their fronts
 
--- a file with the same front as one that is there is there
-has_front : (a : ArrayRef) (now was : Option (List ℕ)) → option_map (front a) now ≡ option_map (front a) was → IsSomeAnd was (IsForm a.form a.shape) → IsSomeAnd now (IsForm a.form a.shape)
-has_front a None None e h = absurd h
-has_front a (Some x) None e h = absurd h
-has_front a None (Some y) e h = absurd (cc)
-has_front a (Some x) (Some y) e h =
+-- a file with the same front as one that has the length of its array has it
+has_length : (a : ArrayRef) (now was : Option (List ℕ)) → option_map (front a) now ≡ option_map (front a) was → IsSomeAnd was (λ bytes. length bytes ≡ form_len a.form a.shape)
+    → IsSomeAnd now (λ bytes. length bytes ≡ form_len a.form a.shape)
+has_length a None None e h = absurd h
+has_length a (Some x) None e h = absurd h
+has_length a None (Some y) e h = absurd (cc)
+has_length a (Some x) (Some y) e h =
     let same : front a x ≡ front a y = cc in
-    record { whole = ap (λ (q : ℕ × List ℕ). q.0) same ∙ h.whole; begins = ap (λ (q : ℕ × List ℕ). q.1) same ∙ h.begins }
+    ap (λ (q : ℕ × List ℕ). q.0) same ∙ h
+
+-- a file is the result but for its head
+abbrev pub LacksHead : Specification → Files → Option (List ℕ) → Type 0
+LacksHead s fs o = IsSomeAnd o (λ found. (length found ≡ form_len One (shape_of s s.result)) × (overwritten found 0 (head One (shape_of s s.result)) ≡ result_bytes s fs))
+
+abbrev pub LackHead : Specification → Option Files → Option Files → Type 0
+LackHead s told after = ForSome told (λ fs. ForSome after (λ gs. LacksHead s fs (file gs (file_of s s.result))))
+
+both_hold : (o : Option (List ℕ)) (P Q : List ℕ → Type 0) → IsSomeAnd o P → IsSomeAnd o Q → IsSomeAnd o (λ x. P x × Q x)
+both_hold None P Q p q = absurd p
+both_hold (Some x) P Q p q = (p, q)
 
 all_bytes : (found : Option (List ℕ)) (P : List ℕ → Type 0) → IsSomeAnd found P → AreBytes (unwrap_or found []) → IsSomeAnd found AreBytes
 all_bytes None P h k = absurd h
@@ -145,20 +164,31 @@ module _ (s : Specification) (fs : Files) (p : Prepared) (rules : IsSpecificatio
               (subst (λ (t : Tiling). IsPadding t (tile_words t * tile + k)) (sym is) pad);
         }
 
+    -- the length of the result's file, before the flush and after it
+    lengths : (a : ArrayRef) → slice_get p.cache.arrays s.result ≡ Some a
+        → IsSomeAnd (file hs a.file.bytes) (λ bytes. length bytes ≡ form_len a.form a.shape) × IsSomeAnd (file gs a.file.bytes) (λ bytes. length bytes ≡ form_len a.form a.shape)
+    lengths a found =
+        let own : IsResultArray s a = listed.result a found in
+        let here : slice_get cache.arrays s.result ≡ Some a = ap (λ xs. slice_get xs s.result) same_arrays ∙ found in
+        let made : file fs a.file.bytes ≡ Some (made_result s) = ap (file fs) own.file ∙ b.made fs refl in
+        let long : length (made_result s) ≡ form_len a.form a.shape = (made_zero s).whole ∙ sym (ap₂ form_len own.form own.shape) in
+        let in_start : IsSomeAnd (file fs a.file.bytes) (λ bytes. length bytes ≡ form_len a.form a.shape) = subst (λ o. IsSomeAnd o (λ bytes. length bytes ≡ form_len a.form a.shape)) (sym made) long in
+        let in_run : IsSomeAnd (file hs a.file.bytes) (λ bytes. length bytes ≡ form_len a.form a.shape) =
+        has_length a (file hs a.file.bytes) (file fs a.file.bytes) (run.continued.fronts fs refl hs refl s.result a found) in_start in
+        (in_run, has_length a (file gs a.file.bytes) (file hs a.file.bytes) ((arrays hs refl gs refl).fronts s.result a here) in_run)
+
+    as_result : (files : Files) (a : ArrayRef) → IsResultArray s a → IsSomeAnd (file files a.file.bytes) (λ bytes. length bytes ≡ form_len a.form a.shape)
+        → IsSomeAnd (file files (file_of s s.result)) (λ found. length found ≡ form_len One (shape_of s s.result))
+    as_result files a own is =
+        subst (λ q. IsSomeAnd (file files q) (λ bytes. length bytes ≡ form_len One (shape_of s s.result))) own.file
+        (subst (λ n. IsSomeAnd (file files a.file.bytes) (λ bytes. length bytes ≡ n)) (ap₂ form_len own.form own.shape) is)
+
     flush_of : (a : ArrayRef) → slice_get p.cache.arrays s.result ≡ Some a → IsFlushed s (bytes_in fs s) cache hs gs words
     flush_of a found =
         let own : IsResultArray s a = listed.result a found in
-        let name : List ℕ = file_of s s.result in
         let here : slice_get cache.arrays s.result ≡ Some a = ap (λ xs. slice_get xs s.result) same_arrays ∙ found in
         let kept_in = arrays hs refl gs refl in
-        let ran : option_map (front a) (file hs a.file.bytes) ≡ option_map (front a) (file fs a.file.bytes) = run.continued.fronts fs refl hs refl s.result a found in
-        let flushed_front : option_map (front a) (file gs a.file.bytes) ≡ option_map (front a) (file hs a.file.bytes) = kept_in.fronts s.result a here in
         let made : file fs a.file.bytes ≡ Some (made_result s) = ap (file fs) own.file ∙ b.made fs refl in
-        let form_made : IsForm a.form a.shape (made_result s) =
-        subst (λ form. IsForm form a.shape (made_result s)) (sym own.form) (subst (λ (t : Tiling). IsForm One t (made_result s)) (sym own.shape) (made_zero s).array) in
-        let in_start : IsSomeAnd (file fs a.file.bytes) (IsForm a.form a.shape) = subst (λ o. IsSomeAnd o (IsForm a.form a.shape)) (sym made) form_made in
-        let in_run : IsSomeAnd (file hs a.file.bytes) (IsForm a.form a.shape) = has_front a (file hs a.file.bytes) (file fs a.file.bytes) ran in_start in
-        let in_end : IsSomeAnd (file gs a.file.bytes) (IsForm a.form a.shape) = has_front a (file gs a.file.bytes) (file hs a.file.bytes) flushed_front in_run in
         let bytes_made : AreBytes (contents a fs) = subst AreBytes (sym (ap (λ o. unwrap_or o []) made)) (made_zero s).are_bytes in
         let bytes_end : AreBytes (contents a gs) = kept_in.bytes s.result a here (run.continued.bytes fs refl hs refl s.result a found bytes_made) in
         record {
@@ -167,12 +197,9 @@ module _ (s : Specification) (fs : Files) (p : Prepared) (rules : IsSpecificatio
           is_result = own;
           finished = finished;
           written = written;
-          kept = flushed_front;
-          was_array =
-              subst (λ q. IsSomeAnd (file hs q) (IsForm One (shape_of s s.result))) own.file
-              (subst (λ form. IsSomeAnd (file hs a.file.bytes) (IsForm form (shape_of s s.result))) own.form
-              (subst (λ (t : Tiling). IsSomeAnd (file hs a.file.bytes) (IsForm a.form t)) own.shape in_run));
-          are_bytes = subst (λ q. IsSomeAnd (file gs q) AreBytes) own.file (all_bytes (file gs a.file.bytes) (IsForm a.form a.shape) in_end bytes_end);
+          kept = kept_in.fronts s.result a here;
+          was_whole = as_result hs a own (lengths a found).0;
+          are_bytes = subst (λ q. IsSomeAnd (file gs q) AreBytes) own.file (all_bytes (file gs a.file.bytes) (λ bytes. length bytes ≡ form_len a.form a.shape) (lengths a found).1 bytes_end);
         }
 
     named_in : IsWrittenName cache (file_of s s.result)
@@ -183,16 +210,55 @@ module _ (s : Specification) (fs : Files) (p : Prepared) (rules : IsSpecificatio
         other.same q (other_name cache (file_of s s.result) q named_in differs) hs refl gs refl
         ∙ kept.files.same q (other_name p.cache (file_of s s.result) q written_name differs) fs refl hs refl
 
-    result_written : gs ≡ with_result s fs
-    result_written =
+    -- the result's file lacks its head alone
+    lacks_head : LacksHead s fs (file gs (file_of s s.result))
+    lacks_head =
         let at = result_at s (Some fs) p rules b in
-        whole s fs gs others_same (flushed s (bytes_in fs s) cache hs gs words rules (flush_of at.0 at.1))
+        both_hold (file gs (file_of s s.result)) _ _ (as_result gs at.0 (listed.result at.0 at.1) (lengths at.0 at.1).1)
+        (flushed s (bytes_in fs s) cache hs gs words rules (flush_of at.0 at.1))
 
--- the files with the result, where the disk tells them
+    completed_file : (o : Option (List ℕ)) → LacksHead s fs o → overwritten (unwrap_or o []) 0 (head One (shape_of s s.result)) ≡ result_bytes s fs
+    completed_file None h = absurd h
+    completed_file (Some found) h = h.1
+
+    result_written : with_part gs (file_of s s.result) 0 (head One (shape_of s s.result)) ≡ with_result s fs
+    result_written =
+        let name : List ℕ = file_of s s.result in
+        let now : List ℕ = overwritten (unwrap_or (file gs name) []) 0 (head One (shape_of s s.result)) in
+        whole s fs (with_file gs name now)
+        (λ q differs. other_files name q gs (with_file gs name now) (ap Some (without_file-with_file gs name now)) differs ∙ others_same q differs)
+        (file-with_file gs name now ∙ ap Some (completed_file (file gs name) lacks_head))
+
+-- ---- where the disk tells
+
+-- what the result's file is after the flush
+pub lacking : (s : Specification) (p : Prepared) (words : List ℕ) (cache cache2 : CacheState) (told ran after : Option Files) → IsSpecification s → IsBegun s told p
+    → IsRun (workspace_for s p told) (workspace_with s p words cache ran) p.code → IsKept (workspace_for s p told) (workspace_with s p words cache ran)
+    → AreWritten cache ran after words → KeepsArrays cache cache2 ran after words words → OnlyWritableDiffers cache ran after
+    → LackHead s told after
+lacking s p words cache cache2 told ran after rules b run kept written arrays other = λ fs is gs now.
+    go told ran after rules b run kept written arrays other fs is gs now
+  where
+    go : (told ran after : Option Files) → IsSpecification s → IsBegun s told p
+        → IsRun (workspace_for s p told) (workspace_with s p words cache ran) p.code → IsKept (workspace_for s p told) (workspace_with s p words cache ran)
+        → AreWritten cache ran after words → KeepsArrays cache cache2 ran after words words → OnlyWritableDiffers cache ran after
+        → (fs : Files) → told ≡ Some fs → (gs : Files) → after ≡ Some gs
+        → LacksHead s fs (file gs (file_of s s.result))
+    go (Some fs) (Some hs) (Some gs) rules b run kept written arrays other fs' is gs' now =
+        let one : fs ≡ fs' = cc in
+        let two : gs ≡ gs' = cc in
+        subst (λ (f : Files). LacksHead s f (file gs' (file_of s s.result))) one
+        (subst (λ (g : Files). LacksHead s fs (file g (file_of s s.result))) two
+        (lacks_head s fs p rules b hs gs words cache cache2 run kept written arrays other))
+    go None ran after rules b run kept written arrays other fs' is gs' now = absurd (none-some fs' is)
+    go told ran None rules b run kept written arrays other fs' is gs' now = absurd (none-some gs' now)
+    go (Some fs) None after rules b run kept written arrays other fs' is gs' now = absurd (none_some fs kept.files.tells)
+
+-- the files with the result, once its head is written
 pub ended : (s : Specification) (p : Prepared) (words : List ℕ) (cache cache2 : CacheState) (told ran after : Option Files) → IsSpecification s → IsBegun s told p
     → IsRun (workspace_for s p told) (workspace_with s p words cache ran) p.code → IsKept (workspace_for s p told) (workspace_with s p words cache ran)
     → AreWritten cache ran after words → KeepsArrays cache cache2 ran after words words → OnlyWritableDiffers cache ran after
-    → after ≡ option_map (with_result s) told
+    → written (file_of s s.result) 0 (head One (shape_of s s.result)) after ≡ option_map (with_result s) told
 ended s p words cache cache2 (Some fs) (Some hs) (Some gs) rules b run kept written arrays other =
     ap Some (result_written s fs p rules b hs gs words cache cache2 run kept written arrays other)
 ended s p words cache cache2 None None None rules b run kept written arrays other = refl
@@ -200,6 +266,57 @@ ended s p words cache cache2 told (Some hs) None rules b run kept written arrays
 ended s p words cache cache2 told None (Some gs) rules b run kept written arrays other = absurd (some_none gs other.tells)
 ended s p words cache cache2 (Some fs) None after rules b run kept written arrays other = absurd (none_some fs kept.files.tells)
 ended s p words cache cache2 None (Some hs) after rules b run kept written arrays other = absurd (some_none hs kept.files.tells)
+
+-- a result's file that lacks its head alone has room for it
+room_in : (s : Specification) (fs : Files) (o : Option (List ℕ)) → LacksHead s fs o → IsSomeAnd o (λ found. head_len One (shape_of s s.result) ≤ length found)
+room_in s fs None h = absurd h
+room_in s fs (Some found) h = omega (arith, h.0)
+
+pub room_for_head : (s : Specification) (told after : Option Files) → is_some after ≡ is_some told → LackHead s told after
+    → ForSome after (λ gs. IsSomeAnd (file gs (file_of s s.result)) (λ found. head_len One (shape_of s s.result) ≤ length found))
+room_for_head s told after same lacks gs now =
+    let at = told_from told after gs same now in
+    room_in s at.0 (file gs (file_of s s.result)) (lacks at.0 at.1 gs now)
+
+-- ---- what is left where the run ends too soon
+
+begun_so : (s : Specification) (whole : List ℕ) (old now : Option (List ℕ)) → old ≡ Some (made_result s) → option_map (λ bytes. take 8 bytes) now ≡ option_map (λ bytes. take 8 bytes) old
+    → LeavesNoHalf (head_len One (shape_of s s.result)) whole old now
+begun_so s whole old None made same = absurd (let none : None ≡ Some (take 8 (made_result s)) = same ∙ ap (option_map (λ bytes. take 8 bytes)) made in cc)
+begun_so s whole old (Some bytes) made same =
+    let both : Some (take 8 bytes) ≡ Some (take 8 (made_result s)) = same ∙ ap (option_map (λ it. take 8 it)) made in
+    inr (inl (begins_still bytes (form_len One (shape_of s s.result)) (let is : take 8 bytes ≡ take 8 (made_result s) = cc in is)))
+
+-- without its head, which is written last
+pub without_head : (s : Specification) (told now : Option Files) (p : Prepared) → IsBegun s told p → bytes_before (file_of s s.result) 8 now ≡ bytes_before (file_of s s.result) 8 told
+    → LeavesNoHalfResult s told now
+without_head s told now p b same fs is gs here =
+    begun_so s (result_bytes s fs) (file fs (file_of s s.result)) (file gs (file_of s s.result)) (b.made fs is)
+    (let both : Some (option_map (λ bytes. take 8 bytes) (file gs (file_of s s.result))) ≡ Some (option_map (λ bytes. take 8 bytes) (file fs (file_of s s.result))) =
+    ap (bytes_before (file_of s s.result) 8) (sym here) ∙ same ∙ ap (bytes_before (file_of s s.result) 8) is in cc)
+
+behind_head : (shape : Tiling) (found whole : List ℕ) → overwritten found 0 (head One shape) ≡ whole → drop (head_len One shape) found ≡ drop (head_len One shape) whole
+behind_head shape found whole is =
+    let n : ℕ = head_len One shape in
+    sym (ap (drop n) (sym is) ∙ ap (drop n) (with_head One shape found) ∙ ap (λ m. drop m (head One shape ++ drop n found)) (sym (length-head One shape)) ∙ drop-append_seam (head One shape) (drop n found))
+
+rest_is : (s : Specification) (fs : Files) (o : Option (List ℕ)) → LacksHead s fs o
+    → option_map (λ bytes. drop (head_len One (shape_of s s.result)) bytes) o ≡ Some (drop (head_len One (shape_of s s.result)) (result_bytes s fs))
+rest_is s fs None h = absurd h
+rest_is s fs (Some found) h = ap Some (behind_head (shape_of s s.result) found (result_bytes s fs) h.1)
+
+-- and with all but its head
+pub but_head : (s : Specification) (told after now : Option Files) → LackHead s told after → others (file_of s s.result) now ≡ others (file_of s s.result) after
+    → bytes_from (file_of s s.result) (head_len One (shape_of s s.result)) now ≡ bytes_from (file_of s s.result) (head_len One (shape_of s s.result)) after
+    → LeavesNoHalfResult s told now
+but_head s told after now lacks same behind fs is gs here =
+    let name : List ℕ = file_of s s.result in
+    let n : ℕ = head_len One (shape_of s s.result) in
+    let at = told_from after now gs (disks_tell name after now same) here in
+    let both : Some (option_map (λ bytes. drop n bytes) (file gs name)) ≡ Some (option_map (λ bytes. drop n bytes) (file at.0 name)) =
+    ap (bytes_from name n) (sym here) ∙ behind ∙ ap (bytes_from name n) at.1 in
+    let rests : option_map (λ bytes. drop n bytes) (file gs name) ≡ option_map (λ bytes. drop n bytes) (file at.0 name) = cc in
+    inr (inr (rests ∙ rest_is s fs (file at.0 name) (lacks fs is at.0 at.1)))
 
 -- the cache of a run writes the result's file alone
 pub written_result : (s : Specification) (told : Option Files) (p : Prepared) → IsBegun s told p → IsWrittenName p.cache (file_of s s.result)
@@ -215,6 +332,10 @@ others_kept x y name after named kept other = others_stay y.cache name y.files a
     still : IsWrittenName y.cache name
     still i a found w = named i a (ap (λ xs. slice_get xs i) (sym same) ∙ found) w
 
+-- and the result's file begins as before
+pub begins_after : (x y : Workspace) (name : List ℕ) (after : Option Files) → IsKept x y → OnlyWritableDiffers y.cache y.files after → bytes_before name 8 after ≡ bytes_before name 8 x.files
+begins_after x y name after kept other = other.begins name ∙ kept.files.begins name
+
 -- ---- the run as a whole
 
 -- the files with the result, where only the result's file was made before
@@ -224,3 +345,54 @@ told_before s None now after made rules e f = f ∙ ap (option_map (with_result 
 told_before s (Some fs) now after made rules e f =
     f ∙ ap (option_map (with_result s)) e
     ∙ ap Some (with_file-with_file fs (file_of s s.result) made (result_bytes s (with_file fs (file_of s s.result) made)) ∙ ap (with_file fs (file_of s s.result)) (result_before s fs made rules))
+
+-- what is left of files with the made result is left of the files before
+no_half_of : (n : ℕ) (was whole : List ℕ) (start old now : Option (List ℕ)) → old ≡ Some was → ((i : ℕ) → slice_index was i ≡ 0) → LeavesNoHalf n whole old now → LeavesNoHalf n whole start now
+no_half_of n was whole start old now is zeros (inl same) = inr (inl (subst (λ o. IfSome o BeginsWithZeros) (sym (same ∙ is)) (λ i low. zeros i)))
+no_half_of n was whole start old now is zeros (inr rest) = inr rest
+
+pub no_half_before : (s : Specification) (start now after : Option Files) → IsSpecification s → now ≡ holding (file_of s s.result) (made_result s) start → LeavesNoHalfResult s now after
+    → LeavesNoHalfResult s start after
+no_half_before s None now after rules e f fs is gs here = absurd (none-some fs is)
+no_half_before s (Some files) now after rules e f fs is gs here =
+    let name : List ℕ = file_of s s.result in
+    let made : Files = with_file files name (made_result s) in
+    let same : files ≡ fs = cc in
+    subst (λ (x : Files). LeavesNoHalf (head_len One (shape_of s s.result)) (result_bytes s x) (file x name) (file gs name)) same
+    (no_half_of (head_len One (shape_of s s.result)) (made_result s) (result_bytes s files) (file files name) (file made name) (file gs name)
+    (file-with_file files name (made_result s)) (zeros_at (form_len One (shape_of s s.result)))
+    (subst (λ whole. LeavesNoHalf (head_len One (shape_of s s.result)) whole (file made name) (file gs name)) (result_before s files (made_result s) rules) (f made e gs here)))
+
+-- a whole result is no half of one, and neither are zeros
+pub whole_is_no_half : (s : Specification) (before after : Option Files) → after ≡ option_map (with_result s) before → LeavesNoHalfResult s before after
+whole_is_no_half s before after is fs told gs here =
+    let name : List ℕ = file_of s s.result in
+    let n : ℕ = head_len One (shape_of s s.result) in
+    let both : Some gs ≡ Some (with_result s fs) = sym here ∙ is ∙ ap (option_map (with_result s)) told in
+    let now : gs ≡ with_result s fs = cc in
+    inr (inr (ap (λ (f : Files). option_map (λ bytes. drop n bytes) (file f name)) now ∙ ap (option_map (λ bytes. drop n bytes)) (file-with_file fs name (result_bytes s fs))))
+
+pub zeros_are_no_half : (s : Specification) (before after : Option Files) → after ≡ holding (file_of s s.result) (made_result s) before → LeavesNoHalfResult s before after
+zeros_are_no_half s before after is fs told gs here =
+    let name : List ℕ = file_of s s.result in
+    let both : Some gs ≡ Some (with_file fs name (made_result s)) = sym here ∙ is ∙ ap (holding name (made_result s)) told in
+    let now : gs ≡ with_file fs name (made_result s) = cc in
+    inr (inl (subst (λ o. IfSome o BeginsWithZeros) (sym (ap (λ (f : Files). file f name) now ∙ file-with_file fs name (made_result s))) (λ i low. zeros_at (form_len One (shape_of s s.result)) i)))
+
+zeros_or_same : (s : Specification) (whole : List ℕ) (old new : Option (List ℕ)) → (new ≡ old) ⊎ IfSome new (λ bytes. bytes ≡ replicate (length bytes) 0) → LeavesNoHalf (head_len One (shape_of s s.result)) whole old new
+zeros_or_same s whole old new (inl same) = inl same
+zeros_or_same s whole old None (inr zeros) = inr (inl zeros)
+zeros_or_same s whole old (Some bytes) (inr zeros) = inr (inl (zeros_begin bytes (length bytes) zeros))
+
+pub failed_is_no_half : (s : Specification) (before after : Option Files) → IsKeptOrZeros (file_of s s.result) before after → LeavesNoHalfResult s before after
+failed_is_no_half s before after is fs told gs here = zeros_or_same s (result_bytes s fs) (file fs (file_of s s.result)) (file gs (file_of s s.result)) (is fs told gs here)
+
+pub same_is_no_half : (s : Specification) (before after : Option Files) → after ≡ before → LeavesNoHalfResult s before after
+same_is_no_half s before after same fs told gs here =
+    let both : Some gs ≡ Some fs = sym here ∙ same ∙ told in
+    let now : gs ≡ fs = cc in
+    inl (ap (λ (f : Files). file f (file_of s s.result)) now)
+
+-- what is left of later files that are the same as the earlier ones
+pub no_half_since : (s : Specification) (before middle after : Option Files) → middle ≡ before → LeavesNoHalfResult s middle after → LeavesNoHalfResult s before after
+no_half_since s before middle after same is = subst (λ o. LeavesNoHalfResult s o after) same is

@@ -19,8 +19,12 @@ use tce_tensors::{Forms, Refused, least_budget, open_operands};
 // The words that the intermediates of a run may take.
 const MOST_MEMORY: u128 = 1 << 40;
 
-// A plan of a least fusion, where the budget is enough and the plan's memory within the limit.
-fn affordable_plan(alloc: Global, spec: &Spec, budget: u64) -> Result<Plan, JobFault>
+/// A plan of a least fusion, where the budget is at least three of the largest tiles, in words, and the plan's memory at
+/// most 2^40 words.
+///
+/// It is refused with `BudgetTooSmall` and these three tiles, with `IntermediatesTooLarge` and the memory of the plan, or
+/// with `Memory`.
+pub fn affordable_plan(alloc: Global, spec: &Spec, budget: u64) -> Result<Plan, JobFault>
     ensures plan { IfOk result (IsLeastPlan spec.now.declarations.space spec.now.tree) }
     ensures small { IfOk result (λ plan. plan.memory ≤ 2 ^ 40) }
     ensures affordable { OnOk result (IsAffordable spec.now budget) }
@@ -52,8 +56,10 @@ fn fault_of(refused: Refused) -> JobFault
     }
 }
 
-// The forms of the operands' files.
-pub(crate) fn opened_forms<D: Disk>(spec: &Spec, disk: &mut D) -> Result<Forms, JobFault>
+/// The forms of the files of a specification's operands.
+///
+/// It is refused with `Array` and the first operand by first use that is refused, or with `Disk`.
+pub fn opened_forms<D: Disk>(spec: &Spec, disk: &mut D) -> Result<Forms, JobFault>
     ensures opened { IfOk result (λ forms. ForSome (D.files disk.old) (λ files. AreOpened files spec.now forms.0 (operand_count spec.now))) }
     ensures refused { IfErr result (IsOpeningFault (D.files disk.old) spec.now) }
     ensures same { D.files disk.new ≡ D.files disk.old }

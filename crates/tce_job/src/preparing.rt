@@ -5,7 +5,7 @@ ghost use Rattle.tce_outside.specs.Files.{holding, others};
 ghost use Rattle.tce_outside.specs.Fault.{HasCause, TellsFaults};
 ghost use Rattle.tce_tensors.specs.TensorFiles.{file_of};
 ghost use Rattle.tce_tensors.specs.Takings.{least_budget};
-ghost use Rattle.tce_tensors.specs.Laws.{made_result};
+ghost use Rattle.tce_tensors.specs.Laws.{made_result, LeavesNoHalfResult};
 ghost use Rattle.tce_tensors.specs.Opened.{AreOpened, operand_count};
 ghost use Rattle.tce_job.specs.declared.fault.JobFault.{JobFault as Fault};
 ghost use Rattle.tce_job.specs.Refusals.{IsFree};
@@ -17,7 +17,7 @@ use crate::fault::JobFault;
 use crate::prepared::Prepared;
 use crate::report::RunReport;
 use std::alloc::{AllocError, Global};
-use tce_array::{Form, create, form_len};
+use tce_array::{Form, form_len};
 use tce_cache::Cache;
 use tce_code::generate;
 use tce_layout::lay_out;
@@ -102,18 +102,22 @@ fn take_memory<R: Room>(
     })
 }
 
-// Makes the file of the result.
+// Makes the file of the result, of zeros: its head comes when all its elements are there.
 fn make_result<D: Disk>(spec: &Spec, disk: &mut D) -> Result<(), JobFault>
     ensures made { OnOk result (D.files disk.new ≡ holding (file_of spec.now spec.now.result) (made_result spec.now) (D.files disk.old)) }
     ensures free { IfErr result IsFree }
     ensures unchanged { IfErr result (λ fault. (fault ≡ Fault.Disk) ⊎ (D.files disk.new ≡ D.files disk.old)) }
+    ensures no_half { LeavesNoHalfResult spec.now (D.files disk.old) (D.files disk.new) }
     ensures others { others (file_of spec.now spec.now.result) (D.files disk.new) ≡ others (file_of spec.now spec.now.result) (D.files disk.old) }
     ensures cause { HasCause (D.faults disk.old) (D.faults disk.new) (result ≡ Err Fault.Disk) }
     ensures quiet { TellsFaults (D.faults disk.old) (D.faults disk.new) (result ≡ Err Fault.Disk) }
 {
     let result = spec.result().tensor;
     let name = file_of(spec, result);
-    match create(disk, name.as_str(), Form::One, &spec.tensor(result).shape) {
+    match disk.make(
+        name.as_str(),
+        form_len(Form::One, &spec.tensor(result).shape),
+    ) {
         Ok(()) => Ok(()),
         Err(OutFault::Failed) => Err(JobFault::Disk),
         Err(OutFault::Memory) => Err(JobFault::Memory),
@@ -121,10 +125,10 @@ fn make_result<D: Disk>(spec: &Spec, disk: &mut D) -> Result<(), JobFault>
 }
 
 /// Takes the memory of a run by a plan over operands that were opened, the words of the room last, and after that makes
-/// the file of its result.
+/// the file of its result, of zeros and yet without a head.
 ///
 /// `run_prepared` then runs it. It answers `Memory`, after which all files are as they were, or `Disk`, after which the
-/// result's file may hold anything or be absent.
+/// result's file is as it was, begins with zeros, or is absent.
 pub fn begin<D: Disk, R: Room>(
     alloc: Global,
     spec: &Spec,
@@ -146,6 +150,7 @@ pub fn begin<D: Disk, R: Room>(
     ensures taken { OnOk result (R.takings room.new ≡ R.takings room.old ++ taking_of spec.now budget plan ∷ []) }
     ensures free { IfErr result IsFree }
     ensures unchanged { IfErr result (λ fault. (fault ≡ Fault.Disk) ⊎ (D.files disk.new ≡ D.files disk.old)) }
+    ensures no_half { LeavesNoHalfResult spec.now (D.files disk.old) (D.files disk.new) }
     ensures takings { OnErr result (MayHaveTaken spec.now budget plan (R.takings room.old) (R.takings room.new)) }
     ensures others { others (file_of spec.now spec.now.result) (D.files disk.new) ≡ others (file_of spec.now spec.now.result) (D.files disk.old) }
     ensures cause { HasCause (D.faults disk.old) (D.faults disk.new) (result ≡ Err Fault.Disk) }

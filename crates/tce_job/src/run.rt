@@ -5,6 +5,7 @@ ghost use Rattle.tce_outside.specs.Files.{others};
 ghost use Rattle.tce_outside.specs.Fault.{HasCause, TellsFaults};
 ghost use Rattle.tce_tensors.specs.TensorFiles.{file_of};
 ghost use Rattle.tce_tensors.specs.ResultBytes.{with_result};
+ghost use Rattle.tce_tensors.specs.Laws.{LeavesNoHalfResult};
 ghost use Rattle.tce_tensors.specs.Takings.{least_budget};
 ghost use Rattle.tce_code.specs.Program.{program_of};
 ghost use Rattle.tce_walk.specs.Touches.{touch_bound};
@@ -20,17 +21,19 @@ use crate::prepared::Prepared;
 use crate::preparing::begin;
 use crate::report::RunReport;
 use std::alloc::Global;
+use tce_array::{Form, write_head};
 use tce_exec::run_code;
 use tce_nesting::Plan;
 use tce_outside::{Disk, Failed};
 use tce_spec::Spec;
-use tce_tensors::Forms;
+use tce_tensors::{Forms, file_of};
 use tce_words::Room;
 
-/// Runs the code of a run that was begun, and writes the tiles of the result to its file.
+/// Runs the code of a run that was begun, writes the tiles of the result to its file, and last the head of that file.
 ///
-/// `Failed` comes only where the disk failed; then the result's file may hold anything or be absent. What was prepared
-/// is of no more use afterwards, but its cache tells how often the run touched tiles.
+/// `Failed` comes only where the disk failed; then the result's file begins with zeros, or is whole but for its head, so
+/// that it is no array or the result. What was prepared is of no more use afterwards, but its cache tells how often the
+/// run touched tiles.
 pub fn run_prepared<D: Disk>(
     spec: &Spec,
     prepared: &mut Prepared,
@@ -38,6 +41,7 @@ pub fn run_prepared<D: Disk>(
 ) -> Result<(), Failed>
     requires { IsBegun spec.now (D.files disk.old) prepared.old }
     ensures told { OnOk result (D.files disk.new ≡ option_map (with_result spec.now) (D.files disk.old)) }
+    ensures no_half { LeavesNoHalfResult spec.now (D.files disk.old) (D.files disk.new) }
     ensures report { prepared.new.report ≡ prepared.old.report }
     ensures touches { OnOk result (prepared.new.cache.touches ≤ touch_bound spec.now.declarations.space spec.now.tree (program_of prepared.old.code)) }
     ensures others { others (file_of spec.now spec.now.result) (D.files disk.new) ≡ others (file_of spec.now spec.now.result) (D.files disk.old) }
@@ -59,6 +63,9 @@ pub fn run_prepared<D: Disk>(
         disk,
     )?;
     prepared.cache.flush(disk, &prepared.words)?;
+    let number = spec.result().tensor;
+    let name = file_of(spec, number);
+    write_head(disk, name.as_str(), Form::One, &spec.tensor(number).shape)?;
     Ok(())
 }
 
@@ -66,8 +73,8 @@ pub fn run_prepared<D: Disk>(
 ///
 /// The budget, in words, is for tiles. It is at least three of the largest tiles, and at most 2^40, as is the memory of
 /// the plan. The run takes its memory once, the words of the room last, and after that makes the file of the result.
-/// It answers `Memory`, after which all files are as they were, or `Disk`, after which the result's file may hold
-/// anything or be absent.
+/// It answers `Memory`, after which all files are as they were, or `Disk`, after which the result's file is as it was, is
+/// absent, begins with zeros, or is whole but for its head.
 pub fn run_by<D: Disk, R: Room>(
     alloc: Global,
     spec: &Spec,
@@ -87,6 +94,7 @@ pub fn run_by<D: Disk, R: Room>(
     ensures taken { OnOk result (R.takings room.new ≡ R.takings room.old ++ taking_of spec.now budget plan ∷ []) }
     ensures free { IfErr result IsFree }
     ensures unchanged { IfErr result (λ fault. (fault ≡ Fault.Disk) ⊎ (D.files disk.new ≡ D.files disk.old)) }
+    ensures no_half { LeavesNoHalfResult spec.now (D.files disk.old) (D.files disk.new) }
     ensures takings { OnErr result (MayHaveTaken spec.now budget plan (R.takings room.old) (R.takings room.new)) }
     ensures others { others (file_of spec.now spec.now.result) (D.files disk.new) ≡ others (file_of spec.now spec.now.result) (D.files disk.old) }
     ensures cause { HasCause (D.faults disk.old) (D.faults disk.new) (result ≡ Err Fault.Disk) }
@@ -108,7 +116,8 @@ pub fn run_by<D: Disk, R: Room>(
 /// and after that makes the file of the result. It is refused for the first cause in this order: `BudgetTooSmall` with
 /// three of the largest tiles in words, `IntermediatesTooLarge` with the least memory in words, `Array` with the first
 /// operand by first use that is refused and its fault, which is never `Disk`. After every refusal but `Disk` all files
-/// are as they were; after `Disk` the result's file may hold anything or be absent.
+/// are as they were; after `Disk` the result's file is as it was, is absent, begins with zeros as no array does, or is
+/// whole but for its head.
 pub fn run_job<D: Disk, R: Room>(
     alloc: Global,
     spec: &Spec,
@@ -133,6 +142,7 @@ pub fn run_job<D: Disk, R: Room>(
 
     // What a refused run leaves.
     ensures unchanged { IfErr result (λ fault. (fault ≡ Fault.Disk) ⊎ (D.files disk.new ≡ D.files disk.old)) }
+    ensures no_half { LeavesNoHalfResult spec.now (D.files disk.old) (D.files disk.new) }
     ensures takings { IfErr result (λ fault. IsRoomLeft fault spec.now budget (R.takings room.old) (R.takings room.new)) }
     ensures others { others (file_of spec.now spec.now.result) (D.files disk.new) ≡ others (file_of spec.now spec.now.result) (D.files disk.old) }
 {

@@ -1,5 +1,5 @@
 -- The arrays of a specification, listed one after the other.
-use Rattle.std.proofs.Common.{◌≡◌, ◌≢◌, ℕ, ◌+◌, ◌<◌, ◌≤◌, true, false, List, [], ◌∷◌, ◌++◌, length, get_or, slice_get, Option, Some, None, inl, inr, refl, sym, ap, ◌∙◌, ◌⊎◌, subst, arith, length-append}
+use Rattle.std.proofs.Common.{◌≡◌, ℕ, ◌+◌, ◌≤◌, true, List, [], ◌∷◌, ◌++◌, length, get_or, slice_get, Some, inl, inr, refl, sym, ap, ◌∙◌, subst, arith, length-append}
 use Rattle.std.proofs.lemmas.Bool.{cases_lt, cases_order, true≢false}
 use Rattle.std.proofs.lemmas.Option.{slice_get_within, get_or_from_slice_get, slice_get-get_or}
 use Rattle.std.proofs.lemmas.List.{get_or_append_left}
@@ -9,10 +9,9 @@ use Rattle.tce_cache.specs.declared.array.ArrayRef.{ArrayRef}
 use Rattle.tce_formula.specs.Contraction.{has_tensor}
 use Rattle.tce_spec.specs.Specification.{Specification, IsSpecification}
 use Rattle.tce_spec.specs.Operands.{largest_tile, shape_of}
-use Rattle.tce_tensors.specs.TensorFiles.{file_of}
 use Rattle.tce_tensors.proofs.Names.{different_files}
 use Rattle.tce_tensors.proofs.Tiles.{result_within, operand_within}
-use Rattle.tce_tensors.specs.Arrays.{IsArrayOf, IsResultArray, IsOperandArray, AreArraysOf}
+use Rattle.tce_tensors.specs.Arrays.{IsArrayOf, AreArraysOf}
 use Rattle.tce_tensors.proofs.Operands.{is_operand, not_result}
 
 -- the arrays of the first tensors, that many of them

@@ -1,32 +1,31 @@
 -- A finished result in its file.
-use Rattle.std.proofs.Common.{◌≡◌, ◌≢◌, ℕ, zero, suc, ◌+◌, ◌*◌, ◌/◌, ◌%◌, ◌<◌, ◌≤◌, List, [], length, take, true, cond, Option, Some, None, unwrap_or, slice_get, inl, inr, refl, sym, ap, ◌∙◌, subst, arith}
+use Rattle.std.proofs.Common.{◌≡◌, ◌≢◌, ℕ, zero, suc, ◌+◌, ◌*◌, ◌/◌, ◌%◌, ◌<◌, List, [], length, take, Option, Some, None, unwrap_or, slice_get, inl, inr, refl, sym, ap, ◌∙◌, subst, arith}
 use Rattle.std.proofs.Math.Nat.{div-add-mod, div-lt_iff_lt-mul}
 use Rattle.std.proofs.lemmas.Cmp.{nat_list_cmp_total}
 use Rattle.std.specs.Option.{IsSomeAnd, option_map}
 use Rattle.std.specs.FinMap.{same_map, slice_cmp-IsAntisymmetric, nat_cmp-IsAntisymmetric}
-use Rattle.tce_outside.specs.Files.{Files, file, with_file}
+use Rattle.tce_outside.specs.Files.{Files, file, with_file, overwritten}
 use Rattle.tce_outside.proofs.Files.{without_file-with_file}
 use Rattle.tce_outside.proofs.Places.{same_name}
 use Rattle.tce_outside.proofs.Told.{other_files}
-use Rattle.tce_space.specs.Box.{IsInside}
-use Rattle.tce_space.specs.Tiling.{Tiling, IsTiling, tile_words, tiles, padded_words, tile_number, place_in_tile}
+use Rattle.tce_space.specs.Tiling.{Tiling, IsTiling, tile_words, tiles, tile_number, place_in_tile, word_number}
 use Rattle.tce_space.proofs.Tilings.{place_in_tile-lt}
 use Rattle.tce_array.specs.declared.form.Form.{Form}
 use Rattle.tce_array.specs.declared.form.Form.TheVariants.{One}
-use Rattle.tce_array.specs.Forms.{IsForm, word_at, head, head_len, form_len}
-use Rattle.tce_array.specs.Files.{AreBytes, IsPadding}
+use Rattle.tce_array.specs.Forms.{word_at, head, head_len, form_len}
+use Rattle.tce_array.specs.Files.{AreBytes, IsPadding, IsCompleted}
+use Rattle.tce_array.proofs.Heads.{completed}
+use Rattle.tce_tensors.proofs.Made.{with_head_bytes}
 use Rattle.tce_array.proofs.MadeFiles.{file-with_file}
 use Rattle.tce_cache.specs.declared.array.ArrayRef.{ArrayRef}
 use Rattle.tce_cache.specs.Cache.{State, words_of_tile, word_of_tile, stored, current_word}
-use Rattle.tce_cache.specs.Transfer.{word_in_file}
 use Rattle.tce_cache.specs.Touch.{front}
 use Rattle.tce_spec.specs.Specification.{Specification, IsSpecification}
 use Rattle.tce_spec.specs.Operands.{shape_of}
 use Rattle.tce_tensors.specs.TensorFiles.{file_of}
-use Rattle.tce_tensors.specs.ResultBytes.{result_element, result_from, result_bytes, with_result}
+use Rattle.tce_tensors.specs.ResultBytes.{result_from, result_bytes, with_result}
 use Rattle.tce_tensors.specs.ResultLaws.{HoldsValues, IsPadded}
 use Rattle.tce_tensors.proofs.Results.{result_tiling, result_told}
-use Rattle.tce_tensors.specs.Arrays.{IsResultArray}
 use Rattle.tce_tensors.specs.Finished.{IsFlushed}
 
 -- the length and the head of a file
@@ -37,14 +36,11 @@ abbrev pub pair_of : Option (ℕ × List ℕ) → ℕ × List ℕ
 pair_of None = (0, [])
 pair_of (Some pair) = pair
 
--- a file with the length and the head of an array is one
-same_front : (shape : Tiling) (found : Option (List ℕ)) (bytes : List ℕ) → option_map (front_of One shape) (Some bytes) ≡ option_map (front_of One shape) found
-    → IsSomeAnd found (IsForm One shape) → IsForm One shape bytes
-same_front shape None bytes same was = absurd was
-same_front shape (Some old) bytes same was =
-    let lengths : length bytes ≡ length old = ap (λ o. (pair_of o).0) same in
-    let heads : take (head_len One shape) bytes ≡ take (head_len One shape) old = ap (λ o. (pair_of o).1) same in
-    record { whole = lengths ∙ was.whole; begins = heads ∙ was.begins }
+-- a file with the length of an array has it still
+same_length : (shape : Tiling) (found : Option (List ℕ)) (bytes : List ℕ) → option_map (front_of One shape) (Some bytes) ≡ option_map (front_of One shape) found
+    → IsSomeAnd found (λ old. length old ≡ form_len One shape) → length bytes ≡ form_len One shape
+same_length shape None bytes same was = absurd was
+same_length shape (Some old) bytes same was = ap (λ o. (pair_of o).0) same ∙ was
 
 -- where a number stands among words in rows
 below_rows : (k n m : ℕ) → k < n * m → (k / n < m) × (k % n < n) × (n * (k / n) + k % n ≡ k)
@@ -75,7 +71,8 @@ module _ (s : Specification) (bytes : ℕ → List ℕ) (c : State) (before afte
       sym (word ∙ ap (λ form. word_at form array.shape found (tile_words array.shape * tile + k)) f.is_result.form ∙ ap (λ (t : Tiling). word_at One t found (tile_words t * tile + k)) f.is_result.shape)
       ∙ f.written before refl after refl s.result tile k room
 
-  flushed_file : (found : Option (List ℕ)) → file after (file_of s s.result) ≡ found → IsSomeAnd found AreBytes → found ≡ Some (result_from s bytes)
+  flushed_file : (found : Option (List ℕ)) → file after (file_of s s.result) ≡ found → IsSomeAnd found AreBytes
+      → IsSomeAnd found (λ it. overwritten it 0 (head One (shape_of s s.result)) ≡ result_from s bytes)
   unfolding shape
   flushed_file None here are_bytes = absurd are_bytes
   flushed_file (Some found) here are_bytes =
@@ -86,23 +83,28 @@ module _ (s : Specification) (bytes : ℕ → List ℕ) (c : State) (before afte
       let as_one : option_map (front_of One (shape_of s s.result)) (Some found) ≡ option_map (front_of One (shape_of s s.result)) (file before (file_of s s.result)) =
       subst (λ t. option_map (front_of One t) (Some found) ≡ option_map (front_of One t) (file before (file_of s s.result))) f.is_result.shape
       (subst (λ form. option_map (front_of form array.shape) (Some found) ≡ option_map (front_of form array.shape) (file before (file_of s s.result))) f.is_result.form fronts) in
-      let holds : HoldsValues s bytes found = record {
-        array = same_front (shape_of s s.result) (file before (file_of s s.result)) found as_one f.was_array;
+      let with_head : List ℕ = overwritten found 0 (head One (shape_of s s.result)) in
+      let is : IsCompleted One (shape_of s s.result) found with_head =
+      completed One (shape_of s s.result) found (same_length (shape_of s s.result) (file before (file_of s s.result)) found as_one f.was_whole) in
+      let holds : HoldsValues s bytes with_head = record {
+        array = is.has_form;
         values = λ coords inside.
-            is_current found here (tile_number (shape_of s s.result) coords) (place_in_tile (shape_of s s.result) coords) (place_in_tile-lt (shape_of s s.result) coords tiling.same_rank tiling.positive inside)
+            is.words (word_number (shape_of s s.result) coords)
+            ∙ is_current found here (tile_number (shape_of s s.result) coords) (place_in_tile (shape_of s s.result) coords) (place_in_tile-lt (shape_of s s.result) coords tiling.same_rank tiling.positive inside)
             ∙ f.finished.values coords inside;
       } in
-      let padded : IsPadded s found = λ k within padding.
+      let padded : IsPadded s with_head = λ k within padding.
       let rows = below_rows k (tile_words (shape_of s s.result)) (tiles (shape_of s s.result)) within in
       let tile : ℕ = k / tile_words (shape_of s s.result) in
       let inner : ℕ = k % tile_words (shape_of s s.result) in
-      ap (word_at One (shape_of s s.result) found) (sym rows.2)
+      is.words k
+      ∙ ap (word_at One (shape_of s s.result) found) (sym rows.2)
       ∙ is_current found here tile inner rows.1
       ∙ f.finished.padding tile inner rows.0 rows.1 (subst (IsPadding (shape_of s s.result)) (sym rows.2) padding) in
-      ap Some (result_told s bytes found rules holds padded are_bytes)
+      result_told s bytes with_head rules holds padded (with_head_bytes (shape_of s s.result) found are_bytes)
 
 pub flushed : (s : Specification) (bytes : ℕ → List ℕ) (c : State) (before after : Files) (words : List ℕ) → IsSpecification s → IsFlushed s bytes c before after words
-    → file after (file_of s s.result) ≡ Some (result_from s bytes)
+    → IsSomeAnd (file after (file_of s s.result)) (λ it. overwritten it 0 (head One (shape_of s s.result)) ≡ result_from s bytes)
 flushed s bytes c before after words rules f = flushed_file s bytes c before after words rules f (file after (file_of s s.result)) refl f.are_bytes
 
 pub whole : (s : Specification) (start after : Files) → ((name : List ℕ) → name ≢ file_of s s.result → file after name ≡ file start name)

@@ -1,17 +1,19 @@
 -- The file of a result as it is made.
-use Rattle.std.proofs.Common.{◌≡◌, ℕ, zero, suc, ◌+◌, ◌/◌, ◌^◌, ◌<◌, List, [], ◌∷◌, ◌++◌, length, get_or, replicate, mod-lt, lit<, sym, ap, ◌∙◌, arith}
+use Rattle.std.proofs.Common.{◌≡◌, ℕ, zero, suc, ◌+◌, ◌/◌, ◌^◌, ◌<◌, List, [], ◌∷◌, ◌++◌, length, drop, get_or, replicate, mod-lt, lit<, sym, ap, ◌∙◌, subst, arith}
 use Rattle.std.specs.List.{flat_map}
 use Rattle.std.specs.Int.{bytes_low_first, byte_at}
-use Rattle.std.proofs.lemmas.List.{get_or-replicate}
+use Rattle.std.proofs.lemmas.List.{get_or-replicate, get_or-drop, length-replicate}
+use Rattle.tce_outside.specs.Files.{overwritten}
 use Rattle.tce_base.specs.Word.{word_bytes}
 use Rattle.tce_space.specs.Tiling.{Tiling, padded_words}
 use Rattle.tce_array.specs.declared.form.Form.TheVariants.{One}
-use Rattle.tce_array.specs.Forms.{head, lead, words, form_bytes, Fits}
+use Rattle.tce_array.specs.Forms.{head, head_len, lead, words, form_bytes, form_len, word_at, Fits}
 use Rattle.tce_array.specs.Files.{AreBytes}
-use Rattle.tce_array.proofs.Contents.{form_bytes_is, word_of_file}
+use Rattle.tce_array.proofs.Contents.{word_of_file}
 use Rattle.tce_array.proofs.Fitting.{words_fit}
-use Rattle.tce_array.proofs.Zeros.{zero_array}
-use Rattle.tce_spec.specs.Specification.{Specification, IsSpecification}
+use Rattle.tce_array.proofs.Zeros.{zero_array, zeros_with_head}
+use Rattle.tce_array.proofs.Heads.{with_head, completed}
+use Rattle.tce_spec.specs.Specification.{Specification}
 use Rattle.tce_spec.specs.Operands.{shape_of}
 use Rattle.tce_tensors.specs.Laws.{IsMade}
 
@@ -53,14 +55,32 @@ file_bytes s element =
     (append_bytes (84 ∷ 67 ∷ 65 ∷ 82 ∷ 82 ∷ 65 ∷ 89 ∷ 49 ∷ []) (flat_map (word_bytes 8) (lead One (length s.extents) ++ s.extents ++ s.edges)) magic_bytes (words_are_bytes (lead One (length s.extents) ++ s.extents ++ s.edges)))
     (words_are_bytes (words s element))
 
+head_bytes : (s : Tiling) → AreBytes (head One s)
+head_bytes s =
+    append_bytes (84 ∷ 67 ∷ 65 ∷ 82 ∷ 82 ∷ 65 ∷ 89 ∷ 49 ∷ []) (flat_map (word_bytes 8) (lead One (length s.extents) ++ s.extents ++ s.edges)) magic_bytes (words_are_bytes (lead One (length s.extents) ++ s.extents ++ s.edges))
+
+-- a file with a head written over it is bytes
+pub with_head_bytes : (s : Tiling) (found : List ℕ) → AreBytes found → AreBytes (overwritten found 0 (head One s))
+with_head_bytes s found are =
+    subst AreBytes (sym (with_head One s found))
+    (append_bytes (head One s) (drop (head_len One s) found) (head_bytes s) (λ i. omega (arith, get_or-drop (head_len One s) found i 0, are (head_len One s + i))))
+
+zero_bytes : (n : ℕ) → AreBytes (replicate n 0)
+zero_bytes zero i = omega arith
+zero_bytes (suc n) zero = omega arith
+zero_bytes (suc n) (suc i) = zero_bytes n i
+
 pub made_zero : (s : Specification) → IsMade s
 made_zero s = record {
-  array = form_bytes_is One (shape_of s s.result) (λ _. 0);
-  are_bytes = file_bytes (shape_of s s.result) (λ _. 0);
+  whole = length-replicate (form_len One (shape_of s s.result)) 0;
+  are_bytes = zero_bytes (form_len One (shape_of s s.result));
   zero = λ k within.
       let shape : Tiling = shape_of s s.result in
       let none : get_or (words shape (λ _. 0)) k 0 ≡ 0 = ap (λ ws. get_or ws k 0) (zero_array shape) ∙ get_or-replicate (padded_words shape) k 0 0 within in
-      word_of_file One shape (λ _. 0) k within (fits_as (get_or (words shape (λ _. 0)) k 0) none) ∙ none;
+      let zeros : List ℕ = replicate (form_len One shape) 0 in
+      sym ((completed One shape zeros (length-replicate (form_len One shape) 0)).words k)
+      ∙ ap (λ bytes. word_at One shape bytes k) (zeros_with_head One shape)
+      ∙ word_of_file One shape (λ _. 0) k within (fits_as (get_or (words shape (λ _. 0)) k 0) none) ∙ none;
 }
   where
     fits_as : (w : ℕ) → w ≡ 0 → Fits One w

@@ -1,5 +1,5 @@
 -- Operands that are opened one after the other.
-use Rattle.std.proofs.Common.{◌≡◌, ◌≢◌, ℕ, ◌+◌, ◌<◌, ◌≤◌, List, length, get_or, Option, Some, None, set, ◌⊎◌, inl, inr, refl, sym, ap, ◌∙◌, subst, arith}
+use Rattle.std.proofs.Common.{◌≡◌, ◌≢◌, ℕ, ◌+◌, ◌<◌, ◌≤◌, List, length, Option, Some, None, set, ◌⊎◌, inl, inr, refl, sym, ap, ◌∙◌, subst, arith}
 use Rattle.std.specs.Option.{ForSome, IsSomeAnd}
 use Rattle.std.proofs.lemmas.Bool.{cases_lt, cases_order}
 use Rattle.std.proofs.lemmas.Grind.{get_or-set_at}
@@ -13,7 +13,7 @@ use Rattle.tce_spec.specs.Specification.{Specification}
 use Rattle.tce_spec.specs.Operands.{shape_of}
 use Rattle.tce_tensors.specs.TensorFiles.{file_of}
 use Rattle.tce_tensors.specs.declared.opening.Refused.{Refused}
-use Rattle.tce_tensors.specs.Opened.{operand_count, operand, form_at, HasArray, HasOperands, IsOpened, AreOpened, IsRefused}
+use Rattle.tce_tensors.specs.Opened.{operand_count, operand, form_at, IsOpened, AreOpened, IsRefused}
 
 -- the first operands are opened, that many of them
 pub record IsOpening (s : Specification) (start now : Option Files) (faults later_faults : ℕ) (forms : List Form) (count : ℕ) : Type 0 where

@@ -1,10 +1,10 @@
 -- The files of the operands' arrays.
-use Rattle.std.proofs.Common.{◌≡◌, ◌≢◌, ℕ, ◌+◌, ◌*◌, ◌<◌, length, true, List, [], Option, Some, None, unwrap_or, slice_get, refl, sym, ap, ◌∙◌, subst}
+use Rattle.std.proofs.Common.{◌≡◌, ◌≢◌, ℕ, ◌+◌, ◌*◌, ◌<◌, length, true, List, [], Option, Some, None, unwrap_or, slice_get, sym, ap, ◌∙◌, subst}
 use Rattle.std.specs.Option.{IsSomeAnd}
 use Rattle.tce_outside.specs.Files.{Files, file, with_file}
 use Rattle.tce_outside.proofs.Files.{without_file-with_file}
 use Rattle.tce_outside.proofs.Told.{other_files}
-use Rattle.tce_space.specs.Tiling.{Tiling, tile_words, tile_number, place_in_tile, word_number}
+use Rattle.tce_space.specs.Tiling.{Tiling, tile_words, tile_number, place_in_tile}
 use Rattle.tce_array.specs.declared.form.Form.{Form}
 use Rattle.tce_array.specs.Forms.{form_of, IsForm, IsArray, word_at}
 use Rattle.tce_cache.specs.declared.array.ArrayRef.{ArrayRef}
@@ -14,8 +14,8 @@ use Rattle.tce_spec.specs.Specification.{Specification, IsSpecification}
 use Rattle.tce_spec.specs.Operands.{shape_of}
 use Rattle.tce_tensors.specs.TensorFiles.{file_of, bytes_in, elements}
 use Rattle.tce_tensors.proofs.Names.{different_files}
-use Rattle.tce_tensors.specs.Opened.{operand_count, operand, form_at, IsOpened, AreOpened}
-use Rattle.tce_tensors.specs.Arrays.{IsOperandArray, AreArraysOf}
+use Rattle.tce_tensors.specs.Opened.{operand_count, form_at, IsOpened, AreOpened}
+use Rattle.tce_tensors.specs.Arrays.{AreArraysOf}
 use Rattle.tce_tensors.specs.Reading.{HoldOperands}
 use Rattle.tce_spec.proofs.Seen.{operand_declared}
 use Rattle.tce_tensors.specs.Laws.{IsOperand}

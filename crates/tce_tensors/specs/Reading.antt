@@ -10,7 +10,6 @@ use Rattle.tce_cache.specs.Cache.{State, stored}
 use Rattle.tce_formula.specs.Contraction.{has_tensor}
 use Rattle.tce_spec.specs.Specification.{Specification, IsSpecification}
 use Rattle.tce_spec.specs.Operands.{shape_of}
-use Rattle.tce_tree.specs.Value.{Elements}
 use Rattle.tce_tensors.specs.TensorFiles.{file_of, bytes_in, elements}
 use Rattle.tce_tensors.specs.Opened.{operand_count, AreOpened}
 use Rattle.tce_tensors.specs.Arrays.{AreArraysOf}

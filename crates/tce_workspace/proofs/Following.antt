@@ -34,6 +34,7 @@ kept_on x y z k l = let e = named x y k in go y.words y.cache.held y.cache.touch
       outside = λ p low out. l.outside p low out ∙ k.outside p low out;
       files = record {
         tells = l.files.tells ∙ k.files.tells;
+        begins = λ name. l.files.begins name ∙ k.files.begins name;
         same = λ name ne fs told hs now.
             let mid = told_between x.files files fs k.files.tells told in
             l.files.same name ne mid.0 mid.1 hs now ∙ k.files.same name ne fs told mid.0 mid.1;

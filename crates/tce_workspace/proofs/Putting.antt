@@ -100,7 +100,7 @@ slots_keep x new h = record {
   cache = refl;
   same_length = h.same_length;
   outside = λ p low out. h.same p low;
-  files = record { tells = refl; same = λ name ne fs told gs now. cc };
+  files = record { tells = refl; begins = λ name. refl; same = λ name ne fs told gs now. cc };
 }
 
 pub slots_change : (x : Workspace) (new : List ℕ) (f : State → State) → IsPrepared x → IsSameBehind x new
@@ -177,7 +177,7 @@ tile_put x a h w some is inside held = record {
     cache = refl;
     same_length = length_put x.words (place_of_root x a h) w;
     outside = λ p low out. get_or-set_other x.words (place_of_root x a h) p w 0 (λ e. in_frames p out e);
-    files = record { tells = refl; same = λ name ne fs told gs now. cc };
+    files = record { tells = refl; begins = λ name. refl; same = λ name ne fs told gs now. cc };
   };
   changed = record {
     prepared = prepared_with x (slice_set x.words (place_of_root x a h) w) is (length_put x.words (place_of_root x a h) w) (λ fs told. (put fs told).ready);

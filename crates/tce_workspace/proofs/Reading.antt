@@ -49,7 +49,7 @@ kept_own x = record {
   cache = refl;
   same_length = refl;
   outside = λ p low out. refl;
-  files = record { tells = refl; same = λ name ne fs told gs now. cc };
+  files = record { tells = refl; begins = λ name. refl; same = λ name ne fs told gs now. cc };
 }
 
 pub continued_own : (x : Workspace) → IsContinued x x

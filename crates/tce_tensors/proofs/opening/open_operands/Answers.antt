@@ -1,7 +1,7 @@
 use Rattle.std.proofs.Common.{◌≡◌, ◌<◌, ℕ, List, length, get_or, refl, ap, ◌∙◌, subst, arith, rules}
 use Rattle.tce_spec.specs.Operands.{operands}
 use Rattle.tce_spec.proofs.Seen.{operand_declared}
-use Rattle.tce_tensors.proofs.OpenedTensors.{begins, goes_on, refused}
+use Rattle.tce_tensors.proofs.OpenedTensors.{begins, goes_on}
 use Rattle.tce_tensors.proofs.opening.open_operands.Goals as goal
 
 pub open_tensor-requires : goal.open_tensor-requires
