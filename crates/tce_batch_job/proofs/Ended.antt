@@ -8,6 +8,8 @@ use Rattle.tce_outside.specs.Files.{Files, others}
 use Rattle.tce_spec.specs.Specification.{Specification, IsSpecification}
 use Rattle.tce_spec.proofs.Seen.{operand_declared}
 use Rattle.tce_tensors.specs.TensorFiles.{file_of}
+use Rattle.tce_tensors.specs.Laws.{LeavesNoHalfResult}
+use Rattle.tce_job.proofs.Ended.{same_is_no_half}
 use Rattle.tce_tensors.specs.ResultLaws.{IsTensorOf}
 use Rattle.tce_tensors.specs.Opened.{operand, operand_count, HasOperands}
 use Rattle.tce_job.specs.declared.fault.JobFault.{JobFault}
@@ -85,15 +87,15 @@ untold None now after batch number is same none = same ∙ is
 untold (Some files) now after batch number is same none = absurd (none files refl)
 
 pub failed_left : (start now after : Option Files) (batch : List Specification) (budget number : ℕ) (s : Specification) (fault : JobFault) → HasFailed start now batch budget number s fault
-    → (fault ≡ Disk) ⊎ (after ≡ now) → others (file_of s s.result) after ≡ others (file_of s s.result) now → IsLeftAt start after batch (number + 1) fault
-failed_left start now after batch budget number s (BudgetTooSmall n) h same rest = within_budget s budget n (MayBeRefused now s) (able_at start now batch budget number s (BudgetTooSmall n) h) h.why
-failed_left start now after batch budget number s (IntermediatesTooLarge n) h same rest = within_memory s budget n (MayBeRefused now s) (able_at start now batch budget number s (IntermediatesTooLarge n) h) h.why
-failed_left start now after batch budget number s (Array t u) h (inl is) rest = absurd (cc)
-failed_left start now after batch budget number s (Array t u) h (inr same) rest = untold start now after batch number h.is same h.free
-failed_left start now after batch budget number s Disk h same rest =
-    record { number = number; specification = s; counted = refl; at = h.at; here = rest ∙ ap (others (file_of s s.result)) h.is }
-failed_left start now after batch budget number s Memory h (inl is) rest = absurd (cc)
-failed_left start now after batch budget number s Memory h (inr same) rest = record { number = number; specification = s; counted = refl; at = h.at; here = inl (same ∙ h.is) }
+    → (fault ≡ Disk) ⊎ (after ≡ now) → others (file_of s s.result) after ≡ others (file_of s s.result) now → LeavesNoHalfResult s now after → IsLeftAt start after batch (number + 1) fault
+failed_left start now after batch budget number s (BudgetTooSmall n) h same rest half = within_budget s budget n (MayBeRefused now s) (able_at start now batch budget number s (BudgetTooSmall n) h) h.why
+failed_left start now after batch budget number s (IntermediatesTooLarge n) h same rest half = within_memory s budget n (MayBeRefused now s) (able_at start now batch budget number s (IntermediatesTooLarge n) h) h.why
+failed_left start now after batch budget number s (Array t u) h (inl is) rest half = absurd (cc)
+failed_left start now after batch budget number s (Array t u) h (inr same) rest half = untold start now after batch number h.is same h.free
+failed_left start now after batch budget number s Disk h same rest half =
+    record { number = number; specification = s; counted = refl; at = h.at; here = (rest ∙ ap (others (file_of s s.result)) h.is, subst (λ o. LeavesNoHalfResult s o after) h.is half) }
+failed_left start now after batch budget number s Memory h (inl is) rest half = absurd (cc)
+failed_left start now after batch budget number s Memory h (inr same) rest half = record { number = number; specification = s; counted = refl; at = h.at; here = inl (same ∙ h.is) }
 
 pub failed_takings : (start now : Option Files) (batch : List Specification) (budget number : ℕ) (s : Specification) (fault : JobFault) (before then after : List (ℕ × ℕ)) → HasFailed start now batch budget number s fault
     → HasTaken (take number batch) budget before then → IsRoomLeftByOne fault s budget then after → IsRoomLeftAt before after batch budget (number + 1) fault
@@ -116,7 +118,7 @@ left_before start after batch budget formula (IntermediatesTooLarge n) same firs
 left_before start after batch budget formula (Array t u) same first why = same
 left_before start after batch budget formula Disk same first why =
     let (s, at) = some_at batch 0 (omega (arith, why.some, why.within)) in
-    record { number = 0; specification = s; counted = first tt; at = at; here = ap (others (file_of s s.result)) (same ∙ none_after start batch) }
+    record { number = 0; specification = s; counted = first tt; at = at; here = (ap (others (file_of s s.result)) (same ∙ none_after start batch), same_is_no_half s (files_at start batch 0) after (same ∙ none_after start batch)) }
 left_before start after batch budget formula Memory same first why =
     let (s, at) = some_at batch 0 (omega (arith, why.some, why.within)) in
     record { number = 0; specification = s; counted = first tt; at = at; here = inl (same ∙ none_after start batch) }

@@ -53,7 +53,7 @@ left_others before after batch formula (IntermediatesTooLarge n) left = same_oth
 left_others before after batch formula (Array t fault) left = same_others batch before after left
 left_others before after batch formula Disk left = λ name none.
     let s = left.specification in
-    one_other name (file_of s s.result) (files_at before batch left.number) after (at_all (NoResult name) batch left.number s none left.at) left.here ∙ at_others batch before left.number name none
+    one_other name (file_of s s.result) (files_at before batch left.number) after (at_all (NoResult name) batch left.number s none left.at) left.here.0 ∙ at_others batch before left.number name none
 left_others before after batch formula Memory left = λ name none. by_end name none left.here
   where
     by_end : (name : List ℕ) → All (NoResult name) batch → (after ≡ files_at before batch left.number) ⊎ (after ≡ files_at before batch (left.number + 1)) → found name after ≡ found name before

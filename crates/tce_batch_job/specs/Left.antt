@@ -4,6 +4,7 @@ use Rattle.std.specs.Option.{option_map}
 use Rattle.tce_outside.specs.Files.{Files, file, others}
 use Rattle.tce_spec.specs.Specification.{Specification}
 use Rattle.tce_tensors.specs.TensorFiles.{file_of}
+use Rattle.tce_tensors.specs.Laws.{LeavesNoHalfResult}
 use Rattle.tce_job.specs.declared.fault.JobFault.{JobFault}
 use Rattle.tce_job.specs.declared.fault.JobFault.TheVariants.{Array, Disk, Memory}
 use Rattle.tce_batch_job.specs.Files.{files_after}
@@ -15,9 +16,10 @@ use Rattle.tce_batch_job.specs.declared.fault.BatchFault.{BatchFault}
 abbrev pub files_at : Option Files → List Specification → ℕ → Option Files
 files_at before batch count = option_map (files_after (take count batch)) before
 
--- after a failure at a formula every file but its result is as the formulas in front of it left it; after want of memory all files are, or its result is complete too; after any other refusal no file changed
+-- after a failure at a formula every file but its result is as the formulas in front of it left it, and in the place of its result is no half of one; after want of memory all files are, or its result is complete too; after any other refusal no file changed
 abbrev pub IsLeftAt : Option Files → Option Files → List Specification → ℕ → JobFault → Type 0
-IsLeftAt before after batch formula Disk = IsAt batch formula (λ number s. others (file_of s s.result) after ≡ others (file_of s s.result) (files_at before batch number))
+IsLeftAt before after batch formula Disk = IsAt batch formula (λ number s.
+    (others (file_of s s.result) after ≡ others (file_of s s.result) (files_at before batch number)) × LeavesNoHalfResult s (files_at before batch number) after)
 IsLeftAt before after batch formula Memory = IsAt batch formula (λ number s. (after ≡ files_at before batch number) ⊎ (after ≡ files_at before batch (number + 1)))
 IsLeftAt before after batch formula fault = after ≡ before
 

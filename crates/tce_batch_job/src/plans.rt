@@ -1,6 +1,5 @@
 // The plan of every formula, found before any formula is run.
 ghost use Rattle.std.specs.Prelude.{◌≡◌, ◌≢◌, ◌<◌, ◌≤◌, ◌^◌, IfOk, IfErr, OnOk, Some, length, slice_get};
-ghost use Rattle.tce_search.specs.LeastPlan.{IsLeastPlan};
 ghost use Rattle.tce_job.specs.Refusals.{IsAffordable, IsCause};
 ghost use Rattle.tce_job.specs.declared.fault.JobFault.{JobFault as Fault};
 ghost use Rattle.tce_spec.specs.Specification.{Specification};
@@ -11,11 +10,8 @@ use crate::fault::{BatchFault, before_runs};
 use arrayvec::ArrayVec;
 use std::alloc::{AllocError, Global};
 use tce_batch::Batch;
-use tce_job::JobFault;
+use tce_job::{JobFault, affordable_plan};
 use tce_nesting::{Plan, Tables};
-use tce_search::search;
-use tce_spec::Spec;
-use tce_tensors::least_budget;
 use tce_tree::{Fusion, Orders};
 
 /// The plan of a formula until it is run, without the rows that show it to be least: they may take far more memory than
@@ -58,30 +54,6 @@ impl KeptPlan {
             tables: Tables::new(alloc, self.sizes.len() as u8)?,
         })
     }
-}
-
-// The words that the intermediates of a run may take.
-const MOST_MEMORY: u128 = 1 << 40;
-
-// A plan of least memory, where the budget is enough and the plan's memory within the limit.
-fn affordable_plan(alloc: Global, spec: &Spec, budget: u64) -> Result<Plan, JobFault>
-    ensures plan { IfOk result (IsLeastPlan spec.now.declarations.space spec.now.tree) }
-    ensures small { IfOk result (λ plan. plan.memory ≤ 2 ^ 40) }
-    ensures affordable { OnOk result (IsAffordable spec.now budget) }
-    ensures refused { IfErr result (IsCause (λ _. ⊥) spec.now budget) }
-    ensures failed { IfErr result (λ fault. fault ≢ Fault.Disk) }
-{
-    let least = least_budget(spec);
-    if budget < least {
-        return Err(JobFault::BudgetTooSmall(least));
-    }
-    let Ok(plan) = search(alloc, spec.space(), spec.tree()) else {
-        return Err(JobFault::Memory);
-    };
-    if plan.memory > MOST_MEMORY {
-        return Err(JobFault::IntermediatesTooLarge(plan.memory));
-    }
-    Ok(plan)
 }
 
 // Finds the plan of a formula by its number, from 0, and puts it behind the others.

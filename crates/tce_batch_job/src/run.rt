@@ -3,9 +3,9 @@ ghost use Rattle.std.specs.Prelude.{◌≡◌, ◌<◌, ◌≤◌, ◌^◌, IfOk
 ghost use Rattle.tce_spec.specs.Specification.{Specification};
 ghost use Rattle.tce_outside.specs.Files.{others};
 ghost use Rattle.tce_tensors.specs.TensorFiles.{file_of};
+ghost use Rattle.tce_tensors.specs.Laws.{LeavesNoHalfResult};
 ghost use Rattle.tce_tensors.specs.ResultBytes.{with_result};
-ghost use Rattle.tce_tensors.specs.Opened.{AreOpened, operand_count};
-ghost use Rattle.tce_job.specs.Refusals.{IsAffordable, IsCause, IsFaultOf, IsFree, IsOpeningFault, MayBeRefused};
+ghost use Rattle.tce_job.specs.Refusals.{IsAffordable, IsCause, IsFree, MayBeRefused};
 ghost use Rattle.tce_job.specs.Run.{IsReported};
 ghost use Rattle.tce_job.specs.Prepared.{IsRoomLeft as IsRoomLeftByOne};
 ghost use Rattle.std.specs.Option.{ForSome, option_map};
@@ -22,37 +22,11 @@ use crate::plans::{KeptPlan, find_plans};
 use crate::report::{BatchReport, first_line, push_section};
 use crate::sources::open_sources;
 use std::alloc::Global;
-use tce_array::ArrayFault;
 use tce_batch::Batch;
-use tce_job::{Bytes, JobFault, RunReport, run_by};
+use tce_job::{Bytes, JobFault, RunReport, opened_forms, run_by};
 use tce_outside::Disk;
 use tce_spec::Spec;
-use tce_tensors::{Forms, Refused, open_operands};
 use tce_words::Room;
-
-// The fault of a run for an operand that is refused.
-fn fault_of(refused: Refused) -> JobFault
-    ensures { IsFaultOf refused result }
-{
-    match refused.fault {
-        ArrayFault::Disk => JobFault::Disk,
-        fault => JobFault::Array(refused.tensor, fault),
-    }
-}
-
-// The forms of the files of a formula's operands, once the formulas in front of it were run.
-fn opened_forms<D: Disk>(spec: &Spec, disk: &mut D) -> Result<Forms, JobFault>
-    ensures opened { IfOk result (λ forms. ForSome (D.files disk.old) (λ files. AreOpened files spec.now forms.0 (operand_count spec.now))) }
-    ensures refused { IfErr result (IsOpeningFault (D.files disk.old) spec.now) }
-    ensures same { D.files disk.new ≡ D.files disk.old }
-    ensures cause { HasCause (D.faults disk.old) (D.faults disk.new) (result ≡ Err Fault.Disk) }
-    ensures quiet { TellsFaults (D.faults disk.old) (D.faults disk.new) (result ≡ Err Fault.Disk) }
-{
-    match open_operands(spec, disk) {
-        Ok(forms) => Ok(forms),
-        Err(refused) => Err(fault_of(refused)),
-    }
-}
 
 // Runs a specification by the plan that was kept of it, as `run_job` does by one that it finds.
 fn run_kept<D: Disk, R: Room>(
@@ -71,8 +45,10 @@ fn run_kept<D: Disk, R: Room>(
     ensures refused { IfErr result (IsCause (MayBeRefused (D.files disk.old) spec.now) spec.now budget) }
     ensures unchanged { IfErr result (λ fault. (fault ≡ Fault.Disk) ⊎ (D.files disk.new ≡ D.files disk.old)) }
     ensures takings { IfErr result (λ fault. IsRoomLeftByOne fault spec.now budget (R.takings room.old) (R.takings room.new)) }
+    ensures no_half { LeavesNoHalfResult spec.now (D.files disk.old) (D.files disk.new) }
     ensures others { others (file_of spec.now spec.now.result) (D.files disk.new) ≡ others (file_of spec.now spec.now.result) (D.files disk.old) }
     ensures cause { HasCause (D.faults disk.old) (D.faults disk.new) (result ≡ Err Fault.Disk) }
+    ensures quiet { TellsFaults (D.faults disk.old) (D.faults disk.new) (result ≡ Err Fault.Disk) }
 {
     // A tree has at most 32 nodes.
     let _nodes = spec.tree().count();
@@ -102,8 +78,10 @@ fn run_formula<D: Disk, R: Room>(
     ensures refused { IfErr result (λ fault. (s : Specification) → slice_get batch.now kept.now.number ≡ Some s → IsCause (MayBeRefused (D.files disk.old) s) s budget fault) }
     ensures unchanged { IfErr result (λ fault. (fault ≡ Fault.Disk) ⊎ (D.files disk.new ≡ D.files disk.old)) }
     ensures takings { IfErr result (λ fault. (s : Specification) → slice_get batch.now kept.now.number ≡ Some s → IsRoomLeftByOne fault s budget (R.takings room.old) (R.takings room.new)) }
+    ensures no_half { (s : Specification) → slice_get batch.now kept.now.number ≡ Some s → LeavesNoHalfResult s (D.files disk.old) (D.files disk.new) }
     ensures others { (s : Specification) → slice_get batch.now kept.now.number ≡ Some s → others (file_of s s.result) (D.files disk.new) ≡ others (file_of s s.result) (D.files disk.old) }
     ensures cause { HasCause (D.faults disk.old) (D.faults disk.new) (result ≡ Err Fault.Disk) }
+    ensures quiet { TellsFaults (D.faults disk.old) (D.faults disk.new) (result ≡ Err Fault.Disk) }
 {
     let Ok(spec) = batch.spec(alloc, kept.number) else {
         return Err(JobFault::Memory);
@@ -131,6 +109,7 @@ fn run_all<D: Disk, R: Room>(
     ensures left { IfErr result (λ refused. IsLeft (D.files disk.old) (D.files disk.new) batch.now refused) }
     ensures takings { IfErr result (λ refused. IsRoomLeft (R.takings room.old) (R.takings room.new) batch.now budget refused) }
     ensures cause { HasCause (D.faults disk.old) (D.faults disk.new) (IsErrAnd result (λ refused. refused.fault ≡ Fault.Disk)) }
+    ensures quiet { TellsFaults (D.faults disk.old) (D.faults disk.new) (IsErrAnd result (λ refused. refused.fault ≡ Fault.Disk)) }
 {
     let count = batch.len();
     let Ok(mut text) = first_line(alloc) else {
@@ -162,7 +141,7 @@ fn run_all<D: Disk, R: Room>(
 /// with a fault decides: for all formulas in turn `BudgetTooSmall` and then `IntermediatesTooLarge`, and after that for
 /// all formulas in turn `Array` with the first operand by first use that is no earlier result and is refused. A failure
 /// of the disk, or want of memory, before the first run is told of formula 1. After `Disk` or `Memory` at a formula the
-/// results of the formulas in front of it are complete.
+/// results of the formulas in front of it are complete, and its own file is as `run_job` leaves it.
 ///
 /// The plan of each formula is found once, at the start, and kept for its run.
 pub fn run_batch<D: Disk, R: Room>(
@@ -184,6 +163,7 @@ pub fn run_batch<D: Disk, R: Room>(
     ensures tested { IfErr result (λ refused. ForSome (D.files disk.old) (λ _. (IsFree refused.fault → ⊥) → R.takings room.new ≡ R.takings room.old)) }
     ensures others { OnlyResultsDiffer batch.now (D.files disk.old) (D.files disk.new) }
     ensures cause { HasCause (D.faults disk.old) (D.faults disk.new) (IsErrAnd result (λ refused. refused.fault ≡ Fault.Disk)) }
+    ensures quiet { TellsFaults (D.faults disk.old) (D.faults disk.new) (IsErrAnd result (λ refused. refused.fault ≡ Fault.Disk)) }
 {
     let plans = find_plans(alloc, batch, budget)?;
     open_sources(alloc, batch, disk)?;

@@ -2,7 +2,7 @@
 ghost use Rattle.std.specs.Prelude.{◌≡◌, ◌⊎◌, ◌≤◌, Err, IfOk, IfErr, OnOk};
 ghost use Rattle.std.specs.Option.{ForSome, option_map};
 ghost use Rattle.std.specs.String.{string_bytes};
-ghost use Rattle.tce_outside.specs.Fault.{HasCause};
+ghost use Rattle.tce_outside.specs.Fault.{HasCause, TellsFaults};
 ghost use Rattle.tce_command.specs.Refusals.{IsFree};
 ghost use Rattle.tce_job.specs.Prepared.{HasTaken};
 ghost use Rattle.tce_example.specs.Specification.{IsDemo};
@@ -26,6 +26,7 @@ fn put_input<D: Disk>(disk: &mut D, made: &Example, seed: u64) -> Result<(), Ref
     ensures free { IfErr result IsFree }
     ensures others { DemoOthersStay (D.files disk.old) (D.files disk.new) }
     ensures cause { HasCause (D.faults disk.old) (D.faults disk.new) (result ≡ Err Refusal.Disk) }
+    ensures told { TellsFaults (D.faults disk.old) (D.faults disk.new) (result ≡ Err Refusal.Disk) }
 {
     match write_input(disk, made, seed) {
         Ok(()) => Ok(()),
@@ -50,6 +51,7 @@ fn demonstrate<D: Disk, R: Room>(
     ensures takings { IfErr result (λ refusal. (IsFree refusal × HasTaken made.now.spec demo_budget (R.takings room.old) (R.takings room.new)) ⊎ (R.takings room.new ≡ R.takings room.old)) }
     ensures others { DemoOthersStay (D.files disk.old) (D.files disk.new) }
     ensures cause { HasCause (D.faults disk.old) (D.faults disk.new) (result ≡ Err Refusal.Disk) }
+    ensures told { TellsFaults (D.faults disk.old) (D.faults disk.new) (result ≡ Err Refusal.Disk) }
 {
     put_input(disk, made, seed)?;
     let run = run_example(alloc, &made.spec, disk, room)?;
@@ -84,6 +86,7 @@ pub fn demo<D: Disk, R: Room>(
     ensures takings { IfErr result (λ refusal. (IsFree refusal × IsDemoTaking v o (R.takings room.old) (R.takings room.new)) ⊎ (R.takings room.new ≡ R.takings room.old)) }
     ensures others { DemoOthersStay (D.files disk.old) (D.files disk.new) }
     ensures cause { HasCause (D.faults disk.old) (D.faults disk.new) (result ≡ Err Refusal.Disk) }
+    ensures told { TellsFaults (D.faults disk.old) (D.faults disk.new) (result ≡ Err Refusal.Disk) }
 {
     let Ok(made) = make_example(alloc, v, o) else {
         return Err(Refusal::Memory);

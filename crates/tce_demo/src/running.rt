@@ -2,7 +2,7 @@
 ghost use Rattle.std.specs.Prelude.{◌≡◌, ◌⊎◌, OnOk, IfOk, IfErr, Err};
 ghost use Rattle.std.specs.Option.{ForSome, option_map};
 ghost use Rattle.tce_outside.specs.Files.{others};
-ghost use Rattle.tce_outside.specs.Fault.{HasCause};
+ghost use Rattle.tce_outside.specs.Fault.{HasCause, TellsFaults};
 ghost use Rattle.tce_command.specs.Refusals.{IsFree};
 ghost use Rattle.tce_tensors.specs.TensorFiles.{file_of};
 ghost use Rattle.tce_tensors.specs.ResultBytes.{with_result};
@@ -32,6 +32,7 @@ fn run_refusal(spec: &Spec, fault: JobFault) -> Refusal
     ensures told { IsToldAs spec.now fault result }
     ensures free { IsFreeFault fault → IsFree result }
     ensures disk_alone { result ≡ Refusal.Disk → fault ≡ JobFault.Disk }
+    ensures disk_told { fault ≡ JobFault.Disk → result ≡ Refusal.Disk }
 {
     refusal_of(spec, fault)
 }
@@ -53,6 +54,7 @@ pub fn run_example<D: Disk, R: Room>(
     ensures as_run { IfErr result (IsOfRun spec.now) }
     ensures others { others (file_of spec.now spec.now.result) (D.files disk.new) ≡ others (file_of spec.now spec.now.result) (D.files disk.old) }
     ensures cause { HasCause (D.faults disk.old) (D.faults disk.new) (result ≡ Err Refusal.Disk) }
+    ensures quiet { TellsFaults (D.faults disk.old) (D.faults disk.new) (result ≡ Err Refusal.Disk) }
 {
     match run_job(alloc, spec, BUDGET, disk, room) {
         Ok(report) => Ok(report),

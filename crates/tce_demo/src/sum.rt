@@ -2,7 +2,7 @@
 ghost use Rattle.std.specs.Prelude.{◌≡◌, IfOk, IsErr};
 ghost use Rattle.std.specs.Option.{ForSome, IsSomeAnd};
 ghost use Rattle.tce_outside.specs.Files.{file};
-ghost use Rattle.tce_outside.specs.Fault.{HasCause};
+ghost use Rattle.tce_outside.specs.Fault.{HasCause, TellsFaults};
 ghost use Rattle.tce_array.specs.declared.form.Form.TheVariants.{One};
 ghost use Rattle.tce_array.specs.Forms.{IsForm};
 ghost use Rattle.tce_spec.specs.Operands.{shape_of};
@@ -22,6 +22,7 @@ pub fn result_sum<D: Disk>(disk: &mut D, spec: &Spec) -> Result<u64, Failed>
     ensures sum { IfOk result (λ n. ForSome (D.files disk.old) (λ files. n ≡ result_sum spec.now files)) }
     ensures same { D.files disk.new ≡ D.files disk.old }
     ensures cause { HasCause (D.faults disk.old) (D.faults disk.new) (IsErr result) }
+    ensures told { TellsFaults (D.faults disk.old) (D.faults disk.new) (IsErr result) }
 {
     let result = spec.result().tensor;
     let file = file_of(spec, result);

@@ -22,7 +22,7 @@ use Rattle.tce_run.specs.Told.{IsOfFiles, IsToldAs}
 use Rattle.tce_run.specs.BatchDone.{IsBatchLeft, IsBatchRoomLeft, IsBatchRun, IsBatchTaking, OnlyBatchDiffers}
 use Rattle.tce_run.specs.BatchRefusals.{IsBatchRefusal, IsToldAt, IsToldWithout}
 use Rattle.tce_run.proofs.Ran.{within}
-use Rattle.tce_run.proofs.Told.{told_disk}
+use Rattle.tce_run.proofs.Told.{told_disk, disk_told}
 use Rattle.tce_run.proofs.BatchReasons.{told_free}
 
 -- A fault names a formula.
@@ -78,6 +78,14 @@ pub failed_told : (formulas : List Specification) (refused : BatchFault) (a : Re
 failed_told formulas refused a (inl told) failed = without_disk refused.fault a told failed
 failed_told formulas refused a (inr told) failed = told_disk told.specification refused.fault a told.here failed
 
+-- and what is told as none was none
+without_failed : (f : JobFault) (a : Refusal) → IsToldWithout f a → f ≡ faults.Disk → a ≡ Disk
+without_failed f a told failed = subst (λ g. IsToldWithout g a) failed told
+
+pub disk_told_at : (formulas : List Specification) (refused : BatchFault) (a : Refusal) → IsToldAt formulas refused a → refused.fault ≡ faults.Disk → a ≡ Disk
+disk_told_at formulas refused a (inl told) failed = without_failed refused.fault a told failed
+disk_told_at formulas refused a (inr told) failed = disk_told told.specification refused.fault a told.here failed
+
 told_of_disk : (formulas : List Specification) (formula : ℕ) (a : Refusal) → IsToldWithout faults.Disk a ⊎ IsAt formulas formula (λ number s. IsToldAs s faults.Disk a) → a ≡ Disk
 told_of_disk formulas formula a (inl told) = told
 told_of_disk formulas formula a (inr told) = told.here
@@ -115,7 +123,7 @@ files_left before after spec formulas formula (faults.IntermediatesTooLarge n) a
 files_left before after spec formulas formula (faults.Array t u) a specified told left = unchanged_left before after spec a left
 files_left before after spec formulas formula faults.Disk a specified told left =
     subst (λ r. IsBatchLeft r before after spec) (sym (told_of_disk formulas formula a told))
-    (inr (record { formulas = formulas; specified = specified; number = left.number; formula = left.specification; at = left.at; others_are = left.here }))
+    (inr (record { formulas = formulas; specified = specified; number = left.number; formula = left.specification; at = left.at; others_are = left.here.0; no_half = left.here.1 }))
 files_left before after spec formulas formula faults.Memory a specified told left =
     let w = slice_get_within formulas left.number left.specification left.at in
     subst (λ r. IsBatchLeft r before after spec) (sym (told_of_memory formulas formula a told))

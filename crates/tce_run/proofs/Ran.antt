@@ -1,5 +1,5 @@
 -- What the command leaves, by what the run of its specification leaves.
-use Rattle.std.proofs.Common.{◌≡◌, ℕ, ◌/◌, ◌≤◌, List, Option, inl, inr, ap, ◌∙◌, arith}
+use Rattle.std.proofs.Common.{◌≡◌, ℕ, ◌/◌, ◌≤◌, List, Option, inl, inr, ap, ◌∙◌, subst, arith}
 use Rattle.std.proofs.Math.Nat.{mul-div-le, mul-le-mul_left}
 use Rattle.std.specs.Option.{ForSome, option_map}
 use Rattle.tce_outside.specs.Files.{Files, others}
@@ -8,6 +8,7 @@ use Rattle.tce_spec.specs.Specification.{Specification}
 use Rattle.tce_spec.specs.Operands.{largest_tile}
 use Rattle.tce_tensors.specs.TensorFiles.{file_of}
 use Rattle.tce_tensors.specs.ResultBytes.{with_result}
+use Rattle.tce_tensors.specs.Laws.{LeavesNoHalfResult}
 use Rattle.tce_tensors.specs.Takings.{tile_take, frame_count}
 use Rattle.tce_tensors.specs.Opened.{IsRefused}
 use Rattle.tce_job.specs.declared.fault.JobFault.{JobFault}
@@ -51,8 +52,13 @@ refused before middle spec budget s f a same specified told cause files is =
     inr (s, specified files is, told_cause files s budget f a told (cause_map (MayBeRefused middle s) (IsRefused files s) s budget f (λ r h. h.1 files (same ∙ is)) cause))
 
 pub others_stay : (before middle after : Option Files) (spec : List ℕ) (s : Specification) → middle ≡ before → ForSome before (λ files. HasSpecification files spec s)
-    → others (file_of s s.result) after ≡ others (file_of s s.result) middle → OnlyResultDiffers spec before after
-others_stay before middle after spec s same specified stay = inr (record { specification = s; specified = specified; others_are = stay ∙ ap (others (file_of s s.result)) same })
+    → others (file_of s s.result) after ≡ others (file_of s s.result) middle → LeavesNoHalfResult s middle after → OnlyResultDiffers spec before after
+others_stay before middle after spec s same specified stay half = inr (record {
+  specification = s;
+  specified = specified;
+  others_are = stay ∙ ap (others (file_of s s.result)) same;
+  no_half = subst (λ o. LeavesNoHalfResult s o after) same half;
+})
 
 -- two calls, the last of which may fail
 rose_later : (a b c : ℕ) → a ≤ b → Rose b c → Rose a c

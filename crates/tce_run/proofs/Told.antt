@@ -61,6 +61,17 @@ refusal_in (Err refusal) = refusal
 pub told_failure : {A B : Type 0} (s : Specification) (f : JobFault) (a : Refusal) (given : Result A JobFault) (told : Result B Refusal) → given ≡ Err f → told ≡ Err a → IsToldAs s f a → told ≡ Err Disk → given ≡ Err faults.Disk
 told_failure s f a given told is was says failed = is ∙ ap Err (told_disk s f a says (sym (ap refusal_in was) ∙ ap refusal_in failed))
 
+-- and what is told as none was none
+pub disk_told : (s : Specification) (f : JobFault) (a : Refusal) → IsToldAs s f a → f ≡ faults.Disk → a ≡ Disk
+disk_told s f a says failed = subst (λ g. IsToldAs s g a) failed says
+
+pub told_no_failure : {A B : Type 0} (s : Specification) (f : JobFault) (a : Refusal) (given : Result A JobFault) (told : Result B Refusal) → given ≡ Err f → told ≡ Err a → IsToldAs s f a
+    → (told ≡ Err Disk → ⊥) → given ≡ Err faults.Disk → ⊥
+told_no_failure s f a given told is was says none failed =
+    let same : Err f ≡ Err faults.Disk = sym is ∙ failed in
+    let fault : f ≡ faults.Disk = cc in
+    none (was ∙ ap Err (disk_told s f a says fault))
+
 -- an answer is no failure
 pub answered : {A Q : Type 0} (answer : A) (told : Result A Refusal) → told ≡ Ok answer → told ≡ Err Disk → Q
 answered answer told is failed = absurd (cc)

@@ -4,6 +4,7 @@ use Rattle.std.specs.Option.{ForSome, option_map}
 use Rattle.tce_outside.specs.Files.{Files, others}
 use Rattle.tce_spec.specs.Specification.{Specification}
 use Rattle.tce_tensors.specs.TensorFiles.{file_of}
+use Rattle.tce_tensors.specs.Laws.{LeavesNoHalfResult}
 use Rattle.tce_tensors.specs.Takings.{tile_take}
 use Rattle.tce_batch_job.specs.Files.{files_after}
 use Rattle.tce_batch_job.specs.Reports.{HasRun, HasTaken}
@@ -49,7 +50,7 @@ pub record AreFirstRun (before after : Option Files) (spec : List ℕ) : Type 0 
   pub within : count ≤ length formulas
   pub files_are : after ≡ files_at before formulas count
 
--- every file but the result of one formula is as the formulas in front of it left it
+-- every file but the result of one formula is as the formulas in front of it left it, and in its place is no half of a result
 pub record IsCutOff (before after : Option Files) (spec : List ℕ) : Type 0 where
   pub formulas : List Specification
   pub specified : ForSome before (λ files. HasBatch files spec formulas)
@@ -57,6 +58,7 @@ pub record IsCutOff (before after : Option Files) (spec : List ℕ) : Type 0 whe
   pub formula : Specification
   pub at : slice_get formulas number ≡ Some formula
   pub others_are : others (file_of formula formula.result) after ≡ others (file_of formula formula.result) (files_at before formulas number)
+  pub no_half : LeavesNoHalfResult formula (files_at before formulas number) after
 
 -- what a refused command leaves of the files: after a failure those in front of one formula are complete, after want of memory the first ones are and no other file differs, and after any other refusal no file changed
 abbrev pub IsBatchLeft : Refusal → Option Files → Option Files → List ℕ → Type 0

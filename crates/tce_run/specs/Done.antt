@@ -12,6 +12,7 @@ use Rattle.tce_spec.specs.Specification.{Specification}
 use Rattle.tce_spec.specs.Operands.{shape_of}
 use Rattle.tce_tensors.specs.TensorFiles.{file_of}
 use Rattle.tce_tensors.specs.ResultBytes.{with_result}
+use Rattle.tce_tensors.specs.Laws.{LeavesNoHalfResult}
 use Rattle.tce_tensors.specs.Takings.{tile_take}
 use Rattle.tce_job.specs.Refusals.{CanRun}
 use Rattle.tce_command.specs.declared.refusal.Refusal.{Refusal}
@@ -46,11 +47,12 @@ IsRoomLeft Disk before taken taken_after spec budget = (taken_after ≡ taken) �
 IsRoomLeft Memory before taken taken_after spec budget = (taken_after ≡ taken) ⊎ IsTaking before taken taken_after spec budget
 IsRoomLeft refusal before taken taken_after spec budget = taken_after ≡ taken
 
--- no file differs but that of the result of the specification in the file
+-- no file differs but that of the result of the specification in the file, and in its place is no half of a result
 pub record OthersStay (spec : List ℕ) (before after : Option Files) : Type 0 where
   pub specification : Specification
   pub specified : ForSome before (λ files. HasSpecification files spec specification)
   pub others_are : others (file_of specification specification.result) after ≡ others (file_of specification specification.result) before
+  pub no_half : LeavesNoHalfResult specification before after
 
 -- no file differs, or, where the file holds a specification, that of its result alone
 abbrev pub OnlyResultDiffers : List ℕ → Option Files → Option Files → Type 0

@@ -1,7 +1,7 @@
 // The command that runs several formulas.
 ghost use Rattle.std.specs.Prelude.{◌≡◌, ◌≤◌, ◌^◌, Err, IfOk, IfErr};
 ghost use Rattle.std.specs.Option.{ForSome};
-ghost use Rattle.tce_outside.specs.Fault.{HasCause};
+ghost use Rattle.tce_outside.specs.Fault.{HasCause, TellsFaults};
 ghost use Rattle.tce_command.specs.Command.{NamesSpec};
 ghost use Rattle.tce_run.specs.BatchDone.{IsBatchLeft, IsBatchRoomLeft, IsBatchRun, OnlyBatchDiffers};
 ghost use Rattle.tce_run.specs.BatchRefusals.{IsBatchRefusal};
@@ -38,6 +38,7 @@ pub fn run_all<D: Disk, R: Room>(
     ensures takings { IfErr result (λ refusal. IsBatchRoomLeft refusal (D.files disk.old) (R.takings room.old) (R.takings room.new) spec.now budget) }
     ensures others { OnlyBatchDiffers spec.now (D.files disk.old) (D.files disk.new) }
     ensures cause { HasCause (D.faults disk.old) (D.faults disk.new) (result ≡ Err Refusal.Disk) }
+    ensures told { TellsFaults (D.faults disk.old) (D.faults disk.new) (result ≡ Err Refusal.Disk) }
 {
     let batch = read_batch_source(alloc, disk, spec)?;
     match run_batch(alloc, &batch, budget, disk, room) {

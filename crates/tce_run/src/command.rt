@@ -1,7 +1,7 @@
 // The command.
 ghost use Rattle.std.specs.Prelude.{◌≡◌, ◌⊎◌, ◌≤◌, ◌^◌, Err, IfOk, IfErr};
 ghost use Rattle.std.specs.Option.{ForSome};
-ghost use Rattle.tce_outside.specs.Fault.{HasCause};
+ghost use Rattle.tce_outside.specs.Fault.{HasCause, TellsFaults};
 ghost use Rattle.tce_command.specs.Command.{NamesSpec};
 ghost use Rattle.tce_run.specs.Done.{IsRun, IsRoomLeft, OnlyResultDiffers};
 ghost use Rattle.tce_run.specs.Refusals.{IsRunRefusal};
@@ -19,7 +19,8 @@ use tce_words::Room;
 /// The budget, in words, is for tiles; it is at most 2^40. The specification is refused first; then `Budget` comes with
 /// three of the largest tiles in words, `Intermediates` with the least memory in words where it is above 2^40, and
 /// `Missing` with the file, or `Array` with the name, of the first operand by first use that is refused. After every
-/// refusal but `Disk` all files are as they were; after `Disk` the result's file may hold anything or be absent.
+/// refusal but `Disk` all files are as they were; after `Disk` the result's file is as it was, absent, begins with zeros as no
+/// array does, or is whole but for its head.
 pub fn run<D: Disk, R: Room>(
     alloc: Global,
     spec: &str,
@@ -35,6 +36,7 @@ pub fn run<D: Disk, R: Room>(
     ensures takings { IfErr result (λ refusal. IsRoomLeft refusal (D.files disk.old) (R.takings room.old) (R.takings room.new) spec.now budget) }
     ensures others { OnlyResultDiffers spec.now (D.files disk.old) (D.files disk.new) }
     ensures cause { HasCause (D.faults disk.old) (D.faults disk.new) (result ≡ Err Refusal.Disk) }
+    ensures told { TellsFaults (D.faults disk.old) (D.faults disk.new) (result ≡ Err Refusal.Disk) }
 {
     let source = read_source(alloc, disk, spec)?;
     // A specification keeps its rules.

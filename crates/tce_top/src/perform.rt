@@ -1,7 +1,7 @@
 // What a command does.
 ghost use Rattle.std.specs.Prelude.{◌≡◌, ◌⊎◌, Err, IfOk, IfErr};
 ghost use Rattle.std.specs.Option.{ForSome};
-ghost use Rattle.tce_outside.specs.Fault.{HasCause};
+ghost use Rattle.tce_outside.specs.Fault.{HasCause, TellsFaults};
 ghost use Rattle.tce_command.specs.Command.{KeepsRules};
 ghost use Rattle.tce_command.specs.CommandCode.{command_of};
 ghost use Rattle.tce_command.specs.CommandRefusals.{MayReplace};
@@ -38,6 +38,7 @@ pub fn perform<D: Disk, R: Room>(
     ensures untaken { IfErr result (λ refusal. MayReplace refusal ⊎ KeepsRoom (command_of command.entry) (D.files disk.old) (R.takings room.old) (R.takings room.new)) }
     ensures others { OthersStay (command_of command.entry) (D.files disk.old) (D.files disk.new) }
     ensures cause { HasCause (D.faults disk.old) (D.faults disk.new) (result ≡ Err (CommandRefusal.Common Refusal.Disk)) }
+    ensures told { TellsFaults (D.faults disk.old) (D.faults disk.new) (result ≡ Err (CommandRefusal.Common Refusal.Disk)) }
 {
     match command {
         Command::Run { spec, budget } => Ok(run(alloc, spec, budget, disk, room)?),

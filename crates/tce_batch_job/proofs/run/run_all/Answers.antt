@@ -1,4 +1,4 @@
-use Rattle.std.proofs.Common.{inl, inr, ℕ, ◌+◌, ◌++◌, List, refl, ap, ◌∙◌, arith}
+use Rattle.std.proofs.Common.{inl, inr, ℕ, ◌+◌, ◌++◌, List, refl, ap, ◌∙◌, arith, rules}
 use Rattle.tce_batch_job.specs.Reports.{section_of}
 use Rattle.tce_batch_job.proofs.Afforded.{some_at}
 use Rattle.tce_batch_job.proofs.Kept.{kept_place}
@@ -73,7 +73,7 @@ returns-in-Err-clause-left g c =
     let start = g.D.Disk.files c.args.disk.now in
     let now = g.D.Disk.files c.loop-number.disk in
     let h = has_failed start now c.args.batch.now c.args.budget number s c.in-Err.fault c.len-count.ensures.rules at c.requires.affordable c.requires.sources c.loop-number.invariant.told (c.in-Err.ensures.refused s here) in
-    failed_left start now (g.D.Disk.files c.run_formula.new.disk) c.args.batch.now c.args.budget number s c.in-Err.fault h c.in-Err.ensures.unchanged (c.in-Err.ensures.others s here)
+    failed_left start now (g.D.Disk.files c.run_formula.new.disk) c.args.batch.now c.args.budget number s c.in-Err.fault h c.in-Err.ensures.unchanged (c.in-Err.ensures.others s here) (c.in-Err.ensures.no_half s here)
 
 pub returns-in-Err-clause-takings : goal.returns-in-Err-clause-takings
 returns-in-Err-clause-takings g c =
@@ -97,5 +97,5 @@ loop-number-preserved g c =
       told = told_more (g.D.Disk.files c.args.disk.now) (g.D.Disk.files c.loop-number.disk) (g.D.Disk.files c.run_formula.new.disk) c.args.batch.now number s at c.loop-number.invariant.told (c.in-Ok-run_formula.ensures.told s here);
       run = run_more c.args.budget c.args.batch.now number s (g.R.Room.takings c.args.room.now) (g.R.Room.takings c.loop-number.room) (g.R.Room.takings c.run_formula.new.room) text c.push_section.new.text.items c.in-Ok-run_formula.report at
           c.loop-number.invariant.run (c.in-Ok-run_formula.ensures.reported s here) (c.in-Ok-push_section.ensures ∙ ap (λ (xs : List ℕ). text ++ section_of (number + 1) xs) c.as_slice.ensures);
-      later = omega (arith, c.loop-number.invariant.later, c.run_formula.ensures.cause.later);
+      counted = c.in-Ok-run_formula.ensures.quiet (search rules) ∙ c.loop-number.invariant.counted;
     }

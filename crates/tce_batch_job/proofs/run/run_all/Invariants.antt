@@ -1,4 +1,4 @@
-use Rattle.std.proofs.Common.{◌≡◌, ◌≤◌, take}
+use Rattle.std.proofs.Common.{◌≡◌, take}
 use Rattle.tce_batch_job.specs.Left.{files_at}
 use Rattle.tce_batch_job.specs.Reports.{HasRun}
 use Rattle.tce_batch_job.proofs.run.run_all.Given as goal
@@ -7,5 +7,5 @@ abbrev pub invariant-loop-number : goal.invariant-loop-number
 invariant-loop-number g l = record {
   told : g.D.Disk.files l.disk ≡ files_at (g.D.Disk.files l.fn.disk) l.batch l.number;
   run : HasRun (take l.number l.batch) l.budget (g.R.Room.takings l.fn.room) (g.R.Room.takings l.room) l.text.items;
-  later : g.D.Disk.faults l.fn.disk ≤ g.D.Disk.faults l.disk;
+  counted : g.D.Disk.faults l.disk ≡ g.D.Disk.faults l.fn.disk;
 }

@@ -2,6 +2,7 @@ use Rattle.std.proofs.Common.{◌≡◌}
 use Rattle.std.specs.Option.{option_map}
 use Rattle.tce_spec.specs.Specification.{Specification}
 use Rattle.tce_tensors.specs.ResultBytes.{with_result}
+use Rattle.tce_tensors.specs.Laws.{LeavesNoHalfResult}
 use Rattle.tce_job.specs.Refusals.{IsCause, MayBeRefused}
 use Rattle.tce_job.specs.Run.{IsReported}
 use Rattle.tce_job.specs.Prepared.{IsRoomLeft}
@@ -26,3 +27,7 @@ returns-clause-takings g c =
 
 pub run_kept-requires-clause-affordable : goal.run_kept-requires-clause-affordable
 run_kept-requires-clause-affordable g c = c.requires.affordable c.args.kept.now.number c.in-Ok.spec c.requires.number c.in-Ok.ensures
+
+pub returns-clause-no_half : goal.returns-clause-no_half
+returns-clause-no_half g c = λ s at.
+    at_place (λ (x : Specification). LeavesNoHalfResult x (g.D.Disk.files c.args.disk.now) (g.D.Disk.files c.run_kept.new.disk)) c.in-Ok.spec s _ c.in-Ok.ensures c.run_kept.ensures.no_half at

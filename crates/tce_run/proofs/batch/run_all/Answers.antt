@@ -1,9 +1,9 @@
-use Rattle.std.proofs.Common.{List, ℕ, refl, sym, subst, ap}
+use Rattle.std.proofs.Common.{List, ℕ, Err, refl, sym, subst, ap, ◌∙◌, rules}
 use Rattle.std.proofs.lemmas.Result.{err_from_is_err_and}
 use Rattle.tce_run.specs.BatchDone.{IsBatchRun}
 use Rattle.tce_run.proofs.Told.{refusal_in, answered}
 use Rattle.tce_run.proofs.Ran.{both_causes}
-use Rattle.tce_run.proofs.BatchRan.{names_one, names_tensor, of_files_at, failed_told, batch_refused, unchanged_left, batch_left, batch_room, same_room, batch_others, batch_ran}
+use Rattle.tce_run.proofs.BatchRan.{names_one, names_tensor, of_files_at, failed_told, disk_told_at, batch_refused, unchanged_left, batch_left, batch_room, same_room, batch_others, batch_ran}
 use Rattle.tce_run.proofs.batch.run_all.Goals as goal
 
 pub returns-in_err-batch-clause-left : goal.returns-in_err-batch-clause-left
@@ -32,6 +32,9 @@ pub returns-in-Ok-clause-cause : goal.returns-in-Ok-clause-cause
 returns-in-Ok-clause-cause g c =
     both_causes (g.D.Disk.faults c.args.disk.now) (g.D.Disk.faults c.read_batch_source.new.disk) (g.D.Disk.faults c.run_batch.new.disk) c.in_ok-batch.ensures.cause c.in-Ok.ensures.cause
     (answered c.into_vec.result _ refl)
+
+pub returns-in-Ok-clause-told : goal.returns-in-Ok-clause-told
+returns-in-Ok-clause-told g c = λ none. c.in-Ok.ensures.quiet (λ failed. failed) ∙ c.in_ok-batch.ensures.told (search rules)
 
 pub refusal_at-requires-clause-formula : goal.refusal_at-requires-clause-formula
 refusal_at-requires-clause-formula g c =
@@ -69,3 +72,7 @@ pub returns-clause-cause : goal.returns-clause-cause
 returns-clause-cause g c =
     both_causes (g.D.Disk.faults c.args.disk.now) (g.D.Disk.faults c.read_batch_source.new.disk) (g.D.Disk.faults c.run_batch.new.disk) c.in_ok-batch.ensures.cause c.in-Err.ensures.cause
     (λ failed. failed_told c.in_ok-batch.batch c.in-Err.refused c.refusal_at.result c.refusal_at.ensures (ap refusal_in failed))
+
+pub returns-clause-told : goal.returns-clause-told
+returns-clause-told g c = λ none.
+    c.in-Err.ensures.quiet (λ failed. none (ap Err (disk_told_at c.in_ok-batch.batch c.in-Err.refused c.refusal_at.result c.refusal_at.ensures failed))) ∙ c.in_ok-batch.ensures.told (search rules)

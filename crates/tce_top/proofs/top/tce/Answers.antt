@@ -117,3 +117,9 @@ returns-in-Ok-clause-well_formed g c = left.finished_well_formed c.finish.result
 
 pub returns-in-Err-clause-well_formed : goal.returns-in-Err-clause-well_formed
 returns-in-Err-clause-well_formed g c = left.stays_well_formed (ending_of c.in-Err.refusal) c.refuse.result c.refuse.ensures.kept c.in-Err.ensures.well_formed
+
+pub returns-in-Ok-clause-disk_told : goal.returns-in-Ok-clause-disk_told
+returns-in-Ok-clause-disk_told g c = λ none. c.in-Ok.ensures.told (search rules)
+
+pub returns-in-Err-clause-disk_told : goal.returns-in-Err-clause-disk_told
+returns-in-Err-clause-disk_told g c = λ none. c.in-Err.ensures.told (left.no_failure _ c.in-Err.refusal c.refuse.result refl c.refuse.ensures.kept none)
