@@ -1,5 +1,6 @@
 pub mod Agreeing
 pub mod Covers
+pub mod EndParts
 pub mod Existing
 pub mod Grouping
 pub mod Growing

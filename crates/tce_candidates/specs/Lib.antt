@@ -1,4 +1,5 @@
 pub mod Candidates
+pub mod Ends
 pub mod Groups
 pub mod Joins
 pub mod Laws

@@ -1,12 +1,14 @@
 // What the candidates of a node's operands are together, before a set is chosen for the node.
-ghost use Rattle.std.specs.Prelude.{◌≡◌, ◌⊎◌, ◌↔◌, ◌+◌, ◌<◌, ◌≤◌, IsTrue, IfOk, OnOk, All, AllPairs, Contains};
+ghost use Rattle.std.specs.Prelude.{◌≡◌, ◌⊎◌, ◌↔◌, ◌+◌, ◌<◌, ◌≤◌, IsTrue, IfOk, OnOk, All, AllPairs, Any, Contains};
 ghost use Rattle.tce_space.specs.IndexSet.{count};
 ghost use Rattle.tce_candidates.specs.Candidates.{StandForAll, IsLimited, LeavesRoom, HaveRoom};
+ghost use Rattle.tce_candidates.specs.Ends.{AreEnds, HaveEnds};
 ghost use Rattle.tce_candidates.specs.Groups.{LeavesOpen};
 ghost use Rattle.tce_candidates.specs.Joins.{IsJoinBelow, IsSomeJoinBelow, JoinCovered, HasNext};
 
 use crate::candidate::{Candidate, both_sets};
 use crate::candidate_list::CandidateList;
+use crate::ends::{Ends, are_ruled_out, ends_of, ends_of_all};
 use crate::join_rows;
 use crate::thinned::thinned;
 use std::alloc::{AllocError, Global};
@@ -52,6 +54,61 @@ fn add_join(
     Ok(())
 }
 
+// Appends what two operands' candidates are together, where their ends do not rule it out.
+fn add_likely_join(
+    list: &mut CandidateList,
+    left: &Candidate,
+    own: &Ends,
+    right: &Candidate,
+    other: &Ends,
+    limit: u128,
+) -> Result<(), AllocError>
+    requires loops { count list.old.outer ≤ 10 }
+    requires left { IsLimited left.now }
+    requires right { IsLimited right.now }
+    requires room { LeavesRoom left.now right.now }
+    requires own { AreEnds list.old.outer left.now.row own.now }
+    requires other { AreEnds list.old.outer right.now.row other.now }
+    ensures covered { OnOk result (JoinCovered limit list.old.outer list.new.candidates left.now right.now) }
+    ensures outer { OnOk result (list.new.outer ≡ list.old.outer) }
+    ensures others { OnOk result (StandForAll list.old.outer list.old.candidates list.new.candidates) }
+    ensures later { OnOk result (AllPairs (LeavesOpen list.old.outer) list.old.candidates → AllPairs (LeavesOpen list.old.outer) list.new.candidates) }
+    ensures origin { OnOk result (All (λ x. Contains list.old.candidates x ⊎ IsJoinBelow limit list.old.outer left.now right.now x) list.new.candidates) }
+{
+    if are_ruled_out(own, other, limit) {
+        return Ok(());
+    }
+    add_join(list, left, right, limit)
+}
+
+// Appends what one of the left operand's candidates and those of the right one are together.
+fn add_joins(
+    list: &mut CandidateList,
+    left: &Candidate,
+    rights: &[Candidate],
+    ends: &[Ends],
+    limit: u128,
+) -> Result<(), AllocError>
+    requires loops { count list.old.outer ≤ 10 }
+    requires left { IsLimited left.now }
+    requires rights { All IsLimited rights.now }
+    requires room { All (LeavesRoom left.now) rights.now }
+    requires ends { HaveEnds list.old.outer rights.now ends.now }
+    ensures covered { OnOk result (All (JoinCovered limit list.old.outer list.new.candidates left.now) rights.now) }
+    ensures outer { OnOk result (list.new.outer ≡ list.old.outer) }
+    ensures others { OnOk result (StandForAll list.old.outer list.old.candidates list.new.candidates) }
+    ensures later { OnOk result (AllPairs (LeavesOpen list.old.outer) list.old.candidates → AllPairs (LeavesOpen list.old.outer) list.new.candidates) }
+    ensures origin { OnOk result (All (λ x. Contains list.old.candidates x ⊎ Any (λ right. IsJoinBelow limit list.old.outer left.now right x) rights.now) list.new.candidates) }
+{
+    let own = ends_of(&left.row, list.outer());
+    let mut place = 0;
+    for right in rights {
+        add_likely_join(list, left, &own, right, &ends[place], limit)?;
+        place += 1;
+    }
+    Ok(())
+}
+
 /// What the operands' candidates are together, pair by pair: joined rows below the limit, so many that for each pair one of them is coarser on the node's loops and costs no more.
 ///
 /// Each set that may be fused above the joined rows of a pair may be fused above those that are coarser, and what that leaves is coarser too. So the choices of the node need be tried on these alone.
@@ -71,10 +128,9 @@ pub(crate) fn joins_of(
     ensures next { IfOk result (λ joins. All HasNext joins.items) }
 {
     let mut list = CandidateList::new(alloc, loops)?;
+    let ends = ends_of_all(alloc, rights, loops)?;
     for left in lefts {
-        for right in rights {
-            add_join(&mut list, left, right, limit)?;
-        }
+        add_joins(&mut list, left, rights, ends.as_slice(), limit)?;
     }
     let joins = thinned(alloc, list)?;
     Ok(joins)

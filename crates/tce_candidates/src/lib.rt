@@ -5,6 +5,7 @@
 
 mod candidate;
 mod candidate_list;
+mod ends;
 mod groups;
 mod joins;
 mod laws;

@@ -2,3 +2,4 @@ pub mod Firsts
 pub mod Joints
 pub mod FromTables
 pub mod Verdicts
+pub mod Tops

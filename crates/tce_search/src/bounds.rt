@@ -8,6 +8,13 @@ use tce_tree::{Operand, Tree};
 // A round that keeps fewer candidates is so short that the next one may go twice as far.
 const FEW: usize = 4096;
 
+/// A round that is over: its ceiling, and how many candidates it kept.
+#[derive(Clone, Copy)]
+struct Round {
+    ceiling: u128,
+    kept: usize,
+}
+
 /// The ceiling of a round, below which a plan is sought, and for each node by its number the most that all its candidates were seen to cost at least.
 ///
 /// These costs only choose how far each subtree is searched: what is found is shown to be least without them.
@@ -18,6 +25,7 @@ pub(crate) struct Bounds {
     pub(crate) learns: bool,
     least: [u128; 32],
     kept: usize,
+    earlier: Round,
 }
 
 impl Bounds {
@@ -31,6 +39,10 @@ impl Bounds {
             learns,
             least: [0; 32],
             kept: 0,
+            earlier: Round {
+                ceiling: 0,
+                kept: 0,
+            },
         }
     }
 
@@ -97,17 +109,40 @@ impl Bounds {
         }
     }
 
-    /// Raises the ceiling for the next round: by a sixth, or to twice as much after a short round.
+    // Whether the candidates grew little against the ceiling since the round before: by at most three to two.
+    fn grew_slowly(&self) -> bool {
+        let more = self.kept.saturating_sub(self.earlier.kept) as u128;
+        let raised = self.ceiling.saturating_sub(self.earlier.ceiling);
+        more.saturating_mul(self.earlier.ceiling).saturating_mul(2)
+            <= raised
+                .saturating_mul(self.earlier.kept as u128)
+                .saturating_mul(3)
+    }
+
+    // How much the ceiling rises: to twice as much after a short round, by half where the candidates grow slowly, else by a sixth.
+    fn step(&self) -> u128
+        ensures { result ≤ self.now.ceiling }
+    {
+        if self.kept < FEW {
+            self.ceiling
+        } else if self.grew_slowly() {
+            self.ceiling / 2
+        } else {
+            self.ceiling / 6
+        }
+    }
+
+    /// Raises the ceiling for the next round.
     pub(crate) fn raise(&mut self)
         requires { self.old.ceiling < 2 ^ 95 }
         ensures more { self.old.ceiling < self.new.ceiling }
         ensures small { self.new.ceiling < 2 ^ 96 }
         ensures learns { self.new.learns ≡ self.old.learns }
     {
-        let step = if self.kept < FEW {
-            self.ceiling
-        } else {
-            self.ceiling / 6
+        let step = self.step();
+        self.earlier = Round {
+            ceiling: self.ceiling,
+            kept: self.kept,
         };
         self.ceiling += step + 1;
         self.kept = 0;

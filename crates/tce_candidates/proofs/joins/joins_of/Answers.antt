@@ -1,5 +1,5 @@
 use Rattle.std.proofs.Common.{◌⊎◌, ◌∙◌, subst, get_or}
-use Rattle.std.specs.List.{All, AllPairs, Contains}
+use Rattle.std.specs.List.{All, AllPairs, Any, Contains}
 use Rattle.std.proofs.lemmas.List.Elements.{AllWithin-more, All-from_all_within, All-weaker, All-contains, at_read, AllWithin-upto}
 use Rattle.tce_candidates.specs.declared.candidate.Candidate.{Candidate}
 use Rattle.tce_candidates.specs.Candidates.{StandForAll}
@@ -9,52 +9,36 @@ use Rattle.tce_candidates.proofs.Covers.{from_earlier, read_contains}
 use Rattle.tce_candidates.proofs.Joining.{join_later, joins_later, joins_next}
 use Rattle.tce_candidates.proofs.joins.joins_of.Goals as goal
 
-pub loop-right-preserved : goal.loop-right-preserved
-loop-right-preserved c =
-    let here = c.in_ok-add_join.ensures in
-    let limit = c.args.limit in
-    let loops = c.args.loops in
-    let same = c.loop-right.invariant.outer in
-    let old = c.loop-right.list.candidates in
-    let new = c.add_join.new.list.candidates in
-    let later = subst (λ o. StandForAll o old new) same here.others in
-    let left = c.left-item.result in
-    let right = c.right-item.result in
-    let lefts = c.args.lefts.now in
-    let rights = c.args.rights.now in
-    let covers = JoinCovered limit loops new left in
-    record {
-      outer = here.outer ∙ same;
-      earlier = λ k d from low. λ m e inner. join_later limit loops old new (get_or lefts k d) (get_or rights m e) later (c.loop-right.invariant.earlier k d from low m e inner);
-      here = AllWithin-more covers rights 0 c.loop-right.right-index
-          (λ m e from low. join_later limit loops old new left (get_or rights m e) later (c.loop-right.invariant.here m e from low))
-          (at_read rights covers c.loop-right.right-index right c.loop-right-test.true c.right-item.is (subst (λ o. JoinCovered limit o new left right) same here.covered));
-      joins = from_earlier (IsSomeJoinBelow limit loops lefts rights) (IsJoinBelow limit loops left right) old new
-          (subst (λ o. All (λ x. Contains old x ⊎ IsJoinBelow limit o left right x) new) same here.origin)
-          (λ x s. record {
-            left = left;
-            right = right;
-            from_left = read_contains lefts c.loop-left.left-index left c.loop-left-test.true c.left-item.is;
-            from_right = read_contains rights c.loop-right.right-index right c.loop-right-test.true c.right-item.is;
-            join = s;
-          })
-          c.loop-right.invariant.joins;
-      later = subst (λ o. AllPairs (LeavesOpen o) old → AllPairs (LeavesOpen o) new) same here.later c.loop-right.invariant.later;
-    }
-
 pub loop-left-preserved : goal.loop-left-preserved
 loop-left-preserved c =
-    let rows = c.loop-right.list.candidates in
+    let here = c.in_ok-add_joins.ensures in
+    let limit = c.args.limit in
+    let loops = c.args.loops in
+    let same = c.loop-left.invariant.outer in
+    let old = c.loop-left.list.candidates in
+    let new = c.add_joins.new.list.candidates in
+    let later = subst (λ o. StandForAll o old new) same here.others in
+    let left = c.left-item.result in
+    let lefts = c.args.lefts.now in
     let rights = c.args.rights.now in
-    let pairs = JoinCovered c.args.limit c.args.loops rows c.left-item.result in
-    let covers = λ (left : Candidate). All (JoinCovered c.args.limit c.args.loops rows left) rights in
+    let k = c.loop-left.left-index in
+    let covers = λ (x : Candidate). All (JoinCovered limit loops new x) rights in
     record {
-      outer = c.loop-right.invariant.outer;
-      covered = AllWithin-more covers c.args.lefts.now 0 c.loop-left.left-index c.loop-right.invariant.earlier
-          (at_read c.args.lefts.now covers c.loop-left.left-index c.left-item.result c.loop-left-test.true c.left-item.is
-          (All-from_all_within pairs rights (AllWithin-upto pairs rights 0 c.loop-right.right-index _ c.loop-right-test.false c.loop-right.invariant.here)));
-      joins = c.loop-right.invariant.joins;
-      later = c.loop-right.invariant.later;
+      outer = here.outer ∙ same;
+      covered = AllWithin-more covers lefts 0 k
+          (λ n d from low. λ m e inner. join_later limit loops old new (get_or lefts n d) (get_or rights m e) later (c.loop-left.invariant.covered n d from low m e inner))
+          (at_read lefts covers k left c.loop-left-test.true c.left-item.is (subst (λ o. All (JoinCovered limit o new left) rights) same here.covered));
+      joins = from_earlier (IsSomeJoinBelow limit loops lefts rights) (λ (x : Candidate). Any (λ (right : Candidate). IsJoinBelow limit loops left right x) rights) old new
+          (subst (λ o. All (λ (x : Candidate). Contains old x ⊎ Any (λ (right : Candidate). IsJoinBelow limit o left right x) rights) new) same here.origin)
+          (λ x s. record {
+            left = left;
+            right = s.1;
+            from_left = read_contains lefts k left c.loop-left-test.true c.left-item.is;
+            from_right = (s.0, s.2, s.3);
+            join = s.4;
+          })
+          c.loop-left.invariant.joins;
+      later = subst (λ o. AllPairs (LeavesOpen o) old → AllPairs (LeavesOpen o) new) same here.later c.loop-left.invariant.later;
     }
 
 pub returns-clause-covered : goal.returns-clause-covered

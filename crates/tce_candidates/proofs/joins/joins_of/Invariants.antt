@@ -11,12 +11,3 @@ invariant-loop-left l = record {
   joins : All (IsSomeJoinBelow l.fn.limit l.fn.loops l.fn.lefts l.fn.rights) l.list.candidates;
   later : AllPairs (LeavesOpen l.fn.loops) l.list.candidates;
 }
-
-abbrev pub invariant-loop-right : goal.invariant-loop-right
-invariant-loop-right l = record {
-  outer : l.list.outer ≡ l.fn.loops;
-  earlier : AllWithin (λ left. All (JoinCovered l.fn.limit l.fn.loops l.list.candidates left) l.fn.rights) l.fn.lefts 0 l.left-index;
-  here : AllWithin (JoinCovered l.fn.limit l.fn.loops l.list.candidates l.left) l.fn.rights 0 l.right-index;
-  joins : All (IsSomeJoinBelow l.fn.limit l.fn.loops l.fn.lefts l.fn.rights) l.list.candidates;
-  later : AllPairs (LeavesOpen l.fn.loops) l.list.candidates;
-}
