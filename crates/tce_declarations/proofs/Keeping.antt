@@ -138,6 +138,16 @@ kept_in_space old new more entries longer space kept = record {
       record { named = is.named; shaped = is.shaped ∙ sym (tiling_stays old new more longer _ tensor.declared) };
 }
 
+-- no tensor
+pub kept_none : (space : IndexSpace) (entries : List (ArrayString × Tensor)) → IsSpace space → entries ≡ [] → AreKept space entries
+unfolding IsDistinct
+kept_none space entries rules none =
+    subst (AreKept space) (sym none)
+    (record {
+      rules = record { space = rules; tensor_limit = omega arith; tensors = λ k d h. absurd (omega (arith, h)); tensor_names = tt };
+      entries = λ k d h. absurd (omega (arith, h));
+    })
+
 -- a further tensor
 names_shown : (entries : List (ArrayString × Tensor)) → map (λ (t : model.Tensor). t.name) (map tensor_of entries) ≡ names_of entries
 names_shown [] = refl

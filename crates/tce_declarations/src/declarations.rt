@@ -10,7 +10,7 @@ ghost use Rattle.tce_declarations.specs.DeclarationLines.{numbers_of_ranges, ran
 ghost use Rattle.tce_declarations.specs.FaultCode.{Shows};
 ghost use Rattle.tce_space.specs.Space.{tiling_of};
 ghost use Rattle.tce_space.specs.SpaceEntries.{entry_number, names_of};
-ghost use Rattle.tce_declarations.specs.Declarations.{IsDeclarations, nothing_declared, tensor_number, tensor_at};
+ghost use Rattle.tce_declarations.specs.Declarations.{IsDeclarations, IsTensor, nothing_declared, tensor_number, tensor_at};
 
 use crate::fault::{Limit, SpecFault};
 use crate::indexes::declare_indexes;
@@ -94,6 +94,17 @@ impl Declarations {
     {
         Ok(Declarations {
             space: Space::new(alloc)?,
+            tensors: IndexMap::with_capacity(alloc, MAX_TENSORS)?,
+        })
+    }
+
+    /// Ranges and indexes are declared, and no tensor.
+    pub fn over(alloc: Global, space: Space) -> Result<Declarations, AllocError>
+        ensures { IfOk result (λ d. d ≡ record { space = space; tensors = [] }) }
+    {
+        let _ranges = space.range_count();
+        Ok(Declarations {
+            space,
             tensors: IndexMap::with_capacity(alloc, MAX_TENSORS)?,
         })
     }
@@ -222,6 +233,32 @@ impl Declarations {
         ensures declared { IfOk result (λ d. d ≡ with_tensor self name.now (names ranges.now)) }
     {
         let tensor = self.tensor_of_line(line, name, ranges)?;
+        keep(&mut self.tensors, tensor)?;
+        Ok(self)
+    }
+
+    /// Declares a tensor by its name, which may be one that no line can declare, and the numbers of its ranges.
+    pub fn with_tensor_over(
+        mut self,
+        name: Name,
+        ranges: ArrayVec<u8, 8>,
+    ) -> Result<Declarations, AllocError>
+        requires unnamed { tensor_number self.tensors name.bytes ≡ None }
+        requires room { length self.tensors < 32 }
+        requires fits { IsTensor self.space (record { name = name.bytes; ranges = ranges.items }) }
+        ensures { IfOk result (λ d. d ≡ record {
+          space = self.space;
+          tensors = self.tensors ++ record { name = name.bytes; ranges = ranges.items } ∷ [];
+        }) }
+    {
+        let Ok(shape) = self.space.shape(&ranges) else {
+            return Err(AllocError);
+        };
+        let tensor = Tensor {
+            name,
+            ranges,
+            shape,
+        };
         keep(&mut self.tensors, tensor)?;
         Ok(self)
     }

@@ -1,3 +1,13 @@
 pub mod Reading
 pub mod Kept
 pub mod Seen
+pub mod PieceTrees
+pub mod PieceSources
+pub mod PieceCounts
+pub mod PieceNames
+pub mod PieceRules
+pub mod PieceValues
+pub mod PieceParts
+pub mod PieceCalls
+pub mod PieceMade
+pub mod DeclaredAnew

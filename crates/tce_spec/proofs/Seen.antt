@@ -15,7 +15,7 @@ use Rattle.tce_tree.proofs.NamedIndexes.{all_below}
 use Rattle.tce_spec.specs.Specification.{Specification}
 use Rattle.tce_spec.specs.Operands.{AreSeen, with_new, references, operands}
 
-eqb_laws : IsEquivalence eqb
+pub eqb_laws : IsEquivalence eqb
 eqb_laws = record {
   refl = λ x. eq-eqb x x refl;
   symm = λ x y. by_test x y (eqb x y) refl (eqb y x) refl;
@@ -35,16 +35,16 @@ all_push p xs t all one = list_all-append p xs (t ∷ []) ∙ rw (all, one) refl
 less : (t n : ℕ) → t < n → nat_lt t n ≡ true
 less t n h = grind (arith, h)
 
-pub seen_more : (xs : List ℕ) (t : ℕ) → t < 32 → AreSeen xs → list_any (eqb t) xs ≡ false → AreSeen (xs ++ t ∷ [])
-seen_more xs t small seen new = record {
+pub seen_more : (n : ℕ) (xs : List ℕ) (t : ℕ) → t < n → AreSeen n xs → list_any (eqb t) xs ≡ false → AreSeen n (xs ++ t ∷ [])
+seen_more n xs t small seen new = record {
   once = IsDistinct-push eqb_laws xs t seen.once new;
-  below = all_push (λ u. nat_lt u 32) xs t seen.below (less t 32 small);
+  below = all_push (λ u. nat_lt u n) xs t seen.below (less t n small);
 }
 
-pub seen_few : (xs : List ℕ) (t : ℕ) → t < 32 → AreSeen xs → list_any (eqb t) xs ≡ false → length xs < 32
-seen_few xs t small seen new =
-    let more = seen_more xs t small seen new in
-    let few : length (xs ++ t ∷ []) ≤ 32 = length-le_from_distinct_below (xs ++ t ∷ []) 32 more.once (λ q h. member_below 32 (xs ++ t ∷ []) q more.below h) in
+pub seen_few : (n : ℕ) (xs : List ℕ) (t : ℕ) → t < n → AreSeen n xs → list_any (eqb t) xs ≡ false → length xs < n
+seen_few n xs t small seen new =
+    let more = seen_more n xs t small seen new in
+    let few : length (xs ++ t ∷ []) ≤ n = length-le_from_distinct_below (xs ++ t ∷ []) n more.once (λ q h. member_below n (xs ++ t ∷ []) q more.below h) in
     omega (arith, few, length_push xs t)
 
 -- what holds of all members of two lists holds of the first with the second's new members
@@ -80,17 +80,17 @@ below_more n m (x ∷ xs) le all = by_test (nat_lt x n) refl all (λ h. below_mo
     by_test true e h later = rw (less x m (grind (arith, e, le)), later h) refl
     by_test false e h later = cc
 
-pub both_below : (xs ys : List ℕ) → list_all (λ t. nat_lt t 32) (xs ++ ys) ≡ true → (list_all (λ t. nat_lt t 32) xs ≡ true) × (list_all (λ t. nat_lt t 32) ys ≡ true)
-both_below xs ys h = of_and (list_all (λ t. nat_lt t 32) xs) (list_all (λ t. nat_lt t 32) ys) (sym (list_all-append (λ t. nat_lt t 32) xs ys) ∙ h)
+pub both_below : (n : ℕ) (xs ys : List ℕ) → list_all (λ t. nat_lt t n) (xs ++ ys) ≡ true → (list_all (λ t. nat_lt t n) xs ≡ true) × (list_all (λ t. nat_lt t n) ys ≡ true)
+both_below n xs ys h = of_and (list_all (λ t. nat_lt t n) xs) (list_all (λ t. nat_lt t n) ys) (sym (list_all-append (λ t. nat_lt t n) xs ys) ∙ h)
   where
     of_and : (a b : Bool) → a && b ≡ true → (a ≡ true) × (b ≡ true)
     of_and true b h = (refl, h)
     of_and false b h = cc
 
 -- at the start
-pub seen_none : (xs : List ℕ) → xs ≡ [] → AreSeen xs
+pub seen_none : (n : ℕ) (xs : List ℕ) → xs ≡ [] → AreSeen n xs
 unfolding IsDistinct
-seen_none xs none = subst AreSeen (sym none) (record { once = tt; below = refl })
+seen_none n xs none = subst (AreSeen n) (sym none) (record { once = tt; below = refl })
 
 -- an operand is a declared tensor
 pub operand_declared : (s : Specification) → LeavesFit s.declarations s.tree → (k : ℕ) → k < length (operands s) → get_or (operands s) k 0 < length s.declarations.tensors

@@ -5,3 +5,7 @@ pub mod Outcome
 pub mod OutcomeCode
 pub mod Canonical
 pub mod Laws
+pub mod PieceSpecification
+pub mod PieceExamples
+pub mod PieceCode
+pub mod PieceLaws

@@ -34,7 +34,7 @@ shape_of s t = tiling_of s.declarations.space (tensor_at s.declarations t).range
 abbrev pub largest_tile : Specification → ℕ
 largest_tile s = fold (λ largest t. max largest (tile_words (shape_of s t))) (tile_words (shape_of s s.result)) (operands s)
 
--- different numbers of tensors
-pub record AreSeen (seen : List ℕ) : Type 0 where
+-- different numbers below a limit
+pub record AreSeen (limit : ℕ) (seen : List ℕ) : Type 0 where
   pub once : IsDistinct eqb seen
-  pub below : IsTrue (list_all (λ t. nat_lt t 32) seen)
+  pub below : IsTrue (list_all (λ t. nat_lt t limit) seen)

@@ -9,11 +9,11 @@ use arrayvec::ArrayVec;
 use tce_tree::Expr;
 
 /// Puts the tensors of an expression behind those that are there, from the left, each that is not there yet.
-pub(crate) fn add_operands(seen: &mut ArrayVec<u8, 32>, expr: &Expr)
-    requires below { IsTrue (list_all (λ t. nat_lt t 32) (references (tree_of expr.now))) }
-    requires seen { AreSeen seen.old.items }
+pub(crate) fn add_operands<const N: usize>(seen: &mut ArrayVec<u8, N>, expr: &Expr)
+    requires below { IsTrue (list_all (λ t. nat_lt t N) (references (tree_of expr.now))) }
+    requires seen { AreSeen N seen.old.items }
     ensures added { seen.new.items ≡ fold with_new seen.old.items (references (tree_of expr.now)) }
-    ensures seen { AreSeen seen.new.items }
+    ensures seen { AreSeen N seen.new.items }
 {
     match expr {
         Expr::Leaf(leaf) => add(seen, leaf.tensor),
@@ -27,11 +27,11 @@ pub(crate) fn add_operands(seen: &mut ArrayVec<u8, 32>, expr: &Expr)
 }
 
 /// Puts a number behind the others, unless it is one of them.
-fn add(seen: &mut ArrayVec<u8, 32>, t: u8)
-    requires below { t < 32 }
-    requires seen { AreSeen seen.old.items }
+fn add<const N: usize>(seen: &mut ArrayVec<u8, N>, t: u8)
+    requires below { t < N }
+    requires seen { AreSeen N seen.old.items }
     ensures added { seen.new.items ≡ with_new seen.old.items t }
-    ensures seen { AreSeen seen.new.items }
+    ensures seen { AreSeen N seen.new.items }
 {
     if !is_among(seen.as_slice(), t) {
         seen.push(t);

@@ -11,6 +11,7 @@ ghost use Rattle.tce_spec.specs.Operands.{operands, largest_tile, shape_of};
 ghost use Rattle.tce_spec.specs.Outcome.{IsOutcome};
 ghost use Rattle.tce_spec.specs.OutcomeCode.{Answers};
 ghost use Rattle.tce_spec.specs.Canonical.{canonical_of};
+ghost use Rattle.tce_spec.specs.SpecCode.{specification_of, IsKept};
 
 use crate::operands::add_operands;
 use arrayvec::ArrayVec;
@@ -46,6 +47,17 @@ impl Model for Spec {
 }
 
 impl Spec {
+    /// A specification of these parts.
+    pub(crate) fn of_parts(declarations: Declarations, contraction: Contraction) -> Spec
+        requires { IsKept declarations contraction }
+        ensures { result ≡ specification_of declarations contraction }
+    {
+        Spec {
+            declarations,
+            contraction,
+        }
+    }
+
     /// The declared ranges and indexes.
     pub fn space(&self) -> &Space
         ensures space { result.now ≡ self.now.declarations.space }

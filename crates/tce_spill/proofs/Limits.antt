@@ -98,7 +98,7 @@ module _ (tree : ContractionTree) (a b : Cuts) (n : ℕ) (agree : (u : ℕ) → 
 
 -- ---- a cut that is taken back
 
-except_other : (cut : Cuts) (n u : ℕ) → (u ≡ n → ⊥) → except cut n u ≡ cut u
+pub except_other : (cut : Cuts) (n u : ℕ) → (u ≡ n → ⊥) → except cut n u ≡ cut u
 except_other cut n u ne = elim (cases_Bool (cut u)) [
   | inl t ↦ except_from cut n u t ne ∙ sym t
   | inr f ↦ elim (cases_Bool (except cut n u)) [ inl x ↦ absurd (both_ways (cut u) f (except_is cut n u x).0) | inr x ↦ x ∙ sym f ]
@@ -135,7 +135,7 @@ other_piece tree cut n r r0 top r_in root ne =
           in_second = except_from cut r r0 (except_is cut n r0 is_cut).0 (λ e. omega (arith, e, under));
         }
 
-take_back : (space : IndexSpace) (tree : ContractionTree) (cut : Cuts) (n limit : ℕ) → n < operations tree → MeetLimit space tree cut limit → JoinMeetsLimit space tree cut n limit
+pub take_back : (space : IndexSpace) (tree : ContractionTree) (cut : Cuts) (n limit : ℕ) → n < operations tree → MeetLimit space tree cut limit → JoinMeetsLimit space tree cut n limit
     → MeetLimit space tree (except cut n) limit
 take_back space tree cut n limit n_in meets join r r_in root =
     let top = root_exists tree (except cut n) n n_in in
@@ -147,7 +147,7 @@ take_back space tree cut n limit n_in meets join r r_in root =
     ]
 
 -- more cuts meet the limit too
-more_meet : (space : IndexSpace) (tree : ContractionTree) (fewer more : Cuts) (limit : ℕ) → AreAmong tree fewer more → MeetLimit space tree fewer limit → MeetLimit space tree more limit
+pub more_meet : (space : IndexSpace) (tree : ContractionTree) (fewer more : Cuts) (limit : ℕ) → AreAmong tree fewer more → MeetLimit space tree fewer limit → MeetLimit space tree more limit
 more_meet space tree fewer more limit h meets r r_in root =
     let top = root_exists tree fewer r r_in in
     more_cuts_take_no_more space tree fewer more r top.0 r limit h top.1 (root_itself tree more r r_in root) (meets top.0 top.1.inside top.1.root)
@@ -229,7 +229,7 @@ no_cut_is_idle space tree kept limit v cuts = none_idle space tree limit kept cu
 -- ---- one set of cuts
 
 -- the cuts in turn go by what was kept before
-same_turn : (space : IndexSpace) (tree : ContractionTree) (kept other : Cuts) (n : ℕ) → ((u : ℕ) → u < n → kept u ≡ other u) → in_turn space tree kept n ≡ in_turn space tree other n
+pub same_turn : (space : IndexSpace) (tree : ContractionTree) (kept other : Cuts) (n : ℕ) → ((u : ℕ) → u < n → kept u ≡ other u) → in_turn space tree kept n ≡ in_turn space tree other n
 same_turn space tree kept other n same = fun_ext (λ u. elim (cases_Bool (ltb u n)) [
   | inl t ↦ rw t (same u (ltb-true u n t))
   | inr f ↦ rw f refl

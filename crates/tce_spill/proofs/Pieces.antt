@@ -15,29 +15,10 @@ use Rattle.tce_tree.proofs.Nodes.{size, size_bounds, size_nested, node-root}
 use Rattle.tce_tree.proofs.Operands.{Stands, stands-node, stands-left, stands-right, stands-operand}
 use Rattle.tce_tree.proofs.Parents.{subtree_is, subtree_from, find-range_some, find-range_finds}
 use Rattle.tce_pieces.specs.Pieces.{Cuts, unless_cut, rest_of, except, piece, is_root, IsRootOver}
-use Rattle.tce_pieces.proofs.Places.{is_member, member_is}
+use Rattle.tce_pieces.proofs.Rest.{set_of_members, dims_rest}
 use Rattle.tce_spill.specs.Parts.{IsRest, IsPart, FitsMemory}
 use Rattle.tce_spill.specs.Laws.{AreAmong}
 use Rattle.tce_spill.proofs.Parts.{parts_take_no_more}
-
--- the list of a set's members has that set
-set_of_members : (set : ℕ) → IsIndexSet set → set_of (members set) ≡ set
-set_of_members set small =
-    same_set (set_of (members set)) set (set_of_lt (members set)) small (λ i low.
-    has-set_of_list (members set) i (all-among (λ j. ltb j 24) (members set) (λ j m. lt-ltb j 24 (has_below set j small (member_is set j small m))))
-    ∙ same_truth (among (members set) i) (has set i) (member_is set i small) (is_member set i small))
-
-dims_unless : (cut : Cuts) (v : ℕ) (c rest : ContractionTree) → dims rest ≡ dims c → dims (unless_cut cut v c rest) ≡ dims c
-dims_unless cut v c rest same = elim (cases_Bool (cut v)) [ inl t ↦ rw t (set_of_members (dims c) (dims_lt c)) | inr f ↦ rw f same ]
-
-dims_rest : (cut : Cuts) (c : ContractionTree) (first : ℕ) → dims (rest_of cut first c) ≡ dims c
-dims_rest cut (leaf tensor indexes) first = refl
-dims_rest cut (constant number) first = refl
-dims_rest cut (binary op l r) first =
-    dims_unless cut (first + operations l + operations r) (binary op l r) (binary op (rest_of cut first l) (rest_of cut (first + operations l) r))
-    (ap₂ union (dims_rest cut l first) (dims_rest cut r (first + operations l)))
-dims_rest cut (sum is e) first =
-    dims_unless cut (first + operations e) (sum is e) (sum is (rest_of cut first e)) (ap (λ s. minus s (set_of is)) (dims_rest cut e first))
 
 -- ---- what is left where more nodes are cut
 

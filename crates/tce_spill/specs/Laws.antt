@@ -1,8 +1,12 @@
 -- Laws of cuts and of the memory of their pieces.
-use Rattle.std.specs.Prelude.{◌≡◌, ℕ, ◌<◌, IsTrue}
+use Rattle.std.specs.Prelude.{◌≡◌, ◌↔◌, ℕ, ◌<◌, IsTrue, List}
 use Rattle.tce_space.specs.Space.{IndexSpace}
 use Rattle.tce_tree.specs.ContractionTree.{ContractionTree, operations}
+use Rattle.tce_tree.specs.Fusion.{FusionFits}
+use Rattle.tce_tree.specs.Memory.{memory}
+use Rattle.tce_fusion.specs.Scope.{IsLegal}
 use Rattle.tce_pieces.specs.Pieces.{Cuts, piece, IsRootOver}
+use Rattle.tce_spec.specs.PieceSpecification.{renumbered}
 use Rattle.tce_spill.specs.Parts.{IsPart, FitsMemory}
 use Rattle.tce_spill.specs.CutsFor.{AreStorable, MeetLimit, JoinMeetsLimit, AreCutsFor}
 
@@ -38,3 +42,13 @@ abbrev pub NoCutIsIdle : Type 0
 NoCutIsIdle =
     (space : IndexSpace) (tree : ContractionTree) (kept : Cuts) (limit v : ℕ) → AreCutsFor space tree limit kept → v < operations tree → IsTrue (kept v)
     → JoinMeetsLimit space tree kept v limit → ⊥
+
+-- two trees have the same fusions, which are legal for both or neither, and take the same memory
+pub record HaveSameFusions (space : IndexSpace) (a b : ContractionTree) : Type 0 where
+  pub fits : (fusion : List ℕ) → FusionFits a fusion ↔ FusionFits b fusion
+  pub legal : (fusion : List ℕ) → IsLegal a fusion ↔ IsLegal b fusion
+  pub memory_is : (fusion : List ℕ) → memory space a fusion ≡ memory space b fusion
+
+-- other numbers for the tensors of a tree change none of its fusions
+abbrev pub RenumberedIsAlike : Type 0
+RenumberedIsAlike = (space : IndexSpace) (tree : ContractionTree) (number : ℕ → ℕ) → HaveSameFusions space (renumbered number tree) tree

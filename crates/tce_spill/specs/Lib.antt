@@ -1,6 +1,5 @@
 pub mod Parts
 pub mod CutsFor
+pub mod InTurn
 pub mod Laws
 pub mod Refusals
-pub mod PieceSpecification
-pub mod PieceExamples

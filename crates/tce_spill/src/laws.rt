@@ -1,5 +1,5 @@
 // Laws of cuts, which hold without any code.
-ghost use Rattle.tce_spill.specs.Laws.{PartsTakeNoMore, MoreCutsTakeNoMore, CutsAreOne, CutsMeetLimits, NoCutIsIdle};
+ghost use Rattle.tce_spill.specs.Laws.{PartsTakeNoMore, MoreCutsTakeNoMore, CutsAreOne, CutsMeetLimits, NoCutIsIdle, RenumberedIsAlike};
 
 /// What is left of a subtree, where some of its own subtrees are tensors of the same dims, has a legal fusion that takes
 /// no more memory than one of the whole tree.
@@ -25,4 +25,10 @@ pub fn cuts_meet_limits()
 /// Of the cuts for a limit no single one can be taken back: the joined piece would take more than the limit.
 pub fn no_cut_is_idle()
     ensures { NoCutIsIdle }
+{}
+
+/// Other numbers for the tensors of a tree change none of its fusions: the same ones fit and are legal, and they take the
+/// same memory.
+pub fn renumbered_is_alike()
+    ensures { RenumberedIsAlike }
 {}

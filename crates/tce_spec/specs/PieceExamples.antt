@@ -2,11 +2,24 @@
 use Rattle.std.specs.Prelude.{◌≡◌, ℕ, List, [], ◌∷◌, codes}
 use Rattle.tce_tree.specs.ContractionTree.{leaf, binary, sum, multiply}
 use Rattle.tce_tree.specs.Examples.{two_sums}
-use Rattle.tce_fusion.specs.Examples.{short_space}
+use Rattle.tce_space.specs.Space.{IndexSpace, Range, Index}
 use Rattle.tce_declarations.specs.Declarations.{Tensor}
 use Rattle.tce_spec.specs.Specification.{Specification}
 use Rattle.tce_pieces.specs.Examples.{cut_at}
-use Rattle.tce_spill.specs.PieceSpecification.{piece_of}
+use Rattle.tce_spec.specs.PieceSpecification.{piece_of}
+
+abbrev pub range_of : List ℕ → ℕ → Range
+range_of name extent = record { name = name; extent = extent; edge = 1 }
+
+abbrev pub index_of : List ℕ → ℕ → Index
+index_of name range = record { name = name; of_range = range }
+
+-- i of extent 5, j of extent 7, k and l of extent 2
+abbrev pub short_space : IndexSpace
+short_space = record {
+  ranges = range_of (codes "I") 5 ∷ range_of (codes "J") 7 ∷ range_of (codes "K") 2 ∷ [];
+  indexes = index_of (codes "i") 0 ∷ index_of (codes "j") 1 ∷ index_of (codes "k") 2 ∷ index_of (codes "l") 2 ∷ [];
+}
 
 abbrev pub tensor : List ℕ → List ℕ → Tensor
 tensor name ranges = record { name = name; ranges = ranges }

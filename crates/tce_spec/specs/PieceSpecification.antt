@@ -1,11 +1,10 @@
 -- The specification of a piece, of which its array is the result.
-use Rattle.std.specs.Prelude.{◌≡◌, ℕ, ◌+◌, ◌-◌, ◌<◌, ◌==◌, nat_lt, if◌then◌else◌, IsTrue, List, [], ◌∷◌, ◌++◌, length, map, codes}
+use Rattle.std.specs.Prelude.{ℕ, ◌+◌, ◌-◌, ◌<◌, ◌==◌, nat_lt, if◌then◌else◌, IsTrue, List, [], ◌∷◌, ◌++◌, length, map, codes}
 use Rattle.std.specs.Fmt.{decimal}
 use Rattle.tce_space.specs.IndexSet.{members}
 use Rattle.tce_tree.specs.ContractionTree.{ContractionTree, leaf, constant, binary, sum, operations, node_dims}
-use Rattle.tce_tree.specs.WellFormed.{among}
 use Rattle.tce_declarations.specs.Declarations.{Tensor, tensor_at}
-use Rattle.tce_pieces.specs.Pieces.{Cuts, stored, is_root, piece}
+use Rattle.tce_pieces.specs.Pieces.{Cuts, is_root, piece}
 use Rattle.tce_pieces.specs.Storable.{ranges_of_node, storable}
 use Rattle.tce_spec.specs.Specification.{Specification}
 use Rattle.tce_spec.specs.Operands.{references, each_once}

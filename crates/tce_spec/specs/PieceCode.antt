@@ -1,0 +1,38 @@
+-- What the program goes through for the specification of a piece.
+use Rattle.std.specs.Prelude.{◌≡◌, ⊤, ◌⊎◌, ℕ, true, ◌+◌, ◌-◌, ◌<◌, ◌≤◌, ◌==◌, if◌then◌else◌, List, length, map}
+use Rattle.std.specs.List.{AllByRecursion, IsDistinct}
+use Rattle.std.specs.Str.{bytes_eq}
+use Rattle.tce_space.specs.IndexSet.{count}
+use Rattle.tce_tree.specs.ContractionTree.{ContractionTree, leaf, constant, binary, sum, operations, node, node_dims}
+use Rattle.tce_declarations.specs.Declarations.{IsTensor}
+use Rattle.tce_pieces.specs.Pieces.{Cuts, stored}
+use Rattle.tce_spec.specs.Specification.{Specification}
+use Rattle.tce_spec.specs.PieceSpecification.{source}
+
+-- the nodes of the tree from `first` on are those of this part of it
+abbrev pub StandsAt : ContractionTree → ℕ → ContractionTree → Type 0
+StandsAt tree first (leaf tensor indexes) = ⊤
+StandsAt tree first (constant number) = ⊤
+StandsAt tree first (binary op left right) =
+    (node tree (first + operations left + operations right) ≡ binary op left right) × (StandsAt tree first left × StandsAt tree (first + operations left) right)
+StandsAt tree first (sum indexes operand) = (node tree (first + operations operand) ≡ sum indexes operand) × StandsAt tree first operand
+
+-- a cut node has at most eight dims
+abbrev pub HaveRank : ContractionTree → Cuts → Type 0
+HaveRank tree cut = (v : ℕ) → v < operations tree → cut v ≡ true → count (node_dims tree v) ≤ 8
+
+-- a declared tensor, or the array of a node with at most eight dims
+abbrev pub IsSource : Specification → ℕ → Type 0
+IsSource s t =
+    (t < length s.declarations.tensors) ⊎ ((32 ≤ t) × ((t - 32 < operations s.tree) × (count (node_dims s.tree (t - 32)) ≤ 8)))
+
+-- these tensors can be declared over the same space: their names differ
+pub record CanDeclare (s : Specification) (numbers : List ℕ) : Type 0 where
+  pub few : length numbers ≤ 32
+  pub sources : AllByRecursion (IsSource s) numbers
+  pub tensors : AllByRecursion (λ t. IsTensor s.declarations.space (source s t)) numbers
+  pub names : IsDistinct bytes_eq (map (λ t. (source s t).name) numbers)
+
+-- the number of what a piece computes
+abbrev pub target_number : Specification → ℕ → ℕ
+target_number s v = if v + 1 == operations s.tree then s.result else stored v

@@ -1,0 +1,381 @@
+//! The specifications of pieces of a tree.
+
+ghost use Rattle.std.specs.Prelude.{◌≡◌, ◌<◌, ◌≤◌, ◌+◌, ◌-◌, ◌++◌, ◌&&◌, nat_lt, not, map, codes, IfOk, IsTrue, length};
+ghost use Rattle.std.specs.List.{list_all};
+ghost use Rattle.std.specs.Fmt.{decimal};
+ghost use Rattle.tce_space.specs.IndexSet.{has, count, members};
+ghost use Rattle.tce_tree.specs.Expr.{tree_of};
+ghost use Rattle.tce_tree.specs.ContractionTree.{operations, node, node_dims};
+ghost use Rattle.tce_tree.specs.Measure.{IsMeasured};
+ghost use Rattle.tce_declarations.specs.Declarations.{HaveNames};
+ghost use Rattle.tce_pieces.specs.Pieces as model;
+ghost use Rattle.tce_pieces.specs.Storable.{ranges_of_node};
+ghost use Rattle.tce_spec.specs.PieceSpecification.{CanCut, piece_of, renumbered, place_in, source, target_indexes};
+ghost use Rattle.tce_spec.specs.PieceCode.{StandsAt, HaveRank, IsSource, CanDeclare, target_number};
+ghost use Rattle.tce_spec.specs.Specification.{ConstantsAreWords};
+ghost use Rattle.tce_formula.specs.Contraction.{IsContraction};
+ghost use Rattle.tce_tree.specs.WellFormed.{sums_distinct};
+ghost use Rattle.tce_spec.specs.Operands.{references, each_once};
+
+use crate::copies::copied_space;
+use crate::operands::add_operands;
+use crate::spec::Spec;
+use arrayvec::ArrayVec;
+use std::alloc::{AllocError, Global};
+use std::boxed::Box;
+use tce_declarations::Declarations;
+use tce_fields::{decimal_text, members_of};
+use tce_formula::Contraction;
+use tce_space::{Name, Space};
+use tce_tree::{Expr, Leaf, Tree};
+
+/// How many tensors are declared at most. The array of node `v` stands among them as number `32 + v`.
+const MAX_TENSORS: u8 = 32;
+
+/// The cut nodes, as the bits of a number, and the root of a piece, which is not cut off itself.
+#[derive(Clone, Copy)]
+struct CutNodes {
+    cuts: u32,
+    root: u8,
+}
+
+impl CutNodes {
+    // Whether the piece has the array of this node in place of the node.
+    fn has(self, v: u8) -> bool
+        requires { v < 32 }
+        ensures { result ≡ model.except (has self.cuts) self.root v }
+    {
+        has_bit(self.cuts, v) && v != self.root
+    }
+
+    // Whether there are nodes, numbered from `first` on, and the last of them is cut.
+    fn has_last(self, first: u8, nodes: u8) -> bool
+        requires { first + nodes ≤ 32 }
+        ensures some { IsTrue result → 0 < nodes }
+        ensures last { 0 < nodes → result ≡ model.except (has self.cuts) self.root (first + nodes - 1) }
+    {
+        nodes > 0 && self.has(first + nodes - 1)
+    }
+}
+
+fn has_bit(bits: u32, v: u8) -> bool
+    requires { v < 32 }
+    ensures { result ≡ has bits v }
+{
+    bits >> v & 1 == 1
+}
+
+// The indexes of a node in order.
+fn dims_of(tree: &Tree, v: u8) -> ArrayVec<u8, 8>
+    requires inside { v < operations tree.now }
+    requires rank { count (node_dims tree.now v) ≤ 8 }
+    ensures { result.items ≡ members (node_dims tree.now v) }
+{
+    let all = members_of(tree.dims(v));
+    let mut dims = ArrayVec::new();
+    for index in all.as_slice() {
+        dims.push(*index);
+    }
+    dims
+}
+
+// The array of a node in place of the node.
+fn reference_to(tree: &Tree, v: u8) -> Expr
+    requires inside { v < operations tree.now }
+    requires rank { count (node_dims tree.now v) ≤ 8 }
+    ensures { tree_of result ≡ model.reference_to v (node tree.now v) }
+{
+    let _count = tree.count();
+    Expr::Leaf(Leaf {
+        tensor: MAX_TENSORS + v,
+        indexes: dims_of(tree, v),
+    })
+}
+
+// The part of an expression that is a node.
+fn node_of(expr: &Expr, v: u64) -> &Expr
+    requires inside { v < operations (tree_of expr.now) }
+    requires few { operations (tree_of expr.now) ≤ 32 }
+    ensures { tree_of result.now ≡ node (tree_of expr.now) v }
+{
+    if v + 1 == expr.operations() {
+        return expr;
+    }
+    match expr {
+        Expr::Product(left, right) | Expr::Add(left, right) | Expr::Sub(left, right) => {
+            let before = left.operations();
+            if v < before {
+                node_of(left, v)
+            } else {
+                node_of(right, v - before)
+            }
+        }
+        Expr::Sum(_, operand) => node_of(operand, v),
+        Expr::Leaf(_) | Expr::Constant(_) => expr,
+    }
+}
+
+// What is left of a part of the tree whose nodes are numbered from `first` on.
+fn rest_of(
+    alloc: Global,
+    tree: &Tree,
+    cut: CutNodes,
+    first: u8,
+    part: &Expr,
+) -> Result<Expr, AllocError>
+    requires inside { first + operations (tree_of part.now) ≤ operations tree.now }
+    requires stands { StandsAt tree.now first (tree_of part.now) }
+    requires rank { HaveRank tree.now (has cut.cuts) }
+    ensures { IfOk result (λ rest. tree_of rest ≡ model.rest_of (model.except (has cut.cuts) cut.root) first (tree_of part.now)) }
+{
+    let _count = tree.count();
+    let nodes = part.operations() as u8;
+    if cut.has_last(first, nodes) {
+        return Ok(reference_to(tree, first + nodes - 1));
+    }
+    match part {
+        Expr::Leaf(leaf) => Ok(Expr::Leaf(Leaf {
+            tensor: leaf.tensor,
+            indexes: leaf.indexes.clone()?,
+        })),
+        Expr::Constant(number) => Ok(Expr::Constant(*number)),
+        Expr::Product(left, right) => {
+            let behind = first + left.operations() as u8;
+            let left = Box::new(alloc, rest_of(alloc, tree, cut, first, left)?)?;
+            let right = Box::new(alloc, rest_of(alloc, tree, cut, behind, right)?)?;
+            Ok(Expr::Product(left, right))
+        }
+        Expr::Add(left, right) => {
+            let behind = first + left.operations() as u8;
+            let left = Box::new(alloc, rest_of(alloc, tree, cut, first, left)?)?;
+            let right = Box::new(alloc, rest_of(alloc, tree, cut, behind, right)?)?;
+            Ok(Expr::Add(left, right))
+        }
+        Expr::Sub(left, right) => {
+            let behind = first + left.operations() as u8;
+            let left = Box::new(alloc, rest_of(alloc, tree, cut, first, left)?)?;
+            let right = Box::new(alloc, rest_of(alloc, tree, cut, behind, right)?)?;
+            Ok(Expr::Sub(left, right))
+        }
+        Expr::Sum(indexes, operand) => {
+            let rest = Box::new(alloc, rest_of(alloc, tree, cut, first, operand)?)?;
+            Ok(Expr::Sum(indexes.clone()?, rest))
+        }
+    }
+}
+
+// The place of a number in a list.
+fn place_of(numbers: &[u8], t: u8) -> u8
+    requires { length numbers.now ≤ 64 }
+    ensures value { result ≡ place_in numbers.now t }
+    ensures limit { result ≤ length numbers.now }
+{
+    match numbers {
+        [] => 0,
+        [first, rest @ ..] => {
+            if *first == t {
+                0
+            } else {
+                place_of(rest, t) + 1
+            }
+        }
+    }
+}
+
+// An expression with the places of its tensors in a list for their numbers.
+fn renumbered(alloc: Global, expr: &Expr, numbers: &[u8]) -> Result<Expr, AllocError>
+    requires { length numbers.now ≤ 64 }
+    ensures { IfOk result (λ own. tree_of own ≡ renumbered (place_in numbers.now) (tree_of expr.now)) }
+{
+    match expr {
+        Expr::Leaf(leaf) => Ok(Expr::Leaf(Leaf {
+            tensor: place_of(numbers, leaf.tensor),
+            indexes: leaf.indexes.clone()?,
+        })),
+        Expr::Constant(number) => Ok(Expr::Constant(*number)),
+        Expr::Product(left, right) => {
+            let left = Box::new(alloc, renumbered(alloc, left, numbers)?)?;
+            let right = Box::new(alloc, renumbered(alloc, right, numbers)?)?;
+            Ok(Expr::Product(left, right))
+        }
+        Expr::Add(left, right) => {
+            let left = Box::new(alloc, renumbered(alloc, left, numbers)?)?;
+            let right = Box::new(alloc, renumbered(alloc, right, numbers)?)?;
+            Ok(Expr::Add(left, right))
+        }
+        Expr::Sub(left, right) => {
+            let left = Box::new(alloc, renumbered(alloc, left, numbers)?)?;
+            let right = Box::new(alloc, renumbered(alloc, right, numbers)?)?;
+            Ok(Expr::Sub(left, right))
+        }
+        Expr::Sum(indexes, operand) => {
+            let own = Box::new(alloc, renumbered(alloc, operand, numbers)?)?;
+            Ok(Expr::Sum(indexes.clone()?, own))
+        }
+    }
+}
+
+// The name of a node's array.
+fn array_name(v: u8) -> Name
+    requires { v < 32 }
+    ensures { result.bytes ≡ codes "spill-" ++ decimal v }
+{
+    let mut name = Name::new();
+    name.push_str("spill-");
+    name.push_str(decimal_text(u128::from(v)).as_str());
+    name
+}
+
+// The ranges of a node's dims.
+fn ranges_of(space: &Space, tree: &Tree, v: u8) -> ArrayVec<u8, 8>
+    requires measured { IsMeasured space.now tree.now }
+    requires inside { v < operations tree.now }
+    requires rank { count (node_dims tree.now v) ≤ 8 }
+    ensures { result.items ≡ ranges_of_node space.now tree.now v }
+{
+    let _indexes = space.index_count();
+    let dims = dims_of(tree, v);
+    let mut ranges = ArrayVec::new();
+    for index in dims.as_slice() {
+        ranges.push(space.range_of(*index));
+    }
+    ranges
+}
+
+// The name of a tensor or an array.
+fn source_name(spec: &Spec, t: u8) -> Name
+    requires { IsSource spec.now t }
+    ensures { result.bytes ≡ (source spec.now t).name }
+{
+    let _rules = spec.space();
+    if t < MAX_TENSORS {
+        spec.tensor(t).name
+    } else {
+        array_name(t - MAX_TENSORS)
+    }
+}
+
+// The ranges of a tensor or an array.
+fn source_ranges(spec: &Spec, t: u8) -> Result<ArrayVec<u8, 8>, AllocError>
+    requires { IsSource spec.now t }
+    ensures { IfOk result (λ ranges. ranges.items ≡ (source spec.now t).ranges) }
+{
+    let space = spec.space();
+    if t < MAX_TENSORS {
+        spec.tensor(t).ranges.clone()
+    } else {
+        Ok(ranges_of(space, spec.tree(), t - MAX_TENSORS))
+    }
+}
+
+// These tensors and arrays over the same space.
+fn declared(alloc: Global, spec: &Spec, numbers: &[u8]) -> Result<Declarations, AllocError>
+    requires { CanDeclare spec.now numbers.now }
+    ensures { IfOk result (λ d. d ≡ record { space = spec.now.declarations.space; tensors = map (source spec.now) numbers.now }) }
+{
+    let mut declarations = Declarations::over(alloc, copied_space(alloc, spec.space())?)?;
+    for t in numbers {
+        let ranges = source_ranges(spec, *t)?;
+        declarations = declarations.with_tensor_over(source_name(spec, *t), ranges)?;
+    }
+    Ok(declarations)
+}
+
+// What is left of the node, with the numbers of the whole.
+fn rest_of_piece(alloc: Global, spec: &Spec, root: u8, cuts: u32) -> Result<Expr, AllocError>
+    requires { CanCut spec.now (has cuts) root }
+    ensures { IfOk result (λ rest. tree_of rest ≡ model.piece spec.now.tree (has cuts) root) }
+{
+    let tree = spec.tree();
+    let node = node_of(spec.expr(), u64::from(root));
+    let first = root + 1 - node.operations() as u8;
+    rest_of(alloc, tree, CutNodes { cuts, root }, first, node)
+}
+
+// The tensors and arrays of an expression, by their first place from the left, each once.
+fn sources_of(expr: &Expr) -> ArrayVec<u8, 64>
+    requires { IsTrue (list_all (λ t. nat_lt t 64) (references (tree_of expr.now))) }
+    ensures { result.items ≡ each_once (references (tree_of expr.now)) }
+{
+    let mut sources = ArrayVec::new();
+    add_operands(&mut sources, expr);
+    sources
+}
+
+// The number of what the piece computes.
+fn target_of(spec: &Spec, root: u8) -> u8
+    requires { root < operations spec.now.tree }
+    ensures { result ≡ target_number spec.now root }
+{
+    let count = spec.tree().count();
+    if root + 1 == count {
+        spec.result().tensor
+    } else {
+        MAX_TENSORS + root
+    }
+}
+
+// The indexes of what the piece computes.
+fn target_indexes(spec: &Spec, root: u8, cuts: u32) -> Result<ArrayVec<u8, 8>, AllocError>
+    requires { CanCut spec.now (has cuts) root }
+    ensures { IfOk result (λ indexes. indexes.items ≡ target_indexes spec.now root) }
+{
+    let tree = spec.tree();
+    if root + 1 == tree.count() {
+        Ok(spec.result().indexes.clone()?)
+    } else {
+        Ok(dims_of(tree, root))
+    }
+}
+
+// The specification of an expression over declarations of its own.
+fn specified(
+    alloc: Global,
+    declarations: Declarations,
+    target: Leaf,
+    expr: Expr,
+) -> Result<Spec, AllocError>
+    requires few { operations (tree_of expr) ≤ 32 }
+    requires distinct { IsTrue (sums_distinct (tree_of expr)) }
+    requires words { ConstantsAreWords (tree_of expr) }
+    requires contraction { IsContraction declarations target.tensor target.indexes.items (tree_of expr) }
+    ensures { IfOk result (λ spec. spec ≡ record { declarations = declarations; result = target.tensor; indexes = target.indexes.items; tree = tree_of expr }) }
+{
+    let space = declarations.space();
+    match Tree::build(alloc, space, &expr) {
+        Ok(tree) => Ok(Spec::of_parts(
+            declarations,
+            Contraction {
+                result: target,
+                expr,
+                tree,
+            },
+        )),
+        Err(_) => Err(AllocError),
+    }
+}
+
+/// The specification of the piece of a tree whose root is node `root`.
+///
+/// A bit of `cuts` that is set stands for a node whose values are stored in an array of their own, `spill-V` for node
+/// `V`. The piece reads the arrays of the cut nodes below `root` in place of these nodes, and computes the array of
+/// `root`, or the result of the whole at the root of the tree. It declares the same ranges and indexes, its operands by
+/// their first place from the left, and behind them what it computes.
+pub fn piece(alloc: Global, spec: &Spec, root: u8, cuts: u32) -> Result<Spec, AllocError>
+    requires names { HaveNames spec.now.declarations.tensors }
+    requires few { length spec.now.declarations.tensors ≤ 31 }
+    requires cuts { CanCut spec.now (has cuts) root }
+    ensures { IfOk result (λ own. own ≡ piece_of spec.now (has cuts) root) }
+{
+    let _rules = spec.space();
+    let rest = rest_of_piece(alloc, spec, root, cuts)?;
+    let mut numbers = sources_of(&rest);
+    let expr = renumbered(alloc, &rest, numbers.as_slice())?;
+    let target = Leaf {
+        tensor: numbers.len() as u8,
+        indexes: target_indexes(spec, root, cuts)?,
+    };
+    numbers.push(target_of(spec, root));
+    let declarations = declared(alloc, spec, numbers.as_slice())?;
+    specified(alloc, declarations, target, expr)
+}
