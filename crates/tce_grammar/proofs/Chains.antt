@@ -2,9 +2,9 @@
 use Rattle.std.proofs.Common.{◌≡◌, ℕ, zero, suc, ◌-◌, ◌<◌, ◌≤◌, List, [], ◌∷◌, length, Option, Some, None, refl, sym, ◌∙◌, ap, subst, arith}
 use Rattle.std.specs.Prelude.{option_map}
 use Rattle.tce_grammar.specs.Tokens.{Token}
-use Rattle.tce_grammar.specs.Formula.{Formula, Operator, binary}
+use Rattle.tce_grammar.specs.Formula.{Formula, Operator, sum, binary}
 use Rattle.tce_grammar.specs.Reading.{Stops, ahead}
-use Rattle.tce_grammar.specs.Reading.{Reads, chain, chain_at, closed_by, enclosed_within, formula_within}
+use Rattle.tce_grammar.specs.Reading.{Reads, ◌>>=◌, behind, names_at, summed_at, sum_at, chain, chain_at, closed_by, enclosed_within, formula_within}
 use Rattle.tce_grammar.proofs.Formulas.{chain_stops, chain_goes}
 
 map_none : {A B : Type 0} (f : A → B) (m : Option A) → option_map f m ≡ None → m ≡ None
@@ -85,3 +85,18 @@ chained_more operator operand ts f g o us behind rest c is read less =
 pub chained_all : (operator : Token → Option Operator) (operand : List Token → Reads Formula) (ts : List Token) (f : Formula) (rest : List Token)
     → IsChained operator operand ts f rest → None ≡ ahead operator rest → chain_at operator operand ts ≡ Some (f, rest)
 chained_all operator operand ts f rest c is = chained_end operator operand ts f rest c (ahead_none operator rest (sym is))
+
+bound_twice : {A B C : Type 0} (m : Option A) (f : A → Option B) (g : B → Option C) → ((m >>= f) >>= g) ≡ (m >>= λ x. f x >>= g)
+bound_twice None f g = refl
+bound_twice (Some x) f g = refl
+
+-- a sum is its indexes, and then what is enclosed
+pub sum_by_parts : (enclosed : List Token → Reads Formula) (ts : List Token)
+    → sum_at enclosed ts ≡ (summed_at ts >>= λ names. enclosed names.1 >>= λ r. Some (sum names.0 r.0, r.1))
+sum_by_parts enclosed ts =
+    let whole : List (List ℕ) × List Token → Reads Formula = λ names. enclosed names.1 >>= λ r. Some (sum names.0 r.0, r.1) in
+    let opened : (names : List (List ℕ) × List Token) → ((behind 40 names.1 >>= λ operand. Some (names.0, operand)) >>= whole) ≡ (behind 40 names.1 >>= λ operand. whole (names.0, operand)) =
+    λ names. bound_twice (behind 40 names.1) (λ operand. Some (names.0, operand)) whole in
+    let listed : (list : List Token) → ((names_at 125 list >>= λ names. behind 40 names.1 >>= λ operand. Some (names.0, operand)) >>= whole) ≡ (names_at 125 list >>= λ names. behind 40 names.1 >>= λ operand. whole (names.0, operand)) =
+    λ list. bound_twice (names_at 125 list) (λ names. behind 40 names.1 >>= λ operand. Some (names.0, operand)) whole ∙ (λ i. names_at 125 list >>= λ names. opened names i) in
+    sym (bound_twice (behind 123 ts) (λ list. names_at 125 list >>= λ names. behind 40 names.1 >>= λ operand. Some (names.0, operand)) whole ∙ (λ i. behind 123 ts >>= λ list. listed list i))

@@ -8,7 +8,7 @@ use Rattle.tce_space.specs.Name.{is_name}
 use Rattle.tce_grammar.specs.Tokens.{Token, word, number, symbol}
 use Rattle.tce_grammar.specs.Formula.{Formula, Operator, times, plus, minus, tensor, constant, sum, binary}
 use Rattle.tce_grammar.specs.Grammar.{Written, reference, numeral, summed, joined, group, listed, sign, spelling, meaning, precedence, level, IsWritten, depth, AreNames}
-use Rattle.tce_grammar.specs.Reading.{Reads, ◌>>=◌, going_on, behind, with_first, names_at, none_or_names, brackets_at, times_of, plus_of, chain, chain_at, factor_at, formula_by, closed_by, enclosed_within, factor_within, formula_within}
+use Rattle.tce_grammar.specs.Reading.{Reads, ◌>>=◌, going_on, behind, with_first, names_at, none_or_names, brackets_at, times_of, plus_of, chain, chain_at, sum_at, factor_at, formula_by, closed_by, enclosed_within, factor_within, formula_within}
 
 pub bind_some : {A B : Type 0} (m : Option A) (f : A → Option B) (y : B) → (m >>= f) ≡ Some y → (x : A) × (m ≡ Some x) × (f x ≡ Some y)
 bind_some None f y e = cc
@@ -167,10 +167,7 @@ closed_some inner ts r e =
 
 module _ (enclosed : List Token → Reads Formula) (n : ℕ)
     (sound : (ts : List Token) (r : Formula × List Token) → enclosed ts ≡ Some r → (s : IsSpelled 1 n ts (r.0, symbol 41 ∷ r.1)) × (depth s.written < n)) where
-  abbrev pub sum_at : List Token → Reads Formula
-  sum_at ts = behind 123 ts >>= λ list. names_at 125 list >>= λ names. behind 40 names.1 >>= λ operand. enclosed operand >>= λ r. Some (sum names.0 r.0, r.1)
-
-  sum_sound : (ts : List Token) (r : Formula × List Token) → sum_at ts ≡ Some r → IsSpelled 3 n (word (codes "sum") ∷ ts) r
+  sum_sound : (ts : List Token) (r : Formula × List Token) → sum_at enclosed ts ≡ Some r → IsSpelled 3 n (word (codes "sum") ∷ ts) r
   sum_sound ts r e =
       let a : (list : List Token) × (behind 123 ts ≡ Some list) × ((names_at 125 list >>= λ names. behind 40 names.1 >>= λ operand. enclosed operand >>= λ r. Some (sum names.0 r.0, r.1)) ≡ Some r) = bind_some _ _ _ e in
       let b : (names : List (List ℕ) × List Token) × (names_at 125 a.0 ≡ Some names) × ((behind 40 names.1 >>= λ operand. enclosed operand >>= λ r. Some (sum names.0 r.0, r.1)) ≡ Some r) = bind_some _ _ _ a.2 in
@@ -234,7 +231,7 @@ module _ (enclosed : List Token → Reads Formula) (n : ℕ)
             }
       ]
   factor_sound (word w ∷ ts) r e =
-      elim (chosen (bytes_eq w (codes "sum")) (sum_at ts) (if is_name w then (brackets_at ts >>= λ names. Some (tensor w names.0, names.1)) else None) r e) [
+      elim (chosen (bytes_eq w (codes "sum")) (sum_at enclosed ts) (if is_name w then (brackets_at ts >>= λ names. Some (tensor w names.0, names.1)) else None) r e) [
         | inl holds ↦ subst (λ (v : List ℕ). IsSpelled 3 n (word v ∷ ts) r) (sym ((bytes_eq-Decides w (codes "sum")).0 holds.0)) (sum_sound ts r holds.1)
         | inr fails ↦ elim (chosen (is_name w) (brackets_at ts >>= λ names. Some (tensor w names.0, names.1)) None r fails.1) [
           | inl holds ↦ name_sound w ts r holds.0 holds.1

@@ -1,5 +1,5 @@
 -- A line of tokens says what is read from it, and nothing else.
-use Rattle.std.proofs.Common.{◌≡◌, ℕ, ◌≤◌, ◌&&◌, IsTrue, List, [], ◌∷◌, ◌++◌, map, Option, Some, None, refl, sym, ◌∙◌, ap, subst, append_assoc, Bool, true, false, inl, inr, if◌then◌else◌}
+use Rattle.std.proofs.Common.{◌≡◌, ℕ, ◌≤◌, IsTrue, List, [], ◌∷◌, ◌++◌, map, Option, Some, None, refl, sym, ◌∙◌, ap, subst, append_assoc, Bool, true, false, inl, inr, if◌then◌else◌}
 use Rattle.std.specs.Prelude.{codes, option_map}
 use Rattle.std.specs.Str.{bytes_eq}
 use Rattle.std.proofs.lemmas.List.{append-nil}
@@ -8,7 +8,7 @@ use Rattle.tce_space.specs.Name.{is_name}
 use Rattle.tce_grammar.specs.Tokens.{Token, word, number, symbol}
 use Rattle.tce_grammar.specs.Formula.{Formula}
 use Rattle.tce_grammar.specs.Grammar.{Written, listed, bracketed, spelling, meaning, IsWritten, depth, AreNames, AreSome, Statement, range, index, declaration, formula, Says}
-use Rattle.tce_grammar.specs.Reading.{Reads, ◌>>=◌, behind, brackets_at, formula_within, whole, range_of, all_names, index_of, declaration_of, formula_of, statement_of}
+use Rattle.tce_grammar.specs.Reading.{Reads, ◌>>=◌, behind, brackets_at, formula_within, whole, edge_of, range_of, all_names, index_of, declaration_of, formula_of, statement_of}
 use Rattle.tce_grammar.proofs.Formulas.{no_word, brackets_read, formula_read}
 use Rattle.tce_grammar.proofs.Sound.{bind_some, chosen, behind_some, AreBracketed, brackets_sound, IsSpelled, formula_sound}
 
@@ -52,29 +52,30 @@ whole_some None x e = cc
 whole_some (Some (y, [])) x e = ap (λ z. Some (z, [])) cc
 whole_some (Some (y, t ∷ ts)) x e = cc
 
-both_true : (a b : Bool) → (a && b) ≡ true → (a ≡ true) × (b ≡ true)
-both_true true true e = (refl, refl)
-both_true true false e = cc
-both_true false b e = cc
-
-range_said : (ts : List Token) (s : Statement) → range_of ts ≡ Some s → Says (word (codes "range") ∷ ts) s
-range_said (word name ∷ number extent ∷ []) s e =
-    elim (chosen (is_name name) (Some (range name extent None)) None s e) [
+edge_said : (name extent : List ℕ) (ts : List Token) (edge : Option (List ℕ)) → is_name name ≡ true → edge_of ts ≡ Some edge
+    → Says (word (codes "range") ∷ word name ∷ number extent ∷ ts) (range name extent edge)
+edge_said name extent [] edge is e =
+    let same : None ≡ edge = cc in
+    let said : Says (word (codes "range") ∷ word name ∷ number extent ∷ []) (range name extent None) = (is, refl) in
+    subst (λ (x : Option (List ℕ)). Says (word (codes "range") ∷ word name ∷ number extent ∷ []) (range name extent x)) same said
+edge_said name extent (word tile ∷ number d ∷ []) edge is e =
+    elim (chosen (bytes_eq tile (codes "tile")) (Some (Some d)) None edge e) [
       | inl holds ↦
-          let same : range name extent None ≡ s = cc in
-          let said : Says (word (codes "range") ∷ word name ∷ number extent ∷ []) (range name extent None) = (holds.0, refl) in
-          subst (λ (x : Statement). Says (word (codes "range") ∷ word name ∷ number extent ∷ []) x) same said
+          let same : Some d ≡ edge = cc in
+          let is_tile : tile ≡ codes "tile" = (bytes_eq-Decides tile (codes "tile")).0 holds.0 in
+          let said : Says (word (codes "range") ∷ word name ∷ number extent ∷ word tile ∷ number d ∷ []) (range name extent (Some d)) =
+          (is, ap (λ (t : List ℕ). word (codes "range") ∷ word name ∷ number extent ∷ word t ∷ number d ∷ []) is_tile) in
+          subst (λ (x : Option (List ℕ)). Says (word (codes "range") ∷ word name ∷ number extent ∷ word tile ∷ number d ∷ []) (range name extent x)) same said
       | inr fails ↦ cc
     ]
-range_said (word name ∷ number extent ∷ word tile ∷ number edge ∷ []) s e =
-    elim (chosen (is_name name && bytes_eq tile (codes "tile")) (Some (range name extent (Some edge))) None s e) [
+edge_said name extent _ edge is e = cc
+
+range_said : (ts : List Token) (s : Statement) → range_of ts ≡ Some s → Says (word (codes "range") ∷ ts) s
+range_said (word name ∷ number extent ∷ ts) s e =
+    elim (chosen (is_name name) (option_map (range name extent) (edge_of ts)) None s e) [
       | inl holds ↦
-          let b : (is_name name ≡ true) × (bytes_eq tile (codes "tile") ≡ true) = both_true (is_name name) (bytes_eq tile (codes "tile")) holds.0 in
-          let same : range name extent (Some edge) ≡ s = cc in
-          let is_tile : tile ≡ codes "tile" = (bytes_eq-Decides tile (codes "tile")).0 b.1 in
-          let said : Says (word (codes "range") ∷ word name ∷ number extent ∷ word tile ∷ number edge ∷ []) (range name extent (Some edge)) =
-          (b.0, ap (λ (t : List ℕ). word (codes "range") ∷ word name ∷ number extent ∷ word t ∷ number edge ∷ []) is_tile) in
-          subst (λ (x : Statement). Says (word (codes "range") ∷ word name ∷ number extent ∷ word tile ∷ number edge ∷ []) x) same said
+          let m : (edge : Option (List ℕ)) × (edge_of ts ≡ Some edge) × (range name extent edge ≡ s) = some_map _ _ _ holds.1 in
+          subst (λ (x : Statement). Says (word (codes "range") ∷ word name ∷ number extent ∷ ts) x) m.2 (edge_said name extent ts m.0 holds.0 m.1)
       | inr fails ↦ cc
     ]
 range_said _ s e = cc

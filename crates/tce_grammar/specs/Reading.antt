@@ -90,15 +90,26 @@ chain operator operand (suc fuel) f (t ∷ ts) =
 unfoldable pub chain_at : (Token → Option Operator) → (List Token → Reads Formula) → List Token → Reads Formula
 chain_at operator operand ts = operand ts >>= λ r. chain operator operand (length ts) r.0 r.1
 
--- a factor, where `enclosed` reads what stands behind an open parenthesis
+-- the indexes of a sum, in braces behind its first word, up to the parenthesis behind them
+abbrev pub summed_at : List Token → Reads (List (List ℕ))
+summed_at ts = behind 123 ts >>= λ list. names_at 125 list >>= λ names. behind 40 names.1 >>= λ operand. Some (names.0, operand)
+
+-- a sum behind its first word, where `enclosed` reads what stands behind an open parenthesis
+abbrev pub sum_at : (List Token → Reads Formula) → List Token → Reads Formula
+sum_at enclosed ts = behind 123 ts >>= λ list. names_at 125 list >>= λ names. behind 40 names.1 >>= λ operand. enclosed operand >>= λ r. Some (sum names.0 r.0, r.1)
+
+-- a tensor of this name, with the indexes that stand behind it
+abbrev pub tensor_at : List ℕ → List Token → Reads Formula
+tensor_at name ts = brackets_at ts >>= λ names. Some (tensor name names.0, names.1)
+
+-- a factor
 abbrev pub factor_at : (List Token → Reads Formula) → List Token → Reads Formula
 factor_at enclosed [] = None
 factor_at enclosed (number d ∷ ts) = Some (constant d, ts)
 factor_at enclosed (symbol b ∷ ts) = if b == 40 then enclosed ts else None
 factor_at enclosed (word w ∷ ts) =
-    if bytes_eq w (codes "sum") then
-    (behind 123 ts >>= λ list. names_at 125 list >>= λ names. behind 40 names.1 >>= λ operand. enclosed operand >>= λ r. Some (sum names.0 r.0, r.1))
-    else if is_name w then (brackets_at ts >>= λ names. Some (tensor w names.0, names.1))
+    if bytes_eq w (codes "sum") then sum_at enclosed ts
+    else if is_name w then tensor_at w ts
     else None
 
 -- products of factors, with plus and minus between them
@@ -127,10 +138,14 @@ whole None = None
 whole (Some (x, [])) = Some x
 whole (Some (x, t ∷ ts)) = None
 
+-- the edge behind the extent of a range, where there is one
+abbrev pub edge_of : List Token → Option (Option (List ℕ))
+edge_of [] = Some None
+edge_of (word tile ∷ number edge ∷ []) = if bytes_eq tile (codes "tile") then Some (Some edge) else None
+edge_of _ = None
+
 abbrev pub range_of : List Token → Option Statement
-range_of (word name ∷ number extent ∷ []) = if is_name name then Some (range name extent None) else None
-range_of (word name ∷ number extent ∷ word tile ∷ number edge ∷ []) =
-    if is_name name && bytes_eq tile (codes "tile") then Some (range name extent (Some edge)) else None
+range_of (word name ∷ number extent ∷ ts) = if is_name name then option_map (range name extent) (edge_of ts) else None
 range_of _ = None
 
 abbrev pub all_names : List Token → Option (List (List ℕ))

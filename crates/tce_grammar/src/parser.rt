@@ -2,13 +2,14 @@
 
 ghost use Rattle.std.specs.Prelude.{◌≡◌, ◌≢◌, ◌<◌, ◌+◌, ◌*◌, ℕ, length, map, option_map, IfOk, IfSome};
 ghost use Rattle.tce_grammar.specs.Code.{Gives, token, operator, names, formula};
-ghost use Rattle.tce_grammar.specs.Reading.{ahead, behind, names_at, brackets_at, times_of, plus_of, chain_at, factor_within, formula_within, enclosed_within};
+ghost use Rattle.tce_grammar.specs.Formula.{binary};
+ghost use Rattle.tce_grammar.specs.Reading.{ahead, behind, names_at, brackets_at, times_of, plus_of, chain_at, summed_at, sum_at, tensor_at, factor_within, formula_within, enclosed_within};
 
 use crate::formula::{Formula, Operator};
 use crate::name::SUM;
 use crate::read_error::ReadError;
 use crate::token::Token;
-use std::alloc::Global;
+use std::alloc::{AllocError, Global};
 use tce_space::is_name;
 
 /// The tokens behind this symbol.
@@ -88,6 +89,22 @@ pub(crate) fn brackets<'a, 'b>(
     }
 }
 
+/// Two formulas with an operator between them.
+fn joined<'a>(
+    alloc: Global,
+    between: Operator,
+    left: Formula<'a>,
+    right: Formula<'a>,
+) -> Result<Formula<'a>, AllocError>
+    ensures { IfOk result (λ whole. formula whole ≡ binary (operator between) (formula left.entry) (formula right.entry)) }
+{
+    Ok(Formula::Binary {
+        operator: between,
+        left: Box::new(alloc, left)?,
+        right: Box::new(alloc, right)?,
+    })
+}
+
 /// Factors with `*` between them.
 #[cycle(parser)]
 #[tactic(auto, unfolding(crate::specs::Reading::chain_at))]
@@ -102,11 +119,7 @@ fn product<'a, 'b>(
     let (mut left, mut rest) = factor(alloc, open_left, tokens)?;
     while let Some((operator, behind)) = times_ahead(rest) {
         let (right, after) = factor(alloc, open_left, behind)?;
-        left = Formula::Binary {
-            operator,
-            left: Box::new(alloc, left)?,
-            right: Box::new(alloc, right)?,
-        };
+        left = joined(alloc, operator, left, right)?;
         rest = after;
     }
     Ok((left, rest))
@@ -126,11 +139,7 @@ pub(crate) fn expression<'a, 'b>(
     let (mut left, mut rest) = product(alloc, open_left, tokens)?;
     while let Some((operator, behind)) = plus_ahead(rest) {
         let (right, after) = product(alloc, open_left, behind)?;
-        left = Formula::Binary {
-            operator,
-            left: Box::new(alloc, left)?,
-            right: Box::new(alloc, right)?,
-        };
+        left = joined(alloc, operator, left, right)?;
         rest = after;
     }
     Ok((left, rest))
@@ -155,6 +164,50 @@ fn enclosed<'a, 'b>(
     Ok((inner, rest))
 }
 
+/// The indexes of a sum, in braces behind its first word, up to the parenthesis behind them.
+fn summed<'a, 'b>(
+    alloc: Global,
+    tokens: &'b [Token<'a>],
+) -> Result<(Vec<&'a [u8]>, &'b [Token<'a>]), ReadError>
+    ensures read { Gives (λ r. (names r.0.items, map token r.1.now)) result (summed_at (map token tokens.now)) }
+    ensures shorter { IfOk result (λ r. length r.1.now < length tokens.now) }
+{
+    let list = behind(b'{', tokens).ok_or(ReadError::Form)?;
+    let (indexes, rest) = names_up_to(alloc, b'}', list)?;
+    let operand = behind(b'(', rest).ok_or(ReadError::Form)?;
+    Ok((indexes, operand))
+}
+
+/// A sum, behind its first word.
+#[cycle(parser)]
+#[tactic(auto, using(crate::proofs::Chains::sum_by_parts))]
+fn sum<'a, 'b>(
+    alloc: Global,
+    open_left: u8,
+    tokens: &'b [Token<'a>],
+) -> Result<(Formula<'a>, &'b [Token<'a>]), ReadError>
+    ensures read { Gives (λ r. (formula r.0, map token r.1.now)) result (sum_at (enclosed_within open_left) (map token tokens.now)) }
+    ensures shorter { IfOk result (λ r. length r.1.now < length tokens.now) }
+{
+    let (indexes, rest) = summed(alloc, tokens)?;
+    let (operand, rest) = enclosed(alloc, open_left, rest)?;
+    let operand = Box::new(alloc, operand)?;
+    Ok((Formula::Sum { indexes, operand }, rest))
+}
+
+/// A tensor of this name, with the indexes that stand behind it.
+fn tensor<'a, 'b>(
+    alloc: Global,
+    name: &'a [u8],
+    tokens: &'b [Token<'a>],
+) -> Result<(Formula<'a>, &'b [Token<'a>]), ReadError>
+    ensures read { Gives (λ r. (formula r.0, map token r.1.now)) result (tensor_at name.now (map token tokens.now)) }
+    ensures shorter { IfOk result (λ r. length r.1.now < length tokens.now) }
+{
+    let (indexes, rest) = brackets(alloc, tokens)?;
+    Ok((Formula::Tensor { name, indexes }, rest))
+}
+
 /// A tensor, a constant, a sum, or an expression in parentheses.
 #[cycle(parser)]
 fn factor<'a, 'b>(
@@ -168,24 +221,8 @@ fn factor<'a, 'b>(
     match tokens {
         [Token::Number(digits), rest @ ..] => Ok((Formula::Constant(*digits), rest)),
         [Token::Symbol(b'('), rest @ ..] => enclosed(alloc, open_left, rest),
-        [Token::Word(word), rest @ ..] if *word == SUM => {
-            let rest = behind(b'{', rest).ok_or(ReadError::Form)?;
-            let (indexes, rest) = names_up_to(alloc, b'}', rest)?;
-            let rest = behind(b'(', rest).ok_or(ReadError::Form)?;
-            let (operand, rest) = enclosed(alloc, open_left, rest)?;
-            let operand = Box::new(alloc, operand)?;
-            Ok((Formula::Sum { indexes, operand }, rest))
-        }
-        [Token::Word(word), rest @ ..] if is_name(*word) => {
-            let (indexes, rest) = brackets(alloc, rest)?;
-            Ok((
-                Formula::Tensor {
-                    name: *word,
-                    indexes,
-                },
-                rest,
-            ))
-        }
+        [Token::Word(word), rest @ ..] if *word == SUM => sum(alloc, open_left, rest),
+        [Token::Word(word), rest @ ..] if is_name(*word) => tensor(alloc, *word, rest),
         _ => Err(ReadError::Form),
     }
 }

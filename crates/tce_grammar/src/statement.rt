@@ -1,8 +1,8 @@
 //! The four forms of a line.
 
 ghost use Rattle.std.specs.Prelude.{◌≡◌, ◌<◌, ℕ, length, map, option_map, IfOk, codes};
-ghost use Rattle.tce_grammar.specs.Code.{Gives, token, names, formula, statement};
-ghost use Rattle.tce_grammar.specs.Reading.{range_of, index_of, all_names, declaration_of, formula_of, statement_of};
+ghost use Rattle.tce_grammar.specs.Code.{Gives, token, names, formula, text_if_some, statement};
+ghost use Rattle.tce_grammar.specs.Reading.{edge_of, range_of, index_of, all_names, declaration_of, formula_of, statement_of};
 
 use crate::formula::Formula;
 use crate::name::{INDEX, RANGE, TENSOR, TILE};
@@ -42,28 +42,28 @@ pub enum Statement<'a> {
     },
 }
 
+/// The edge behind the extent of a range, where there is one.
+fn read_edge<'a>(tokens: &[Token<'a>]) -> Option<Option<&'a [u8]>>
+    ensures { option_map text_if_some result ≡ edge_of (map token tokens.now) }
+{
+    match tokens {
+        [] => Some(None),
+        [Token::Word(tile), Token::Number(edge)] if *tile == TILE => Some(Some(*edge)),
+        _ => None,
+    }
+}
+
 /// A range, behind its first word.
 fn read_range<'a>(tokens: &[Token<'a>]) -> Result<Statement<'a>, ReadError>
     ensures { Gives statement result (range_of (map token tokens.now)) }
 {
     match tokens {
-        [Token::Word(name), Token::Number(extent)] if is_name(*name) => {
+        [Token::Word(name), Token::Number(extent), rest @ ..] if is_name(*name) => {
+            let edge = read_edge(rest).ok_or(ReadError::Form)?;
             Ok(Statement::Range {
                 name: *name,
                 extent: *extent,
-                edge: None,
-            })
-        }
-        [
-            Token::Word(name),
-            Token::Number(extent),
-            Token::Word(tile),
-            Token::Number(edge),
-        ] if is_name(*name) && *tile == TILE => {
-            Ok(Statement::Range {
-                name: *name,
-                extent: *extent,
-                edge: Some(*edge),
+                edge,
             })
         }
         _ => Err(ReadError::Form),

@@ -20,7 +20,7 @@ product-loop-operator-preserved t c =
     (operator c.in-Some.operator) (map token c.loop-operator.rest.now) (map token c.in-Some.behind.now) (map token c.in_ok-right.after.now)
     c.loop-operator.invariant c.in-Some.ensures.read c.in_ok-right.ensures.read
     (omega (arith, length-map c.in-Some.behind.now token, length-map c.in_ok-right.after.now token, c.in_ok-right.ensures.shorter)) in
-    rw (c.in_ok-new.ensures.ok, c.in_ok-new-2.ensures.ok) kept
+    rw c.in_ok-left-2.ensures kept
 
 pub product-returns-clause-read : goal.product-returns-clause-read
 product-returns-clause-read t c =
@@ -41,7 +41,7 @@ expression-loop-operator-preserved t c =
     (operator c.in-Some.operator) (map token c.loop-operator.rest.now) (map token c.in-Some.behind.now) (map token c.in_ok-right.after.now)
     c.loop-operator.invariant c.in-Some.ensures.read c.in_ok-right.ensures.read
     (omega (arith, length-map c.in-Some.behind.now token, length-map c.in_ok-right.after.now token, c.in_ok-right.ensures.shorter)) in
-    rw (c.in_ok-new.ensures.ok, c.in_ok-new-2.ensures.ok) kept
+    rw c.in_ok-left-2.ensures kept
 
 pub expression-returns-clause-read : goal.expression-returns-clause-read
 expression-returns-clause-read t c =

@@ -5,16 +5,19 @@ use Rattle.tce_grammar.proofs.Chains.{IsChained}
 use Rattle.tce_grammar.proofs.parser.+parser.Given as goal
 
 abbrev pub decreases-enclosed : goal.decreases-enclosed
-decreases-enclosed l = 4 * l.open_left
+decreases-enclosed l = 5 * l.open_left
 
 abbrev pub decreases-expression : goal.decreases-expression
-decreases-expression l = 4 * l.open_left + 3
+decreases-expression l = 5 * l.open_left + 4
 
 abbrev pub decreases-factor : goal.decreases-factor
-decreases-factor l = 4 * l.open_left + 1
+decreases-factor l = 5 * l.open_left + 2
 
 abbrev pub decreases-product : goal.decreases-product
-decreases-product l = 4 * l.open_left + 2
+decreases-product l = 5 * l.open_left + 3
+
+abbrev pub decreases-sum : goal.decreases-sum
+decreases-sum l = 5 * l.open_left + 1
 
 abbrev pub invariant-expression-loop-operator : goal.invariant-expression-loop-operator
 invariant-expression-loop-operator l =
