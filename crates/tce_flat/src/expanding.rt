@@ -38,6 +38,14 @@ fn sym_refusal(fault: SymFault, tensor: &str, packed: &str) -> Refusal
     }
 }
 
+// How many words for lines are of use for an array of this shape.
+fn line_words(shape: &Shape) -> usize
+    ensures { 32 ≤ result }
+{
+    let few = shape.elements().min(MOST_LINE_WORDS as u64 / 4);
+    (4 * few as usize).max(4096)
+}
+
 // Makes the array file of stored elements. Where there is no memory for many lines of them, few do, and it takes longer.
 fn expand_file<D: Disk>(
     alloc: Global,
@@ -56,7 +64,7 @@ fn expand_file<D: Disk>(
     ensures cause { HasCause (D.faults disk.old) (D.faults disk.new) (IsErrOf result OutFault.Failed) }
     ensures told { TellsFaults (D.faults disk.old) (D.faults disk.new) (IsErrOf result OutFault.Failed) }
 {
-    let Ok(mut lines) = vec![in alloc; 0; MOST_LINE_WORDS] else {
+    let Ok(mut lines) = vec![in alloc; 0; line_words(shape)] else {
         return expand(disk, shape, s, packed, array);
     };
     let expanded = expand_through(disk, shape, s, packed, array, &mut lines);

@@ -1,118 +1,158 @@
 -- Lines of stored words.
-use Rattle.std.proofs.Common.{◌≡◌, ◌≢◌, ◌∙◌, ℕ, zero, suc, ◌+◌, ◌-◌, ◌*◌, ◌<◌, ◌≤◌, ◌⊎◌, List, length, length-append, take-append-drop, set, take, drop, replicate, slice_index, refl, sym, ap, subst, arith, inl, inr}
+use Rattle.std.proofs.Common.{◌≡◌, ◌≢◌, ◌∙◌, ℕ, zero, suc, ◌+◌, ◌-◌, ◌*◌, ◌<◌, ◌≤◌, ◌⊎◌, List, length, set, take, drop, replicate, slice_index, refl, sym, ap, subst, arith, inl, inr}
+use Rattle.std.proofs.Math.Nat.{mul-le-mul_left}
 use Rattle.std.proofs.lemmas.Bool.{cases_lt}
-use Rattle.std.proofs.lemmas.List.{length-set, get_or-set_other, length-take-le, length-drop}
+use Rattle.std.proofs.lemmas.List.{length-set, get_or-set_other, get_or-take, get_or-drop, length-take-le, length-drop}
 use Rattle.std.proofs.lemmas.Grind.{get_or-set_at}
-use Rattle.std.proofs.lemmas.Slice.{take-put_mid, drop-put_mid}
-use borrow.Rule.Slice.PartMut.{put_mid}
 use Rattle.tce_base.specs.Word.{word_of_bytes}
 use Rattle.tce_array.specs.declared.form.Form.TheVariants.{One}
 use Rattle.tce_array.specs.Forms.{width, word_in}
-use Rattle.tce_tools.proofs.Shuffles.{copied, kept}
+use Rattle.tce_sym.specs.declared.lines.Grid.{Grid}
 use Rattle.tce_sym.specs.Storage.{stored_word}
-use Rattle.tce_sym.specs.Lines.{AreLines}
+use Rattle.tce_sym.specs.Lines.{IsGrid, AreLines}
 
 no_mark : (n slot : ℕ) → slice_index (replicate {A = ℕ} n 0) slot ≡ 0
 no_mark zero slot = refl
 no_mark (suc n) zero = refl
 no_mark (suc n) (suc slot) = no_mark n slot
 
-pub none_held : (n : ℕ) (lines : List ℕ) → lines ≡ replicate {A = ℕ} n 0 → (count : ℕ) (bytes : List ℕ) → AreLines count bytes lines
-none_held n lines is count bytes = record {
-  held = λ slot start k h l marked inside. absurd (let none : slice_index lines (slot * 32) ≡ 0 = ap (λ ms. slice_index ms (slot * 32)) is ∙ no_mark n (slot * 32) in omega arith);
+pub none_held : (n : ℕ) (lines : List ℕ) → lines ≡ replicate {A = ℕ} n 0 → (g : Grid) (bytes : List ℕ) → AreLines g bytes lines
+none_held n lines is g bytes = record {
+  held = λ slot start k h l marked inside. absurd (let none : slice_index lines slot ≡ 0 = ap (λ ms. slice_index ms slot) is ∙ no_mark n slot in omega arith);
 }
 
--- the line is put into its slot, and all else stays
-pub record IsLinePut (old new : List ℕ) (slot start len : ℕ) (ws : List ℕ) : Type 0 where
-  pub size : length new ≡ length old
-  pub marked : slice_index new (slot * 32) ≡ start + 1
-  pub put : (k : ℕ) → k < len → slice_index new (slot * 32 + (1 + k)) ≡ slice_index ws k
-  pub kept : (i : ℕ) → (i < slot * 32) ⊎ (slot * 32 + 1 + len ≤ i) → slice_index new i ≡ slice_index old i
+-- where a slot and its words are
+pub slot_within : (g : Grid) (room slot : ℕ) → IsGrid g room → slot ≤ g.last → slot < room
+slot_within g room slot is h =
+    let row : g.pitch * 1 ≤ g.pitch * (g.line + 1) = mul-le-mul_left g.pitch (omega arith) in
+    omega (arith, row, is.apart, is.fits)
 
-pub line_put : (count : ℕ) (bytes old new : List ℕ) (slot start len : ℕ) (ws : List ℕ) → len ≤ 31 → ((k : ℕ) → k < 31 → start + k < count → k < len)
-    → IsLinePut old new slot start len ws → ((k : ℕ) → k < len → slice_index ws k ≡ stored_word bytes (start + k)) → AreLines count bytes old → AreLines count bytes new
-line_put count bytes old new slot start len ws short all is read before = record {
-  held = λ slot' start' k h l marked inside.
+pub word_within : (g : Grid) (room slot k : ℕ) → IsGrid g room → slot ≤ g.last → k < g.line → (1 + k) * g.pitch + slot < room
+word_within g room slot k is h l =
+    let row : g.pitch * (k + 2) ≤ g.pitch * (g.line + 1) = mul-le-mul_left g.pitch (omega arith) in
+    omega (arith, row, is.apart, is.fits)
+
+-- a word below the marks
+below : (g : Grid) (room slot k : ℕ) → IsGrid g room → slot ≤ g.last → (i : ℕ) → i ≤ g.last → i ≢ (1 + k) * g.pitch + slot
+below g room slot k is h i l e =
+    let row : g.pitch * 1 ≤ g.pitch * (1 + k) = mul-le-mul_left g.pitch (omega arith) in
+    omega (arith, row, is.apart, e)
+
+-- words of different slots, or different words of one
+apart : (p a b s t : ℕ) → s < p → t < p → a < b → a * p + s ≢ b * p + t
+apart p a b s t h l less e =
+    let row : p * (a + 1) ≤ p * b = mul-le-mul_left p (omega arith) in
+    omega (arith, row, e, h)
+
+others_apart : (g : Grid) (room : ℕ) → IsGrid g room → (a b s t : ℕ) → s ≤ g.last → t ≤ g.last → s ≢ t → (1 + a) * g.pitch + s ≢ (1 + b) * g.pitch + t
+others_apart g room is a b s t h l differ e =
+    elim (cases_lt a b) [
+      | inl less ↦ apart g.pitch (1 + a) (1 + b) s t (omega (arith, is.apart)) (omega (arith, is.apart)) (omega arith) e
+      | inr past ↦ elim (cases_lt b a) [
+        | inl less ↦ apart g.pitch (1 + b) (1 + a) t s (omega (arith, is.apart)) (omega (arith, is.apart)) (omega arith) (sym e)
+        | inr past' ↦ (let same : a ≡ b = omega arith in let rows : (1 + a) * g.pitch ≡ (1 + b) * g.pitch = ap (λ n. (1 + n) * g.pitch) same in differ (omega (arith, rows, e)))
+      ]
+    ]
+
+words_apart : (g : Grid) (room : ℕ) → IsGrid g room → (a b s : ℕ) → s ≤ g.last → a < b → (1 + a) * g.pitch + s ≢ (1 + b) * g.pitch + s
+words_apart g room is a b s h less = apart g.pitch (1 + a) (1 + b) s s (omega (arith, is.apart)) (omega (arith, is.apart)) (omega arith)
+
+-- a slot without its mark
+pub unmarked_kept : (g : Grid) (room slot : ℕ) (bytes old : List ℕ) → IsGrid g room → slot ≤ g.last → slot < length old → AreLines g bytes old → AreLines g bytes (set old slot 0)
+unmarked_kept g room slot bytes old is h room' before = record {
+  held = λ slot' start k h' l marked inside.
       elim (cases_lt slot' slot) [
-        | inl below ↦ is.kept (slot' * 32 + (1 + k)) (inl (omega arith))
-            ∙ before.held slot' start' k (omega (arith, is.size, h)) l (sym (is.kept (slot' * 32) (inl (omega arith))) ∙ marked) inside
-        | inr above ↦ elim (cases_lt slot slot') [
-          | inl below ↦ is.kept (slot' * 32 + (1 + k)) (inr (omega arith))
-              ∙ before.held slot' start' k (omega (arith, is.size, h)) l (sym (is.kept (slot' * 32) (inr (omega arith))) ∙ marked) inside
-          | inr same ↦ this slot' start' k l marked inside (omega arith)
+        | inl less ↦ other slot' start k h' l marked inside (λ e. omega arith)
+        | inr past ↦ elim (cases_lt slot slot') [
+          | inl less ↦ other slot' start k h' l marked inside (λ e. omega arith)
+          | inr past' ↦ absurd (let same : slot' ≡ slot = omega arith in let none = get_or-set_at old slot slot' 0 0 same room' in omega (arith, none, marked))
         ]
       ];
 }
   where
-    this : (slot' start' k : ℕ) → k < 31 → slice_index new (slot' * 32) ≡ start' + 1 → start' + k < count → slot' ≡ slot → slice_index new (slot' * 32 + (1 + k)) ≡ stored_word bytes (start' + k)
+    other : (slot' start k : ℕ) → slot' ≤ g.last → k < g.line → slice_index (set old slot 0) slot' ≡ start + 1 → start + k < g.count → slot' ≢ slot
+        → slice_index (set old slot 0) ((1 + k) * g.pitch + slot') ≡ stored_word bytes (start + k)
+    other slot' start k h' l marked inside differ =
+        get_or-set_other old slot ((1 + k) * g.pitch + slot') 0 0 (λ e. below g room slot' k is h' slot h (sym e))
+        ∙ before.held slot' start k h' l (sym (get_or-set_other old slot slot' 0 0 differ) ∙ marked) inside
+
+-- a word of a slot without its mark
+pub word_kept : (g : Grid) (room slot j word : ℕ) (bytes old : List ℕ) → IsGrid g room → slot ≤ g.last → slice_index old slot ≡ 0 → AreLines g bytes old
+    → AreLines g bytes (set old ((1 + j) * g.pitch + slot) word)
+word_kept g room slot j word bytes old is h none before = record {
+  held = λ slot' start k h' l marked inside.
+      let mark : slice_index old slot' ≡ start + 1 = sym (get_or-set_other old ((1 + j) * g.pitch + slot) slot' word 0 (below g room slot j is h slot' h')) ∙ marked in
+      let differ : slot' ≢ slot = λ e. (let same : slice_index old slot' ≡ slice_index old slot = ap (slice_index old) e in omega (arith, same, mark, none)) in
+      get_or-set_other old ((1 + j) * g.pitch + slot) ((1 + k) * g.pitch + slot') word 0 (others_apart g room is k j slot' slot h' h differ)
+      ∙ before.held slot' start k h' l mark inside;
+}
+
+pub still_unmarked : (g : Grid) (room slot j word : ℕ) (old : List ℕ) → IsGrid g room → slot ≤ g.last → slice_index old slot ≡ 0 → slice_index (set old ((1 + j) * g.pitch + slot) word) slot ≡ 0
+still_unmarked g room slot j word old is h none = get_or-set_other old ((1 + j) * g.pitch + slot) slot word 0 (below g room slot j is h slot h) ∙ none
+
+pub one_more : (g : Grid) (room slot j : ℕ) (words old : List ℕ) → IsGrid g room → slot ≤ g.last → j < g.line → length old ≡ room
+    → ((i : ℕ) → i < j → slice_index old ((1 + i) * g.pitch + slot) ≡ slice_index words i)
+    → (i : ℕ) → i < j + 1 → slice_index (set old ((1 + j) * g.pitch + slot) (slice_index words j)) ((1 + i) * g.pitch + slot) ≡ slice_index words i
+one_more g room slot j words old is h l size before i less =
+    elim (cases_lt i j) [
+      | inl earlier ↦ get_or-set_other old ((1 + j) * g.pitch + slot) ((1 + i) * g.pitch + slot) (slice_index words j) 0 (words_apart g room is i j slot h earlier) ∙ before i earlier
+      | inr past ↦ (let same : i ≡ j = omega arith in
+          get_or-set_at old ((1 + j) * g.pitch + slot) ((1 + i) * g.pitch + slot) (slice_index words j) 0 (ap (λ n. (1 + n) * g.pitch + slot) same) (omega (arith, size, word_within g room slot j is h l))
+          ∙ ap (slice_index words) (sym same))
+    ]
+
+-- the mark of a slot that has its words
+pub line_put : (g : Grid) (room slot start : ℕ) (bytes words old : List ℕ) → IsGrid g room → slot ≤ g.last → slot < length old → ((k : ℕ) → k < g.line → start + k < g.count → k < length words)
+    → ((k : ℕ) → k < length words → slice_index old ((1 + k) * g.pitch + slot) ≡ slice_index words k) → ((k : ℕ) → k < length words → slice_index words k ≡ stored_word bytes (start + k))
+    → AreLines g bytes old → AreLines g bytes (set old slot (start + 1))
+line_put g room slot start bytes words old is h room' whole put read before = record {
+  held = λ slot' start' k h' l marked inside.
+      elim (cases_lt slot' slot) [
+        | inl less ↦ other slot' start' k h' l marked inside (λ e. omega arith)
+        | inr past ↦ elim (cases_lt slot slot') [
+          | inl less ↦ other slot' start' k h' l marked inside (λ e. omega arith)
+          | inr past' ↦ this slot' start' k l marked inside (omega arith)
+        ]
+      ];
+}
+  where
+    other : (slot' start' k : ℕ) → slot' ≤ g.last → k < g.line → slice_index (set old slot (start + 1)) slot' ≡ start' + 1 → start' + k < g.count → slot' ≢ slot
+        → slice_index (set old slot (start + 1)) ((1 + k) * g.pitch + slot') ≡ stored_word bytes (start' + k)
+    other slot' start' k h' l marked inside differ =
+        get_or-set_other old slot ((1 + k) * g.pitch + slot') (start + 1) 0 (λ e. below g room slot' k is h' slot h (sym e))
+        ∙ before.held slot' start' k h' l (sym (get_or-set_other old slot slot' (start + 1) 0 differ) ∙ marked) inside
+
+    this : (slot' start' k : ℕ) → k < g.line → slice_index (set old slot (start + 1)) slot' ≡ start' + 1 → start' + k < g.count → slot' ≡ slot
+        → slice_index (set old slot (start + 1)) ((1 + k) * g.pitch + slot') ≡ stored_word bytes (start' + k)
     this slot' start' k l marked inside e =
-        let mark : slice_index new (slot * 32) ≡ start' + 1 = ap (λ n. slice_index new (n * 32)) (sym e) ∙ marked in
-        let start_is : start' ≡ start = omega (arith, mark, is.marked) in
-        let first : k < len = all k l (subst (λ (n : ℕ). n + k < count) start_is inside) in
-        ap (λ n. slice_index new (n * 32 + (1 + k))) e ∙ is.put k first ∙ read k first ∙ ap (λ n. stored_word bytes (n + k)) (sym start_is)
+        let mark = get_or-set_at old slot slot' (start + 1) 0 e room' in
+        let start_is : start' ≡ start = omega (arith, mark, marked) in
+        let first : k < length words = whole k l (subst (λ (n : ℕ). n + k < g.count) start_is inside) in
+        ap (λ n. slice_index (set old slot (start + 1)) ((1 + k) * g.pitch + n)) e
+        ∙ get_or-set_other old slot ((1 + k) * g.pitch + slot) (start + 1) 0 (λ same. below g room slot k is h slot h (sym same))
+        ∙ put k first ∙ read k first ∙ ap (λ n. stored_word bytes (n + k)) (sym start_is)
 
 -- the word at a place
-pub held_word : (count : ℕ) (bytes lines : List ℕ) (slot place mark : ℕ) → slot * 32 + 32 ≤ length lines → place < count → mark ≡ slice_index lines (slot * 32) → 0 < mark → mark ≤ place + 1 → place + 1 - mark < 31 → AreLines count bytes lines
-    → slice_index lines (slot * 32 + (1 + (place + 1 - mark))) ≡ stored_word bytes place
-held_word count bytes lines slot place mark h l is some before near held =
+pub held_word : (g : Grid) (bytes lines : List ℕ) (slot place mark : ℕ) → slot ≤ g.last → place < g.count → mark ≡ slice_index lines slot → 0 < mark → mark ≤ place + 1 → place + 1 - mark < g.line → AreLines g bytes lines
+    → slice_index lines ((1 + (place + 1 - mark)) * g.pitch + slot) ≡ stored_word bytes place
+held_word g bytes lines slot place mark h l is some before near held =
     let whole : mark - 1 + (place + 1 - mark) ≡ place = omega arith in
     held.held slot (mark - 1) (place + 1 - mark) h near (omega arith) (omega arith)
     ∙ ap (stored_word bytes) whole
 
--- the first word of a line
-pub first_word : (count : ℕ) (bytes lines : List ℕ) (slot place : ℕ) → slot * 32 + 32 ≤ length lines → place < count → slice_index lines (slot * 32) ≡ place + 1 → AreLines count bytes lines
-    → slice_index lines (slot * 32 + 1) ≡ stored_word bytes place
-first_word count bytes lines slot place h l is held =
-    held.held slot place 0 h (omega arith) is (omega arith) ∙ ap (stored_word bytes) (omega arith)
-
-length_put : (a k : ℕ) (xs ys : List ℕ) → k ≡ length ys → a + length ys ≤ length xs → length (put_mid a k xs ys) ≡ length xs
-length_put a k xs ys is room =
-    let n : ℕ = a + length ys in
-    let l : List ℕ = put_mid a k xs ys in
-    let front = ap length (take-put_mid a k xs ys (a + length ys) refl (omega arith)) in
-    let back = ap length (drop-put_mid a k xs ys (a + length ys) (omega arith) (omega arith) (sym is)) in
-    omega (
-      arith,
-      ap length (take-append-drop n l),
-      length-append (take n l) (drop n l),
-      front,
-      back,
-      length-append (take a xs) ys,
-      length-take-le a xs (omega arith),
-      length-drop n xs,
-    )
-
 -- the words that are read
-line_read : (bytes ws : List ℕ) (start : ℕ) → ((k : ℕ) → k < length ws → slice_index ws k ≡ word_in One (drop (32 + 8 * start + width One * k) bytes))
+pub line_read : (bytes ws : List ℕ) (start : ℕ) → ((k : ℕ) → k < length ws → slice_index ws k ≡ word_in One (drop (32 + 8 * start + width One * k) bytes))
     → (k : ℕ) → k < length ws → slice_index ws k ≡ stored_word bytes (start + k)
 unfolding word_in
 line_read bytes ws start values k l =
     let byte : 32 + 8 * start + 8 * k ≡ 32 + 8 * (start + k) = omega arith in
     values k l ∙ ap (λ n. word_of_bytes 8 (drop n bytes)) byte
 
-pub lines_read : (count : ℕ) (bytes old : List ℕ) (slot start len from : ℕ) (ws : List ℕ) → slot * 32 + 32 ≤ length old → from ≡ slot * 32 + 1 → length ws ≡ len → len ≤ 31 → ((k : ℕ) → k < 31 → start + k < count → k < len) → AreLines count bytes old
-    → ((k : ℕ) → k < length ws → slice_index ws k ≡ word_in One (drop (32 + 8 * start + width One * k) bytes))
-    → AreLines count bytes (set (put_mid from (from + len - from) old ws) (slot * 32) (start + 1))
-lines_read count bytes old slot start len from ws h at is short all held values =
-    line_put count bytes old new slot start len ws short all (record {
-      size = length-set (put_mid from (from + len - from) old ws) (slot * 32) (start + 1) ∙ length_put from (from + len - from) old ws size fits;
-      marked = get_or-set_at (put_mid from (from + len - from) old ws) (slot * 32) (slot * 32) (start + 1) 0 refl (omega (arith, length_put from (from + len - from) old ws size fits));
-      put = λ k l. other (slot * 32 + (1 + k)) (λ e. omega arith) ∙ ap (slice_index (put_mid from (from + len - from) old ws)) (omega arith) ∙ copied from (from + len - from) old ws k size fits (omega (arith, is));
-      kept = λ i apart. other' i apart;
-    }) (λ k l. line_read bytes ws start values k (omega (arith, is))) held
-  where
-    new : List ℕ
-    new = set (put_mid from (from + len - from) old ws) (slot * 32) (start + 1)
-
-    size : from + len - from ≡ length ws
-    size = omega (arith, is)
-
-    fits : from + length ws ≤ length old
-    fits = omega (arith, is, h, at, short)
-
-    other : (i : ℕ) → i ≢ slot * 32 → slice_index new i ≡ slice_index (put_mid from (from + len - from) old ws) i
-    other i differs = get_or-set_other (put_mid from (from + len - from) old ws) (slot * 32) i (start + 1) 0 differs
-
-    other' : (i : ℕ) → (i < slot * 32) ⊎ (slot * 32 + 1 + len ≤ i) → slice_index new i ≡ slice_index old i
-    other' i (inl low) = other i (λ e. omega arith) ∙ kept from (from + len - from) old ws i size fits (inl (omega (arith, at)))
-    other' i (inr high) = other i (λ e. omega arith) ∙ kept from (from + len - from) old ws i size fits (inr (omega (arith, is, at)))
+-- words from one on
+pub part_read : (bytes ws : List ℕ) (start from n : ℕ) → from + n ≤ length ws → ((k : ℕ) → k < length ws → slice_index ws k ≡ stored_word bytes (start + k))
+    → (k : ℕ) → k < length (take n (drop from ws)) → slice_index (take n (drop from ws)) k ≡ stored_word bytes (start + from + k)
+part_read bytes ws start from n room read k l =
+    let behind = length-drop from ws in
+    let size = length-take-le n (drop from ws) (omega (arith, behind)) in
+    let at : start + (from + k) ≡ start + from + k = omega arith in
+    get_or-take n (drop from ws) k 0 (omega (arith, size)) ∙ get_or-drop from ws k 0 ∙ read (from + k) (omega (arith, size)) ∙ ap (stored_word bytes) at

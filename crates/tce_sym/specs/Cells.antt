@@ -5,6 +5,7 @@ use Rattle.tce_sym.specs.declared.symmetry.Symmetry.{Symmetry}
 use Rattle.tce_sym.specs.declared.cells.Triangles.{Triangles}
 use Rattle.tce_sym.specs.declared.cells.Pair.{Pair}
 use Rattle.tce_sym.specs.declared.rows.Row.{Row}
+use Rattle.tce_sym.specs.Lines.{AreSlots}
 use Rattle.tce_sym.specs.Storage.{at_first, at_second, at_others, pairs, stored_word, turned}
 
 pub record AreTriangles (t : Triangles) : Type 0 where
@@ -13,6 +14,8 @@ pub record AreTriangles (t : Triangles) : Type 0 where
   pub count : t.count ≡ t.others * t.pairs
   pub small : t.count ≤ 2 ^ 48
   pub few : t.others ≤ 2 ^ 48
+  pub slots : AreSlots t.slots
+  pub grid : t.slots.grid.count ≡ t.count
 
 -- the triangles are those of a tensor
 pub record AreOf (extents : List ℕ) (s : Symmetry) (t : Triangles) : Type 0 where

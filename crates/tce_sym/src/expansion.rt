@@ -8,11 +8,11 @@ ghost use Rattle.tce_array.specs.Forms.{array_bytes};
 ghost use Rattle.tce_tools.specs.Flat.{contents};
 ghost use Rattle.tce_tools.specs.Storage.{holding_by};
 ghost use Rattle.tce_sym.specs.Storage.{AreRight, IsStored, full_cell, stored_count};
-ghost use Rattle.tce_sym.specs.Lines.{AreLines};
+ghost use Rattle.tce_sym.specs.Lines.{IsGrid, AreLines};
+ghost use Rattle.tce_sym.specs.Cells.{AreTriangles, AreOf};
 ghost use Rattle.tce_sym.specs.TileRows.{AreWords};
 
-use crate::cells::triangles_of;
-use crate::lines::SLOT;
+use crate::cells::{Triangles, triangles_of};
 use crate::rows::{read_row, row_of};
 use crate::symmetry::Symmetry;
 use crate::tile_rows::tile_row_at;
@@ -25,10 +25,10 @@ use tce_tools::write_words;
 const LONGEST_PIECE: usize = 2048;
 
 // The words for lines that stand on the stack.
-const SHORT_LINES: usize = 64 * SLOT;
+const SHORT_LINES: usize = 2048;
 
-/// The words for lines beyond which more make [`expand_through`] no faster: 1 MiB.
-pub const MOST_LINE_WORDS: usize = 4096 * SLOT;
+/// The words for lines that [`expand_through`] makes the most of: 37.5 MiB.
+pub const MOST_LINE_WORDS: usize = 75 << 16;
 
 // Makes each word 0.
 fn clear(words: &mut [u64])
@@ -43,6 +43,7 @@ fn read_piece<D: Disk>(
     shape: &Shape,
     s: &Symmetry,
     packed: &str,
+    triangles: &Triangles,
     lines: &mut [u64],
     start: u64,
     words: &mut [u64],
@@ -51,16 +52,18 @@ fn read_piece<D: Disk>(
     requires inside { start + length words.old ≤ padded_words shape.now }
     requires fits { start + length words.old < 2 ^ 64 }
     requires file { ForSome (D.files disk.old) (λ fs. IsSomeAnd (file fs packed.now) (λ bytes. IsStored shape.now.extents s.now bytes)) }
-    requires some { 32 ≤ length lines.old }
-    requires lines { ForSome (D.files disk.old) (λ fs. AreLines (stored_count shape.now.extents s.now) (contents fs packed.now) lines.old) }
+    requires triangles { AreTriangles triangles.now }
+    requires of { AreOf shape.now.extents s.now triangles.now }
+    requires count { triangles.now.count ≡ stored_count shape.now.extents s.now }
+    requires grid { IsGrid triangles.now.slots.grid (length lines.old) }
+    requires lines { ForSome (D.files disk.old) (λ fs. AreLines triangles.now.slots.grid (contents fs packed.now) lines.old) }
     ensures read { OnOk result (ForSome (D.files disk.old) (λ fs. AreWords shape.now (full_cell shape.now.extents s.now (contents fs packed.now)) start (length words.old) words.new)) }
-    ensures lines { OnOk result (ForSome (D.files disk.old) (λ fs. AreLines (stored_count shape.now.extents s.now) (contents fs packed.now) lines.new)) }
+    ensures lines { OnOk result (ForSome (D.files disk.old) (λ fs. AreLines triangles.now.slots.grid (contents fs packed.now) lines.new)) }
     ensures len { length words.new ≡ length words.old }
     ensures same { D.files disk.new ≡ D.files disk.old }
     ensures cause { HasCause (D.faults disk.old) (D.faults disk.new) (IsErr result) }
     ensures told { TellsFaults (D.faults disk.old) (D.faults disk.new) (IsErr result) }
 {
-    let triangles = triangles_of(shape, s);
     clear(words);
     let mut filled = 0;
     while filled < words.len() {
@@ -69,7 +72,7 @@ fn read_piece<D: Disk>(
         let len = tile_row.len.min((words.len() - filled) as u64) as usize;
         let used = tile_row.used.min(len as u64) as usize;
         let part = &mut words[filled..filled + used];
-        read_row(disk, packed, &triangles, lines, &row, part)?;
+        read_row(disk, packed, triangles, lines, &row, part)?;
         filled += len;
     }
     Ok(())
@@ -101,8 +104,8 @@ pub fn expand<D: Disk>(
     expand_through(disk, shape, s, packed, array, &mut lines)
 }
 
-/// What [`expand`] does, with words for the lines that the caller lends, whatever they hold: 32 for each line of 31, up to
-/// [`MOST_LINE_WORDS`]. What they hold afterwards is free.
+/// What [`expand`] does, with words for the lines that the caller lends, whatever they hold, up to [`MOST_LINE_WORDS`]. What
+/// they hold afterwards is free.
 pub fn expand_through<D: Disk>(
     disk: &mut D,
     shape: &Shape,
@@ -123,6 +126,7 @@ pub fn expand_through<D: Disk>(
 {
     create(disk, array, Form::One, shape)?;
     clear(lines);
+    let triangles = triangles_of(shape, s, lines.len());
     let mut bytes = [0; 8 * LONGEST_PIECE];
     let mut buffer = [0; LONGEST_PIECE];
     let head = Form::One.head_len(shape);
@@ -131,7 +135,7 @@ pub fn expand_through<D: Disk>(
     while done < padded {
         let len = (padded - done).min(LONGEST_PIECE as u64);
         let words = &mut buffer[..len as usize];
-        let Ok(()) = read_piece(disk, shape, s, packed, lines, done, words) else {
+        let Ok(()) = read_piece(disk, shape, s, packed, &triangles, lines, done, words) else {
             return Err(OutFault::Failed);
         };
         let Ok(()) = write_words(disk, array, Form::One, head + 8 * done, &mut bytes, words) else {

@@ -17,6 +17,7 @@ mod laws;
 mod lines;
 mod opening;
 mod rows;
+mod slots;
 mod symmetry;
 mod tile_rows;
 

@@ -1,82 +1,202 @@
-// Lines of stored words, held in memory: each in a slot of 32 words, behind its mark. The mark is one more than the place of
-// the line's first word, or 0 where the slot has none.
-ghost use Rattle.std.specs.Prelude.{◌≡◌, ◌+◌, ◌*◌, ◌<◌, ◌≤◌, ◌^◌, length, slice_index, IfOk, OnOk, IsErr};
+// Lines of stored words, held in memory: the words from one place on, each line in a slot of its own. Slots stand side by
+// side, and the words of a line below each other, so that words of neighbouring slots are neighbours.
+ghost use Rattle.std.specs.Prelude.{◌≡◌, ℕ, ◌+◌, ◌*◌, ◌<◌, ◌≤◌, ◌^◌, List, length, slice_index, IfOk, OnOk, IsErr};
 ghost use Rattle.std.specs.Option.{ForSome, IsSomeAnd};
 ghost use Rattle.tce_outside.specs.Files.{file};
 ghost use Rattle.tce_outside.specs.Fault.{HasCause, TellsFaults};
 ghost use Rattle.tce_tools.specs.Flat.{contents};
 ghost use Rattle.tce_sym.specs.Storage.{stored_word};
-ghost use Rattle.tce_sym.specs.Lines.{AreLines};
+ghost use Rattle.tce_sym.specs.Lines.{IsGrid, AreLines};
 
 use tce_array::Form;
 use tce_outside::{Disk, Failed};
 use tce_tools::read_words;
 
-// The words of a line.
-const LINE: usize = 31;
+/// The most words of a line.
+pub const LONGEST_LINE: usize = 256;
 
-/// The words of a slot: a mark, and a line.
-pub const SLOT: usize = 32;
+// The most words that are read at once, of which several lines are made.
+const WINDOW: usize = 2048;
 
-// Reads the line that begins at a place into a slot.
+/// How lines stand in memory: a row of marks, one for each slot, and below it a row for each word of a line. A mark is one
+/// more than the place of its line's first word, or 0 where the slot has none.
+#[derive(Clone, Copy)]
+pub struct Grid {
+    /// The last slot.
+    pub last: usize,
+    /// The words from a row to the next.
+    pub pitch: usize,
+    /// The words of a line.
+    pub line: usize,
+    /// How many words are stored.
+    pub count: u64,
+}
+
+/// A stored word that is wanted, the slot for its line, and which lines are read with it where the slot does not hold it.
+#[derive(Clone, Copy)]
+pub struct Wanted {
+    /// The place of the word.
+    pub place: u64,
+    /// The slot for its line.
+    pub slot: usize,
+    /// The slots from a line to the next.
+    pub next: usize,
+    /// The places from the first line to the second.
+    pub step: u64,
+    /// How many places more there are each time from a line to the next. If none, lines begin at multiples of their length.
+    pub growth: u64,
+}
+
+// Puts a line into a slot, as far as there are words.
+fn put_line(grid: &Grid, lines: &mut [u64], slot: usize, start: u64, words: &[u64])
+    requires grid { IsGrid grid.now (length lines.old) }
+    requires slot { slot ≤ grid.now.last }
+    requires start { start ≤ 2 ^ 48 }
+    requires short { length words.now ≤ grid.now.line }
+    requires whole { (k : ℕ) → k < grid.now.line → start + k < grid.now.count → k < length words.now }
+    ensures { (bytes : List ℕ) → AreLines grid.now bytes lines.old
+        → ((k : ℕ) → k < length words.now → slice_index words.now k ≡ stored_word bytes (start + k)) → AreLines grid.now bytes lines.new }
+{
+    lines[slot] = 0;
+    for k in 0..words.len() {
+        lines[(1 + k) * grid.pitch + slot] = words[k];
+    }
+    lines[slot] = start + 1;
+}
+
+// Puts the words from a place on into lines: the first into the slot, and as many whole ones behind it as there are.
+fn put_lines(grid: &Grid, lines: &mut [u64], wanted: Wanted, start: u64, words: &[u64])
+    requires grid { IsGrid grid.now (length lines.old) }
+    requires slot { wanted.slot ≤ grid.now.last }
+    requires start { start + length words.now ≤ grid.now.count }
+    requires count { grid.now.count ≤ 2 ^ 48 }
+    requires whole { (k : ℕ) → k < grid.now.line → start + k < grid.now.count → k < length words.now }
+    ensures { (bytes : List ℕ) → AreLines grid.now bytes lines.old
+        → ((k : ℕ) → k < length words.now → slice_index words.now k ≡ stored_word bytes (start + k)) → AreLines grid.now bytes lines.new }
+{
+    let first = grid.line.min(words.len());
+    put_line(grid, lines, wanted.slot, start, &words[..first]);
+    let mut slot = wanted.slot;
+    let mut step = wanted.step.min(WINDOW as u64) as usize;
+    let mut from = 0;
+    while grid.line + step <= words.len() - from && wanted.next <= grid.last - slot {
+        from += step.max(1);
+        slot += wanted.next;
+        step += wanted.growth.min(1) as usize;
+        if grid.line <= words.len() - from {
+            put_line(
+                grid,
+                lines,
+                slot,
+                start + from as u64,
+                &words[from..from + grid.line],
+            );
+        }
+    }
+}
+
+// The word of a place, and its line alone.
 fn read_line<D: Disk>(
     disk: &mut D,
     packed: &str,
-    count: u64,
+    grid: &Grid,
     lines: &mut [u64],
-    slot: usize,
+    wanted: Wanted,
     start: u64,
-) -> Result<(), Failed>
-    requires slot { slot * 32 + 32 ≤ length lines.old }
-    requires start { start < count }
-    requires count { count ≤ 2 ^ 48 }
-    requires file { ForSome (D.files disk.old) (λ fs. IsSomeAnd (file fs packed.now) (λ bytes. length bytes ≡ 32 + 8 * count)) }
-    requires lines { ForSome (D.files disk.old) (λ fs. AreLines count (contents fs packed.now) lines.old) }
-    ensures lines { OnOk result (ForSome (D.files disk.old) (λ fs. AreLines count (contents fs packed.now) lines.new)) }
-    ensures held { OnOk result (slice_index lines.new (slot * 32) ≡ start + 1) }
+) -> Result<u64, Failed>
+    requires grid { IsGrid grid.now (length lines.old) }
+    requires slot { wanted.slot ≤ grid.now.last }
+    requires start { start ≤ wanted.place }
+    requires near { wanted.place < start + grid.now.line }
+    requires place { wanted.place < grid.now.count }
+    requires count { grid.now.count ≤ 2 ^ 48 }
+    requires file { ForSome (D.files disk.old) (λ fs. IsSomeAnd (file fs packed.now) (λ bytes. length bytes ≡ 32 + 8 * grid.now.count)) }
+    requires lines { ForSome (D.files disk.old) (λ fs. AreLines grid.now (contents fs packed.now) lines.old) }
+    ensures word { IfOk result (λ word. ForSome (D.files disk.old) (λ fs. word ≡ stored_word (contents fs packed.now) wanted.place)) }
+    ensures lines { OnOk result (ForSome (D.files disk.old) (λ fs. AreLines grid.now (contents fs packed.now) lines.new)) }
     ensures same { D.files disk.new ≡ D.files disk.old }
     ensures cause { HasCause (D.faults disk.old) (D.faults disk.new) (IsErr result) }
     ensures told { TellsFaults (D.faults disk.old) (D.faults disk.new) (IsErr result) }
 {
-    let len = (count - start).min(LINE as u64) as usize;
-    let from = slot * SLOT + 1;
-    let mut bytes = [0; 8 * LINE];
-    read_words(
-        disk,
-        packed,
-        Form::One,
-        32 + 8 * start,
-        &mut bytes,
-        &mut lines[from..from + len],
-    )?;
-    lines[slot * SLOT] = start + 1;
-    Ok(())
+    let len = (grid.count - start).min(grid.line as u64) as usize;
+    let mut bytes = [0; 8 * LONGEST_LINE];
+    let mut buffer = [0; LONGEST_LINE];
+    let words = &mut buffer[..len];
+    read_words(disk, packed, Form::One, 32 + 8 * start, &mut bytes, words)?;
+    put_line(grid, lines, wanted.slot, start, words);
+    Ok(words[(wanted.place - start) as usize])
 }
 
-/// The stored word at a place. Where this slot does not hold it, a line that begins there is read into the slot.
+// The word of a place, its line, and those behind it.
+fn read_lines<D: Disk>(
+    disk: &mut D,
+    packed: &str,
+    grid: &Grid,
+    lines: &mut [u64],
+    wanted: Wanted,
+    start: u64,
+) -> Result<u64, Failed>
+    requires grid { IsGrid grid.now (length lines.old) }
+    requires slot { wanted.slot ≤ grid.now.last }
+    requires start { start ≤ wanted.place }
+    requires near { wanted.place < start + grid.now.line }
+    requires place { wanted.place < grid.now.count }
+    requires count { grid.now.count ≤ 2 ^ 48 }
+    requires file { ForSome (D.files disk.old) (λ fs. IsSomeAnd (file fs packed.now) (λ bytes. length bytes ≡ 32 + 8 * grid.now.count)) }
+    requires lines { ForSome (D.files disk.old) (λ fs. AreLines grid.now (contents fs packed.now) lines.old) }
+    ensures word { IfOk result (λ word. ForSome (D.files disk.old) (λ fs. word ≡ stored_word (contents fs packed.now) wanted.place)) }
+    ensures lines { OnOk result (ForSome (D.files disk.old) (λ fs. AreLines grid.now (contents fs packed.now) lines.new)) }
+    ensures same { D.files disk.new ≡ D.files disk.old }
+    ensures cause { HasCause (D.faults disk.old) (D.faults disk.new) (IsErr result) }
+    ensures told { TellsFaults (D.faults disk.old) (D.faults disk.new) (IsErr result) }
+{
+    let len = (grid.count - start).min(WINDOW as u64) as usize;
+    let mut bytes = [0; 8 * WINDOW];
+    let mut buffer = [0; WINDOW];
+    let words = &mut buffer[..len];
+    read_words(disk, packed, Form::One, 32 + 8 * start, &mut bytes, words)?;
+    put_lines(grid, lines, wanted, start, words);
+    Ok(words[(wanted.place - start) as usize])
+}
+
+/// The stored word at a place. Where the slot does not hold it, its line is read, and others behind it where they are near.
 pub fn word_at<D: Disk>(
     disk: &mut D,
     packed: &str,
-    count: u64,
+    grid: &Grid,
     lines: &mut [u64],
-    slot: usize,
-    place: u64,
+    wanted: Wanted,
 ) -> Result<u64, Failed>
-    requires slot { slot * 32 + 32 ≤ length lines.old }
-    requires place { place < count }
-    requires count { count ≤ 2 ^ 48 }
-    requires file { ForSome (D.files disk.old) (λ fs. IsSomeAnd (file fs packed.now) (λ bytes. length bytes ≡ 32 + 8 * count)) }
-    requires lines { ForSome (D.files disk.old) (λ fs. AreLines count (contents fs packed.now) lines.old) }
-    ensures word { IfOk result (λ word. ForSome (D.files disk.old) (λ fs. word ≡ stored_word (contents fs packed.now) place)) }
-    ensures lines { OnOk result (ForSome (D.files disk.old) (λ fs. AreLines count (contents fs packed.now) lines.new)) }
+    requires grid { IsGrid grid.now (length lines.old) }
+    requires slot { wanted.slot ≤ grid.now.last }
+    requires place { wanted.place < grid.now.count }
+    requires count { grid.now.count ≤ 2 ^ 48 }
+    requires file { ForSome (D.files disk.old) (λ fs. IsSomeAnd (file fs packed.now) (λ bytes. length bytes ≡ 32 + 8 * grid.now.count)) }
+    requires lines { ForSome (D.files disk.old) (λ fs. AreLines grid.now (contents fs packed.now) lines.old) }
+    ensures word { IfOk result (λ word. ForSome (D.files disk.old) (λ fs. word ≡ stored_word (contents fs packed.now) wanted.place)) }
+    ensures lines { OnOk result (ForSome (D.files disk.old) (λ fs. AreLines grid.now (contents fs packed.now) lines.new)) }
     ensures same { D.files disk.new ≡ D.files disk.old }
     ensures cause { HasCause (D.faults disk.old) (D.faults disk.new) (IsErr result) }
     ensures told { TellsFaults (D.faults disk.old) (D.faults disk.new) (IsErr result) }
 {
-    let mark = lines[slot * SLOT];
-    if 0 < mark && mark <= place + 1 && place + 1 - mark < LINE as u64 {
-        return Ok(lines[slot * SLOT + (1 + (place + 1 - mark) as usize)]);
+    let mark = lines[wanted.slot];
+    if 0 < mark && mark <= wanted.place + 1 && wanted.place + 1 - mark < grid.line as u64 {
+        let behind = (wanted.place + 1 - mark) as usize;
+        return Ok(lines[(1 + behind) * grid.pitch + wanted.slot]);
     }
-    read_line(disk, packed, count, lines, slot, place)?;
-    Ok(lines[slot * SLOT + 1])
+    if wanted.growth == 0 {
+        let start = wanted.place - wanted.place % grid.line as u64;
+        if wanted.step == 0 {
+            let word = read_line(disk, packed, grid, lines, wanted, start)?;
+            return Ok(word);
+        }
+        let word = read_lines(disk, packed, grid, lines, wanted, start)?;
+        return Ok(word);
+    }
+    if (wanted.step as usize) < WINDOW / 4 {
+        let word = read_lines(disk, packed, grid, lines, wanted, wanted.place)?;
+        return Ok(word);
+    }
+    let word = read_line(disk, packed, grid, lines, wanted, wanted.place)?;
+    Ok(word)
 }

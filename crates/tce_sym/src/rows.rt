@@ -6,7 +6,7 @@ ghost use Rattle.tce_outside.specs.Files.{file};
 ghost use Rattle.tce_outside.specs.Fault.{HasCause, TellsFaults};
 ghost use Rattle.tce_tools.specs.Flat.{contents};
 ghost use Rattle.tce_sym.specs.Storage.{AreRight};
-ghost use Rattle.tce_sym.specs.Lines.{AreLines};
+ghost use Rattle.tce_sym.specs.Lines.{IsGrid, AreLines};
 ghost use Rattle.tce_sym.specs.Cells.{AreTriangles, IsAmong, IsPairOf, cell_of, moved_pair};
 
 use crate::cells::{Pair, Triangles, cell_at};
@@ -98,10 +98,10 @@ pub fn read_row<D: Disk>(
     requires triangles { AreTriangles triangles.now }
     requires among { (k : ℕ) → k < length words.old → IsAmong triangles.now (moved_pair row.now k) }
     requires file { ForSome (D.files disk.old) (λ fs. IsSomeAnd (file fs packed.now) (λ bytes. length bytes ≡ 32 + 8 * triangles.now.count)) }
-    requires some { 32 ≤ length lines.old }
-    requires lines { ForSome (D.files disk.old) (λ fs. AreLines triangles.now.count (contents fs packed.now) lines.old) }
+    requires grid { IsGrid triangles.now.slots.grid (length lines.old) }
+    requires lines { ForSome (D.files disk.old) (λ fs. AreLines triangles.now.slots.grid (contents fs packed.now) lines.old) }
     ensures read { OnOk result (ForSome (D.files disk.old) (λ fs. (k : ℕ) → k < length words.new → slice_index words.new k ≡ cell_of triangles.now (contents fs packed.now) (moved_pair row.now k))) }
-    ensures lines { OnOk result (ForSome (D.files disk.old) (λ fs. AreLines triangles.now.count (contents fs packed.now) lines.new)) }
+    ensures lines { OnOk result (ForSome (D.files disk.old) (λ fs. AreLines triangles.now.slots.grid (contents fs packed.now) lines.new)) }
     ensures same { D.files disk.new ≡ D.files disk.old }
     ensures cause { HasCause (D.faults disk.old) (D.faults disk.new) (IsErr result) }
     ensures told { TellsFaults (D.faults disk.old) (D.faults disk.new) (IsErr result) }

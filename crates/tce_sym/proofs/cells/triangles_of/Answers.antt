@@ -11,20 +11,22 @@ quotient_is : (shape : Tiling) (s : Symmetry) (all extent : ℕ) → IsTiling sh
 quotient_is shape s all extent t r a e =
     ap (λ n. n / (extent * extent)) a ∙ ap (λ n. product shape.extents / (n * n)) e ∙ (are_small shape s t r).quotient
 
-others : (c : goal.After-stored_count) → c.elements.result / (get_or c.extents.result.now c.args.s.now.first 0 * get_or c.extents.result.now c.args.s.now.first 0) ≡ product (at_others c.args.s.now c.args.shape.now.extents)
-others c = quotient_is c.args.shape.now c.args.s.now c.elements.result _ c.extents.ensures.limits c.requires c.elements.ensures.elements (ap (at_first c.args.s.now) c.extents.ensures.items)
+others : (c : goal.After-slots_of) → c.elements.result / (get_or c.extents.result.now c.args.s.now.first 0 * get_or c.extents.result.now c.args.s.now.first 0) ≡ product (at_others c.args.s.now c.args.shape.now.extents)
+others c = quotient_is c.args.shape.now c.args.s.now c.elements.result _ c.extents.ensures.limits c.requires.right c.elements.ensures.elements (ap (at_first c.args.s.now) c.extents.ensures.items)
 
 pub returns-clause-triangles : goal.returns-clause-triangles
 returns-clause-triangles c =
-    let small = are_small c.args.shape.now c.args.s.now c.extents.ensures.limits c.requires in
+    let small = are_small c.args.shape.now c.args.s.now c.extents.ensures.limits c.requires.right in
     let extent : get_or c.extents.result.now c.args.s.now.first 0 ≡ at_first c.args.s.now c.args.shape.now.extents = ap (at_first c.args.s.now) c.extents.ensures.items in
     record {
       extent = omega (arith, extent, small.below);
       pairs = c.pairs.ensures;
-      count = c.stored_count.ensures.count ∙ sym (ap (λ n. n * c.pairs.result) (others c)
+      count = c.stored_count-count.ensures.count ∙ sym (ap (λ n. n * c.pairs.result) (others c)
           ∙ ap (λ n. product (at_others c.args.s.now c.args.shape.now.extents) * n) (c.pairs.ensures ∙ ap (pairs c.args.s.now.negated) extent));
-      small = c.stored_count.ensures.small;
+      small = c.stored_count-count.ensures.small;
       few = omega (arith, others c, small.others);
+      slots = c.slots_of.ensures.slots;
+      grid = c.slots_of.ensures.count;
     }
 
 pub returns-clause-same : goal.returns-clause-same

@@ -12,7 +12,7 @@ use Rattle.tce_tools.specs.Storage.{stored_bytes, HasWords}
 use Rattle.tce_tools.proofs.PieceWrites.{stored_changed}
 use Rattle.tce_tools.proofs.Stored.{length-stored}
 use Rattle.tce_tools.proofs.Told.{held, held_same, held_beside, held_written}
-use Rattle.tce_sym.specs.Storage.{IsStored, full_cell, stored_count}
+use Rattle.tce_sym.specs.Storage.{IsStored, full_cell}
 use Rattle.tce_sym.specs.Lines.{AreLines}
 use Rattle.tce_sym.specs.TileRows.{AreWords}
 use Rattle.tce_sym.proofs.HeldLines.{none_held}
@@ -24,7 +24,7 @@ loop-done-init g c = record {
   done = omega arith;
   files = held_same (g.D.Disk.files c.args.disk.now) _ c.args.array.now (λ fs. stored_bytes (Array One) c.args.shape.now (λ _. 0)) _ c.in_ok-create.ensures.zeros
       (λ fs. no_words c.args.shape.now c.padded_words-padded.ensures.limits (full_cell c.args.shape.now.extents c.args.s.now (contents fs c.args.packed.now)));
-  lines = λ x told. none_held (length c.args.lines.now) c.clear.new.words c.clear.ensures (stored_count c.args.shape.now.extents c.args.s.now) (contents x c.args.packed.now);
+  lines = λ x told. none_held (length c.args.lines.now) c.clear.new.words c.clear.ensures c.triangles_of-triangles.result.slots.grid (contents x c.args.packed.now);
   others = c.in_ok-create.ensures.others;
   later = c.in_ok-create.ensures.cause.later;
   counted = c.in_ok-create.ensures.told (search rules);
@@ -39,7 +39,7 @@ pub read_piece-requires-clause-lines : goal.read_piece-requires-clause-lines
 read_piece-requires-clause-lines g c x told =
     let h = held (g.D.Disk.files c.args.disk.now) _ c.args.array.now _ c.loop-done.invariant.files x told in
     let same : contents x c.args.packed.now ≡ contents h.files c.args.packed.now = ap (λ found. unwrap_or found []) (h.beside c.args.packed.now c.requires.names) in
-    subst (λ (b : List ℕ). AreLines (stored_count c.args.shape.now.extents c.args.s.now) b c.loop-done.lines) (sym same) (c.loop-done.invariant.lines h.files h.was)
+    subst (λ (b : List ℕ). AreLines c.triangles_of-triangles.result.slots.grid b c.loop-done.lines) (sym same) (c.loop-done.invariant.lines h.files h.was)
 
 pub write_words-requires-clause-file : goal.write_words-requires-clause-file
 write_words-requires-clause-file g c x told =
@@ -75,7 +75,7 @@ loop-done-preserved g c =
           (λ fs was. ap (λ n. overwritten (stored c.loop-done.done fs) n (flat_map (word_bytes (width One)) vs)) at
           ∙ stored_changed (Array One) s (first_words s (element fs) c.loop-done.done) (first_words s (element fs) (c.loop-done.done + c.min-len.result)) c.loop-done.done vs
           (piece_change s (element fs) vs c.loop-done.done c.min-len.result c.padded_words-padded.ensures.limits size room (values fs was)));
-      lines = held_beside before (g.D.Disk.files c.loop-done.disk) c.args.array.now (stored c.loop-done.done) c.args.packed.now (λ b. AreLines (stored_count c.args.shape.now.extents c.args.s.now) b c.read_piece.new.lines)
+      lines = held_beside before (g.D.Disk.files c.loop-done.disk) c.args.array.now (stored c.loop-done.done) c.args.packed.now (λ b. AreLines c.triangles_of-triangles.result.slots.grid b c.read_piece.new.lines)
           c.loop-done.invariant.files c.requires.names c.in-Ok.ensures.lines;
       others = c.in-Ok-write_words.ensures.others ∙ ap (others c.args.array.now) c.in-Ok.ensures.same ∙ c.loop-done.invariant.others;
       later = omega (arith, c.in-Ok.ensures.cause.later, c.in-Ok-write_words.ensures.cause.later, c.loop-done.invariant.later);

@@ -37,7 +37,7 @@ read_row-requires-clause-among g c k short =
     let within : k < c.tile_row_at-tile_row.result.used = omega (arith, part, short, c.min-used.ensures) in
     let some : 0 < c.tile_row_at-tile_row.result.used = omega (arith, within) in
     let first : IsInside c.args.shape.now.extents xs = subst (IsInside c.args.shape.now.extents) (moved_none xs) (c.tile_row_at-tile_row.ensures.row.inside 0 some) in
-    among c.args.shape.now.extents c.args.s.now (moved xs k) c.triangles_of-triangles.result (moved_pair c.row_of-row.result k) c.requires.right (c.tile_row_at-tile_row.ensures.row.inside k within) c.triangles_of-triangles.ensures.same
+    among c.args.shape.now.extents c.args.s.now (moved xs k) c.args.triangles.now (moved_pair c.row_of-row.result k) c.requires.right (c.tile_row_at-tile_row.ensures.row.inside k within) c.requires.of
     (moved_is c.args.shape.now.extents c.args.s.now xs c.row_of-row.result k c.requires.right first (c.row_of-row.ensures.pair some) (c.row_of-row.ensures.second some) (c.row_of-row.ensures.other some))
 
 pub loop-filled-smaller : goal.loop-filled-smaller
@@ -66,10 +66,10 @@ loop-filled-preserved g c =
           (λ k short.
           let within : k < c.tile_row_at-tile_row.result.used = omega (arith, short, c.min-used.ensures) in
           values k (omega (arith, size, short))
-          ∙ cell_is ns c.args.s.now bytes (moved xs k) c.triangles_of-triangles.result (moved_pair c.row_of-row.result k) c.requires.right (c.tile_row_at-tile_row.ensures.row.inside k within)
-          c.triangles_of-triangles.ensures.triangles c.triangles_of-triangles.ensures.same (pair_at k within))
+          ∙ cell_is ns c.args.s.now bytes (moved xs k) c.args.triangles.now (moved_pair c.row_of-row.result k) c.requires.right (c.tile_row_at-tile_row.ensures.row.inside k within)
+          c.requires.triangles c.requires.of (pair_at k within))
           (c.loop-filled.invariant.read x told);
-      lines = λ x told. subst (λ n. AreLines n (contents x c.args.packed.now) c.read_row.new.lines) c.triangles_of-triangles.ensures.count (c.in_ok-read_row.ensures.lines x (c.loop-filled.invariant.files ∙ told));
+      lines = λ x told. c.in_ok-read_row.ensures.lines x (c.loop-filled.invariant.files ∙ told);
       files = c.in_ok-read_row.ensures.same ∙ c.loop-filled.invariant.files;
       later = omega (arith, c.in_ok-read_row.ensures.cause.later, c.loop-filled.invariant.later);
       counted = c.in_ok-read_row.ensures.told (search rules) ∙ c.loop-filled.invariant.counted;

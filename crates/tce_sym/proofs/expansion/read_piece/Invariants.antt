@@ -1,7 +1,7 @@
 use Rattle.std.proofs.Common.{◌≡◌, ◌-◌, ◌≤◌, length}
 use Rattle.std.specs.Option.{ForSome}
 use Rattle.tce_tools.specs.Flat.{contents}
-use Rattle.tce_sym.specs.Storage.{full_cell, stored_count}
+use Rattle.tce_sym.specs.Storage.{full_cell}
 use Rattle.tce_sym.specs.Lines.{AreLines}
 use Rattle.tce_sym.proofs.Pieces.{AreFilled}
 use Rattle.tce_sym.proofs.expansion.read_piece.Given as goal
@@ -10,7 +10,7 @@ abbrev pub invariant-loop-filled : goal.invariant-loop-filled
 invariant-loop-filled g l = record {
   filled : l.filled ≤ length l.fn.words;
   read : ForSome (g.D.Disk.files l.fn.disk) (λ fs. AreFilled l.shape (full_cell l.shape.extents l.s (contents fs l.packed)) l.start l.filled l.words);
-  lines : ForSome (g.D.Disk.files l.fn.disk) (λ fs. AreLines (stored_count l.shape.extents l.s) (contents fs l.packed) l.lines);
+  lines : ForSome (g.D.Disk.files l.fn.disk) (λ fs. AreLines l.triangles.slots.grid (contents fs l.packed) l.lines);
   files : g.D.Disk.files l.disk ≡ g.D.Disk.files l.fn.disk;
   later : g.D.Disk.faults l.fn.disk ≤ g.D.Disk.faults l.disk;
   counted : g.D.Disk.faults l.disk ≡ g.D.Disk.faults l.fn.disk;

@@ -1,0 +1,137 @@
+// Which slot is for which line: that of a column, the pairs with one second coordinate, or that of a piece of a triangle.
+ghost use Rattle.std.specs.Prelude.{◌≡◌, ◌+◌, ◌*◌, ◌<◌, ◌≤◌, length};
+ghost use Rattle.tce_sym.specs.Storage.{AreRight};
+ghost use Rattle.tce_sym.specs.Lines.{IsGrid, AreSlots};
+
+use crate::lines::{Grid, LONGEST_LINE};
+use crate::symmetry::Symmetry;
+use tce_space::Shape;
+use tce_tools::is_row_major;
+
+// The lines of a triangle that are read at once where the array's rows go through many triangles.
+const LINES_AHEAD: u64 = 32;
+
+// The slots for pieces where they do not.
+const PIECES: u64 = 8192;
+
+/// The slots for the lines. Slots of columns come first, then those of pieces.
+#[derive(Clone, Copy)]
+pub struct Slots {
+    /// The room for the lines.
+    pub grid: Grid,
+    /// The last slot of a column: one less than a power of two.
+    pub columns: u64,
+    /// The slots from a column to that with the next place of the others.
+    pub by_outer: u64,
+    /// The slots from a column to the next.
+    pub by_second: u64,
+    /// The last slot of a piece, counted from the first: one less than a power of two.
+    pub pieces: u64,
+    /// The lines of a triangle that are read at once.
+    pub ahead: u64,
+    /// A line has two to this power words, where there are so many.
+    pub shift: u32,
+}
+
+// A power of two that is no less than a number, or the highest one within a limit.
+fn power_within(number: u64, limit: u64) -> u64
+    requires { 0 < limit }
+    ensures some { 0 < result }
+    ensures within { result ≤ limit }
+{
+    let mut power = 1;
+    while power < number && power <= limit / 2 {
+        power *= 2;
+    }
+    power
+}
+
+// The power to which two is at most a number, up to 8.
+fn shift_of(number: usize) -> u32
+    ensures { result < 64 }
+{
+    let mut shift = 0;
+    let mut size = 2;
+    while shift < 8 && size <= number.min(LONGEST_LINE) {
+        size *= 2;
+        shift += 1;
+    }
+    shift
+}
+
+// The product of the numbers behind a position, up to the highest number.
+fn product_behind(numbers: &[u64], position: usize) -> u64 {
+    let mut product: u64 = 1;
+    for d in 0..numbers.len() {
+        if position < d {
+            product = product.saturating_mul(numbers[d]);
+        }
+    }
+    product
+}
+
+// The grid with so many slots, of lines that are no longer than is wanted.
+fn grid_of(slots: usize, wanted: u64, count: u64, room: usize) -> Grid
+    requires some { 0 < slots }
+    requires room { 2 * (slots + 8) ≤ room }
+    ensures grid { IsGrid result room }
+    ensures last { result.last + 1 ≡ slots }
+    ensures count { result.count ≡ count }
+{
+    let pitch = slots + 8;
+    let fitting = (room / pitch).max(2) - 1;
+    let line = power_within(wanted.min(LONGEST_LINE as u64), fitting as u64);
+    Grid {
+        last: slots - 1,
+        pitch,
+        line: (line as usize).min(LONGEST_LINE),
+        count,
+    }
+}
+
+// The lines of columns of a shape that are used again before others come in their place: those of the array where there is
+// room for them, and else those of a tile.
+fn columns_of(shape: &Shape, s: &Symmetry, room: usize) -> (u64, u64, u64)
+    requires { AreRight shape.now.extents s.now }
+{
+    let first = s.first as usize;
+    let second = s.second as usize;
+    let extents = shape.extents();
+    let edges = shape.edges();
+    let all = product_behind(extents, first);
+    let reach = edges[first].saturating_add(8);
+    if is_row_major(shape) || all.saturating_mul(reach) <= room as u64 {
+        return (all, extents[second], LONGEST_LINE as u64);
+    }
+    (product_behind(edges, first), edges[second], edges[first])
+}
+
+/// The slots for the lines of a tensor of which so many words are stored.
+pub fn slots_of(shape: &Shape, s: &Symmetry, count: u64, room: usize) -> Slots
+    requires right { AreRight shape.now.extents s.now }
+    requires some { 32 ≤ room }
+    ensures slots { AreSlots result }
+    ensures grid { IsGrid result.grid room }
+    ensures count { result.grid.count ≡ count }
+{
+    let (behind, along, wanted) = columns_of(shape, s, room);
+    let is_last = s.second as usize + 1 == shape.extents().len();
+    let limit = (room as u64 / 64).max(1);
+    let others = behind / along.max(1);
+    let columns = power_within(behind, limit);
+    let pieces = if is_last {
+        power_within(PIECES, limit)
+    } else {
+        power_within(others.saturating_mul(LINES_AHEAD), limit)
+    };
+    let grid = grid_of((columns + pieces) as usize, wanted, count, room);
+    Slots {
+        grid,
+        columns: columns - 1,
+        by_outer: if is_last { along } else { 1 },
+        by_second: if is_last { 1 } else { others },
+        pieces: pieces - 1,
+        ahead: if is_last { 1 } else { LINES_AHEAD },
+        shift: shift_of(grid.line),
+    }
+}
