@@ -1,10 +1,10 @@
 -- What the lines of a produced text declare.
-use Rattle.std.proofs.Common.{◌≡◌, ℕ, ◌+◌, ◌<◌, IsTrue, List, [], ◌∷◌, ◌++◌, map, length, fold, Option, Some, None, Result, Ok, refl, sym, ap, subst, ◌∙◌, append_assoc, append-nil}
+use Rattle.std.proofs.Common.{◌≡◌, ℕ, ◌+◌, IsTrue, List, [], ◌∷◌, ◌++◌, map, fold, Option, Some, None, Result, Ok, refl, sym, ap, ◌∙◌, append_assoc, append-nil}
 use Rattle.std.specs.List.{AllByRecursion}
 use Rattle.tce_space.specs.Name.{is_name}
-use Rattle.tce_space.specs.Space.{Range, Index, IndexSpace, IsSpace}
+use Rattle.tce_space.specs.Space.{Range, Index, IndexSpace}
 use Rattle.tce_grammar.specs.Grammar.{AreNames, Line, Statement, range, index, declaration, formula, says}
-use Rattle.tce_grammar.specs.Canonical.{IsStatement, AreStatements}
+use Rattle.tce_grammar.specs.Canonical.{AreStatements}
 use Rattle.tce_declarations.specs.Declarations.{Declarations, IsDeclarations, Tensor}
 use Rattle.tce_declarations.specs.DeclarationLines.{statement_fault, with_statement, number_of_range, numbers_of_ranges}
 use Rattle.tce_declarations.specs.Faults.{Fault}
@@ -14,7 +14,7 @@ use Rattle.tce_round_trip.proofs.Heads.{only_ranges, without_tensors, with_tenso
 use Rattle.tce_round_trip.proofs.KeptDeclarations.{statement_keeps}
 use Rattle.tce_einsum.specs.Text.{Size, Einsum}
 use Rattle.tce_einsum.specs.Entries.{numbered}
-use Rattle.tce_einsum.specs.Produced.{Tiled, range_name, operand_name, result_name, range_names, range_statement, index_statement, operand_statement, result_statement, tensor_statements}
+use Rattle.tce_einsum.specs.Produced.{Tiled, range_name, operand_name, result_name, range_names, range_statement, index_statement, operand_statement, result_statement}
 use Rattle.tce_einsum.proofs.ProducedStatements.{range_from}
 
 -- a line that declares, with names where names stand

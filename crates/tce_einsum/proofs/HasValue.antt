@@ -27,10 +27,9 @@ use Rattle.tce_round_trip.proofs.WrittenStatements.{IsGroup}
 use Rattle.tce_einsum.specs.Text.{Size, Einsum}
 use Rattle.tce_einsum.specs.Path.{Item, Leave}
 use Rattle.tce_einsum.specs.Input.{IsInput}
-use Rattle.tce_einsum.specs.Entries.{numbered}
-use Rattle.tce_einsum.specs.Numbered.{numbers_of, numbered_labels, numbered_operands, contraction_of}
-use Rattle.tce_einsum.specs.Produced.{Tiled, ranges, range_name, indexes, letter_names, result_name, formula_of, range_statements, index_statements, tensor_statements, result_statement, formula_statement, statements, produced_text}
-use Rattle.tce_einsum.specs.Answer.{Produces, AnswersEinsum}
+use Rattle.tce_einsum.specs.Numbered.{numbers_of, numbered_operands, contraction_of}
+use Rattle.tce_einsum.specs.Produced.{ranges, range_name, indexes, letter_names, result_name, formula_of, range_statements, index_statements, tensor_statements, formula_statement, statements, produced_text}
+use Rattle.tce_einsum.specs.Answer.{AnswersEinsum}
 use Rattle.tce_einsum.specs.HasValue.{AreLabels, HasValueOfEinsum, SpecificationsHaveTheValue}
 use Rattle.tce_einsum.specs.declared.fault.EinsumFault.{EinsumFault}
 use Rattle.tce_einsum.proofs.Numbers.{every_text_has_its_value}
@@ -39,7 +38,7 @@ use Rattle.tce_einsum.proofs.LongTexts.{many_are_too_long}
 use Rattle.tce_einsum.proofs.PathTrees.{IsOver, contraction_over, contraction_work}
 use Rattle.tce_einsum.proofs.ProducedStatements.{range_from, declared_ranges, indexed_space, numbered_first, numbered_long, index_groups, front_statements, ranges_written_of, indexes_written_of, tensors_written_of, front_written, formula_written}
 use Rattle.tce_einsum.proofs.FrontLines.{says_front, says_all}
-use Rattle.tce_einsum.proofs.Declared.{Declared, IsKnown, declared, read_declaring, ranges_declare, indexes_declare, tensors_declare, ranges_declared, groups_declared, tensors_declared, declared_tensors}
+use Rattle.tce_einsum.proofs.Declared.{Declared, IsKnown, read_declaring, ranges_declare, indexes_declare, tensors_declare, ranges_declared, groups_declared, tensors_declared}
 use Rattle.tce_einsum.proofs.LabelNumbers.{operands_below, output_below, output_back}
 use Rattle.tce_einsum.proofs.Specified.{declarations_of, labels_of, indexes_back, tensors_long, result_back, names_of_tensors, meaning_back}
 

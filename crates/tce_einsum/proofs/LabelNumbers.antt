@@ -1,9 +1,8 @@
 -- Labels that stand have a number, which stands for them.
-use Rattle.std.proofs.Common.{◌≡◌, ℕ, zero, suc, ◌+◌, ◌<◌, ◌≤◌, ◌==◌, Bool, true, false, not, ◌||◌, cond, List, [], ◌∷◌, map, length, get_or, count_by, None, refl, sym, ap, ◌∙◌, arith, inl, inr}
-use Rattle.std.specs.List.{AllByRecursion, list_any, list_all, position_or_len}
+use Rattle.std.proofs.Common.{◌≡◌, ℕ, ◌<◌, ◌≤◌, ◌==◌, Bool, true, false, not, ◌||◌, cond, List, [], ◌∷◌, map, length, get_or, count_by, None, refl, sym, ap, ◌∙◌, arith, inl, inr}
+use Rattle.std.specs.List.{AllByRecursion, list_any, list_all}
 use Rattle.std.proofs.lemmas.Bool.{cases_Bool, and_parts, or_left, or_right, eq-eqb, eqb-true, true≢false}
 use Rattle.std.proofs.lemmas.List.{get_or-map}
-use Rattle.tce_round_trip.proofs.Lookups.{all_mapped}
 use Rattle.tce_einsum.specs.Text.{Size, Einsum, is_label, are_labels, IsText}
 use Rattle.tce_einsum.specs.Sizes.{stands, size_count, is_missized, AreSized}
 use Rattle.tce_einsum.specs.Numbered.{number_of, numbers_of, numbered_operands}

@@ -1,11 +1,12 @@
 -- Members of sets of labels.
-use Rattle.std.proofs.Common.{◌≡◌, ℕ, suc, cond, append-nil, ◌/◌, ◌+◌, ◌*◌, ◌%◌, ◌^◌, ◌<◌, ◌==◌, ◌||◌, Bool, true, false, eqb, [], ◌∷◌, ◌++◌, filter, bit_or, w32, refl, sym, ap, subst, ◌∙◌, arith, inl, inr}
+use Rattle.std.proofs.Common.{◌≡◌, ℕ, zero, suc, cond, append-nil, ◌/◌, ◌+◌, ◌*◌, ◌%◌, ◌^◌, ◌<◌, ◌==◌, ◌&&◌, ◌||◌, ◌⊎◌, ◌↔◌, Bool, true, false, eqb, eqb-true, [], ◌∷◌, ◌++◌, filter, bit_and, bit_or, w32, refl, sym, ap, subst, ◌∙◌, lt_of_le_of_lt, arith, inl, inr}
 use Rattle.std.specs.List.{range_with_len}
-use Rattle.std.proofs.lemmas.Bool.{cases_eq, eq-eqb, ne_eqb, or_right}
+use Rattle.std.proofs.lemmas.Bool.{and_parts, cases_Bool, cases_eq, eq-eqb, false≢true, ne_eqb, or_right, true≢false}
 use Rattle.std.proofs.lemmas.List.Elements.{filter-append}
-use Rattle.std.proofs.lemmas.Nat.Bits.{bit_at_set_same, bit_at_set_other}
-use Rattle.tce_space.specs.IndexSet.{has}
-use Rattle.tce_space.proofs.IndexSetLaws.{range_more}
+use Rattle.std.proofs.lemmas.Nat.{and_le_l}
+use Rattle.std.proofs.lemmas.Nat.Bits.{bit_at-lt, bit_at_set_same, bit_at_set_other, same_from_bits_below}
+use Rattle.tce_space.specs.IndexSet.{has, IsWithin}
+use Rattle.tce_space.proofs.IndexSetLaws.{has-and, range_more}
 
 pub has_with : (a k i : ℕ) → k < 32 → has (bit_or a (1 * 2 ^ k % 2 ^ 32)) i ≡ (has a i || k == i)
 unfolding has
@@ -23,6 +24,33 @@ has_with a k i inside =
     or_false : (x y : Bool) → y ≡ false → (x || y) ≡ x
     or_false true y e = refl
     or_false false y e = e
+
+bit_cases : (b : ℕ) → b < 2 → (b ≡ 0) ⊎ (b ≡ 1)
+bit_cases zero l = inl refl
+bit_cases (suc zero) l = inr refl
+bit_cases (suc (suc n)) l = absurd (omega arith)
+
+same_bit : (a b : ℕ) → a < 2 → b < 2 → eqb a 1 ≡ eqb b 1 → a ≡ b
+same_bit a b p q e =
+    elim (bit_cases a p) [
+      | inl x ↦ elim (bit_cases b q) [ inl y ↦ x ∙ sym y | inr y ↦ absurd (false≢true (rw (x, y) at e)) ]
+      | inr x ↦ elim (bit_cases b q) [ inl y ↦ absurd (true≢false (rw (x, y) at e)) | inr y ↦ x ∙ sym y ]
+    ]
+
+-- the test that a program makes
+pub same_meet-is : (a b : ℕ) → a < 2 ^ 32 → (eqb (bit_and a b) a ≡ true) ↔ IsWithin a b
+unfolding has
+same_meet-is a b p = (
+  (λ e i h. (and_parts (has a i) (has b i) (sym (has-and a b i) ∙ ap (λ s. has s i) (eqb-true _ _ e) ∙ h)).1),
+  (λ f. eq-eqb _ _ (same_from_bits_below 32 (bit_and a b) a (lt_of_le_of_lt (and_le_l a b) p) p
+      (λ i l. same_bit _ _ (bit_at-lt (bit_and a b) i) (bit_at-lt a i) (has-and a b i ∙ kept i (f i))))),
+)
+  where
+    kept : (i : ℕ) → (has a i ≡ true → has b i ≡ true) → (has a i && has b i) ≡ has a i
+    kept i g = elim (cases_Bool (has a i)) [
+      | inl t ↦ rw (t, g t) refl
+      | inr e ↦ rw e refl
+    ]
 
 -- one number more
 longer : (n : ℕ) → range_with_len 0 (n + 1) ≡ range_with_len 0 n ++ n ∷ []

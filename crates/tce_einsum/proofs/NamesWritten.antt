@@ -1,11 +1,10 @@
 -- The names of a produced text are names.
-use Rattle.std.proofs.Common.{◌≡◌, ℕ, ◌+◌, ◌<◌, ◌≤◌, ◌^◌, ◌==◌, ◌&&◌, ◌||◌, not, Bool, true, false, IsTrue, List, [], ◌∷◌, length, map, nat_le, refl, arith, lit<}
-use Rattle.std.specs.List.{list_all, AllByRecursion}
+use Rattle.std.proofs.Common.{◌≡◌, ℕ, ◌<◌, ◌≤◌, ◌^◌, ◌==◌, ◌&&◌, ◌||◌, not, Bool, true, false, IsTrue, List, [], ◌∷◌, length, nat_le, refl, arith, lit<}
+use Rattle.std.specs.List.{list_all}
 use Rattle.std.specs.Fmt.{decimal}
 use Rattle.std.proofs.lemmas.Fmt.{length-decimal-le}
 use Rattle.std.proofs.lemmas.Bool.{and_parts, and_from, le-leb}
-use Rattle.std.proofs.lemmas.Bool.Decides.{nat_tests}
-use Rattle.tce_space.specs.Name.{is_name, is_word_byte, is_digit, is_letter, is_keyword, starts_with_letter}
+use Rattle.tce_space.specs.Name.{is_name, is_word_byte, is_digit, is_letter, is_keyword}
 use Rattle.tce_grammar.specs.Grammar.{AreNames}
 use Rattle.tce_round_trip.proofs.Numbers.{decimal_says}
 use Rattle.tce_einsum.specs.Text.{is_label, are_labels}

@@ -165,21 +165,33 @@ two_left nodes after es left p q e keeps are =
     mapped false = mapped_both p q
 
 -- the entry that is appended
-pub labels_are : (nodes : List Node) (es : List Entry) (made : Entry) (ls : Labels) (bits output others count : ℕ) (labels : List ℕ) → All (IsEntry nodes) es → IsEntry nodes made
+pub labels_are : (nodes : List Node) (es : List Entry) (made : Entry) (ls : Labels) (bits inner output others count : ℕ) (labels : List ℕ) → All (IsEntry nodes) es → IsEntry nodes made
     → ls.all ≡ range_with_len 0 count → ((i : ℕ) → has output i ≡ among ls.output i)
-    → ((i : ℕ) → has others i ≡ list_any (λ (e : Entry). has e.free.bits i) es)
-    → ((i : ℕ) → has bits i ≡ (has made.free.bits i && not (has output i || has others i)))
+    → ((i : ℕ) → has inner i ≡ (has made.free.bits i && not (has output i)))
+    → ((i : ℕ) → has inner i ≡ true → has others i ≡ list_any (λ (e : Entry). has e.free.bits i) es)
+    → ((i : ℕ) → has bits i ≡ (has inner i && not (has others i)))
     → labels ≡ filter (has bits) (range_with_len 0 count) → labels ≡ labels_to_sum ls (map (tree_in nodes) es) (tree_in nodes made)
-labels_are nodes es made ls bits output others count labels are is all out any test e =
+labels_are nodes es made ls bits inner output others count labels are is all out within any test e =
     e ∙ filtered_same (has bits) wanted (range_with_len 0 count) (λ i m. tests i) ∙ ap (filter wanted) (sym all)
   where
     wanted : ℕ → Bool
     wanted i = is_free (tree_in nodes made) i && not (among ls.output i || list_any (λ other. is_free other i) (map (tree_in nodes) es))
 
+    anywhere : ℕ → Bool
+    anywhere i = list_any (λ (e : Entry). has e.free.bits i) es
+
+    -- by f, o, h and a: whether a label is free in the entry, in the output, found, and free in another entry
+    by_tests : (f o h a : Bool) → ((f && not o) ≡ true → h ≡ a) → ((f && not o) && not h) ≡ (f && not (o || a))
+    by_tests true true h a found = refl
+    by_tests true false h a found = ap not (found refl)
+    by_tests false o h a found = refl
+
     tests : (i : ℕ) → has bits i ≡ wanted i
     tests i =
-        test i ∙ ap₂ (λ x y. x && not y) (is.free i)
-        (ap₂ (λ x y. x || y) (out i) (any i ∙ free_by_entries nodes es i (recursion_from_All (IsEntry nodes) es are)))
+        test i ∙ ap (λ x. x && not (has others i)) (within i)
+        ∙ by_tests (has made.free.bits i) (has output i) (has others i) (anywhere i) (λ inside. any i (within i ∙ inside))
+        ∙ ap₂ (λ x y. x && not y) (is.free i)
+        (ap₂ (λ x y. x || y) (out i) (free_by_entries nodes es i (recursion_from_All (IsEntry nodes) es are)))
 
 pub entry_added : (nodes after : List Node) (es now : List Entry) (entry : Entry) (tree : ContractionTree) → All (IsEntry nodes) es → Keeps nodes after → IsEntry after entry
     → tree_in after entry ≡ tree → now ≡ es ++ entry ∷ []

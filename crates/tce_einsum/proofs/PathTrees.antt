@@ -1,14 +1,13 @@
 -- What the trees of a path refer to, and how many operations they have.
-use Rattle.std.proofs.Common.{◌≡◌, ◌≢◌, ℕ, zero, suc, ◌+◌, ◌-◌, ◌<◌, ◌≤◌, ◌^◌, Bool, true, false, not, ◌&&◌, ◌||◌, nat_lt, cond, List, [], ◌∷◌, ◌++◌, map, length, get_or, take, drop, remove, filter, refl, sym, ap, subst, ◌∙◌, arith, length-append}
+use Rattle.std.proofs.Common.{◌≡◌, ◌≢◌, ℕ, zero, suc, ◌+◌, ◌<◌, ◌≤◌, ◌^◌, Bool, true, false, not, ◌&&◌, ◌||◌, nat_lt, cond, List, [], ◌∷◌, ◌++◌, length, take, drop, remove, filter, refl, sym, ap, subst, ◌∙◌, arith, length-append}
 use Rattle.std.specs.List.{AllByRecursion, list_any, range_with_len, sum_by}
-use Rattle.std.proofs.lemmas.Bool.{cases_Bool}
 use Rattle.std.proofs.lemmas.List.Sums.{sum_by-cons}
 use Rattle.std.proofs.lemmas.List.Sorted.{sum_by-IsPermutation, IsPermutation-to_front}
-use Rattle.tce_tree.specs.ContractionTree.{ContractionTree, leaf, constant, binary, sum, multiply, operations}
+use Rattle.tce_tree.specs.ContractionTree.{ContractionTree, leaf, constant, binary, sum, operations}
 use Rattle.tce_tree.specs.WellFormed.{among}
 use Rattle.tce_tree.proofs.Lists.{among_first, among_later}
 use Rattle.tce_round_trip.proofs.Lookups.{all_joined}
-use Rattle.tce_einsum.specs.Path.{Item, one, two, Fits, left_by, Leave}
+use Rattle.tce_einsum.specs.Path.{Item, one, two, Fits, Leave}
 use Rattle.tce_einsum.specs.Entries.{Labels, numbered, leaves, is_free, labels_to_sum, summed, entry_at, made, others, with_entry, contracted, entries_after, contraction}
 use Rattle.tce_einsum.proofs.Contractions.{any_free, is_open, open_labels, Replaces, replaced, among-filtered, with_entry_free, taken, either_taken, others_left, contracted_left, as_many_leaves, only_entry, paths_leave_their_entries}
 

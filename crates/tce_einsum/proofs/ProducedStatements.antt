@@ -1,7 +1,6 @@
 -- The statements of a produced text are such as lines can say.
 use Rattle.std.proofs.Common.{◌≡◌, ◌≢◌, ℕ, zero, suc, ◌+◌, ◌<◌, ◌≤◌, ◌^◌, true, ◌&&◌, IsTrue, List, [], ◌∷◌, ◌++◌, map, length, get_or, None, All, refl, sym, ap, subst, ◌∙◌, arith}
 use Rattle.std.specs.List.{AllByRecursion, list_all, position_or_len}
-use Rattle.std.specs.Fmt.{decimal}
 use Rattle.std.proofs.lemmas.Bool.{and_parts}
 use Rattle.std.proofs.lemmas.List.{length-map, get_or-map}
 use Rattle.std.proofs.lemmas.List.Elements.{recursion_from_All}
@@ -17,10 +16,10 @@ use Rattle.tce_canonical.specs.Statements.{Group, groups}
 use Rattle.tce_round_trip.proofs.Lookups.{all_joined}
 use Rattle.tce_round_trip.proofs.NumbersBack.{number_is}
 use Rattle.tce_round_trip.proofs.WrittenStatements.{IsGroup, groups_are}
-use Rattle.tce_einsum.specs.Text.{Size, Einsum, is_size, is_label, is_number, is_number_if_some, are_labels, IsText}
+use Rattle.tce_einsum.specs.Text.{Size, Einsum, is_size, is_label, is_number, is_number_if_some, are_labels}
 use Rattle.tce_einsum.specs.Entries.{numbered}
 use Rattle.tce_einsum.specs.Numbered.{number_of}
-use Rattle.tce_einsum.specs.Produced.{Tiled, tiled, is_same, ranges, range_numbers, range_of, label_at, range_name, operand_name, letter_names, label_names, range_names, written_edge, range_statement, range_statements, index_of, indexes, index_statement, index_statements, operand_statement, result_statement, tensor_statements, formula_of, formula_statement}
+use Rattle.tce_einsum.specs.Produced.{Tiled, tiled, is_same, ranges, range_numbers, range_of, label_at, range_name, label_names, range_names, written_edge, range_statement, range_statements, index_of, indexes, index_statement, index_statements, operand_statement, result_statement, tensor_statements, formula_of, formula_statement}
 use Rattle.tce_einsum.proofs.NamesWritten.{range_named, operand_named, result_named, letter_named, letters_named}
 use Rattle.tce_einsum.proofs.Numbers.{sized_label}
 use Rattle.tce_einsum.proofs.PathTrees.{IsOver}

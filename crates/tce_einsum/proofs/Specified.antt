@@ -3,7 +3,7 @@ use Rattle.std.proofs.Common.{◌≡◌, ℕ, zero, suc, ◌+◌, ◌<◌, List,
 use Rattle.std.specs.Prelude.{unwrap_or}
 use Rattle.std.specs.List.{AllByRecursion}
 use Rattle.std.proofs.lemmas.List.{length-map, get_or-map, get_or_append_left}
-use Rattle.tce_space.specs.Space.{Index, IndexSpace, index_at, extent_at, edge_at, index_number, no_range, no_index, range_at}
+use Rattle.tce_space.specs.Space.{Index, IndexSpace, index_at, index_number, no_range, no_index, range_at}
 use Rattle.tce_tree.specs.ContractionTree.{ContractionTree, Arithmetic, multiply, add, subtract, leaf, constant, binary, sum}
 use Rattle.tce_declarations.specs.Declarations.{Declarations, IsDeclarations, Tensor, tensor_at, no_tensor}
 use Rattle.tce_declarations.specs.Numbers.{value_of, edge_of}
@@ -14,11 +14,11 @@ use Rattle.tce_round_trip.proofs.NumbersBack.{tensor_back, value_back}
 use Rattle.tce_round_trip.proofs.Heads.{with_tensors}
 use Rattle.tce_einsum.specs.Text.{Size, Einsum}
 use Rattle.tce_einsum.specs.Entries.{numbered}
-use Rattle.tce_einsum.specs.Produced.{Tiled, tiled, is_same, ranges, index_of, indexes, label_at, label_names, operand_name, result_name, formula_of, written_edge, edge_or_one}
+use Rattle.tce_einsum.specs.Produced.{Tiled, ranges, index_of, label_at, label_names, operand_name, result_name, formula_of, written_edge}
 use Rattle.tce_einsum.specs.HasValue.{IsLabel, AreLabels, tensor_names}
 use Rattle.tce_einsum.proofs.PathTrees.{IsOver}
 use Rattle.tce_einsum.proofs.SizeRanges.{HasRange, range_of_size, edge_read}
-use Rattle.tce_einsum.proofs.ProducedStatements.{range_from, declared_ranges, indexed_space, numbered_long, numbered_first}
+use Rattle.tce_einsum.proofs.ProducedStatements.{range_from, indexed_space, numbered_long, numbered_first}
 use Rattle.tce_einsum.proofs.Declared.{operand_from, result_from, declared_tensors}
 use Rattle.tce_einsum.proofs.LabelNumbers.{no_size, label_is}
 

@@ -1,6 +1,6 @@
 //! The entries that a path works on, as trees whose nodes stand in one list.
 
-ghost use Rattle.std.specs.Prelude.{◌≡◌, ◌≢◌, ◌∷◌, ◌++◌, [], ℕ, ◌+◌, ◌<◌, ◌≤◌, map, nat_lt, if◌then◌else◌, slice_index_or, remove, All, OnOk, IfOk, length};
+ghost use Rattle.std.specs.Prelude.{◌≡◌, ◌≢◌, ◌∷◌, ◌++◌, [], ℕ, ◌+◌, ◌<◌, ◌≤◌, map, nat_lt, if◌then◌else◌, slice_index_or, remove, All, OnOk, IfOk, IsTrue, length};
 ghost use Rattle.std.specs.List.{list_any};
 ghost use Rattle.tce_space.specs.IndexSet.{has};
 ghost use Rattle.tce_tree.specs.ContractionTree.{leaf, binary, multiply};
@@ -50,17 +50,21 @@ pub(crate) struct KeptLabels {
     output: LabelSet,
 }
 
-/// The labels that are free in one of these entries.
-fn free_in(entries: &[Entry]) -> LabelSet
-    ensures { (i : ℕ) → has result.bits i ≡ list_any (λ e. has e.free.bits i) entries.now }
+/// Which of these labels are free in one of these entries. The last entries are looked at first, since an item puts its
+/// entry there, and no more of them than it takes to find all the labels.
+fn found_in(entries: &[Entry], labels: LabelSet) -> LabelSet
+    ensures { (i : ℕ) → IsTrue (has labels.bits i) → has result.bits i ≡ list_any (λ e. has e.free.bits i) entries.now }
 {
-    let mut all = LabelSet::empty();
+    let mut found = LabelSet::empty();
     let mut rest = entries;
-    while let [entry, behind @ ..] = rest {
-        all = all.union(entry.free);
-        rest = behind;
+    while let Some((entry, before)) = rest.split_last() {
+        if labels.is_within(found) {
+            return found;
+        }
+        found = found.union(entry.free);
+        rest = before;
     }
-    all
+    found
 }
 
 /// Puts a node behind the others, and gives its place.
@@ -155,8 +159,9 @@ impl Entries {
         ensures entries { OnOk result (AreEntries self.new) }
         ensures longer { OnOk result (length self.new.entries.items ≡ length self.old.entries.items + 1) }
     {
-        let elsewhere = kept.output.union(free_in(self.entries.as_slice()));
-        let labels = made.free.minus(elsewhere).members(alloc, kept.count)?;
+        let inner = made.free.minus(kept.output);
+        let elsewhere = found_in(self.entries.as_slice(), inner);
+        let labels = inner.minus(elsewhere).members(alloc, kept.count)?;
         let entry = summed(&mut self.nodes, made, labels)?;
         self.entries.push(entry)?;
         Ok(())

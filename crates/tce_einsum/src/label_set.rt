@@ -1,6 +1,6 @@
 //! Sets of labels, by their numbers.
 
-ghost use Rattle.std.specs.Prelude.{◌≡◌, ℕ, ◌<◌, ◌≤◌, ◌==◌, ◌&&◌, ◌||◌, not, false, All, IfOk};
+ghost use Rattle.std.specs.Prelude.{◌≡◌, ℕ, ◌↔◌, ◌<◌, ◌≤◌, ◌==◌, ◌&&◌, ◌||◌, not, false, All, IfOk, IsTrue};
 ghost use Rattle.std.specs.List.{filter, range_with_len};
 ghost use Rattle.tce_space.specs.IndexSet as set;
 ghost use Rattle.tce_tree.specs.WellFormed.{among};
@@ -52,6 +52,13 @@ impl LabelSet {
         LabelSet {
             bits: self.bits ^ self.bits & other.bits,
         }
+    }
+
+    /// Whether each member is one of `other`.
+    pub(crate) fn is_within(self, other: LabelSet) -> bool
+        ensures { IsTrue result ↔ set.IsWithin self.bits other.bits }
+    {
+        self.bits & other.bits == self.bits
     }
 
     /// The set of the numbers of a list.

@@ -1,4 +1,4 @@
-use Rattle.std.proofs.Common.{◌&&◌, not, ap, length, ◌∙◌, ℕ, List, ◌++◌, ◌∷◌, []}
+use Rattle.std.proofs.Common.{ap, length, ◌∙◌, ℕ, List, ◌++◌, ◌∷◌, []}
 use Rattle.std.specs.List.{list_any}
 use Rattle.std.proofs.lemmas.List.{length-append}
 use Rattle.tce_space.specs.IndexSet.{has}
@@ -17,10 +17,11 @@ returns c =
       added = λ ls is.
           added.0
           ∙ ap (λ (labels : List ℕ). trees_in c.args.self.now ++ list.summed labels (tree_in c.args.self.now.nodes.items c.args.made) ∷ [])
-          (labels_are c.args.self.now.nodes.items c.args.self.now.entries.items c.args.made ls c.minus.result.bits c.args.kept.output.bits c.free_in.result.bits
+          (labels_are c.args.self.now.nodes.items c.args.self.now.entries.items c.args.made ls c.minus.result.bits c.minus-inner.result.bits c.args.kept.output.bits c.found_in-elsewhere.result.bits
           c.args.kept.count c.in_ok-labels.labels.items c.requires.entries.all c.requires.made is.all is.output
-          (λ i. c.free_in.ensures i ∙ ap (list_any (λ (e : Entry). has e.free.bits i)) c.as_slice.ensures.value)
-          (λ i. c.minus.ensures i ∙ ap (λ b. has c.args.made.free.bits i && not b) (c.union-elsewhere.ensures i)) c.in_ok-labels.ensures.members);
+          c.minus-inner.ensures
+          (λ i inside. c.found_in-elsewhere.ensures i inside ∙ ap (list_any (λ (e : Entry). has e.free.bits i)) c.as_slice.ensures.value)
+          c.minus.ensures c.in_ok-labels.ensures.members);
       entries = record { all = added.1; ordered = c.in_ok-entry.ensures.kept.ordered c.requires.entries.ordered };
       longer = ap length c.in_ok-push.ensures.items ∙ length-append c.args.self.now.entries.items (c.in_ok-entry.entry ∷ []);
     }
