@@ -1,4 +1,5 @@
-//! Tests of sets of indexes and shapes, fields of lines, kernels, words, frames and the outside.
+//! Tests of sets of indexes and shapes, fields of lines, kernels, words, frames, the outside and the disk that does not read
+//! holes.
 #![tactic(auto)]
 
 #[cfg(test)]
@@ -13,5 +14,7 @@ mod kernel;
 mod outside;
 #[cfg(test)]
 mod space;
+#[cfg(test)]
+mod sparse_disk;
 #[cfg(test)]
 mod words;

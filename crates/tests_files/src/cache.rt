@@ -91,11 +91,11 @@ const ROWS: [Row<'static>; 3] = [
         touches: &MIXED,
     },
     Row {
-        sizes: &[(3300, 1100), (4200, 1050), (4400, 1200)],
+        sizes: &[(12600, 4200), (16400, 4100), (16800, 4300)],
         frames: 4,
-        frame_words: 1200,
-        pieces: 3,
-        calls: 60,
+        frame_words: 4300,
+        pieces: 2,
+        calls: 40,
         touches: &MIXED,
     },
 ];

@@ -6,7 +6,7 @@ use Rattle.tce_tree.specs.ContractionTree.{node, node_dims}
 use Rattle.tce_tree.specs.FlatTree.{first_number_of}
 use Rattle.tce_pieces.specs.Pieces.{piece}
 use Rattle.tce_pieces.specs.Examples.{WorkedPieces}
-use Rattle.tce_spill.specs.PieceExamples.{WorkedSpecifications}
+use Rattle.tce_spec.specs.PieceExamples.{WorkedSpecifications}
 
 pub worked_pieces : WorkedPieces
 unfolding node node_dims first_number_of piece union minus with_index members has

@@ -1,4 +1,4 @@
-//! Tests of the search, of the check of a plan, of pieces of trees, and of reports and certificates.
+//! Tests of the search, of the check of a plan, of pieces of trees and cuts for limits, and of reports and certificates.
 #![tactic(auto)]
 
 #[cfg(test)]
@@ -7,6 +7,8 @@ mod cert;
 mod cert_lines;
 #[cfg(test)]
 mod check;
+#[cfg(test)]
+mod cuts;
 #[cfg(test)]
 mod given;
 #[cfg(test)]

@@ -1,6 +1,6 @@
 //! Worked pieces, and nodes that may be stored.
 ghost use Rattle.tce_pieces.specs.Examples as worked;
-ghost use Rattle.tce_spill.specs.PieceExamples as whole;
+ghost use Rattle.tce_spec.specs.PieceExamples as whole;
 
 use std::alloc::Global;
 use std::process::Abort;

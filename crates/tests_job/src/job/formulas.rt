@@ -1,7 +1,7 @@
 //! Formulas that are drawn, run over tiles of drawn edges with drawn budgets, by a least fusion and by a drawn one, and compared with their values at each assignment.
 use crate::job::draws::Draws;
 use crate::job::fusions::{drawn_fusion, is_run_by};
-use crate::job::given::{ran, spec_of};
+use crate::job::given::{must, ran, spec_of};
 use crate::job::terms::{
     ASSIGNMENTS, DECLARED, INDEXES, Join, OPERANDS, RANGES, Term, joined, leaves, number_at,
     push_name, push_term, summed,
@@ -312,7 +312,28 @@ fn makes_by(
     Ok(made && disk.file("R.tca") == Some(wanted))
 }
 
-// Runs the specification of a formula with a drawn budget, by a least fusion and by a drawn one, and compares its results.
+// How the results of a specification that is run with a drawn budget, by a least fusion and by a drawn one, differ, or nothing.
+fn difference(
+    rt: &impl Abort,
+    alloc: Global,
+    draws: &mut Draws,
+    spec: &Spec,
+    given: &Given,
+    wanted: &[u8],
+) -> &'static str {
+    let least = spec.largest_tile().saturating_mul(3);
+    let budget = least.saturating_add(draws.below(60));
+    if !must(rt, makes(alloc, spec, budget, given, wanted)) {
+        return "by a least fusion";
+    }
+    let fusion = drawn_fusion(draws, spec.tree());
+    if must(rt, makes_by(alloc, spec, budget, fusion, given, wanted)) {
+        ""
+    } else {
+        "by a drawn fusion"
+    }
+}
+
 fn check_text(
     rt: &impl Abort,
     alloc: Global,
@@ -320,48 +341,38 @@ fn check_text(
     text: &str,
     given: &Given,
     wanted: &[u8],
-) -> Result<(), Fail> {
-    let spec = spec_of(alloc, text.as_bytes())?;
-    let least = spec.largest_tile().saturating_mul(3);
-    let budget = least.saturating_add(draws.below(60));
-    let right = makes(alloc, &spec, budget, given, wanted)?;
-    assert!(rt; right, "{text} with budget {budget}");
-    let fusion = drawn_fusion(draws, spec.tree());
-    let right = makes_by(alloc, &spec, budget, fusion, given, wanted)?;
-    assert!(rt; right, "{text} with budget {budget} by a drawn fusion");
-    Ok(())
+) {
+    let spec = must(rt, spec_of(alloc, text.as_bytes()));
+    let different = difference(rt, alloc, draws, &spec, given, wanted);
+    assert!(rt; different.is_empty(), "{different}: {text}");
 }
 
 // Runs a formula whose result has its indexes in a drawn order.
-fn check_term(
-    rt: &impl Abort,
-    alloc: Global,
-    draws: &mut Draws,
-    term: &Term,
-    given: &Given,
-) -> Result<(), Fail> {
+fn check_term(rt: &impl Abort, alloc: Global, draws: &mut Draws, term: &Term, given: &Given) {
     let ranges = given.ranges.as_slice();
-    let order = drawn_order(alloc, draws, term)?;
-    let text = text_of(alloc, ranges, term.text.as_str(), order.as_slice())?;
-    let wanted = result_bytes(alloc, ranges, term, order.as_slice())?;
-    check_text(rt, alloc, draws, text.as_str(), given, wanted.as_slice())
+    let order = must(rt, drawn_order(alloc, draws, term));
+    let text = must(
+        rt,
+        text_of(alloc, ranges, term.text.as_str(), order.as_slice()),
+    );
+    let wanted = must(rt, result_bytes(alloc, ranges, term, order.as_slice()));
+    check_text(rt, alloc, draws, text.as_str(), given, wanted.as_slice());
 }
 
 // Runs a formula that is drawn.
-fn check_drawn(rt: &impl Abort, alloc: Global, draws: &mut Draws) -> Result<(), Fail> {
-    let given = drawn_given(alloc, draws)?;
-    let terms = drawn_terms(alloc, draws, given.operands.as_slice())?;
+fn check_drawn(rt: &impl Abort, alloc: Global, draws: &mut Draws) {
+    let given = must(rt, drawn_given(alloc, draws));
+    let terms = must(rt, drawn_terms(alloc, draws, given.operands.as_slice()));
     let Some(term) = terms.last() else {
-        return Err(Fail::new("a formula is drawn"));
+        panic!(rt; "no formula is drawn");
     };
-    check_term(rt, alloc, draws, term, &given)
+    check_term(rt, alloc, draws, term, &given);
 }
 
 #[test]
-fn drawn_formulas_have_their_values(rt: HostRuntime) -> Result<(), Fail> {
+fn drawn_formulas_have_their_values(rt: HostRuntime) {
     let mut draws = Draws(1);
     for _ in 0..50 {
-        check_drawn(&rt, rt.alloc(), &mut draws)?;
+        check_drawn(&rt, rt.alloc(), &mut draws);
     }
-    Ok(())
 }

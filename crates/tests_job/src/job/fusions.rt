@@ -91,13 +91,13 @@ pub fn is_run_by(
     fusion: Fusion,
     disk: &mut MemDisk,
 ) -> Result<bool, Fail> {
-    let Some(plan) = plan_by(alloc, spec, fusion)? else {
-        return Ok(false);
-    };
     if budget < least_budget(spec) || 1 << 40 < budget {
         return Ok(false);
     }
     let Ok(forms) = open_operands(spec, disk) else {
+        return Ok(false);
+    };
+    let Some(plan) = plan_by(alloc, spec, fusion)? else {
         return Ok(false);
     };
     let mut room = HeapRoom::new(alloc);
@@ -112,13 +112,13 @@ pub fn touches_unfused(
     disk: &mut MemDisk,
 ) -> Result<Option<u128>, Fail> {
     let fusion = unfused(spec.tree());
-    let Some(plan) = plan_by(alloc, spec, fusion)? else {
-        return Ok(None);
-    };
     if budget < least_budget(spec) || 1 << 40 < budget {
         return Ok(None);
     }
     let Ok(forms) = open_operands(spec, disk) else {
+        return Ok(None);
+    };
+    let Some(plan) = plan_by(alloc, spec, fusion)? else {
         return Ok(None);
     };
     let mut room = HeapRoom::new(alloc);

@@ -1,19 +1,40 @@
 //! What runs are given, and what they tell: specifications by their texts, and array files by their words.
 use std::alloc::{AllocError, Global};
+use std::process::Abort;
 use std::test::Fail;
-use tce_array::Form;
 use tce_job::{JobFault, run_job};
 use tce_outside::{Disk, MemDisk};
 use tce_spec::{Spec, read_spec};
 use tce_words::Room;
 
-/// An array file: its extents and edges, and its words in the order of the file.
-#[derive(Clone, Copy)]
-pub struct Array<'a> {
-    pub file: &'a str,
-    pub form: Form,
-    pub dimensions: &'a [(u64, u64)],
-    pub words: &'a [u64],
+/// Ends the test where this does not hold, with what it is about.
+pub fn check(rt: &impl Abort, holds: bool, what: &str) {
+    assert!(rt; holds, "{what}");
+}
+
+/// What was made. The test ends where it could not be made.
+pub fn must<T, E>(rt: &impl Abort, made: Result<T, E>) -> T {
+    match made {
+        Ok(made) => made,
+        Err(_) => panic!(rt; "this cannot be made"),
+    }
+}
+
+/// The part of a row with this number, where bars part it; nothing where there is none.
+pub fn part<'a>(row: &'a str, number: usize) -> &'a str {
+    row.split('|').nth(number).unwrap_or("")
+}
+
+fn number_of(rt: &impl Abort, text: &str) -> u64 {
+    let Ok(number) = text.parse::<u64>() else {
+        panic!(rt; "no number: {text}");
+    };
+    number
+}
+
+/// The number that a part of a row is.
+pub fn number_at(rt: &impl Abort, row: &str, number: usize) -> u64 {
+    number_of(rt, part(row, number))
 }
 
 /// Puts a number behind bytes, as eight bytes, the lowest first.
@@ -21,88 +42,101 @@ pub fn push_number(bytes: &mut Vec<u8>, number: u64) -> Result<(), AllocError> {
     bytes.extend_from_slice(&number.to_le_bytes())
 }
 
-// Puts the first bytes of a file in this form: in the second version of the format with how many bytes a word takes.
-fn push_start(bytes: &mut Vec<u8>, form: Form, rank: u64) -> Result<(), AllocError> {
-    let (mark, width) = match form {
-        Form::One => (b"TCARRAY1", None),
-        Form::Narrow => (b"TCARRAY2", Some(4)),
-        Form::Wide => (b"TCARRAY2", Some(8)),
+// Puts a word behind bytes: a number in eight bytes, in four behind a tilde, or in one behind a dot.
+fn push_word(rt: &impl Abort, bytes: &mut Vec<u8>, text: &str) -> Result<(), AllocError> {
+    if let Some(digits) = text.strip_prefix('~') {
+        return bytes.extend_from_slice(&number_of(rt, digits).to_le_bytes()[..4]);
+    }
+    match text.strip_prefix('.') {
+        Some(digits) => bytes.extend_from_slice(&number_of(rt, digits).to_le_bytes()[..1]),
+        None => push_number(bytes, number_of(rt, text)),
+    }
+}
+
+// Puts a word behind bytes, or a word so many times, as `1*36`.
+fn push_words(rt: &impl Abort, bytes: &mut Vec<u8>, text: &str) {
+    let (word, times) = match text.split_once('*') {
+        Some((word, times)) => (word, number_of(rt, times)),
+        None => (text, 1),
     };
-    bytes.extend_from_slice(mark)?;
-    push_number(bytes, rank)?;
-    match width {
-        Some(width) => push_number(bytes, width),
-        None => Ok(()),
+    for _ in 0..times {
+        must(rt, push_word(rt, bytes, word));
     }
 }
 
-fn push_extents(bytes: &mut Vec<u8>, dimensions: &[(u64, u64)]) -> Result<(), AllocError> {
-    for (extent, _) in dimensions {
-        push_number(bytes, *extent)?;
-    }
-    Ok(())
-}
-
-fn push_edges(bytes: &mut Vec<u8>, dimensions: &[(u64, u64)]) -> Result<(), AllocError> {
-    for (_, edge) in dimensions {
-        push_number(bytes, *edge)?;
-    }
-    Ok(())
-}
-
-fn push_word(bytes: &mut Vec<u8>, form: Form, word: u64) -> Result<(), AllocError> {
-    let eight = word.to_le_bytes();
-    match form {
-        Form::Narrow => bytes.extend_from_slice(&eight[..4]),
-        Form::One | Form::Wide => bytes.extend_from_slice(&eight),
+// How a file begins whose text begins with this mark.
+fn start_of(text: &str) -> &'static [u8] {
+    if text.starts_with('=') {
+        b""
+    } else if text.starts_with('+') {
+        b"TCARRAY2"
+    } else {
+        b"TCARRAY1"
     }
 }
 
-fn push_array(bytes: &mut Vec<u8>, array: &Array) -> Result<(), AllocError> {
-    push_start(bytes, array.form, array.dimensions.len() as u64)?;
-    push_extents(bytes, array.dimensions)?;
-    push_edges(bytes, array.dimensions)?;
-    for word in array.words {
-        push_word(bytes, array.form, *word)?;
-    }
-    Ok(())
-}
-
-/// The bytes of an array file.
-pub fn file_bytes(alloc: Global, array: &Array) -> Result<Vec<u8>, AllocError> {
+/// The bytes of the file that a text describes.
+pub fn bytes_of(rt: &impl Abort, alloc: Global, text: &str) -> Vec<u8> {
     let mut bytes = Vec::new(alloc);
-    push_array(&mut bytes, array)?;
-    Ok(bytes)
+    must(rt, bytes.extend_from_slice(start_of(text)));
+    for words in text.split(' ').skip(1) {
+        push_words(rt, &mut bytes, words);
+    }
+    bytes
 }
 
-fn put_array(alloc: Global, disk: &mut MemDisk, array: &Array) -> Result<(), AllocError> {
-    let bytes = file_bytes(alloc, array)?;
-    disk.put_file(array.file, &bytes)
+// The name of that file.
+fn name_of(rt: &impl Abort, alloc: Global, text: &str) -> String {
+    let word = text.split(' ').next().unwrap_or("");
+    let unmarked = word.strip_prefix('+').or(word.strip_prefix('='));
+    let name = unmarked.or(word.strip_prefix('-')).unwrap_or(word);
+    must(rt, format!(in alloc; "{name}.tca"))
 }
 
-/// A disk with these array files.
-pub fn disk_with(alloc: Global, arrays: &[Array]) -> Result<MemDisk, AllocError> {
+// Puts the file that a text describes on a disk. `A 1 2 1 7 8` is the file `A.tca` in the first version of the format, with
+// the rank, the extents, the edges and the words of its tiles, `+A 1 4 2 1 ~7 ~8` one in the second version, with how many
+// bytes a word takes behind the rank, `=A` the empty file, and `-A` no file.
+fn put_file(rt: &impl Abort, alloc: Global, disk: &mut MemDisk, text: &str) {
+    if !text.starts_with('-') {
+        let name = name_of(rt, alloc, text);
+        let bytes = bytes_of(rt, alloc, text);
+        must(rt, disk.put_file(&name, &bytes));
+    }
+}
+
+/// A disk with the files of a text, between its semicolons.
+pub fn disk_with(rt: &impl Abort, alloc: Global, files: &str) -> MemDisk {
     let mut disk = MemDisk::new(alloc);
-    for array in arrays {
-        put_array(alloc, &mut disk, array)?;
+    for text in files.split(';') {
+        put_file(rt, alloc, &mut disk, text);
     }
-    Ok(disk)
+    disk
 }
 
-/// Whether a disk has an array file.
-pub fn has_array(alloc: Global, disk: &MemDisk, array: &Array) -> Result<bool, AllocError> {
-    let bytes = file_bytes(alloc, array)?;
-    Ok(disk.file(array.file) == Some(bytes.as_slice()))
+/// Puts as many bytes in the place of the file that a text describes, all of them 7.
+pub fn spoil(rt: &impl Abort, alloc: Global, disk: &mut MemDisk, text: &str) {
+    let name = name_of(rt, alloc, text);
+    let len = bytes_of(rt, alloc, text).len();
+    let sevens = must(rt, vec![in alloc; 7; len]);
+    must(rt, disk.put_file(&name, &sevens));
 }
 
-/// Whether a disk has all these array files.
-pub fn has_arrays(alloc: Global, disk: &MemDisk, arrays: &[Array]) -> Result<bool, AllocError> {
-    for array in arrays {
-        if !has_array(alloc, disk, array)? {
-            return Ok(false);
-        }
+fn check_file(rt: &impl Abort, alloc: Global, disk: &MemDisk, text: &str) {
+    let name = name_of(rt, alloc, text);
+    let bytes = bytes_of(rt, alloc, text);
+    let wanted = if text.starts_with('-') {
+        None
+    } else {
+        Some(bytes.as_slice())
+    };
+    check(rt, disk.file(&name) == wanted, text);
+}
+
+/// The disk has the files of a text.
+pub fn check_files(rt: &impl Abort, alloc: Global, disk: &MemDisk, files: &str) {
+    for text in files.split(';') {
+        check_file(rt, alloc, disk, text);
     }
-    Ok(true)
 }
 
 /// The specification of a text.
