@@ -2,7 +2,8 @@
 # Times `einsum` and prints the milliseconds of the processor, the least of some rounds. To be run by hand: sh bench/einsum.sh [PROGRAM]
 #
 # PROGRAM is the built program; where none is named, crates/tce/out/tce is built by `rt run`. Exit status 1 where a chain of 31
-# operands took more than 10 ms, or texts of many operands more than 100 ms.
+# operands took more than 10 ms, texts of ten thousand operands more than 100 ms, or the longest paths over 5460 operands, the
+# most whose entries are contracted, more than a second.
 set -eu
 rounds=${ROUNDS:-5}
 . "$(dirname "$0")/build.sh"
@@ -45,4 +46,10 @@ many=$(repeat 9999 'a,')a
 measure 'ten thousand vectors' "$many->@a=10" "$(repeat 9998 '0,1;')0,1" 14 100
 measure 'ten thousand vectors and a path of one item' "$many->@a=10" 0,1 14 100
 measure 'ten thousand numbers' "$(repeat 9999 ',')->@" "$(repeat 9998 '0,1;')0,1" 14 100
+vectors=$(repeat 5459 'a,')a
+pairs=$(repeat 5458 '0,1;')0,1
+measure '5460 vectors, pairs from the front' "$vectors->@a=10" "$pairs" 14 1000
+measure '5460 vectors, the first moved, then pairs' "$vectors->@a=10" "$(repeat 21850 '0;')$pairs" 14 1000
+measure '5460 vectors, the last moved, then pairs' "$vectors->@a=10" "$(repeat 8740 '5459;')$pairs" 14 1000
+measure 'two vectors and 5458 numbers, the last moved' "a,$(repeat 5458 ',')a->@a=10" "$(repeat 8740 '5459;')$pairs" 14 1000
 [ -z "$slow" ] || { echo 'that took too long'; exit 1; }

@@ -1,5 +1,6 @@
 #!/bin/sh
-# Times `expand` over 2^24 elements against cp of the array's file, and prints the ratio of the least times of some rounds.
+# Times `expand` over 2^24 elements against cp of the array's file, in processor time, that of the system included, and prints
+# the ratio of the least times of some rounds. The files are in the system's cache.
 # To be run by hand, with the program built: sh bench/expand.sh [PROGRAM]
 set -eu
 program=$(readlink -f "${1:-$(dirname "$0")/../crates/tce/out/tce}")
@@ -7,6 +8,19 @@ rounds=3
 folder=$(mktemp -d)
 trap 'rm -rf "$folder"' EXIT
 cd "$folder"
+
+# The processor time of a command, in milliseconds.
+cost() {
+    python3 - "$@" <<'END'
+import resource
+import subprocess
+import sys
+
+subprocess.run(sys.argv[1:], check=True, stdout=subprocess.DEVNULL)
+used = resource.getrusage(resource.RUSAGE_CHILDREN)
+print(round(1000 * (used.ru_utime + used.ru_stime)))
+END
+}
 
 # A shape: its extents, its edges, the two positions and the sign.
 measure() {
@@ -34,10 +48,8 @@ END
     best_expand=999999 best_copy=999999
     for _ in $(seq "$rounds"); do
         rm -f T.tca copy
-        start=$(date +%s%N); "$program" expand s.tce T > /dev/null; stop=$(date +%s%N)
-        took=$(( (stop - start) / 1000000 )); [ "$took" -lt "$best_expand" ] && best_expand=$took
-        start=$(date +%s%N); cp T.tca copy; stop=$(date +%s%N)
-        took=$(( (stop - start) / 1000000 )); [ "$took" -lt "$best_copy" ] && best_copy=$took
+        took=$(cost "$program" expand s.tce T); [ "$took" -lt "$best_expand" ] && best_expand=$took
+        took=$(cost cp T.tca copy); [ "$took" -lt "$best_copy" ] && best_copy=$took
     done
     awk -v name="$1 in tiles of $2, positions $3, sign $4" -v a="$best_expand" -v b="$best_copy" \
         'BEGIN { printf "%s: expand %d ms, cp %d ms, %.2f of the speed of cp\n", name, a, b, b / (a ? a : 1) }'

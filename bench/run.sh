@@ -5,7 +5,8 @@
 # PROGRAM is the built program; where none is named, crates/tce/out/tce is built by `rt run`. Each side reads its
 # operands from files and writes the file of its result. The time is that of the processor for the whole process, the
 # least of some rounds in which the sides take turns, so that another load on the machine does little to it. The C is
-# compiled by gcc -O3 for the same level of processor, with all extents and edges as constants.
+# compiled by gcc -O3 for the same level of processor, and where a row says so for the one that it runs on, with all extents
+# and edges as constants.
 set -eu
 rounds=${ROUNDS:-5}
 level=x86-64-v2
@@ -216,6 +217,31 @@ int main(void) {
 }
 C
 
+# The outer product of two vectors, whose tiles are written one by one.
+cat > outer.c <<'C'
+#include "arrays.h"
+
+enum { T = N / E };
+
+int main(void) {
+    const u64 rank = 2, shape[4] = {N, N, E, E};
+    const u64 *a = get("A.tca", 32, N), *b = get("B.tca", 32, N);
+    static u64 tile[E * E];
+    FILE *out = fopen("plain.tca", "wb");
+    if (!out || setvbuf(out, 0, _IONBF, 0)) return 1;
+    fwrite("TCARRAY1", 1, 8, out);
+    fwrite(&rank, 8, 1, out);
+    fwrite(shape, 8, 4, out);
+    for (size_t i = 0; i < T; i++)
+        for (size_t j = 0; j < T; j++) {
+            for (size_t x = 0; x < E; x++)
+                for (size_t y = 0; y < E; y++) tile[x * E + y] = a[i * E + x] * b[j * E + y];
+            if (fwrite(tile, sizeof tile, 1, out) != 1) return 1;
+        }
+    return fclose(out);
+}
+C
+
 four_spec() {
     cat <<TCE
 range V $1 tile $3
@@ -288,6 +314,32 @@ TCE
 compare 'matrices of 512, edge 64, all tiles held' C.tca 786432 "$rounds" matrix.c -DN=512 -DE=64
 
 cat > job.tce <<'TCE'
+range N 1024 tile 64
+index N i j k
+tensor A[N,N]
+tensor B[N,N]
+tensor C[N,N]
+C[i,j] = sum{k}(A[i,k] * B[k,j])
+TCE
+./array A.tca 1 1024 64 1024 64
+./array B.tca 2 1024 64 1024 64
+compare 'matrices of 1024, edge 64, 3 frames; C for this processor' C.tca 12288 "$rounds" matrix.c -DN=1024 -DE=64 -march=native
+compare 'the same with 64 frames' C.tca 262144 "$rounds" matrix.c -DN=1024 -DE=64 -march=native
+
+cat > job.tce <<'TCE'
+range N 4096 tile 64
+index N i j
+tensor A[N]
+tensor B[N]
+tensor C[N,N]
+C[i,j] = A[i] * B[j]
+TCE
+./array A.tca 1 4096 64
+./array B.tca 2 4096 64
+compare 'outer product of 4096, edge 64, 3 frames' C.tca 12288 "$rounds" outer.c -DN=4096 -DE=64
+compare 'the same with 64 frames' C.tca 262144 "$rounds" outer.c -DN=4096 -DE=64
+
+cat > job.tce <<'TCE'
 range N 49152 tile 4096
 index N i j
 tensor A[N]
@@ -298,6 +350,13 @@ TCE
 ./array A.tca 0 49152 4096
 ./array B.tca 0 49152 4096
 compare 'all products of vectors of 49152, edge 4096' S.tca 12288 "$rounds" vectors.c -DN=49152
+
+four_spec 16 8 4 4 > job.tce
+four_data 16 8 4 4
+compare 'four tensors of 16 and 8, edge 4, 64 frames; C for this processor' S.tca 16384 "$rounds" four.c -DV=16 -DO=8 -DEV=4 -DEO=4 -DTILED -march=native
+four_spec 16 16 4 4 > job.tce
+four_data 16 16 4 4
+compare 'four tensors of 16, edge 4, 64 frames; C for this processor' S.tca 16384 "$rounds" four.c -DV=16 -DO=16 -DEV=4 -DEO=4 -DTILED -march=native
 
 four_spec 40 10 8 5 > job.tce
 four_data 40 10 8 5
