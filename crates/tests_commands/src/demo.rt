@@ -1,12 +1,11 @@
 //! Examples whose arrays, memory and sums were worked out by hand.
-ghost use Rattle.std.specs.Prelude.{None};
 
 use crate::given::{check, must};
 use std::alloc::Global;
 use std::process::Abort;
 use tce_command::Refusal;
 use tce_demo::demo;
-use tce_outside::{Disk, Failed, FaultyDisk, MemDisk, OutFault};
+use tce_outside::{Disk, FaultyDisk, MemDisk};
 use tce_words::{HeapRoom, RefusingRoom, Room};
 
 const OTHER: &[u8] = b"another specification";
@@ -176,43 +175,4 @@ fn a_refusing_room_is_want_of_memory(rt: HostRuntime) {
     let found = reported(alloc, (1, 1, 1), &mut disk, &mut room);
     check(&rt, found.is_some(), "it is refused once");
     check(&rt, room.takings() == [(5, 5)].as_slice(), "the taking");
-}
-
-// A disk that tells nothing of its files, takes all that is written, and finds none of it again.
-#[derive(Drop)]
-struct LosingDisk;
-
-impl Disk for LosingDisk {
-    ghost files = { λ _. None };
-
-    ghost faults = { λ _. 0 };
-
-    fn size(&mut self, _name: &str) -> Result<Option<u64>, Failed> {
-        Ok(None)
-    }
-
-    fn make(&mut self, _name: &str, _len: u64) -> Result<(), OutFault> {
-        Ok(())
-    }
-
-    fn read_at(&mut self, _name: &str, _at: u64, _out: &mut [u8]) -> Result<(), Failed> {
-        Ok(())
-    }
-
-    fn write_at(&mut self, _name: &str, _at: u64, _bytes: &[u8]) -> Result<(), Failed> {
-        Ok(())
-    }
-}
-
-// As a run tells it whose operand is not there.
-#[test]
-fn an_array_that_is_not_found_again_is_a_missing_file(rt: HostRuntime) {
-    let alloc = rt.alloc();
-    let mut room = HeapRoom::new(alloc);
-    let lost = match demo(alloc, 1, 1, 1, &mut LosingDisk, &mut room) {
-        Err(Refusal::Missing(file)) => file.as_str() == "demoA.tca",
-        _ => false,
-    };
-    check(&rt, lost, "the first operand is missing");
-    check(&rt, room.takings().is_empty(), "nothing is taken");
 }
