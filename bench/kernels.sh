@@ -18,8 +18,8 @@ ghost use Rattle.std.specs.Prelude.{◌≡◌, length};
 
 use std::io;
 use std::time::Instant;
-use tce_kernel::{dot, mul_add_sv, mul_add_vv};
-use tce_words::{HeapRoom, Room, Words};
+use tce_kernel::{dot, mul_add_four, mul_add_sv, mul_add_vv};
+use tce_words::{HeapRoom, Room, Strided, Words};
 
 const WORDS: usize = 4096;
 
@@ -66,14 +66,41 @@ fn sv_turns(out: &mut [u64; WORDS], s: u64, b: &[u64; WORDS]) {
     }
 }
 
+fn four_turns(out: &mut [u64; WORDS], s: u64, rows: &[[u64; WORDS]; 4]) {
+    for _turn in 0..50 {
+        mul_add_four(out, [s, 3, 5, s], &rows[0], &rows[1], &rows[2], &rows[3]);
+    }
+}
+
+// Four rows of so many words, with one factor each, to as many words.
+fn rows_at_once(words: &mut Words, n: u64) {
+    let factors = Strided {
+        first: 8192,
+        step: 1,
+    };
+    let rows = Strided {
+        first: 4096,
+        step: 512,
+    };
+    if n <= 512 && 12288 <= words.len() {
+        words.mul_add_four(0, factors, rows, n);
+    }
+}
+
+fn row_turns(words: &mut Words, n: u64, turns: u64) {
+    for _turn in 0..turns {
+        rows_at_once(words, n);
+    }
+}
+
 fn run_turns(words: &mut Words, n: u64, turns: u64) {
     for _turn in 0..turns {
         run_twice(words, n);
     }
 }
 
-fn less(best: &mut [u128; 5], k: usize, spent: u128) {
-    if k < 5 && spent < best[k] {
+fn less(best: &mut [u128; 8], k: usize, spent: u128) {
+    if k < 8 && spent < best[k] {
         best[k] = spent;
     }
 }
@@ -82,8 +109,9 @@ fn main(rt: HostRuntime) -> io::Result<()> {
     let mut a = noise(1);
     let b = noise(2);
     let mut out = noise(3);
+    let rows = [noise(4), noise(5), noise(6), noise(7)];
     let mut total: u64 = 0;
-    let mut best = [u128::MAX; 5];
+    let mut best = [u128::MAX; 8];
     let mut room = HeapRoom::new(rt.alloc());
     let mut words = room.take(12288, 0)?;
     for _round in 0..1000 {
@@ -102,13 +130,25 @@ fn main(rt: HostRuntime) -> io::Result<()> {
         let start = Instant::now(&rt)?;
         run_turns(&mut words, 512, 100);
         less(&mut best, 4, start.elapsed(&rt)?.as_nanos());
+        let start = Instant::now(&rt)?;
+        four_turns(&mut out, total, &rows);
+        less(&mut best, 5, start.elapsed(&rt)?.as_nanos());
+        let start = Instant::now(&rt)?;
+        row_turns(&mut words, 64, 400);
+        less(&mut best, 6, start.elapsed(&rt)?.as_nanos());
+        let start = Instant::now(&rt)?;
+        row_turns(&mut words, 512, 50);
+        less(&mut best, 7, start.elapsed(&rt)?.as_nanos());
     }
     println!(rt; "dot {}", best[0])?;
     println!(rt; "mul_add_vv {}", best[1])?;
     println!(rt; "mul_add_sv {}", best[2])?;
     println!(rt; "run64 {}", best[3])?;
     println!(rt; "run512 {}", best[4])?;
-    let mut zeros = [u128::MAX; 5];
+    println!(rt; "mul_add_four {}", best[5])?;
+    println!(rt; "rows64 {}", best[6])?;
+    println!(rt; "rows512 {}", best[7])?;
+    let mut zeros = [u128::MAX; 8];
     for _round in 0..3 {
         let start = Instant::now(&rt)?;
         let block = room.take(134217728, 0)?;
@@ -146,13 +186,17 @@ __attribute__((noinline)) static void sv(u64 *restrict o, u64 s, const u64 *rest
     for (size_t i = 0; i < n; i++) o[i] += s * b[i];
 }
 
+__attribute__((noinline)) static void four(u64 *restrict o, u64 s, const u64 *a, const u64 *b, const u64 *c, const u64 *d, size_t n) {
+    for (size_t i = 0; i < n; i++) o[i] += s * a[i] + 3 * b[i] + 5 * c[i] + s * d[i];
+}
+
 static u64 now(void) {
     struct timespec t;
     clock_gettime(CLOCK_MONOTONIC, &t);
     return t.tv_sec * 1000000000ull + t.tv_nsec;
 }
 
-static u64 a[WORDS], b[WORDS], o[WORDS];
+static u64 a[WORDS], b[WORDS], o[WORDS], rows[4][WORDS];
 
 static void noise(u64 *made, u64 word) {
     for (int i = 0; i < WORDS; i++) made[i] = word = word * 6364136223846793005ull + 1442695040888963407ull;
@@ -166,10 +210,11 @@ static void less(u64 *best, u64 spent) {
 static void *(*volatile set)(void *, int, size_t) = memset;
 
 int main(void) {
-    u64 total = 0, best[4] = {-1, -1, -1, -1};
+    u64 total = 0, best[5] = {-1, -1, -1, -1, -1};
     noise(a, 1);
     noise(b, 2);
     noise(o, 3);
+    for (int k = 0; k < 4; k++) noise(rows[k], 4 + k);
     for (int round = 0; round < 1000; round++) {
         u64 start = now(), turns = 0;
         for (int k = 0; k < 50; k++) { turns += dot(a, b, WORDS); a[0] = turns; }
@@ -181,6 +226,9 @@ int main(void) {
         start = now();
         for (int k = 0; k < 50; k++) sv(o, total, b, WORDS);
         less(best + 2, now() - start);
+        start = now();
+        for (int k = 0; k < 50; k++) four(o, total, rows[0], rows[1], rows[2], rows[3], WORDS);
+        less(best + 4, now() - start);
     }
     for (int round = 0; round < 3; round++) {
         size_t n = 1ull << 27;
@@ -191,8 +239,8 @@ int main(void) {
         less(best + 3, now() - start);
         free(block);
     }
-    printf("dot %llu\nmul_add_vv %llu\nmul_add_sv %llu\nzeros %llu\n", (unsigned long long)best[0],
-           (unsigned long long)best[1], (unsigned long long)best[2], (unsigned long long)best[3]);
+    const char *names[] = {"dot", "mul_add_vv", "mul_add_sv", "zeros", "mul_add_four"};
+    for (int k = 0; k < 5; k++) printf("%s %llu\n", names[k], (unsigned long long)best[k]);
     printf("sum %llu\n", (unsigned long long)(total + dot(o, b, WORDS)));
     return 0;
 }
@@ -213,14 +261,17 @@ for level in x86-64-v2 x86-64-v3; do
         FNR == NR { c[$1] = least[$1]; next }
         { if (!($1 in r) || $2 < r[$1]) r[$1] = $2 }
         END {
-            split("dot mul_add_vv mul_add_sv", names)
-            for (k = 1; k <= 3; k++) {
+            split("dot mul_add_vv mul_add_sv mul_add_four", names)
+            for (k = 1; k <= 4; k++) {
                 n = names[k]
-                printf "  %-10s of 4,096 words   C %6.0f   Rattle %6.0f   ratio %.2f\n", n, c[n] / 50, r[n] / 50, r[n] / c[n]
+                printf "  %-12s of 4,096 words   C %6.0f   Rattle %6.0f   ratio %.2f\n", n, c[n] / 50, r[n] / 50, r[n] / c[n]
             }
             each = r["run64"] / 1600
             word = (r["run512"] / 200 - each) / 448
             printf "  mul_add_run of 64 words: %.0f a call, of which %.0f beside its words\n", each, each - 64 * word
+            rows = r["rows64"] / 400
+            word = (r["rows512"] / 50 - rows) / 448
+            printf "  mul_add_four of rows of 64 words: %.0f a call, of which %.0f beside its words\n", rows, rows - 64 * word
             printf "  2^27 words of zeros: C malloc and memset %.2f s, Room::take %.2f s, ratio %.2f\n", c["zeros"] / 1e9, r["zeros"] / 1e9, r["zeros"] / c["zeros"]
         }' c r
 done

@@ -1,4 +1,5 @@
 pub mod Folds
+pub mod Fours
 pub mod Innermost
 pub mod Moves
 pub mod Outer

@@ -1,12 +1,12 @@
 //! Single turns, and innermost loops.
-ghost use Rattle.std.specs.Prelude.{◌≡◌, ℕ, ◌^◌, ◌<◌, length, [], ◌∷◌};
+ghost use Rattle.std.specs.Prelude.{◌≡◌, ◌↔◌, ℕ, ◌^◌, ◌<◌, ◌≤◌, IsTrue, length, [], ◌∷◌};
 ghost use Rattle.std.specs.List.{range_with_len, fold};
 ghost use Rattle.tce_space.specs.Box.{places};
 ghost use Rattle.tce_strides.specs.Places.{word_place, AreWithin, AreApart};
 ghost use Rattle.tce_strides.specs.Turns.{IsMade, grown, grown_by_products, operate, computed, turned};
 
 use crate::loops::{Loop, Operation, SumLoop, Turn};
-use tce_words::Words;
+use tce_words::{Strided, Words};
 
 // From so many turns on a run of words pays for its call.
 const LONG: u64 = 8;
@@ -218,6 +218,130 @@ fn turn_by_turn(words: &mut Words, turn: Turn, along: Loop, out: u64, left: u64,
 
 // Two loops, one inside the other.
 pub(crate) fn turns_in_rows(
+    words: &mut Words,
+    turn: Turn,
+    rows: Loop,
+    along: Loop,
+    out: u64,
+    left: u64,
+    right: u64,
+)
+    requires limit { length words.old < 2 ^ 60 }
+    requires rows { 0 < rows.len }
+    requires positive { 0 < along.len }
+    requires out { AreWithin (length words.old) (rows.len ∷ along.len ∷ []) (word_place out (rows.out ∷ along.out ∷ [])) }
+    requires left { AreWithin (length words.old) (rows.len ∷ along.len ∷ []) (word_place left (rows.left ∷ along.left ∷ [])) }
+    requires right { AreWithin (length words.old) (rows.len ∷ along.len ∷ []) (word_place right (rows.right ∷ along.right ∷ [])) }
+    requires apart_from_left { AreApart (rows.len ∷ along.len ∷ []) (word_place out (rows.out ∷ along.out ∷ [])) (word_place left (rows.left ∷ along.left ∷ [])) }
+    requires apart_from_right { AreApart (rows.len ∷ along.len ∷ []) (word_place out (rows.out ∷ along.out ∷ [])) (word_place right (rows.right ∷ along.right ∷ [])) }
+    ensures { IsMade (turned turn words.old (word_place left (rows.left ∷ along.left ∷ [])) (word_place right (rows.right ∷ along.right ∷ []))) (word_place out (rows.out ∷ along.out ∷ [])) (places (rows.len ∷ along.len ∷ [])) words.old words.new }
+{
+    match turn {
+        Turn::Grow => grow_in_rows(words, rows, along, out, left, right),
+        Turn::Compute(_) => rows_by_one(words, turn, rows, along, out, left, right),
+    }
+}
+
+// Whether each row is long, and goes with one factor to the same words of the result.
+fn are_scaled(rows: Loop, along: Loop) -> bool
+    ensures { IsTrue result ↔ ((rows.out ≡ 0) × (along.out ≡ 1) × (along.left ≡ 0) × (along.right ≡ 1) × (8 ≤ along.len)) }
+{
+    rows.out == 0 && along.out == 1 && along.left == 0 && along.right == 1 && LONG <= along.len
+}
+
+// Two loops that add products.
+fn grow_in_rows(words: &mut Words, rows: Loop, along: Loop, out: u64, left: u64, right: u64)
+    requires limit { length words.old < 2 ^ 60 }
+    requires rows { 0 < rows.len }
+    requires positive { 0 < along.len }
+    requires out { AreWithin (length words.old) (rows.len ∷ along.len ∷ []) (word_place out (rows.out ∷ along.out ∷ [])) }
+    requires left { AreWithin (length words.old) (rows.len ∷ along.len ∷ []) (word_place left (rows.left ∷ along.left ∷ [])) }
+    requires right { AreWithin (length words.old) (rows.len ∷ along.len ∷ []) (word_place right (rows.right ∷ along.right ∷ [])) }
+    requires apart_from_left { AreApart (rows.len ∷ along.len ∷ []) (word_place out (rows.out ∷ along.out ∷ [])) (word_place left (rows.left ∷ along.left ∷ [])) }
+    requires apart_from_right { AreApart (rows.len ∷ along.len ∷ []) (word_place out (rows.out ∷ along.out ∷ [])) (word_place right (rows.right ∷ along.right ∷ [])) }
+    ensures { IsMade (turned Turn.Grow words.old (word_place left (rows.left ∷ along.left ∷ [])) (word_place right (rows.right ∷ along.right ∷ []))) (word_place out (rows.out ∷ along.out ∷ [])) (places (rows.len ∷ along.len ∷ [])) words.old words.new }
+{
+    if are_scaled(rows, along) {
+        rows_by_four(words, rows, along, out, left, right);
+    } else {
+        grow_in_rows_of_left(words, rows, along, out, left, right);
+    }
+}
+
+// The same, where the rows may be those of the left operand.
+fn grow_in_rows_of_left(words: &mut Words, rows: Loop, along: Loop, out: u64, left: u64, right: u64)
+    requires limit { length words.old < 2 ^ 60 }
+    requires rows { 0 < rows.len }
+    requires positive { 0 < along.len }
+    requires out { AreWithin (length words.old) (rows.len ∷ along.len ∷ []) (word_place out (rows.out ∷ along.out ∷ [])) }
+    requires left { AreWithin (length words.old) (rows.len ∷ along.len ∷ []) (word_place left (rows.left ∷ along.left ∷ [])) }
+    requires right { AreWithin (length words.old) (rows.len ∷ along.len ∷ []) (word_place right (rows.right ∷ along.right ∷ [])) }
+    requires apart_from_left { AreApart (rows.len ∷ along.len ∷ []) (word_place out (rows.out ∷ along.out ∷ [])) (word_place left (rows.left ∷ along.left ∷ [])) }
+    requires apart_from_right { AreApart (rows.len ∷ along.len ∷ []) (word_place out (rows.out ∷ along.out ∷ [])) (word_place right (rows.right ∷ along.right ∷ [])) }
+    ensures { IsMade (turned Turn.Grow words.old (word_place left (rows.left ∷ along.left ∷ [])) (word_place right (rows.right ∷ along.right ∷ []))) (word_place out (rows.out ∷ along.out ∷ [])) (places (rows.len ∷ along.len ∷ [])) words.old words.new }
+{
+    let (swapped_rows, swapped_along) = (
+        Loop {
+            left: rows.right,
+            right: rows.left,
+            ..rows
+        },
+        Loop {
+            left: along.right,
+            right: along.left,
+            ..along
+        },
+    );
+    if are_scaled(swapped_rows, swapped_along) {
+        rows_by_four(words, swapped_rows, swapped_along, out, right, left);
+    } else {
+        rows_by_one(words, Turn::Grow, rows, along, out, left, right);
+    }
+}
+
+// Rows that are added with one factor each, four at once as far as they go.
+fn rows_by_four(words: &mut Words, rows: Loop, along: Loop, out: u64, left: u64, right: u64)
+    requires limit { length words.old < 2 ^ 60 }
+    requires rows { 0 < rows.len }
+    requires positive { 0 < along.len }
+    requires out { AreWithin (length words.old) (rows.len ∷ along.len ∷ []) (word_place out (rows.out ∷ along.out ∷ [])) }
+    requires left { AreWithin (length words.old) (rows.len ∷ along.len ∷ []) (word_place left (rows.left ∷ along.left ∷ [])) }
+    requires right { AreWithin (length words.old) (rows.len ∷ along.len ∷ []) (word_place right (rows.right ∷ along.right ∷ [])) }
+    requires apart_from_left { AreApart (rows.len ∷ along.len ∷ []) (word_place out (rows.out ∷ along.out ∷ [])) (word_place left (rows.left ∷ along.left ∷ [])) }
+    requires apart_from_right { AreApart (rows.len ∷ along.len ∷ []) (word_place out (rows.out ∷ along.out ∷ [])) (word_place right (rows.right ∷ along.right ∷ [])) }
+    requires still { rows.out ≡ 0 }
+    requires next_word { along.out ≡ 1 }
+    requires one_factor { along.left ≡ 0 }
+    requires one_row { along.right ≡ 1 }
+    ensures { IsMade (turned Turn.Grow words.old (word_place left (rows.left ∷ along.left ∷ [])) (word_place right (rows.right ∷ along.right ∷ []))) (word_place out (rows.out ∷ along.out ∷ [])) (places (rows.len ∷ along.len ∷ [])) words.old words.new }
+{
+    let fours = rows.len / 4;
+    for four in 0..fours {
+        let x = 4 * four;
+        let factors = Strided {
+            first: left + x * rows.left,
+            step: rows.left,
+        };
+        let scaled = Strided {
+            first: right + x * rows.right,
+            step: rows.right,
+        };
+        words.mul_add_four(out, factors, scaled, along.len);
+    }
+    for x in 4 * fours..rows.len {
+        turn_along(
+            words,
+            Turn::Grow,
+            along,
+            out + x * rows.out,
+            left + x * rows.left,
+            right + x * rows.right,
+        );
+    }
+}
+
+// The rows one by one.
+fn rows_by_one(
     words: &mut Words,
     turn: Turn,
     rows: Loop,

@@ -78,7 +78,7 @@ part_within len first step n one some within =
     let is : (n - 1) * step ≡ n - 1 = rw one (omega arith) in
     omega arith
 
-length-part : (xs : List ℕ) (from n : ℕ) → from + n ≤ length xs → length (slice_range xs from (from + n)) ≡ n
+pub length-part : (xs : List ℕ) (from n : ℕ) → from + n ≤ length xs → length (slice_range xs from (from + n)) ≡ n
 length-part xs from n room = grind (arith, places)
 
 -- the runs of the kernels that take two parts, and a word and a part

@@ -3,6 +3,7 @@ pub mod Load
 pub mod Memory
 pub mod PlacesLends
 pub mod Refusing
+pub mod Rows
 pub mod Run
 pub mod RunLaws
 pub mod Whole

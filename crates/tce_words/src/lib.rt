@@ -6,9 +6,11 @@ mod bytes;
 pub mod laws;
 mod products;
 mod room;
+mod rows;
 mod runs;
 mod sums;
 mod words;
 
 pub use room::{HeapRoom, RefusingRoom, Room};
+pub use runs::Strided;
 pub use words::Words;

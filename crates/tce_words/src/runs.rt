@@ -1,6 +1,13 @@
 //! Where a run goes over a slice of words, and the parts of a slice beside the one that is written.
 ghost use Rattle.std.specs.Prelude.{ℕ, List, ◌≡◌, ◌++◌, ◌+◌, ◌≤◌, ◌⊎◌, length, slice_range};
 
+/// Places of words, each a step after the one before.
+#[derive(Clone, Copy, Debug, PartialEq, Eq)]
+pub struct Strided {
+    pub first: u64,
+    pub step: u64,
+}
+
 // The places from the first on, each a step after the one before.
 #[derive(Clone, Copy)]
 pub(crate) struct Run {

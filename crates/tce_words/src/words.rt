@@ -4,12 +4,13 @@ ghost use Rattle.std.specs.List.{flat_map};
 ghost use Rattle.std.specs.Simd.Lanes.{zip2};
 ghost use Rattle.tce_base.specs.Word.{wrapping_add, wrapping_sub, wrapping_mul, wrapping_sum, word_bytes, word_of_bytes, widened};
 ghost use Rattle.tce_words.specs.Load.{IsLoaded};
+ghost use Rattle.tce_words.specs.Rows.{AreFourRowsAdded};
 ghost use Rattle.tce_words.specs.Run.{IsWithin, AreApart, IsDistinct, IsRun, with_part, word_along, words_along};
 
 use crate::block::{Base, Deed, Places};
 use crate::bytes::{read_narrow, read_words};
-use crate::runs::Run;
-use crate::{products, sums};
+use crate::runs::{Run, Strided};
+use crate::{products, rows as added, sums};
 use byteorder::{ByteOrder, LittleEndian};
 use std::alloc::{AllocError, Global};
 use std::marker::Model;
@@ -223,6 +224,33 @@ impl Words {
             Run {
                 first: b as usize,
                 step: b_step as usize,
+            },
+            n as usize,
+        );
+    }
+
+    /// Adds to the n words from `out` on the products of four factors and the words of four rows, the first row first.
+    ///
+    /// The factors are the words at the first four places of `factors`, the rows the n words from each of the first four
+    /// places of `rows` on. None of them may lie among the words from `out` on.
+    pub fn mul_add_four(&mut self, out: u64, factors: Strided, rows: Strided, n: u64)
+        requires out { IsWithin (length self.old) out 1 n }
+        requires factors { IsWithin (length self.old) factors.first factors.step 4 }
+        requires rows { (t : ℕ) → t < 4 → IsWithin (length self.old) (rows.first + t * rows.step) 1 n }
+        requires apart_from_factors { (t : ℕ) → t < 4 → AreApart out 1 (factors.first + t * factors.step) 0 n }
+        requires apart_from_rows { (t : ℕ) → t < 4 → AreApart out 1 (rows.first + t * rows.step) 1 n }
+        ensures { AreFourRowsAdded out factors.first factors.step rows.first rows.step n self.old self.new }
+    {
+        added::mul_add_four(
+            self.as_mut_slice(),
+            out as usize,
+            Run {
+                first: factors.first as usize,
+                step: factors.step as usize,
+            },
+            Run {
+                first: rows.first as usize,
+                step: rows.step as usize,
             },
             n as usize,
         );

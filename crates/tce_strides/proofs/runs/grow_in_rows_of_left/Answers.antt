@@ -1,0 +1,11 @@
+use Rattle.std.proofs.Common.{[], ◌∷◌}
+use Rattle.tce_space.specs.Box.{places}
+use Rattle.tce_strides.specs.Places.{word_place}
+use Rattle.tce_strides.proofs.Fours.{made_swapped}
+use Rattle.tce_strides.proofs.runs.grow_in_rows_of_left.Goals as goal
+
+pub returns-then-are_scaled : goal.returns-then-are_scaled
+returns-then-are_scaled c =
+    let rows = c.args.rows in let along = c.args.along in
+    made_swapped (word_place c.args.right (rows.right ∷ along.right ∷ [])) (word_place c.args.left (rows.left ∷ along.left ∷ [])) (word_place c.args.out (rows.out ∷ along.out ∷ []))
+    (places (rows.len ∷ along.len ∷ [])) c.args.words.now c.rows_by_four.new.words c.rows_by_four.ensures
