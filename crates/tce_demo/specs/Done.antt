@@ -1,18 +1,20 @@
 -- What the command leaves and reports.
-use Rattle.std.specs.Prelude.{◌≡◌, ℕ, ◌≤◌, List, [], ◌∷◌, ◌++◌, codes, Option}
+use Rattle.std.specs.Prelude.{◌≡◌, ◌⊎◌, ℕ, ◌≤◌, List, [], ◌∷◌, ◌++◌, codes, Option}
 use Rattle.std.specs.Option.{ForSome, option_map}
 use Rattle.std.specs.Fmt.{decimal}
 use Rattle.tce_base.specs.Word.{wrapping_sum}
 use Rattle.tce_outside.specs.Files.{Files}
 use Rattle.tce_array.specs.declared.form.Form.TheVariants.{One}
-use Rattle.tce_array.specs.Forms.{cell}
+use Rattle.tce_array.specs.Forms.{head_len, cell}
 use Rattle.tce_tools.specs.Flat.{in_order, contents}
 use Rattle.tce_tools.specs.Demo.{demo_text}
+use Rattle.tce_tools.specs.NoHalf.{LeavesNoHalfOf}
 use Rattle.tce_nesting.specs.declared.plan.Plan.{Plan}
 use Rattle.tce_search.specs.LeastPlan.{IsLeastPlan}
 use Rattle.tce_spec.specs.Specification.{Specification}
 use Rattle.tce_spec.specs.Operands.{shape_of}
 use Rattle.tce_tensors.specs.TensorFiles.{file_of}
+use Rattle.tce_tensors.specs.ResultBytes.{result_bytes}
 use Rattle.tce_tensors.specs.Takings.{tile_take}
 use Rattle.tce_job.specs.Prepared.{taking_of, HasTaken}
 use Rattle.tce_job.specs.Refusals.{CanRun}
@@ -20,7 +22,7 @@ use Rattle.tce_job.specs.declared.fault.JobFault.{JobFault}
 use Rattle.tce_command.specs.declared.refusal.Refusal.{Refusal}
 use Rattle.tce_run.specs.Told.{IsToldAs}
 use Rattle.tce_example.specs.Specification.{IsDemoOf}
-use Rattle.tce_example.specs.Files.{with_input, with_demo}
+use Rattle.tce_example.specs.Files.{LeavesArrays, with_input, with_demo}
 
 -- the words that the tiles of a run may take
 abbrev pub demo_budget : ℕ
@@ -70,3 +72,12 @@ pub record IsDemoTaking (v o : ℕ) (takings takings_after : List (ℕ × ℕ)) 
   pub specified : IsDemoOf v o specification
   pub able : CanRunDemo v o specification
   pub taking : HasTaken specification demo_budget takings takings_after
+
+-- what is left of the files of the operands and of the result, wherever the demonstration ends
+pub record LeavesRun (s : Specification) (seed : ℕ) (text : List ℕ) (before after : Option Files) : Type 0 where
+  pub operands : LeavesArrays s seed before after
+  pub result : LeavesNoHalfOf (file_of s s.result) (head_len One (shape_of s s.result)) (λ files. result_bytes s (with_input s seed text files)) before after
+
+-- no file differs, or that is left of the files of the demonstration
+abbrev pub LeavesDemonstration : ℕ → ℕ → ℕ → Option Files → Option Files → Type 0
+LeavesDemonstration seed v o before after = (after ≡ before) ⊎ ((s : Specification) × IsDemoOf v o s × LeavesRun s seed (demo_text v o) before after)

@@ -6,8 +6,8 @@ ghost use Rattle.tce_outside.specs.Fault.{HasCause, TellsFaults};
 ghost use Rattle.tce_command.specs.Refusals.{IsFree};
 ghost use Rattle.tce_job.specs.Prepared.{HasTaken};
 ghost use Rattle.tce_example.specs.Specification.{IsDemo};
-ghost use Rattle.tce_example.specs.Files.{IsSeed, DemoOthersStay, with_input};
-ghost use Rattle.tce_demo.specs.Done.{demo_budget, IsRunOf, IsDemonstrated, IsDemoTaking, IsDemoRefusal, IsOfRun};
+ghost use Rattle.tce_example.specs.Files.{IsSeed, DemoOthersStay, LeavesOperands, with_input};
+ghost use Rattle.tce_demo.specs.Done.{demo_budget, IsRunOf, IsDemonstrated, IsDemoTaking, IsDemoRefusal, IsOfRun, LeavesRun, LeavesDemonstration};
 
 use crate::report::report;
 use crate::running::run_example;
@@ -24,6 +24,7 @@ fn put_input<D: Disk>(disk: &mut D, made: &Example, seed: u64) -> Result<(), Ref
     requires seed { IsSeed seed }
     ensures written { OnOk result (D.files disk.new ≡ option_map (with_input made.now.spec seed made.now.text.items) (D.files disk.old)) }
     ensures free { IfErr result IsFree }
+    ensures no_half { LeavesOperands made.now.spec seed (D.files disk.old) (D.files disk.new) }
     ensures others { DemoOthersStay (D.files disk.old) (D.files disk.new) }
     ensures cause { HasCause (D.faults disk.old) (D.faults disk.new) (result ≡ Err Refusal.Disk) }
     ensures told { TellsFaults (D.faults disk.old) (D.faults disk.new) (result ≡ Err Refusal.Disk) }
@@ -49,6 +50,7 @@ fn demonstrate<D: Disk, R: Room>(
     ensures refused { IfErr result (λ refusal. ForSome (D.files disk.old) (λ _. IsFree refusal)) }
     ensures as_run { IfErr result (IsOfRun made.now.spec) }
     ensures takings { IfErr result (λ refusal. (IsFree refusal × HasTaken made.now.spec demo_budget (R.takings room.old) (R.takings room.new)) ⊎ (R.takings room.new ≡ R.takings room.old)) }
+    ensures no_half { LeavesRun made.now.spec seed made.now.text.items (D.files disk.old) (D.files disk.new) }
     ensures others { DemoOthersStay (D.files disk.old) (D.files disk.new) }
     ensures cause { HasCause (D.faults disk.old) (D.faults disk.new) (result ≡ Err Refusal.Disk) }
     ensures told { TellsFaults (D.faults disk.old) (D.faults disk.new) (result ≡ Err Refusal.Disk) }
@@ -67,8 +69,9 @@ fn demonstrate<D: Disk, R: Room>(
 /// Makes the example with these extents and the numbers drawn after the seed, runs it, and gives the report.
 ///
 /// The tiles of the run take at most 16,384 words. Over a disk that tells its files only want of memory and failures of
-/// the disk are refused; over another a run may be refused for an array too, as a run is. After each refusal the six files may hold anything or
-/// be absent, and the takings are as they were, or have that of the run.
+/// the disk are refused; over another a run may be refused for an array too, as a run is. After each refusal the text may
+/// hold anything or be absent, each of the five arrays is as it was, absent, begins with zeros or is whole but for its head,
+/// and the takings are as they were, or have that of the run.
 pub fn demo<D: Disk, R: Room>(
     alloc: Global,
     seed: u64,
@@ -84,6 +87,7 @@ pub fn demo<D: Disk, R: Room>(
     ensures refused { IfErr result (λ refusal. ForSome (D.files disk.old) (λ _. IsFree refusal)) }
     ensures as_run { IfErr result (IsDemoRefusal v o) }
     ensures takings { IfErr result (λ refusal. (IsFree refusal × IsDemoTaking v o (R.takings room.old) (R.takings room.new)) ⊎ (R.takings room.new ≡ R.takings room.old)) }
+    ensures no_half { LeavesDemonstration seed v o (D.files disk.old) (D.files disk.new) }
     ensures others { DemoOthersStay (D.files disk.old) (D.files disk.new) }
     ensures cause { HasCause (D.faults disk.old) (D.faults disk.new) (result ≡ Err Refusal.Disk) }
     ensures told { TellsFaults (D.faults disk.old) (D.faults disk.new) (result ≡ Err Refusal.Disk) }

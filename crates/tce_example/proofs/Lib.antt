@@ -6,3 +6,4 @@ pub mod Specified
 pub mod Seeds
 pub mod OtherFiles
 pub mod Arrays
+pub mod NoHalf

@@ -1,11 +1,13 @@
 -- The six files of the demonstration.
-use Rattle.std.specs.Prelude.{◌≡◌, ◌≢◌, ℕ, ◌≤◌, List, [], ◌∷◌, codes, Option}
+use Rattle.std.specs.Prelude.{◌≡◌, ◌≢◌, ℕ, zero, suc, ◌≤◌, ◌<◌, List, [], ◌∷◌, codes, Option}
 use Rattle.std.specs.List.{AllByRecursion}
 use Rattle.std.specs.Option.{option_map}
 use Rattle.tce_outside.specs.Files.{Files, file, with_file}
 use Rattle.tce_space.specs.Tiling.{elements}
-use Rattle.tce_array.specs.Forms.{array_bytes}
+use Rattle.tce_array.specs.declared.form.Form.TheVariants.{One}
+use Rattle.tce_array.specs.Forms.{head_len, array_bytes}
 use Rattle.tce_tools.specs.Demo.{drawn, demo_element}
+use Rattle.tce_tools.specs.NoHalf.{LeavesNoHalfOf}
 use Rattle.tce_spec.specs.Specification.{Specification}
 use Rattle.tce_spec.specs.Operands.{shape_of}
 use Rattle.tce_tensors.specs.TensorFiles.{file_of}
@@ -33,6 +35,24 @@ with_array s t x files = with_file files (file_of s t) (array_bytes (shape_of s 
 -- the number that was drawn last for it
 abbrev pub number_after : Specification → ℕ → ℕ → ℕ
 number_after s t x = drawn x (elements (shape_of s t))
+
+-- the number that was drawn last before the array of an operand
+abbrev pub number_before : Specification → ℕ → ℕ → ℕ
+number_before s seed zero = seed
+number_before s seed (suc t) = number_after s t (number_before s seed t)
+
+-- what is left of that array, of the numbers that are drawn after x, wherever its maker ends: the file as it was, absent or beginning with zeros, or whole but for its head
+abbrev pub LeavesArray : Specification → ℕ → ℕ → Option Files → Option Files → Type 0
+LeavesArray s t x before after = LeavesNoHalfOf (file_of s t) (head_len One (shape_of s t)) (λ _. array_bytes (shape_of s t) (demo_element (shape_of s t) x)) before after
+
+-- and of the arrays of the first four tensors
+abbrev pub LeavesArrays : Specification → ℕ → Option Files → Option Files → Type 0
+LeavesArrays s seed before after = (t : ℕ) → t < 4 → LeavesArray s t (number_before s seed t) before after
+
+-- the file of the result is as it was
+pub record LeavesOperands (s : Specification) (seed : ℕ) (before after : Option Files) : Type 0 where
+  pub arrays : LeavesArrays s seed before after
+  pub result : found (file_of s s.result) after ≡ found (file_of s s.result) before
 
 -- arrays of tensors, in which the numbers go on from array to array
 abbrev pub with_arrays : Specification → List ℕ → ℕ → Files → Files

@@ -1,17 +1,17 @@
 -- Words written over those of a file, and the pieces of a band.
-use Rattle.std.proofs.Common.{◌≡◌, ◌∙◌, ◌⊎◌, ℕ, ◌+◌, ◌-◌, ◌*◌, ◌<◌, ◌≤◌, true, false, nat_lt, if◌then◌else◌, List, [], ◌++◌, length, get_or, slice_index, Option, Some, None, unwrap_or, refl, sym, ap, subst, inl, inr, arith}
+use Rattle.std.proofs.Common.{◌≡◌, ◌∙◌, ◌⊎◌, ℕ, ◌+◌, ◌-◌, ◌*◌, ◌<◌, ◌≤◌, true, false, nat_lt, if◌then◌else◌, List, [], ◌++◌, length, get_or, slice_index, Option, Some, None, unwrap_or, replicate, refl, sym, ap, subst, inl, inr, arith}
 use Rattle.std.specs.List.{flat_map}
 use Rattle.std.specs.Option.{ForSome}
 use Rattle.std.proofs.Math.Nat.{mul-le-mul_left}
 use Rattle.std.proofs.lemmas.Bool.{cases_lt}
 use Rattle.std.proofs.lemmas.Option.{none-some}
 use Rattle.std.proofs.lemmas.Nat.{same_from_place}
-use Rattle.std.proofs.lemmas.List.{ext_get_or}
+use Rattle.std.proofs.lemmas.List.{ext_get_or, length-replicate}
 use Rattle.tce_base.specs.Word.{word_bytes}
 use Rattle.tce_base.proofs.WordBytes.{length-words}
 use Rattle.tce_space.specs.Box.{place, places, IsInside}
-use Rattle.tce_space.proofs.Boxes.{places_every}
-use Rattle.tce_space.specs.Tiling.{Tiling, IsTiling, word_number, padded_words}
+use Rattle.tce_space.proofs.Boxes.{places_every, place-lt}
+use Rattle.tce_space.specs.Tiling.{Tiling, IsTiling, word_number, elements, padded_words}
 use Rattle.tce_outside.specs.Files.{Files, file, with_file, written, overwritten}
 use Rattle.tce_array.specs.declared.form.Form.{Form}
 use Rattle.tce_array.specs.Forms.{width, head_len}
@@ -19,13 +19,13 @@ use Rattle.tce_array.proofs.MadeFiles.{file-with_file}
 use Rattle.tce_tools.specs.declared.storage.Storage.{Storage}
 use Rattle.tce_tools.specs.declared.storage.Storage.TheVariants.{Flat, Array}
 use Rattle.tce_tools.specs.declared.band.Band.{Band}
-use Rattle.tce_tools.specs.Storage.{form_in, start_of, start_len, words_of, word_count, stored_bytes, stored_len, number_of, first_elements, HasStored}
+use Rattle.tce_tools.specs.Storage.{form_in, start_of, start_len, words_of, word_count, begun_bytes, bare_bytes, stored_bytes, stored_len, number_of, first_elements, later_elements, HasStored}
 use Rattle.tce_tools.specs.Runs.{AreElements}
-use Rattle.tce_tools.specs.Bands.{IsAt, IsBand, AreTiled, AreZerosBetween}
+use Rattle.tce_tools.specs.Bands.{IsAt, IsBand, AreTiled, AreZerosBetween, KeepsOutside}
 use Rattle.tce_tools.proofs.Overwrites.{length-overwritten, get_or-overwritten, get_or-overwritten_other}
 use Rattle.tce_tools.proofs.Pieces.{words_written}
 use Rattle.tce_tools.proofs.Shuffles.{IsCopy}
-use Rattle.tce_tools.proofs.Stored.{HoldsElements, storage_holds, stored_same, among_first, behind_first, length-start}
+use Rattle.tce_tools.proofs.Stored.{HoldsElements, storage_holds, bare_same, among_first, behind_first, among_later, length-start}
 
 -- words that are written change the elements that stand there, and no padding
 pub record IsChange (storage : Storage) (s : Tiling) (old new : List ℕ → ℕ) (at : ℕ) (vs : List ℕ) : Type 0 where
@@ -89,49 +89,71 @@ words_changed storage s old new at vs c =
               ∙ sym (none new)
         ]
 
+pub begun_changed : (storage : Storage) (s : Tiling) (start : List ℕ) (old new : List ℕ → ℕ) (at : ℕ) (vs : List ℕ) → length start ≡ start_len storage s → IsChange storage s old new at vs
+    → overwritten (begun_bytes storage s start old) (start_len storage s + width (form_in storage) * at) (flat_map (word_bytes (width (form_in storage))) vs) ≡ begun_bytes storage s start new
+begun_changed storage s start old new at vs len c =
+    words_written (width (form_in storage)) (start_len storage s) start (words_of storage s old) vs at len
+    ∙ ap (λ ws. start ++ flat_map (word_bytes (width (form_in storage))) ws) (words_changed storage s old new at vs c)
+
+pub bare_changed : (storage : Storage) (s : Tiling) (old new : List ℕ → ℕ) (at : ℕ) (vs : List ℕ) → IsChange storage s old new at vs
+    → overwritten (bare_bytes storage s old) (start_len storage s + width (form_in storage) * at) (flat_map (word_bytes (width (form_in storage))) vs) ≡ bare_bytes storage s new
+bare_changed storage s old new at vs c = begun_changed storage s (replicate (start_len storage s) 0) old new at vs (length-replicate (start_len storage s) 0) c
+
 pub stored_changed : (storage : Storage) (s : Tiling) (old new : List ℕ → ℕ) (at : ℕ) (vs : List ℕ) → IsChange storage s old new at vs
     → overwritten (stored_bytes storage s old) (start_len storage s + width (form_in storage) * at) (flat_map (word_bytes (width (form_in storage))) vs) ≡ stored_bytes storage s new
-stored_changed storage s old new at vs c =
-    words_written (width (form_in storage)) (start_len storage s) (start_of storage s) (words_of storage s old) vs at (length-start storage s)
-    ∙ ap (λ ws. start_of storage s ++ flat_map (word_bytes (width (form_in storage))) ws) (words_changed storage s old new at vs c)
+stored_changed storage s old new at vs c = begun_changed storage s (start_of storage s) old new at vs (length-start storage s) c
 
--- the elements outside a band
-same_outside : (s : Tiling) (f : List ℕ → ℕ) (start len : ℕ) (xs : List ℕ) → (start ≤ place s.extents xs → place s.extents xs < start + len → ⊥) → first_elements s f (start + len) xs ≡ first_elements s f start xs
-same_outside s f start len xs out =
-    elim (cases_lt (place s.extents xs) start) [
-      | inl low ↦ among_first s f (start + len) xs (omega arith) ∙ sym (among_first s f start xs low)
-      | inr high ↦ elim (cases_lt (place s.extents xs) (start + len)) [
+-- the elements before a band, and those behind it, stay where the band is written behind the first elements
+pub keeps_outside : (s : Tiling) (band : Band) (f : List ℕ → ℕ) → KeepsOutside s band (first_elements s f band.start) (first_elements s f (band.start + band.len))
+keeps_outside s band f xs h out =
+    elim (cases_lt (place s.extents xs) band.start) [
+      | inl low ↦ among_first s f (band.start + band.len) xs (omega arith) ∙ sym (among_first s f band.start xs low)
+      | inr high ↦ elim (cases_lt (place s.extents xs) (band.start + band.len)) [
         | inl within ↦ absurd (out high within)
-        | inr past ↦ behind_first s f (start + len) xs past ∙ sym (behind_first s f start xs high)
+        | inr past ↦ behind_first s f (band.start + band.len) xs past ∙ sym (behind_first s f band.start xs high)
       ]
     ]
 
+pub first_values : (s : Tiling) (f : List ℕ → ℕ) (from to : ℕ) (vs : List ℕ) → from + length vs ≤ to → AreElements s f from vs → AreElements s (first_elements s f to) from vs
+first_values s f from to vs room values k lt xs h is = values k lt xs h is ∙ sym (among_first s f to xs (omega (arith, is)))
+
+-- and where the first band is written last
+pub keeps_last : (s : Tiling) (band : Band) (f : List ℕ → ℕ) (done : ℕ) → band.start ≡ 0 → elements s ≤ done → KeepsOutside s band (first_elements s (later_elements s f band.len) done) f
+keeps_last s band f done first all xs h out =
+    elim (cases_lt (place s.extents xs) band.len) [
+      | inl low ↦ absurd (out (omega (arith, first)) (omega (arith, first)))
+      | inr high ↦ sym (among_first s (later_elements s f band.len) done xs (omega (arith, place-lt s.extents xs h, all)) ∙ among_later s f band.len xs high)
+    ]
+
+pub later_values : (s : Tiling) (f : List ℕ → ℕ) (from at : ℕ) (vs : List ℕ) → from ≤ at → AreElements s f at vs → AreElements s (later_elements s f from) at vs
+later_values s f from at vs le values k lt xs h is = values k lt xs h is ∙ sym (among_later s f from xs (omega (arith, is)))
+
 -- the words of a band in a flat file
-pub flat_change : (s : Tiling) (band : Band) (f : List ℕ → ℕ) (vs : List ℕ) → IsBand s band → length vs ≡ band.len → AreElements s f band.start vs
-    → IsChange Flat s (first_elements s f band.start) (first_elements s f (band.start + band.len)) band.start vs
-flat_change s band f vs b len values = record {
+flat_change : (s : Tiling) (band : Band) (old new : List ℕ → ℕ) (vs : List ℕ) → IsBand s band → length vs ≡ band.len → AreElements s new band.start vs → KeepsOutside s band old new
+    → IsChange Flat s old new band.start vs
+flat_change s band old new vs b len values keeps = record {
   tiling = b.tiling;
   room = omega (arith, b.inside);
-  here = λ xs h k lt is. values k lt xs h is ∙ sym (among_first s f (band.start + band.len) xs (omega (arith, is)));
-  elsewhere = λ xs h far. same_outside s f band.start band.len xs (λ low high. elim far [ inl l ↦ absurd (omega arith) | inr l ↦ absurd (omega arith) ]);
+  here = λ xs h k lt is. values k lt xs h is;
+  elsewhere = λ xs h far. keeps xs h (λ low high. elim far [ inl l ↦ absurd (omega arith) | inr l ↦ absurd (omega arith) ]);
   padding = λ k lt none.
       let there = places_every s.extents (band.start + k) (omega (arith, b.inside)) in
       absurd (none (get_or (places s.extents) (band.start + k) []) there.0 there.1);
 }
 
--- the elements after some pieces of a band: those of the band where their words were written
-abbrev pub after_pieces : Tiling → Band → (List ℕ → ℕ) → ℕ → List ℕ → ℕ
-after_pieces s band f pieces xs = if nat_lt (word_number s xs) (band.word + pieces * band.stride) then first_elements s f (band.start + band.len) xs else first_elements s f band.start xs
+-- the elements after some pieces of a band: the new ones where their words were written
+abbrev pub after_pieces : Tiling → Band → (List ℕ → ℕ) → (List ℕ → ℕ) → ℕ → List ℕ → ℕ
+after_pieces s band old new pieces xs = if nat_lt (word_number s xs) (band.word + pieces * band.stride) then new xs else old xs
 
-written_word : (s : Tiling) (band : Band) (f : List ℕ → ℕ) (t : ℕ) (xs : List ℕ) → word_number s xs < band.word + t * band.stride → after_pieces s band f t xs ≡ first_elements s f (band.start + band.len) xs
-written_word s band f t xs h =
+written_word : (s : Tiling) (band : Band) (old new : List ℕ → ℕ) (t : ℕ) (xs : List ℕ) → word_number s xs < band.word + t * band.stride → after_pieces s band old new t xs ≡ new xs
+written_word s band old new t xs h =
     let test : nat_lt (word_number s xs) (band.word + t * band.stride) ≡ true = grind (arith, h) in
-    ap (λ b. if b then first_elements s f (band.start + band.len) xs else first_elements s f band.start xs) test
+    ap (λ b. if b then new xs else old xs) test
 
-later_word : (s : Tiling) (band : Band) (f : List ℕ → ℕ) (t : ℕ) (xs : List ℕ) → band.word + t * band.stride ≤ word_number s xs → after_pieces s band f t xs ≡ first_elements s f band.start xs
-later_word s band f t xs h =
+later_word : (s : Tiling) (band : Band) (old new : List ℕ → ℕ) (t : ℕ) (xs : List ℕ) → band.word + t * band.stride ≤ word_number s xs → after_pieces s band old new t xs ≡ old xs
+later_word s band old new t xs h =
     let test : nat_lt (word_number s xs) (band.word + t * band.stride) ≡ false = grind (arith, h) in
-    ap (λ b. if b then first_elements s f (band.start + band.len) xs else first_elements s f band.start xs) test
+    ap (λ b. if b then new xs else old xs) test
 
 -- an element between two pieces is none of the band
 between_pieces : (s : Tiling) (band : Band) (t : ℕ) (xs : List ℕ) → IsBand s band → IsInside s.extents xs → band.word + t * band.stride + band.piece_len ≤ word_number s xs → word_number s xs < band.word + (t + 1) * band.stride
@@ -142,27 +164,25 @@ between_pieces s band t xs b h from to low high =
     let both = same_from_place at.piece at.offset t (word_number s xs - (band.word + t * band.stride)) band.stride (omega (arith, at.within, b.apart)) (omega arith) (omega (arith, at.word_is)) in
     absurd (omega (arith, both.1, at.within))
 
-piece_change : (form : Form) (s : Tiling) (band : Band) (f : List ℕ → ℕ) (tiled vs : List ℕ) (t : ℕ) → IsBand s band → t < band.pieces → IsCopy (t * band.piece_len) band.piece_len tiled vs
-    → AreTiled s band f tiled → AreZerosBetween s band tiled
-    → IsChange (Array form) s (after_pieces s band f t) (after_pieces s band f (t + 1)) (band.word + t * band.stride) vs
-piece_change form s band f tiled vs t b among copy values zeros = record {
+piece_change : (form : Form) (s : Tiling) (band : Band) (old new : List ℕ → ℕ) (tiled vs : List ℕ) (t : ℕ) → IsBand s band → t < band.pieces → IsCopy (t * band.piece_len) band.piece_len tiled vs
+    → AreTiled s band new tiled → KeepsOutside s band old new → AreZerosBetween s band tiled
+    → IsChange (Array form) s (after_pieces s band old new t) (after_pieces s band old new (t + 1)) (band.word + t * band.stride) vs
+piece_change form s band old new tiled vs t b among copy values keeps zeros = record {
   tiling = b.tiling;
   room = omega (arith, b.room t among, copy.len);
   here = λ xs h k lt is.
       let at : IsAt band (word_number s xs) (t * band.piece_len + k) = record { piece = t; offset = k; among = among; within = omega (arith, copy.len); word_is = omega (arith, is); index_is = refl } in
-      let within = b.element xs h (t * band.piece_len + k) at in
       copy.each k (omega (arith, copy.len))
       ∙ values xs h (t * band.piece_len + k) at
-      ∙ sym (among_first s f (band.start + band.len) xs within.1)
-      ∙ sym (written_word s band f (t + 1) xs (omega (arith, is, lt, copy.len, b.apart)));
+      ∙ sym (written_word s band old new (t + 1) xs (omega (arith, is, lt, copy.len, b.apart)));
   elsewhere = λ xs h far. elim far [
-    | inl low ↦ written_word s band f (t + 1) xs (omega arith) ∙ sym (written_word s band f t xs low)
+    | inl low ↦ written_word s band old new (t + 1) xs (omega arith) ∙ sym (written_word s band old new t xs low)
     | inr high ↦ elim (cases_lt (word_number s xs) (band.word + (t + 1) * band.stride)) [
       | inl short ↦
-          written_word s band f (t + 1) xs short
-          ∙ same_outside s f band.start band.len xs (between_pieces s band t xs b h (omega (arith, copy.len)) short)
-          ∙ sym (later_word s band f t xs (omega arith))
-      | inr past ↦ later_word s band f (t + 1) xs past ∙ sym (later_word s band f t xs (omega arith))
+          written_word s band old new (t + 1) xs short
+          ∙ keeps xs h (between_pieces s band t xs b h (omega (arith, copy.len)) short)
+          ∙ sym (later_word s band old new t xs (omega arith))
+      | inr past ↦ later_word s band old new (t + 1) xs past ∙ sym (later_word s band old new t xs (omega arith))
     ]
   ];
   padding = λ k lt none.
@@ -173,30 +193,31 @@ piece_change form s band f tiled vs t b among copy values zeros = record {
       none xs h (omega (arith, at.word_is, row, both.1)));
 }
 
-pub piece_stored : (form : Form) (s : Tiling) (band : Band) (f : List ℕ → ℕ) (tiled vs : List ℕ) (t at : ℕ) → IsBand s band → t < band.pieces → IsCopy (t * band.piece_len) band.piece_len tiled vs
-    → AreTiled s band f tiled → AreZerosBetween s band tiled → at ≡ head_len form s + width form * (band.word + t * band.stride)
-    → overwritten (stored_bytes (Array form) s (after_pieces s band f t)) at (flat_map (word_bytes (width form)) vs) ≡ stored_bytes (Array form) s (after_pieces s band f (t + 1))
-piece_stored form s band f tiled vs t at b among copy values zeros is =
-    ap (λ n. overwritten (stored_bytes (Array form) s (after_pieces s band f t)) n (flat_map (word_bytes (width form)) vs)) is
-    ∙ stored_changed (Array form) s (after_pieces s band f t) (after_pieces s band f (t + 1)) (band.word + t * band.stride) vs (piece_change form s band f tiled vs t b among copy values zeros)
+pub piece_bare : (form : Form) (s : Tiling) (band : Band) (old new : List ℕ → ℕ) (tiled vs : List ℕ) (t at : ℕ) → IsBand s band → t < band.pieces → IsCopy (t * band.piece_len) band.piece_len tiled vs
+    → AreTiled s band new tiled → KeepsOutside s band old new → AreZerosBetween s band tiled → at ≡ head_len form s + width form * (band.word + t * band.stride)
+    → overwritten (bare_bytes (Array form) s (after_pieces s band old new t)) at (flat_map (word_bytes (width form)) vs) ≡ bare_bytes (Array form) s (after_pieces s band old new (t + 1))
+piece_bare form s band old new tiled vs t at b among copy values keeps zeros is =
+    ap (λ n. overwritten (bare_bytes (Array form) s (after_pieces s band old new t)) n (flat_map (word_bytes (width form)) vs)) is
+    ∙ bare_changed (Array form) s (after_pieces s band old new t) (after_pieces s band old new (t + 1)) (band.word + t * band.stride) vs (piece_change form s band old new tiled vs t b among copy values keeps zeros)
 
 -- no piece, and all pieces
-pub no_pieces : (form : Form) (s : Tiling) (band : Band) (f : List ℕ → ℕ) → IsBand s band → stored_bytes (Array form) s (first_elements s f band.start) ≡ stored_bytes (Array form) s (after_pieces s band f 0)
-no_pieces form s band f b =
-    stored_same (Array form) s b.tiling (first_elements s f band.start) (after_pieces s band f 0) (λ xs h.
+pub no_pieces : (form : Form) (s : Tiling) (band : Band) (old new : List ℕ → ℕ) → IsBand s band → KeepsOutside s band old new → bare_bytes (Array form) s old ≡ bare_bytes (Array form) s (after_pieces s band old new 0)
+no_pieces form s band old new b keeps =
+    bare_same (Array form) s b.tiling old (after_pieces s band old new 0) (λ xs h.
     elim (cases_lt (word_number s xs) (band.word + 0 * band.stride)) [
-      | inl low ↦ sym (written_word s band f 0 xs low ∙ same_outside s f band.start band.len xs (λ from to. let at = (b.word xs h from to).1 in absurd (omega (arith, at.word_is))))
-      | inr high ↦ sym (later_word s band f 0 xs high)
+      | inl low ↦ sym (written_word s band old new 0 xs low ∙ keeps xs h (λ from to. let at = (b.word xs h from to).1 in absurd (omega (arith, at.word_is))))
+      | inr high ↦ sym (later_word s band old new 0 xs high)
     ])
 
-pub all_pieces : (form : Form) (s : Tiling) (band : Band) (f : List ℕ → ℕ) (n : ℕ) → IsBand s band → band.pieces ≤ n → stored_bytes (Array form) s (after_pieces s band f n) ≡ stored_bytes (Array form) s (first_elements s f (band.start + band.len))
-all_pieces form s band f n b le =
-    stored_same (Array form) s b.tiling (after_pieces s band f n) (first_elements s f (band.start + band.len)) (λ xs h.
+pub all_pieces : (form : Form) (s : Tiling) (band : Band) (old new : List ℕ → ℕ) (n : ℕ) → IsBand s band → KeepsOutside s band old new → band.pieces ≤ n
+    → bare_bytes (Array form) s (after_pieces s band old new n) ≡ bare_bytes (Array form) s new
+all_pieces form s band old new n b keeps le =
+    bare_same (Array form) s b.tiling (after_pieces s band old new n) new (λ xs h.
     elim (cases_lt (word_number s xs) (band.word + n * band.stride)) [
-      | inl low ↦ written_word s band f n xs low
+      | inl low ↦ written_word s band old new n xs low
       | inr high ↦
-          later_word s band f n xs high
-          ∙ sym (same_outside s f band.start band.len xs (λ from to.
+          later_word s band old new n xs high
+          ∙ sym (keeps xs h (λ from to.
           let at = (b.word xs h from to).1 in
           let last : band.stride * (at.piece + 1) ≤ band.stride * n = mul-le-mul_left band.stride (omega (arith, at.among)) in
           absurd (omega (arith, at.word_is, at.within, b.apart, last))))
@@ -237,10 +258,9 @@ pub piece_bytes_fit : (form : Form) (s : Tiling) (band : Band) (t at : ℕ) (vs 
 piece_bytes_fit form s band t at vs b lt len is = omega (arith, length-words (width form) vs, piece_fits form s band t at (length vs) b lt len is)
 
 -- a band in a flat file
-pub flat_stored : (storage : Storage) (s : Tiling) (band : Band) (f : List ℕ → ℕ) (vs : List ℕ) → storage ≡ Flat → IsBand s band → length vs ≡ band.len → AreElements s f band.start vs
-    → overwritten (stored_bytes storage s (first_elements s f band.start)) (8 * band.start) (flat_map (word_bytes 8) vs) ≡ stored_bytes storage s (first_elements s f (band.start + band.len))
-flat_stored storage s band f vs is b len values =
+pub flat_bare : (storage : Storage) (s : Tiling) (band : Band) (old new : List ℕ → ℕ) (vs : List ℕ) → storage ≡ Flat → IsBand s band → length vs ≡ band.len → AreElements s new band.start vs → KeepsOutside s band old new
+    → overwritten (bare_bytes storage s old) (8 * band.start) (flat_map (word_bytes 8) vs) ≡ bare_bytes storage s new
+flat_bare storage s band old new vs is b len values keeps =
     let at : 8 * band.start ≡ 0 + 8 * band.start = omega arith in
-    subst (λ (t : Storage). overwritten (stored_bytes t s (first_elements s f band.start)) (8 * band.start) (flat_map (word_bytes 8) vs) ≡ stored_bytes t s (first_elements s f (band.start + band.len))) (sym is)
-    (ap (λ n. overwritten (stored_bytes Flat s (first_elements s f band.start)) n (flat_map (word_bytes 8) vs)) at
-    ∙ stored_changed Flat s (first_elements s f band.start) (first_elements s f (band.start + band.len)) band.start vs (flat_change s band f vs b len values))
+    subst (λ (t : Storage). overwritten (bare_bytes t s old) (8 * band.start) (flat_map (word_bytes 8) vs) ≡ bare_bytes t s new) (sym is)
+    (ap (λ n. overwritten (bare_bytes Flat s old) n (flat_map (word_bytes 8) vs)) at ∙ bare_changed Flat s old new band.start vs (flat_change s band old new vs b len values keeps))

@@ -1,8 +1,8 @@
 -- The words of each kind of file, by its elements.
-use Rattle.std.proofs.Common.{◌≡◌, ◌∙◌, ◌⊎◌, ℕ, ◌+◌, ◌*◌, ◌<◌, ◌≤◌, true, false, nat_lt, if◌then◌else◌, List, [], ◌++◌, length, get_or, refl, sym, ap, inl, inr, arith, length-append}
+use Rattle.std.proofs.Common.{◌≡◌, ◌∙◌, ◌⊎◌, ℕ, ◌+◌, ◌*◌, ◌<◌, ◌≤◌, true, false, nat_lt, if◌then◌else◌, List, [], ◌++◌, length, replicate, get_or, refl, sym, ap, inl, inr, arith, length-append}
 use Rattle.std.specs.List.{flat_map}
-use Rattle.std.proofs.lemmas.Bool.{cases_Bool}
-use Rattle.std.proofs.lemmas.List.{length-map, get_or-map, ext_get_or}
+use Rattle.std.proofs.lemmas.Bool.{cases_Bool, cases_lt}
+use Rattle.std.proofs.lemmas.List.{length-map, length-replicate, get_or-map, ext_get_or}
 use Rattle.tce_base.specs.Word.{word_bytes}
 use Rattle.tce_base.proofs.WordBytes.{length-words}
 use Rattle.tce_space.specs.Box.{places, place, IsInside, is_inside}
@@ -16,7 +16,7 @@ use Rattle.tce_array.proofs.Padding.{word_with_number, word_at_place, passes_ins
 use Rattle.tce_tools.specs.declared.storage.Storage.{Storage}
 use Rattle.tce_tools.specs.declared.storage.Storage.TheVariants.{Flat, Array}
 use Rattle.tce_tools.specs.Flat.{in_order}
-use Rattle.tce_tools.specs.Storage.{form_in, start_of, start_len, words_of, word_count, stored_bytes, stored_len, number_of, first_elements}
+use Rattle.tce_tools.specs.Storage.{form_in, start_of, start_len, words_of, word_count, begun_bytes, bare_bytes, stored_bytes, stored_len, number_of, first_elements, later_elements}
 
 -- each word is that of one element, or 0 whatever the elements are
 pub record IsElement (storage : Storage) (s : Tiling) (k : ℕ) : Type 0 where
@@ -33,7 +33,7 @@ pub record HoldsElements (storage : Storage) (s : Tiling) : Type 0 where
   pub count : (element : List ℕ → ℕ) → length (words_of storage s element) ≡ word_count storage s
   pub apart : (xs ys : List ℕ) → IsInside s.extents xs → IsInside s.extents ys → number_of storage s xs ≡ number_of storage s ys → xs ≡ ys
 
-flat_word : (s : Tiling) (element : List ℕ → ℕ) (k : ℕ) → k < elements s → get_or (in_order s element) k 0 ≡ element (get_or (places s.extents) k [])
+pub flat_word : (s : Tiling) (element : List ℕ → ℕ) (k : ℕ) → k < elements s → get_or (in_order s element) k 0 ≡ element (get_or (places s.extents) k [])
 flat_word s element k h =
     let short : k < length (places s.extents) = rw length-places h in
     get_or-map element (places s.extents) k [] 0 short
@@ -92,22 +92,49 @@ words_same storage s t f g same =
       | inr none ↦ none f ∙ sym (none g)
     ])
 
+pub begun_same : (storage : Storage) (s : Tiling) → IsTiling s → (start : List ℕ) (f g : List ℕ → ℕ) → ((xs : List ℕ) → IsInside s.extents xs → f xs ≡ g xs) → begun_bytes storage s start f ≡ begun_bytes storage s start g
+begun_same storage s t start f g same = ap (λ ws. start ++ flat_map (word_bytes (width (form_in storage))) ws) (words_same storage s t f g same)
+
 pub stored_same : (storage : Storage) (s : Tiling) → IsTiling s → (f g : List ℕ → ℕ) → ((xs : List ℕ) → IsInside s.extents xs → f xs ≡ g xs) → stored_bytes storage s f ≡ stored_bytes storage s g
-stored_same storage s t f g same = ap (λ ws. start_of storage s ++ flat_map (word_bytes (width (form_in storage))) ws) (words_same storage s t f g same)
+stored_same storage s t f g same = begun_same storage s t (start_of storage s) f g same
+
+pub bare_same : (storage : Storage) (s : Tiling) → IsTiling s → (f g : List ℕ → ℕ) → ((xs : List ℕ) → IsInside s.extents xs → f xs ≡ g xs) → bare_bytes storage s f ≡ bare_bytes storage s g
+bare_same storage s t f g same = begun_same storage s t (replicate (start_len storage s) 0) f g same
+
+-- the elements from one on, and zeros
+pub before_later : (s : Tiling) (element : List ℕ → ℕ) (from : ℕ) (xs : List ℕ) → place s.extents xs < from → later_elements s element from xs ≡ 0
+before_later s element from xs h = let test : nat_lt (place s.extents xs) from ≡ true = grind (arith, h) in ap (λ b. if b then 0 else element xs) test
+
+pub among_later : (s : Tiling) (element : List ℕ → ℕ) (from : ℕ) (xs : List ℕ) → from ≤ place s.extents xs → later_elements s element from xs ≡ element xs
+among_later s element from xs h = let test : nat_lt (place s.extents xs) from ≡ false = grind (arith, h) in ap (λ b. if b then 0 else element xs) test
 
 -- no element, and all elements
-pub none_stored : (storage : Storage) (s : Tiling) → IsTiling s → (f : List ℕ → ℕ) → stored_bytes storage s (λ _. 0) ≡ stored_bytes storage s (first_elements s f 0)
-none_stored storage s t f = stored_same storage s t (λ _. 0) (first_elements s f 0) (λ xs h. sym (behind_first s f 0 xs (omega arith)))
+pub no_elements : (storage : Storage) (s : Tiling) → IsTiling s → (f : List ℕ → ℕ) → bare_bytes storage s (λ _. 0) ≡ bare_bytes storage s (first_elements s f 0)
+no_elements storage s t f = bare_same storage s t (λ _. 0) (first_elements s f 0) (λ xs h. sym (behind_first s f 0 xs (omega arith)))
 
-pub all_stored : (storage : Storage) (s : Tiling) → IsTiling s → (f : List ℕ → ℕ) (n : ℕ) → elements s ≤ n → stored_bytes storage s (first_elements s f n) ≡ stored_bytes storage s f
-all_stored storage s t f n le = stored_same storage s t (first_elements s f n) f (λ xs h. among_first s f n xs (omega (arith, place-lt s.extents xs h)))
+pub no_later_elements : (storage : Storage) (s : Tiling) → IsTiling s → (f : List ℕ → ℕ) (n : ℕ) → bare_bytes storage s (λ _. 0) ≡ bare_bytes storage s (first_elements s (later_elements s f n) n)
+no_later_elements storage s t f n =
+    bare_same storage s t (λ _. 0) (first_elements s (later_elements s f n) n) (λ xs h.
+    elim (cases_lt (place s.extents xs) n) [
+      | inl low ↦ sym (among_first s (later_elements s f n) n xs low ∙ before_later s f n xs low)
+      | inr high ↦ sym (behind_first s (later_elements s f n) n xs high)
+    ])
+
+pub all_elements : (storage : Storage) (s : Tiling) → IsTiling s → (f : List ℕ → ℕ) (n : ℕ) → elements s ≤ n → bare_bytes storage s (first_elements s f n) ≡ bare_bytes storage s f
+all_elements storage s t f n le = bare_same storage s t (first_elements s f n) f (λ xs h. among_first s f n xs (omega (arith, place-lt s.extents xs h)))
 
 pub length-start : (storage : Storage) (s : Tiling) → length (start_of storage s) ≡ start_len storage s
 length-start Flat s = refl
 length-start (Array form) s = length-head form s
 
-pub length-stored : (storage : Storage) (s : Tiling) → IsTiling s → (f : List ℕ → ℕ) → length (stored_bytes storage s f) ≡ stored_len storage s
-length-stored storage s t f =
-    let both = length-append (start_of storage s) (flat_map (word_bytes (width (form_in storage))) (words_of storage s f)) in
-    both ∙ ap (λ n. n + length (flat_map (word_bytes (width (form_in storage))) (words_of storage s f))) (length-start storage s)
+pub length-begun : (storage : Storage) (s : Tiling) → IsTiling s → (start : List ℕ) (f : List ℕ → ℕ) → length start ≡ start_len storage s → length (begun_bytes storage s start f) ≡ stored_len storage s
+length-begun storage s t start f len =
+    let both = length-append start (flat_map (word_bytes (width (form_in storage))) (words_of storage s f)) in
+    both ∙ ap (λ n. n + length (flat_map (word_bytes (width (form_in storage))) (words_of storage s f))) len
     ∙ ap (λ n. start_len storage s + n) (length-words (width (form_in storage)) (words_of storage s f) ∙ ap (λ n. width (form_in storage) * n) ((storage_holds storage s t).count f))
+
+pub length-stored : (storage : Storage) (s : Tiling) → IsTiling s → (f : List ℕ → ℕ) → length (stored_bytes storage s f) ≡ stored_len storage s
+length-stored storage s t f = length-begun storage s t (start_of storage s) f (length-start storage s)
+
+pub length-bare : (storage : Storage) (s : Tiling) → IsTiling s → (f : List ℕ → ℕ) → length (bare_bytes storage s f) ≡ stored_len storage s
+length-bare storage s t f = length-begun storage s t (replicate (start_len storage s) 0) f (length-replicate (start_len storage s) 0)

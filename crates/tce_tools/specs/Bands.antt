@@ -28,6 +28,11 @@ pub record IsBand (s : Tiling) (band : Band) : Type 0 where
   pub word : (xs : List ℕ) → IsInside s.extents xs → band.start ≤ place s.extents xs → place s.extents xs < band.start + band.len → (index : ℕ) × IsAt band (word_number s xs) index
   pub element : (xs : List ℕ) → IsInside s.extents xs → (index : ℕ) → IsAt band (word_number s xs) index → (band.start ≤ place s.extents xs) × (place s.extents xs < band.start + band.len)
 
+-- the elements outside the band are as they were
+abbrev pub KeepsOutside : Tiling → Band → (List ℕ → ℕ) → (List ℕ → ℕ) → Type 0
+KeepsOutside s band old new =
+    (xs : List ℕ) → IsInside s.extents xs → (band.start ≤ place s.extents xs → place s.extents xs < band.start + band.len → ⊥) → new xs ≡ old xs
+
 -- the words of the pieces, one piece after the other, are the elements
 abbrev pub AreTiled : Tiling → Band → (List ℕ → ℕ) → List ℕ → Type 0
 AreTiled s band element tiled =

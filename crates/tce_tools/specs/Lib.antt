@@ -1,5 +1,6 @@
 pub mod Flat
 pub mod Storage
+pub mod NoHalf
 pub mod Runs
 pub mod Bands
 pub mod Answers

@@ -1,5 +1,5 @@
 -- The two ways in which a file stores the elements of an array: flat, or tile by tile behind a head.
-use Rattle.std.specs.Prelude.{◌≡◌, ℕ, ◌+◌, ◌*◌, ◌≤◌, nat_lt, if◌then◌else◌, List, [], ◌++◌, length, drop, Option}
+use Rattle.std.specs.Prelude.{◌≡◌, ℕ, ◌+◌, ◌*◌, ◌≤◌, nat_lt, if◌then◌else◌, List, [], ◌++◌, length, drop, replicate, Option}
 use Rattle.std.specs.Option.{IsSomeAnd, option_map}
 use Rattle.std.specs.List.{flat_map}
 use Rattle.tce_base.specs.Word.{word_bytes}
@@ -36,9 +36,17 @@ abbrev pub word_count : Storage → Tiling → ℕ
 word_count Flat s = elements s
 word_count (Array form) s = padded_words s
 
+-- the file with these elements behind this start
+abbrev pub begun_bytes : Storage → Tiling → List ℕ → (List ℕ → ℕ) → List ℕ
+begun_bytes storage s start element = start ++ flat_map (word_bytes (width (form_in storage))) (words_of storage s element)
+
+-- before its start is written: zeros stand in its place
+abbrev pub bare_bytes : Storage → Tiling → (List ℕ → ℕ) → List ℕ
+bare_bytes storage s element = begun_bytes storage s (replicate (start_len storage s) 0) element
+
 -- the file with these elements, and its length
 abbrev pub stored_bytes : Storage → Tiling → (List ℕ → ℕ) → List ℕ
-stored_bytes storage s element = start_of storage s ++ flat_map (word_bytes (width (form_in storage))) (words_of storage s element)
+stored_bytes storage s element = begun_bytes storage s (start_of storage s) element
 
 abbrev pub stored_len : Storage → Tiling → ℕ
 stored_len storage s = start_len storage s + width (form_in storage) * word_count storage s
@@ -54,6 +62,20 @@ element_in storage s bytes xs = word_in (form_in storage) (drop (start_len stora
 -- the first elements in row-major order, and zeros in place of the others
 abbrev pub first_elements : Tiling → (List ℕ → ℕ) → ℕ → List ℕ → ℕ
 first_elements s element count xs = if nat_lt (place s.extents xs) count then element xs else 0
+
+-- the elements from one on in row-major order, and zeros in place of the others
+abbrev pub later_elements : Tiling → (List ℕ → ℕ) → ℕ → List ℕ → ℕ
+later_elements s element from xs = if nat_lt (place s.extents xs) from then 0 else element xs
+
+-- how many bytes stand before an element's word and those of all later elements
+abbrev pub bytes_ahead : Storage → Tiling → ℕ → ℕ
+bytes_ahead Flat s from = 8 * from
+bytes_ahead (Array form) s from = head_len form s
+
+-- how many bytes of a file are written last: the head, or at most the longest band of a flat file, which has none
+abbrev pub last_written : Storage → Tiling → ℕ
+last_written Flat s = 262144
+last_written (Array form) s = head_len form s
 
 -- a file of the length is there
 abbrev pub HasStored : Storage → Tiling → Option (List ℕ) → Type 0

@@ -1,13 +1,13 @@
 // Bands of elements between files and memory.
 ghost use Rattle.std.specs.Prelude.{◌≡◌, ℕ, ◌+◌, ◌*◌, ◌<◌, ◌≤◌, List, length, Option, Some, OnOk, IsErr};
 ghost use Rattle.std.specs.Option.{ForSome};
-ghost use Rattle.tce_outside.specs.Files.{Files, file, others};
+ghost use Rattle.tce_outside.specs.Files.{Files, file, others, bytes_before, bytes_from};
 ghost use Rattle.tce_outside.specs.Fault.{HasCause, TellsFaults};
 ghost use Rattle.tce_array.specs.Forms.{width, head_len};
 ghost use Rattle.tce_tools.specs.Flat.{contents};
-ghost use Rattle.tce_tools.specs.Storage.{element_in, stored_bytes, first_elements, holding_by, HasStored};
+ghost use Rattle.tce_tools.specs.Storage.{element_in, bare_bytes, bytes_ahead, holding_by, HasStored};
 ghost use Rattle.tce_tools.specs.Runs.{AreElements};
-ghost use Rattle.tce_tools.specs.Bands.{IsBand, AreTiled, AreZerosBetween};
+ghost use Rattle.tce_tools.specs.Bands.{IsBand, AreTiled, AreZerosBetween, KeepsOutside};
 
 use crate::band::Band;
 use crate::shuffle::{flatten, tile};
@@ -60,7 +60,7 @@ fn read_pieces<D: Disk>(
     Ok(())
 }
 
-// Writes the pieces of a band, one after the other, to a file that has the elements before the band.
+// Writes the pieces of a band, one after the other, to a file whose head is not yet there.
 fn write_pieces<D: Disk>(
     disk: &mut D,
     name: &str,
@@ -75,10 +75,12 @@ fn write_pieces<D: Disk>(
     requires tiled { length tiled.now ≡ band.pieces * band.piece_len }
     requires padding { AreZerosBetween shape.now band tiled.now }
     requires file { ForSome (D.files disk.old) (λ fs. HasStored (Storage.Array form) shape.now (file fs name.now)) }
-    ensures written { OnOk result ((before : Option Files) (element : Files → List ℕ → ℕ)
-        → D.files disk.old ≡ holding_by name.now (λ fs. stored_bytes (Storage.Array form) shape.now (first_elements shape.now (element fs) band.start)) before
-        → ((fs : Files) → before ≡ Some fs → AreTiled shape.now band (element fs) tiled.now)
-        → D.files disk.new ≡ holding_by name.now (λ fs. stored_bytes (Storage.Array form) shape.now (first_elements shape.now (element fs) (band.start + band.len))) before) }
+    ensures written { OnOk result ((before : Option Files) (old new : Files → List ℕ → ℕ)
+        → D.files disk.old ≡ holding_by name.now (λ fs. bare_bytes (Storage.Array form) shape.now (old fs)) before
+        → ((fs : Files) → before ≡ Some fs → AreTiled shape.now band (new fs) tiled.now)
+        → ((fs : Files) → before ≡ Some fs → KeepsOutside shape.now band (old fs) (new fs))
+        → D.files disk.new ≡ holding_by name.now (λ fs. bare_bytes (Storage.Array form) shape.now (new fs)) before) }
+    ensures ahead { bytes_before name.now (head_len form shape.now) (D.files disk.new) ≡ bytes_before name.now (head_len form shape.now) (D.files disk.old) }
     ensures others { others name.now (D.files disk.new) ≡ others name.now (D.files disk.old) }
     ensures cause { HasCause (D.faults disk.old) (D.faults disk.new) (IsErr result) }
     ensures told { TellsFaults (D.faults disk.old) (D.faults disk.new) (IsErr result) }
@@ -131,8 +133,11 @@ pub fn read_band<D: Disk>(
     Ok(())
 }
 
-/// Writes the elements of a band to a file that has the elements before it, and zeros behind them. `tiled` is room for the
+/// Writes the elements of a band to a file whose head, if it is to have one, is not yet there. `tiled` is room for the
 /// words of its pieces.
+///
+/// No other element changes. Where the disk fails, the band's elements may be anything; what stands before them and
+/// before all elements behind them stays in every case, and so does in a flat file what stands behind the band.
 pub fn write_band<D: Disk>(
     disk: &mut D,
     name: &str,
@@ -148,10 +153,13 @@ pub fn write_band<D: Disk>(
     requires tiled { 32768 ≤ length tiled.old }
     requires words { length words.now ≡ band.len }
     requires file { ForSome (D.files disk.old) (λ fs. HasStored storage shape.now (file fs name.now)) }
-    ensures written { OnOk result ((before : Option Files) (element : Files → List ℕ → ℕ)
-        → D.files disk.old ≡ holding_by name.now (λ fs. stored_bytes storage shape.now (first_elements shape.now (element fs) band.start)) before
-        → ((fs : Files) → before ≡ Some fs → AreElements shape.now (element fs) band.start words.now)
-        → D.files disk.new ≡ holding_by name.now (λ fs. stored_bytes storage shape.now (first_elements shape.now (element fs) (band.start + band.len))) before) }
+    ensures written { OnOk result ((before : Option Files) (old new : Files → List ℕ → ℕ)
+        → D.files disk.old ≡ holding_by name.now (λ fs. bare_bytes storage shape.now (old fs)) before
+        → ((fs : Files) → before ≡ Some fs → AreElements shape.now (new fs) band.start words.now)
+        → ((fs : Files) → before ≡ Some fs → KeepsOutside shape.now band (old fs) (new fs))
+        → D.files disk.new ≡ holding_by name.now (λ fs. bare_bytes storage shape.now (new fs)) before) }
+    ensures ahead { let at = bytes_ahead storage shape.now band.start in bytes_before name.now at (D.files disk.new) ≡ bytes_before name.now at (D.files disk.old) }
+    ensures behind { storage ≡ Storage.Flat → let end = 8 * band.start + 8 * band.len in bytes_from name.now end (D.files disk.new) ≡ bytes_from name.now end (D.files disk.old) }
     ensures others { others name.now (D.files disk.new) ≡ others name.now (D.files disk.old) }
     ensures cause { HasCause (D.faults disk.old) (D.faults disk.new) (IsErr result) }
     ensures told { TellsFaults (D.faults disk.old) (D.faults disk.new) (IsErr result) }

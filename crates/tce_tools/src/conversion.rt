@@ -4,9 +4,10 @@ ghost use Rattle.std.specs.Option.{ForSome};
 ghost use Rattle.tce_space.specs.Tiling.{elements};
 ghost use Rattle.tce_outside.specs.Files.{file, others};
 ghost use Rattle.tce_outside.specs.Fault.{HasCause, TellsFaults};
-ghost use Rattle.tce_array.specs.Forms.{Fits, form_bytes};
+ghost use Rattle.tce_array.specs.Forms.{Fits, head_len, form_bytes};
 ghost use Rattle.tce_tools.specs.Flat.{array_element, contents};
 ghost use Rattle.tce_tools.specs.Storage.{element_in, HasStored, holding_by};
+ghost use Rattle.tce_tools.specs.NoHalf.{LeavesNoHalfOf};
 ghost use Rattle.tce_tools.specs.Answers.{FitBefore, IsFirstMisfit, IsConvertAnswer, IsOfConvert};
 
 use crate::band::{LONGEST_BAND, band_at};
@@ -105,8 +106,9 @@ fn misfit_for<D: Disk>(
 ///
 /// `Array` where the file is no array of the shape; else `DoesNotFit` with the place in row-major order of the first
 /// element that cannot be stored in the form, which is so in `Narrow` for one that as a signed number is below -2^31 or
-/// above 2^31 - 1. `Disk` only where the disk failed, and then the file `to` may hold anything or be absent; every other
-/// refusal changes no file.
+/// above 2^31 - 1. `Disk` only where the disk failed, and then the file `to` is as it was, is absent, begins with zeros as
+/// no array does, or is whole but for its head, which is written last; every other refusal changes no file.
+#[tactic(auto, using(crate::proofs::NoHalf::same_left))]
 pub fn convert<D: Disk>(
     disk: &mut D,
     shape: &Shape,
@@ -119,6 +121,7 @@ pub fn convert<D: Disk>(
     ensures answer { ForSome (D.files disk.old) (λ fs. IsConvertAnswer form shape.now (file fs array.now) result) }
     ensures own { IsOfConvert form result }
     ensures refused { IfErr result (λ fault. fault ≢ ToolFault.Disk → D.files disk.new ≡ D.files disk.old) }
+    ensures no_half { LeavesNoHalfOf to.now (head_len form shape.now) (λ fs. form_bytes form shape.now (array_element shape.now (contents fs array.now))) (D.files disk.old) (D.files disk.new) }
     ensures others { others to.now (D.files disk.new) ≡ others to.now (D.files disk.old) }
     ensures cause { HasCause (D.faults disk.old) (D.faults disk.new) (result ≡ Err ToolFault.Disk) }
     ensures told { TellsFaults (D.faults disk.old) (D.faults disk.new) (result ≡ Err ToolFault.Disk) }

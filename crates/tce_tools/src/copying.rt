@@ -4,18 +4,18 @@ ghost use Rattle.std.specs.Option.{ForSome};
 ghost use Rattle.tce_outside.specs.Files.{file, others};
 ghost use Rattle.tce_outside.specs.Fault.{HasCause, TellsFaults};
 ghost use Rattle.tce_tools.specs.Flat.{contents};
-ghost use Rattle.tce_tools.specs.Storage.{element_in, stored_bytes, HasStored, holding_by};
+ghost use Rattle.tce_tools.specs.Storage.{element_in, bare_bytes, stored_bytes, last_written, HasStored, holding_by};
+ghost use Rattle.tce_tools.specs.NoHalf.{LeavesNoHalfOf};
 
 use crate::band::{LONGEST_BAND, band_at};
 use crate::banding::{read_band, write_band};
-use crate::storage::{Storage, make};
-use tce_outside::{Disk, OutFault};
+use crate::storage::{Storage, make, write_start};
+use tce_outside::{Disk, Failed, OutFault};
 use tce_space::Shape;
 
-/// Makes a file of the elements that another one has.
-///
-/// For want of memory no file changes; where the disk fails, the file that is made may hold anything or be absent.
-pub fn copy<D: Disk>(
+// Makes a file of the elements that another one has, with zeros in the place of its start. The first band comes last, so
+// that a flat file too begins with zeros until all others are there.
+fn copy_elements<D: Disk>(
     disk: &mut D,
     shape: &Shape,
     source: &str,
@@ -25,8 +25,9 @@ pub fn copy<D: Disk>(
 ) -> Result<(), OutFault>
     requires names { source.now ≢ target.now }
     requires source { ForSome (D.files disk.old) (λ fs. HasStored from shape.now (file fs source.now)) }
-    ensures copied { OnOk result (D.files disk.new ≡ holding_by target.now (λ fs. stored_bytes to shape.now (element_in from shape.now (contents fs source.now))) (D.files disk.old)) }
+    ensures copied { OnOk result (D.files disk.new ≡ holding_by target.now (λ fs. bare_bytes to shape.now (element_in from shape.now (contents fs source.now))) (D.files disk.old)) }
     ensures memory { IsErrOf result OutFault.Memory → D.files disk.new ≡ D.files disk.old }
+    ensures no_half { LeavesNoHalfOf target.now (last_written to shape.now) (λ fs. stored_bytes to shape.now (element_in from shape.now (contents fs source.now))) (D.files disk.old) (D.files disk.new) }
     ensures others { others target.now (D.files disk.new) ≡ others target.now (D.files disk.old) }
     ensures cause { HasCause (D.faults disk.old) (D.faults disk.new) (IsErrOf result OutFault.Failed) }
     ensures told { TellsFaults (D.faults disk.old) (D.faults disk.new) (IsErrOf result OutFault.Failed) }
@@ -36,7 +37,8 @@ pub fn copy<D: Disk>(
     let mut tiled = [0; LONGEST_BAND];
     let mut buffer = [0; LONGEST_BAND];
     let elements = shape.elements();
-    let mut done = 0;
+    let first = band_at(shape, 0);
+    let mut done = first.len;
     while done < elements {
         let band = band_at(shape, done);
         let words = &mut buffer[..band.len as usize];
@@ -50,5 +52,45 @@ pub fn copy<D: Disk>(
         };
         done += band.len;
     }
+    let start = &mut buffer[..first.len as usize];
+    let Ok(()) = read_band(
+        disk, source, from, shape, first, &mut bytes, &mut tiled, start,
+    ) else {
+        return Err(OutFault::Failed);
+    };
+    let Ok(()) = write_band(
+        disk, target, to, shape, first, &mut bytes, &mut tiled, start,
+    ) else {
+        return Err(OutFault::Failed);
+    };
     Ok(())
+}
+
+/// Makes a file of the elements that another one has. What stands before them, the head of an array file, comes last.
+///
+/// For want of memory no file changes. Where the disk fails, the file that is made is as it was, is absent, begins with
+/// zeros, or is whole but for its head, or a flat file for its first 262,144 bytes.
+pub fn copy<D: Disk>(
+    disk: &mut D,
+    shape: &Shape,
+    source: &str,
+    from: Storage,
+    target: &str,
+    to: Storage,
+) -> Result<(), OutFault>
+    requires names { source.now ≢ target.now }
+    requires source { ForSome (D.files disk.old) (λ fs. HasStored from shape.now (file fs source.now)) }
+    ensures copied { OnOk result (D.files disk.new ≡ holding_by target.now (λ fs. stored_bytes to shape.now (element_in from shape.now (contents fs source.now))) (D.files disk.old)) }
+    ensures memory { IsErrOf result OutFault.Memory → D.files disk.new ≡ D.files disk.old }
+    ensures no_half { LeavesNoHalfOf target.now (last_written to shape.now) (λ fs. stored_bytes to shape.now (element_in from shape.now (contents fs source.now))) (D.files disk.old) (D.files disk.new) }
+    ensures others { others target.now (D.files disk.new) ≡ others target.now (D.files disk.old) }
+    ensures cause { HasCause (D.faults disk.old) (D.faults disk.new) (IsErrOf result OutFault.Failed) }
+    ensures told { TellsFaults (D.faults disk.old) (D.faults disk.new) (IsErrOf result OutFault.Failed) }
+{
+    let _limits = shape.elements();
+    copy_elements(disk, shape, source, from, target, to)?;
+    match write_start(disk, target, to, shape) {
+        Ok(()) => Ok(()),
+        Err(Failed) => Err(OutFault::Failed),
+    }
 }

@@ -3,16 +3,18 @@ ghost use Rattle.std.specs.Prelude.{◌≡◌, ℕ, ◌+◌, ◌<◌, ◌≤◌,
 ghost use Rattle.tce_space.specs.Tiling.{elements};
 ghost use Rattle.tce_outside.specs.Files.{others, holding};
 ghost use Rattle.tce_outside.specs.Fault.{HasCause, TellsFaults};
-ghost use Rattle.tce_array.specs.Forms.{array_bytes};
+ghost use Rattle.tce_array.specs.Forms.{head_len, array_bytes};
 ghost use Rattle.std.specs.String.{string_bytes};
+ghost use Rattle.tce_tools.specs.Storage.{bare_bytes};
+ghost use Rattle.tce_tools.specs.NoHalf.{LeavesNoHalfOf};
 ghost use Rattle.tce_tools.specs.Demo.{drawn, digit, demo_element, range_line, demo_text};
 
 use crate::band::{LONGEST_BAND, band_at};
 use crate::banding::write_band;
-use crate::storage::{Storage, make};
+use crate::storage::{Storage, make, write_start};
 use std::alloc::{AllocError, Global};
 use tce_array::Form;
-use tce_outside::{Disk, OutFault};
+use tce_outside::{Disk, Failed, OutFault};
 use tce_space::Shape;
 
 const FORMULA: &str =
@@ -70,22 +72,15 @@ fn draw(x: u64, digits: &mut [u64]) -> u64
     number
 }
 
-/// Makes an array file, in the first form, of the last digits of the numbers that the generator draws after `x`, in
-/// row-major order, and gives the last number drawn.
-///
-/// The generator takes 48271 times its number, modulo 2^31 - 1 (Park, Miller and Stockmeyer 1993). For want of memory no
-/// file changes; where the disk fails, the array file may hold anything or be absent.
-pub fn demo_array<D: Disk>(
-    disk: &mut D,
-    shape: &Shape,
-    array: &str,
-    x: u64,
-) -> Result<u64, OutFault>
+// Makes a file of the last digits of the numbers that are drawn after `x`, with zeros in the place of its head, and gives
+// the last number drawn.
+fn demo_elements<D: Disk>(disk: &mut D, shape: &Shape, array: &str, x: u64) -> Result<u64, OutFault>
     requires low { 1 ≤ x }
     requires high { x ≤ 2147483646 }
-    ensures made { OnOk result (D.files disk.new ≡ holding array.now (array_bytes shape.now (demo_element shape.now x)) (D.files disk.old)) }
+    ensures made { OnOk result (D.files disk.new ≡ holding array.now (bare_bytes (Storage.Array Form.One) shape.now (demo_element shape.now x)) (D.files disk.old)) }
     ensures last { IfOk result (λ number. number ≡ drawn x (elements shape.now)) }
     ensures memory { IsErrOf result OutFault.Memory → D.files disk.new ≡ D.files disk.old }
+    ensures no_half { LeavesNoHalfOf array.now (head_len Form.One shape.now) (λ _. array_bytes shape.now (demo_element shape.now x)) (D.files disk.old) (D.files disk.new) }
     ensures others { others array.now (D.files disk.new) ≡ others array.now (D.files disk.old) }
     ensures cause { HasCause (D.faults disk.old) (D.faults disk.new) (IsErrOf result OutFault.Failed) }
     ensures told { TellsFaults (D.faults disk.old) (D.faults disk.new) (IsErrOf result OutFault.Failed) }
@@ -116,4 +111,34 @@ pub fn demo_array<D: Disk>(
         done += band.len;
     }
     Ok(number)
+}
+
+/// Makes an array file, in the first form, of the last digits of the numbers that the generator draws after `x`, in
+/// row-major order, and gives the last number drawn.
+///
+/// The generator takes 48271 times its number, modulo 2^31 - 1 (Park, Miller and Stockmeyer 1993). For want of memory no
+/// file changes; where the disk fails, the array file is as it was, is absent, begins with zeros as no array does, or is
+/// whole but for its head, which is written last.
+pub fn demo_array<D: Disk>(
+    disk: &mut D,
+    shape: &Shape,
+    array: &str,
+    x: u64,
+) -> Result<u64, OutFault>
+    requires low { 1 ≤ x }
+    requires high { x ≤ 2147483646 }
+    ensures made { OnOk result (D.files disk.new ≡ holding array.now (array_bytes shape.now (demo_element shape.now x)) (D.files disk.old)) }
+    ensures last { IfOk result (λ number. number ≡ drawn x (elements shape.now)) }
+    ensures memory { IsErrOf result OutFault.Memory → D.files disk.new ≡ D.files disk.old }
+    ensures no_half { LeavesNoHalfOf array.now (head_len Form.One shape.now) (λ _. array_bytes shape.now (demo_element shape.now x)) (D.files disk.old) (D.files disk.new) }
+    ensures others { others array.now (D.files disk.new) ≡ others array.now (D.files disk.old) }
+    ensures cause { HasCause (D.faults disk.old) (D.faults disk.new) (IsErrOf result OutFault.Failed) }
+    ensures told { TellsFaults (D.faults disk.old) (D.faults disk.new) (IsErrOf result OutFault.Failed) }
+{
+    let _limits = shape.elements();
+    let number = demo_elements(disk, shape, array, x)?;
+    match write_start(disk, array, Storage::Array(Form::One), shape) {
+        Ok(()) => Ok(number),
+        Err(Failed) => Err(OutFault::Failed),
+    }
 }

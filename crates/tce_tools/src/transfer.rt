@@ -3,7 +3,7 @@ ghost use Rattle.std.specs.Prelude.{◌≡◌, ℕ, ◌+◌, ◌*◌, ◌<◌, �
 ghost use Rattle.std.specs.List.{flat_map};
 ghost use Rattle.std.specs.Option.{ForSome};
 ghost use Rattle.tce_base.specs.Word.{word_bytes, word_of_bytes, widened};
-ghost use Rattle.tce_outside.specs.Files.{file, written, others};
+ghost use Rattle.tce_outside.specs.Files.{file, written, others, bytes_before, bytes_from};
 ghost use Rattle.tce_outside.specs.Fault.{HasCause, TellsFaults};
 ghost use Rattle.tce_array.specs.Forms.{width, word_in};
 ghost use Rattle.tce_tools.specs.Flat.{contents};
@@ -90,7 +90,7 @@ pub fn read_words<D: Disk>(
     Ok(())
 }
 
-/// Writes words over those that begin at a byte of a file.
+/// Writes words over those that begin at a byte of a file. What stands before and behind them stays in every case.
 pub fn write_words<D: Disk>(
     disk: &mut D,
     name: &str,
@@ -102,6 +102,8 @@ pub fn write_words<D: Disk>(
     requires buffer { width form * length words.now ≤ length bytes.old }
     requires file { ForSome (D.files disk.old) (λ fs. HasWords form at (length words.now) (file fs name.now)) }
     ensures written { OnOk result (D.files disk.new ≡ written name.now at (flat_map (word_bytes (width form)) words.now) (D.files disk.old)) }
+    ensures before { bytes_before name.now at (D.files disk.new) ≡ bytes_before name.now at (D.files disk.old) }
+    ensures behind { let end = at + width form * length words.now in bytes_from name.now end (D.files disk.new) ≡ bytes_from name.now end (D.files disk.old) }
     ensures others { others name.now (D.files disk.new) ≡ others name.now (D.files disk.old) }
     ensures cause { HasCause (D.faults disk.old) (D.faults disk.new) (IsErr result) }
     ensures told { TellsFaults (D.faults disk.old) (D.faults disk.new) (IsErr result) }

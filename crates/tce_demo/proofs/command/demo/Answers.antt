@@ -1,6 +1,7 @@
 use Rattle.std.specs.String.{string_bytes}
 use Rattle.tce_demo.proofs.AsRun.{all_of_demo, memory_of_demo}
 use Rattle.tce_demo.proofs.Ran.{all_done, demo_takings}
+use Rattle.tce_demo.proofs.NoHalf.{demo_left}
 use Rattle.tce_demo.proofs.command.demo.Goals as goal
 
 pub returns-clause-done : goal.returns-clause-done
@@ -17,3 +18,7 @@ returns-in_default-clause-as_run g c = memory_of_demo c.args.v c.args.o c.requir
 
 pub returns-clause-as_run : goal.returns-clause-as_run
 returns-clause-as_run g c = all_of_demo c.demonstrate.result c.in-Ok.made.spec c.args.v c.args.o c.in-Ok.ensures.spec c.requires.v c.requires.o c.demonstrate.ensures.as_run
+
+pub returns-clause-no_half : goal.returns-clause-no_half
+returns-clause-no_half g c =
+    demo_left c.in-Ok.made.spec c.in-Ok.made.text.items c.args.seed c.args.v c.args.o _ _ c.in-Ok.ensures.spec c.in-Ok.ensures.text c.requires.v c.requires.o c.demonstrate.ensures.no_half

@@ -1,6 +1,8 @@
+use Rattle.std.proofs.Common.{refl}
 use Rattle.tce_example.proofs.OtherFiles.{stay_twice}
 use Rattle.tce_demo.proofs.Operands.{operands_told, result_told}
 use Rattle.tce_demo.proofs.Ran.{result_stays, all_stay, all_written, sum_after, demonstrated}
+use Rattle.tce_demo.proofs.NoHalf.{input_left, run_left}
 use Rattle.tce_demo.proofs.command.demonstrate.Goals as goal
 
 pub run_example-requires-clause-operands : goal.run_example-requires-clause-operands
@@ -39,3 +41,26 @@ returns-in-Ok-report-clause-done g c =
     c.in_ok-run.ensures.reported
     (sum_after c.args.made.now.spec (g.D.Disk.files c.run_example.new.disk) (g.D.Disk.files c.result_sum.new.disk) c.in-Ok.sum c.result_sum.ensures.same c.in-Ok.ensures.sum)
     c.in-Ok-report.ensures
+
+pub returns-in_err-put_input-clause-no_half : goal.returns-in_err-put_input-clause-no_half
+returns-in_err-put_input-clause-no_half g c = input_left c.args.made.now.spec c.args.seed c.args.made.now.text.items _ _ c.put_input.ensures.no_half
+
+pub returns-in_err-run-clause-no_half : goal.returns-in_err-run-clause-no_half
+returns-in_err-run-clause-no_half g c =
+    run_left c.args.made.now.spec c.requires.spec c.args.seed c.args.made.now.text.items (g.D.Disk.files c.args.disk.now) (g.D.Disk.files c.put_input.new.disk) (g.D.Disk.files c.run_example.new.disk) _
+    c.in_ok-put_input.ensures.written c.put_input.ensures.no_half c.run_example.ensures.others c.run_example.ensures.no_half refl
+
+pub returns-in_default-clause-no_half : goal.returns-in_default-clause-no_half
+returns-in_default-clause-no_half g c =
+    run_left c.args.made.now.spec c.requires.spec c.args.seed c.args.made.now.text.items (g.D.Disk.files c.args.disk.now) (g.D.Disk.files c.put_input.new.disk) (g.D.Disk.files c.run_example.new.disk) _
+    c.in_ok-put_input.ensures.written c.put_input.ensures.no_half c.run_example.ensures.others c.run_example.ensures.no_half c.result_sum.ensures.same
+
+pub returns-in-Ok-report-clause-no_half : goal.returns-in-Ok-report-clause-no_half
+returns-in-Ok-report-clause-no_half g c =
+    run_left c.args.made.now.spec c.requires.spec c.args.seed c.args.made.now.text.items (g.D.Disk.files c.args.disk.now) (g.D.Disk.files c.put_input.new.disk) (g.D.Disk.files c.run_example.new.disk) _
+    c.in_ok-put_input.ensures.written c.put_input.ensures.no_half c.run_example.ensures.others c.run_example.ensures.no_half c.result_sum.ensures.same
+
+pub returns-clause-no_half : goal.returns-clause-no_half
+returns-clause-no_half g c =
+    run_left c.args.made.now.spec c.requires.spec c.args.seed c.args.made.now.text.items (g.D.Disk.files c.args.disk.now) (g.D.Disk.files c.put_input.new.disk) (g.D.Disk.files c.run_example.new.disk) _
+    c.in_ok-put_input.ensures.written c.put_input.ensures.no_half c.run_example.ensures.others c.run_example.ensures.no_half c.result_sum.ensures.same

@@ -2,18 +2,20 @@ use Rattle.std.proofs.Common.{◌∙◌, ◌+◌, ◌-◌, ◌*◌, ◌≤◌, L
 use Rattle.std.specs.List.{flat_map}
 use Rattle.tce_base.specs.Word.{word_bytes}
 use Rattle.tce_space.specs.Tiling.{Tiling}
-use Rattle.tce_array.specs.Forms.{width}
+use Rattle.tce_array.specs.Forms.{width, head_len}
 use Rattle.tce_tools.specs.declared.storage.Storage.TheVariants.{Array}
-use Rattle.tce_tools.specs.Storage.{stored_bytes, first_elements}
+use Rattle.tce_tools.specs.Storage.{bare_bytes}
 use Rattle.tce_tools.proofs.Shuffles.{copy_of}
-use Rattle.tce_tools.proofs.Told.{held_same, held_written}
-use Rattle.tce_tools.proofs.PieceWrites.{after_pieces, piece_stored, piece_room, piece_bytes_fit, no_pieces, all_pieces, still_stored}
+use Rattle.tce_tools.proofs.Told.{held_told, held_written}
+use Rattle.tce_tools.proofs.PieceWrites.{after_pieces, piece_bare, piece_room, piece_bytes_fit, no_pieces, all_pieces, still_stored}
+use Rattle.tce_tools.proofs.NoHalf.{shorter_before}
 use Rattle.tce_tools.proofs.banding.write_pieces.Goals as goal
 
 pub loop-piece-init : goal.loop-piece-init
 loop-piece-init g c = record {
-  written = λ before element is values.
-      held_same before _ c.args.name.now (λ fs. stored_bytes (Array c.args.form) c.args.shape.now (first_elements c.args.shape.now (element fs) c.args.band.start)) _ is (λ fs. no_pieces c.args.form c.args.shape.now c.args.band (element fs) c.requires.band);
+  written = λ before old new is values keeps.
+      held_told before _ c.args.name.now (λ fs. bare_bytes (Array c.args.form) c.args.shape.now (old fs)) _ is (λ fs was. no_pieces c.args.form c.args.shape.now c.args.band (old fs) (new fs) c.requires.band (keeps fs was));
+  ahead = refl;
   there = c.requires.file;
   others = refl;
   later = omega arith;
@@ -29,10 +31,11 @@ loop-piece-preserved g c =
     let vs : List ℕ = take (t * n + n - t * n) (drop (t * n) c.args.tiled.now) in
     let copy = copy_of (t * n) n (t * n + n - t * n) c.args.tiled.now vs refl (omega arith) room in
     record {
-      written = λ before element is values.
-          held_written before _ _ c.args.name.now (λ fs. stored_bytes (Array c.args.form) s (after_pieces s c.args.band (element fs) t)) (λ fs. stored_bytes (Array c.args.form) s (after_pieces s c.args.band (element fs) (t + 1))) c.piece_place.result (flat_map (word_bytes (width c.args.form)) vs)
-          (c.loop-piece.invariant.written before element is values) c.in_ok-write_words.ensures.written
-          (λ fs was. piece_stored c.args.form s c.args.band (element fs) c.args.tiled.now vs t c.piece_place.result c.requires.band c.loop-piece-test.true copy (values fs was) c.requires.padding c.piece_place.ensures);
+      written = λ before old new is values keeps.
+          held_written before _ _ c.args.name.now (λ fs. bare_bytes (Array c.args.form) s (after_pieces s c.args.band (old fs) (new fs) t)) (λ fs. bare_bytes (Array c.args.form) s (after_pieces s c.args.band (old fs) (new fs) (t + 1))) c.piece_place.result (flat_map (word_bytes (width c.args.form)) vs)
+          (c.loop-piece.invariant.written before old new is values keeps) c.in_ok-write_words.ensures.written
+          (λ fs was. piece_bare c.args.form s c.args.band (old fs) (new fs) c.args.tiled.now vs t c.piece_place.result c.requires.band c.loop-piece-test.true copy (values fs was) (keeps fs was) c.requires.padding c.piece_place.ensures);
+      ahead = shorter_before c.args.name.now (head_len c.args.form s) c.piece_place.result _ _ (omega (arith, c.piece_place.ensures)) c.write_words.ensures.before ∙ c.loop-piece.invariant.ahead;
       there = still_stored _ _ c.args.name.now (Array c.args.form) s c.piece_place.result (flat_map (word_bytes (width c.args.form)) vs) c.in_ok-write_words.ensures.written c.loop-piece.invariant.there
           (piece_bytes_fit c.args.form s c.args.band t c.piece_place.result vs c.requires.band c.loop-piece-test.true copy.len c.piece_place.ensures);
       others = c.in_ok-write_words.ensures.others ∙ c.loop-piece.invariant.others;
@@ -40,10 +43,14 @@ loop-piece-preserved g c =
       counted = c.in_ok-write_words.ensures.told (search rules) ∙ c.loop-piece.invariant.counted;
     }
 
+pub returns-in_err-write_words-clause-ahead : goal.returns-in_err-write_words-clause-ahead
+returns-in_err-write_words-clause-ahead g c =
+    shorter_before c.args.name.now (head_len c.args.form c.args.shape.now) c.piece_place.result _ _ (omega (arith, c.piece_place.ensures)) c.write_words.ensures.before ∙ c.loop-piece.invariant.ahead
+
 pub returns-clause-written : goal.returns-clause-written
-returns-clause-written g c = λ before element is values.
-    held_same before _ c.args.name.now (λ fs. stored_bytes (Array c.args.form) c.args.shape.now (after_pieces c.args.shape.now c.args.band (element fs) c.loop-piece.piece)) _ (c.loop-piece.invariant.written before element is values)
-    (λ fs. all_pieces c.args.form c.args.shape.now c.args.band (element fs) c.loop-piece.piece c.requires.band (omega (arith, c.loop-piece-test.false)))
+returns-clause-written g c = λ before old new is values keeps.
+    held_told before _ c.args.name.now (λ fs. bare_bytes (Array c.args.form) c.args.shape.now (after_pieces c.args.shape.now c.args.band (old fs) (new fs) c.loop-piece.piece)) _ (c.loop-piece.invariant.written before old new is values keeps)
+    (λ fs was. all_pieces c.args.form c.args.shape.now c.args.band (old fs) (new fs) c.loop-piece.piece c.requires.band (keeps fs was) (omega (arith, c.loop-piece-test.false)))
 
 pub returns-clause-told : goal.returns-clause-told
 returns-clause-told g c = λ _. c.loop-piece.invariant.counted

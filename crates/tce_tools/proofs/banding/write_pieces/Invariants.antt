@@ -1,18 +1,21 @@
 use Rattle.std.proofs.Common.{◌≡◌, ◌≤◌, List, ℕ, Option, Some}
 use Rattle.std.specs.Option.{ForSome}
-use Rattle.tce_outside.specs.Files.{Files, file, others}
+use Rattle.tce_outside.specs.Files.{Files, file, others, bytes_before}
+use Rattle.tce_array.specs.Forms.{head_len}
 use Rattle.tce_tools.specs.declared.storage.Storage.TheVariants.{Array}
-use Rattle.tce_tools.specs.Storage.{stored_bytes, first_elements, holding_by, HasStored}
-use Rattle.tce_tools.specs.Bands.{AreTiled}
+use Rattle.tce_tools.specs.Storage.{bare_bytes, holding_by, HasStored}
+use Rattle.tce_tools.specs.Bands.{AreTiled, KeepsOutside}
 use Rattle.tce_tools.proofs.PieceWrites.{after_pieces}
 use Rattle.tce_tools.proofs.banding.write_pieces.Given as goal
 
 abbrev pub invariant-loop-piece : goal.invariant-loop-piece
 invariant-loop-piece g l = record {
-  written : (before : Option Files) (element : Files → List ℕ → ℕ)
-      → g.D.Disk.files l.fn.disk ≡ holding_by l.name (λ fs. stored_bytes (Array l.form) l.shape (first_elements l.shape (element fs) l.band.start)) before
-      → ((fs : Files) → before ≡ Some fs → AreTiled l.shape l.band (element fs) l.tiled)
-      → g.D.Disk.files l.disk ≡ holding_by l.name (λ fs. stored_bytes (Array l.form) l.shape (after_pieces l.shape l.band (element fs) l.piece)) before;
+  written : (before : Option Files) (old new : Files → List ℕ → ℕ)
+      → g.D.Disk.files l.fn.disk ≡ holding_by l.name (λ fs. bare_bytes (Array l.form) l.shape (old fs)) before
+      → ((fs : Files) → before ≡ Some fs → AreTiled l.shape l.band (new fs) l.tiled)
+      → ((fs : Files) → before ≡ Some fs → KeepsOutside l.shape l.band (old fs) (new fs))
+      → g.D.Disk.files l.disk ≡ holding_by l.name (λ fs. bare_bytes (Array l.form) l.shape (after_pieces l.shape l.band (old fs) (new fs) l.piece)) before;
+  ahead : bytes_before l.name (head_len l.form l.shape) (g.D.Disk.files l.disk) ≡ bytes_before l.name (head_len l.form l.shape) (g.D.Disk.files l.fn.disk);
   there : ForSome (g.D.Disk.files l.disk) (λ fs. HasStored (Array l.form) l.shape (file fs l.name));
   others : others l.name (g.D.Disk.files l.disk) ≡ others l.name (g.D.Disk.files l.fn.disk);
   later : g.D.Disk.faults l.fn.disk ≤ g.D.Disk.faults l.disk;

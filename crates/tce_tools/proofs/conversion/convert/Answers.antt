@@ -5,6 +5,7 @@ use Rattle.tce_tools.specs.declared.storage.Storage.TheVariants.{Array}
 use Rattle.tce_tools.specs.Flat.{contents, array_element}
 use Rattle.tce_tools.specs.Storage.{stored_bytes, element_in, holding_by}
 use Rattle.tce_tools.proofs.Forms.{opened_form, opened_fits, array_elements}
+use Rattle.tce_tools.proofs.NoHalf.{moved_left}
 use Rattle.tce_tools.proofs.Told.{held_told}
 use Rattle.tce_tools.proofs.conversion.convert.Goals as goal
 
@@ -25,3 +26,15 @@ pub returns-in-Err-Memory-clause-answer : goal.returns-in-Err-Memory-clause-answ
 returns-in-Err-Memory-clause-answer g c x told =
     opened_fits c.in-Ok.found c.args.form c.args.shape.now (file x c.args.array.now) (c.in-Ok.ensures.form x told)
     (λ narrow. c.in-Ok-None.ensures.none (ap Ok c.in-Ok-None.field-0-is) narrow x (c.in-Ok.ensures.same ∙ told))
+
+pub returns-in-Ok-copy-clause-no_half : goal.returns-in-Ok-copy-clause-no_half
+returns-in-Ok-copy-clause-no_half g c =
+    moved_left (Array c.args.form) c.args.shape.now c.in-Ok.found c.args.array.now c.args.to.now (g.D.Disk.files c.args.disk.now) _ _ (c.in-Ok-None.ensures.same ∙ c.in-Ok.ensures.same) c.in-Ok.ensures.form c.copy.ensures.no_half
+
+pub returns-in-Err-Failed-clause-no_half : goal.returns-in-Err-Failed-clause-no_half
+returns-in-Err-Failed-clause-no_half g c =
+    moved_left (Array c.args.form) c.args.shape.now c.in-Ok.found c.args.array.now c.args.to.now (g.D.Disk.files c.args.disk.now) _ _ (c.in-Ok-None.ensures.same ∙ c.in-Ok.ensures.same) c.in-Ok.ensures.form c.copy.ensures.no_half
+
+pub returns-in-Err-Memory-clause-no_half : goal.returns-in-Err-Memory-clause-no_half
+returns-in-Err-Memory-clause-no_half g c =
+    moved_left (Array c.args.form) c.args.shape.now c.in-Ok.found c.args.array.now c.args.to.now (g.D.Disk.files c.args.disk.now) _ _ (c.in-Ok-None.ensures.same ∙ c.in-Ok.ensures.same) c.in-Ok.ensures.form c.copy.ensures.no_half

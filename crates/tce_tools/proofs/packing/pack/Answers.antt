@@ -7,6 +7,7 @@ use Rattle.tce_tools.specs.Flat.{contents, flat_element}
 use Rattle.tce_tools.specs.Storage.{stored_bytes, element_in, holding_by}
 use Rattle.tce_tools.proofs.Forms.{flat_is}
 use Rattle.tce_tools.proofs.Stored.{stored_same}
+use Rattle.tce_tools.proofs.NoHalf.{packed_left}
 use Rattle.tce_tools.proofs.Told.{held_same}
 use Rattle.tce_tools.proofs.packing.pack.Goals as goal
 
@@ -17,3 +18,15 @@ returns-in-Ok-copy-clause-packed g c =
     held_same (g.D.Disk.files c.args.disk.now) _ c.args.array.now old (λ fs. stored_bytes (Array One) s (flat_element s (contents fs c.args.flat.now)))
     (c.in-Ok-copy.ensures.copied ∙ ap (holding_by c.args.array.now old) c.in-Ok.ensures.same)
     (λ fs. stored_same (Array One) s c.elements.ensures.limits _ _ (λ xs h. flat_is s (contents fs c.args.flat.now) xs))
+
+pub returns-in-Ok-copy-clause-no_half : goal.returns-in-Ok-copy-clause-no_half
+returns-in-Ok-copy-clause-no_half g c =
+    packed_left c.args.shape.now c.elements.ensures.limits c.args.flat.now c.args.array.now (g.D.Disk.files c.args.disk.now) _ _ c.in-Ok.ensures.same c.copy.ensures.no_half
+
+pub returns-in-Err-Failed-clause-no_half : goal.returns-in-Err-Failed-clause-no_half
+returns-in-Err-Failed-clause-no_half g c =
+    packed_left c.args.shape.now c.elements.ensures.limits c.args.flat.now c.args.array.now (g.D.Disk.files c.args.disk.now) _ _ c.in-Ok.ensures.same c.copy.ensures.no_half
+
+pub returns-in-Err-Memory-clause-no_half : goal.returns-in-Err-Memory-clause-no_half
+returns-in-Err-Memory-clause-no_half g c =
+    packed_left c.args.shape.now c.elements.ensures.limits c.args.flat.now c.args.array.now (g.D.Disk.files c.args.disk.now) _ _ c.in-Ok.ensures.same c.copy.ensures.no_half

@@ -1,12 +1,18 @@
 use Rattle.std.proofs.Common.{◌≡◌, ◌∙◌, ◌*◌, sym, ap, subst, OnOk, List, ℕ, replicate}
 use Rattle.tce_outside.specs.Files.{holding}
 use Rattle.tce_tools.specs.declared.storage.Storage.{Storage}
-use Rattle.tce_tools.specs.Storage.{stored_bytes}
-use Rattle.tce_tools.proofs.Zeros.{zero_flat}
+use Rattle.tce_tools.specs.Storage.{bare_bytes}
+use Rattle.tce_tools.proofs.Zeros.{zero_flat, zero_form}
 use Rattle.tce_tools.proofs.storage.make.Goals as goal
 
 pub returns-in-Flat-clause-made : goal.returns-in-Flat-clause-made
 returns-in-Flat-clause-made g c =
-    let is : replicate (8 * c.elements.result) 0 ≡ stored_bytes c.args.storage c.args.shape.now (λ _. 0) =
-    zero_flat c.args.shape.now c.elements.result c.elements.ensures.elements ∙ ap (λ (t : Storage). stored_bytes t c.args.shape.now (λ _. 0)) (sym c.in-Flat.is) in
+    let is : replicate (8 * c.elements.result) 0 ≡ bare_bytes c.args.storage c.args.shape.now (λ _. 0) =
+    zero_flat c.args.shape.now c.elements.result c.elements.ensures.elements ∙ ap (λ (t : Storage). bare_bytes t c.args.shape.now (λ _. 0)) (sym c.in-Flat.is) in
     subst (λ (bytes : List ℕ). OnOk c.make.result (g.D.Disk.files c.make.new.self ≡ holding c.args.name.now bytes (g.D.Disk.files c.args.disk.now))) is c.make.ensures.made
+
+pub returns-in-Array-clause-made : goal.returns-in-Array-clause-made
+returns-in-Array-clause-made g c =
+    let is : replicate c.form_len.result 0 ≡ bare_bytes c.args.storage c.args.shape.now (λ _. 0) =
+    ap (λ n. replicate n 0) c.form_len.ensures.bytes ∙ zero_form c.in-Array.form c.args.shape.now ∙ ap (λ (t : Storage). bare_bytes t c.args.shape.now (λ _. 0)) (sym c.in-Array.is) in
+    subst (λ (bytes : List ℕ). OnOk c.make-in-Array.result (g.D.Disk.files c.make-in-Array.new.self ≡ holding c.args.name.now bytes (g.D.Disk.files c.args.disk.now))) is c.make-in-Array.ensures.made

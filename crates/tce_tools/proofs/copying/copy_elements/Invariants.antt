@@ -1,13 +1,14 @@
 use Rattle.std.proofs.Common.{◌≡◌, ◌-◌, ◌≤◌}
 use Rattle.tce_outside.specs.Files.{others}
 use Rattle.tce_tools.specs.Flat.{contents}
-use Rattle.tce_tools.specs.Storage.{stored_bytes, first_elements, element_in, holding_by}
-use Rattle.tce_tools.proofs.copying.copy.Given as goal
+use Rattle.tce_tools.specs.Storage.{bare_bytes, first_elements, later_elements, element_in, holding_by}
+use Rattle.tce_tools.proofs.copying.copy_elements.Given as goal
 
 abbrev pub invariant-loop-done : goal.invariant-loop-done
 invariant-loop-done g l = record {
+  first : l.first.len ≤ l.done;
   done : l.done ≤ l.elements;
-  files : g.D.Disk.files l.disk ≡ holding_by l.target (λ fs. stored_bytes l.to l.shape (first_elements l.shape (element_in l.from l.shape (contents fs l.source)) l.done)) (g.D.Disk.files l.fn.disk);
+  files : g.D.Disk.files l.disk ≡ holding_by l.target (λ fs. bare_bytes l.to l.shape (first_elements l.shape (later_elements l.shape (element_in l.from l.shape (contents fs l.source)) l.first.len) l.done)) (g.D.Disk.files l.fn.disk);
   others : others l.target (g.D.Disk.files l.disk) ≡ others l.target (g.D.Disk.files l.fn.disk);
   later : g.D.Disk.faults l.fn.disk ≤ g.D.Disk.faults l.disk;
   counted : g.D.Disk.faults l.disk ≡ g.D.Disk.faults l.fn.disk;

@@ -1,0 +1,11 @@
+use Rattle.std.proofs.Common.{◌≡◌, sym, subst, OnOk}
+use Rattle.tce_outside.specs.Files.{written}
+use Rattle.tce_tools.specs.declared.storage.Storage.{Storage}
+use Rattle.tce_tools.specs.Storage.{start_of}
+use Rattle.tce_tools.proofs.NoHalf.{start_written}
+use Rattle.tce_tools.proofs.storage.write_start.Goals as goal
+
+pub returns-in-Array-clause-written : goal.returns-in-Array-clause-written
+returns-in-Array-clause-written g c =
+    start_written c.write_head.result c.args.storage c.args.shape.now c.args.name.now _ _
+    (subst (λ (t : Storage). OnOk c.write_head.result (g.D.Disk.files c.write_head.new.disk ≡ written c.args.name.now 0 (start_of t c.args.shape.now) (g.D.Disk.files c.args.disk.now))) (sym c.in-Array.is) c.write_head.ensures.written)
