@@ -5,3 +5,4 @@ pub mod Tools
 pub mod Names
 pub mod SymFiles
 pub mod SymInputs
+pub mod NoHalf

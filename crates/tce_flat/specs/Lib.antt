@@ -2,4 +2,5 @@ pub mod Tensors
 pub mod Refusals
 pub mod Done
 pub mod Tools
+pub mod NoHalf
 pub mod Laws

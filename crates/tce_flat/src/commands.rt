@@ -9,6 +9,7 @@ ghost use Rattle.tce_command.specs.Command.{KeepsRules};
 ghost use Rattle.tce_flat.specs.Tensors.{array_file, converted_file};
 ghost use Rattle.tce_flat.specs.Refusals.{IsPackRefusal, IsUnpackRefusal, IsConvertRefusal, IsExpandRefusal};
 ghost use Rattle.tce_flat.specs.Done.{IsPacked, IsUnpacked, IsConverted, IsExpanded};
+ghost use Rattle.tce_flat.specs.NoHalf.{LeavesFor, LeavesPacking, LeavesUnpacking, LeavesConverting, LeavesExpanding};
 
 use crate::expanding::expand_tensor;
 use crate::moving::{convert_tensor, pack_tensor, unpack_tensor};
@@ -32,6 +33,7 @@ pub fn pack<D: Disk>(
     ensures done { IfOk result (λ report. IsPacked (D.files disk.old) (D.files disk.new) spec.now tensor.now flat.now (string_bytes report)) }
     ensures refused { IfErr result (λ refusal. ForSome (D.files disk.old) (λ files. IsPackRefusal files spec.now tensor.now flat.now refusal)) }
     ensures unchanged { IfErr result (λ refusal. refusal ≢ Refusal.Disk → D.files disk.new ≡ D.files disk.old) }
+    ensures no_half { LeavesFor (LeavesPacking tensor.now flat.now) spec.now tensor.now (D.files disk.old) (D.files disk.new) }
     ensures others { others (array_file tensor.now) (D.files disk.new) ≡ others (array_file tensor.now) (D.files disk.old) }
     ensures cause { HasCause (D.faults disk.old) (D.faults disk.new) (result ≡ Err Refusal.Disk) }
     ensures told { TellsFaults (D.faults disk.old) (D.faults disk.new) (result ≡ Err Refusal.Disk) }
@@ -55,6 +57,7 @@ pub fn unpack<D: Disk>(
     ensures done { IfOk result (λ report. IsUnpacked (D.files disk.old) (D.files disk.new) spec.now tensor.now flat.now (string_bytes report)) }
     ensures refused { IfErr result (λ refusal. ForSome (D.files disk.old) (λ files. IsUnpackRefusal files spec.now tensor.now refusal)) }
     ensures unchanged { IfErr result (λ refusal. refusal ≢ Refusal.Disk → D.files disk.new ≡ D.files disk.old) }
+    ensures no_half { LeavesFor (LeavesUnpacking tensor.now flat.now) spec.now tensor.now (D.files disk.old) (D.files disk.new) }
     ensures others { others flat.now (D.files disk.new) ≡ others flat.now (D.files disk.old) }
     ensures cause { HasCause (D.faults disk.old) (D.faults disk.new) (result ≡ Err Refusal.Disk) }
     ensures told { TellsFaults (D.faults disk.old) (D.faults disk.new) (result ≡ Err Refusal.Disk) }
@@ -79,6 +82,7 @@ pub fn convert<D: Disk>(
     ensures done { IfOk result (λ report. IsConverted (D.files disk.old) (D.files disk.new) spec.now tensor.now form (string_bytes report)) }
     ensures refused { IfErr result (λ refusal. ForSome (D.files disk.old) (λ files. IsConvertRefusal files spec.now tensor.now form refusal)) }
     ensures unchanged { IfErr result (λ refusal. refusal ≢ Refusal.Disk → D.files disk.new ≡ D.files disk.old) }
+    ensures no_half { LeavesFor (LeavesConverting tensor.now form) spec.now tensor.now (D.files disk.old) (D.files disk.new) }
     ensures others { others (converted_file tensor.now) (D.files disk.new) ≡ others (converted_file tensor.now) (D.files disk.old) }
     ensures cause { HasCause (D.faults disk.old) (D.faults disk.new) (result ≡ Err Refusal.Disk) }
     ensures told { TellsFaults (D.faults disk.old) (D.faults disk.new) (result ≡ Err Refusal.Disk) }
@@ -102,6 +106,7 @@ pub fn expand<D: Disk>(
     ensures done { IfOk result (λ report. IsExpanded (D.files disk.old) (D.files disk.new) spec.now tensor.now (string_bytes report)) }
     ensures refused { IfErr result (λ refusal. ForSome (D.files disk.old) (λ files. IsExpandRefusal files spec.now tensor.now refusal)) }
     ensures unchanged { IfErr result (λ refusal. refusal ≢ Refusal.Disk → D.files disk.new ≡ D.files disk.old) }
+    ensures no_half { LeavesFor (LeavesExpanding tensor.now) spec.now tensor.now (D.files disk.old) (D.files disk.new) }
     ensures others { others (array_file tensor.now) (D.files disk.new) ≡ others (array_file tensor.now) (D.files disk.old) }
     ensures cause { HasCause (D.faults disk.old) (D.faults disk.new) (result ≡ Err Refusal.Disk) }
     ensures told { TellsFaults (D.faults disk.old) (D.faults disk.new) (result ≡ Err Refusal.Disk) }

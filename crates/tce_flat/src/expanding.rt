@@ -4,14 +4,16 @@ ghost use Rattle.std.specs.Option.{ForSome, IsSomeAnd};
 ghost use Rattle.std.specs.String.{string_bytes};
 ghost use Rattle.tce_outside.specs.Files.{file, others};
 ghost use Rattle.tce_outside.specs.Fault.{HasCause, TellsFaults};
-ghost use Rattle.tce_array.specs.Forms.{array_bytes};
+ghost use Rattle.tce_array.specs.Forms.{head_len, array_bytes};
 ghost use Rattle.tce_tools.specs.Flat.{contents};
 ghost use Rattle.tce_tools.specs.Storage.{holding_by};
+ghost use Rattle.tce_tools.specs.NoHalf.{LeavesNoHalfOf};
 ghost use Rattle.tce_sym.specs.Storage.{AreRight, IsStored, full_cell};
 ghost use Rattle.tce_command.specs.Refusals.{IsFree};
 ghost use Rattle.tce_flat.specs.Tensors.{array_file, sym_file};
 ghost use Rattle.tce_flat.specs.Refusals.{IsSymRefusal};
 ghost use Rattle.tce_flat.specs.Done.{IsExpanding};
+ghost use Rattle.tce_flat.specs.NoHalf.{LeavesExpanding};
 ghost use Rattle.tce_flat.specs.Tools.{SymStands};
 
 use crate::naming::{file_of, report};
@@ -60,6 +62,7 @@ fn expand_file<D: Disk>(
     requires file { ForSome (D.files disk.old) (λ fs. IsSomeAnd (file fs packed.now) (λ bytes. IsStored shape.now.extents s.now bytes)) }
     ensures expanded { OnOk result (D.files disk.new ≡ holding_by array.now (λ fs. array_bytes shape.now (full_cell shape.now.extents s.now (contents fs packed.now))) (D.files disk.old)) }
     ensures memory { IsErrOf result OutFault.Memory → D.files disk.new ≡ D.files disk.old }
+    ensures no_half { LeavesNoHalfOf array.now (head_len Form.One shape.now) (λ fs. array_bytes shape.now (full_cell shape.now.extents s.now (contents fs packed.now))) (D.files disk.old) (D.files disk.new) }
     ensures others { others array.now (D.files disk.new) ≡ others array.now (D.files disk.old) }
     ensures cause { HasCause (D.faults disk.old) (D.faults disk.new) (IsErrOf result OutFault.Failed) }
     ensures told { TellsFaults (D.faults disk.old) (D.faults disk.new) (IsErrOf result OutFault.Failed) }
@@ -82,6 +85,7 @@ pub fn expand_tensor<D: Disk>(
     ensures done { IfOk result (λ report. IsExpanding (D.files disk.old) (D.files disk.new) shape.now tensor.now (string_bytes report)) }
     ensures refused { IfErr result (λ refusal. ForSome (D.files disk.old) (λ files. IsFree refusal ⊎ IsSymRefusal files tensor.now shape.now refusal)) }
     ensures unchanged { IfErr result (λ refusal. refusal ≢ Refusal.Disk → D.files disk.new ≡ D.files disk.old) }
+    ensures no_half { LeavesExpanding tensor.now shape.now (D.files disk.old) (D.files disk.new) }
     ensures others { others (array_file tensor.now) (D.files disk.new) ≡ others (array_file tensor.now) (D.files disk.old) }
     ensures cause { HasCause (D.faults disk.old) (D.faults disk.new) (result ≡ Err Refusal.Disk) }
     ensures told { TellsFaults (D.faults disk.old) (D.faults disk.new) (result ≡ Err Refusal.Disk) }

@@ -8,6 +8,7 @@ ghost use Rattle.tce_command.specs.Refusals.{IsFree};
 ghost use Rattle.tce_flat.specs.Tensors.{array_file, converted_file};
 ghost use Rattle.tce_flat.specs.Refusals.{IsFlatRefusal, IsArrayRefusal, IsFormRefusal};
 ghost use Rattle.tce_flat.specs.Done.{IsPacking, IsUnpacking, IsConverting};
+ghost use Rattle.tce_flat.specs.NoHalf.{LeavesPacking, LeavesUnpacking, LeavesConverting};
 
 use crate::naming::{file_of, report};
 use crate::refusals::refusal_of;
@@ -18,6 +19,7 @@ use tce_outside::Disk;
 use tce_space::Shape;
 
 /// Packs a tensor.
+#[tactic(auto, using(tce_tools::proofs::NoHalf::same_left))]
 pub fn pack_tensor<D: Disk>(
     alloc: Global,
     shape: &Shape,
@@ -31,6 +33,7 @@ pub fn pack_tensor<D: Disk>(
     ensures done { IfOk result (λ report. IsPacking (D.files disk.old) (D.files disk.new) shape.now tensor.now flat.now (string_bytes report)) }
     ensures refused { IfErr result (λ refusal. ForSome (D.files disk.old) (λ files. IsFree refusal ⊎ IsFlatRefusal files flat.now shape.now refusal)) }
     ensures unchanged { IfErr result (λ refusal. refusal ≢ Refusal.Disk → D.files disk.new ≡ D.files disk.old) }
+    ensures no_half { LeavesPacking tensor.now flat.now shape.now (D.files disk.old) (D.files disk.new) }
     ensures others { others (array_file tensor.now) (D.files disk.new) ≡ others (array_file tensor.now) (D.files disk.old) }
     ensures cause { HasCause (D.faults disk.old) (D.faults disk.new) (result ≡ Err Refusal.Disk) }
     ensures told { TellsFaults (D.faults disk.old) (D.faults disk.new) (result ≡ Err Refusal.Disk) }
@@ -46,6 +49,7 @@ pub fn pack_tensor<D: Disk>(
 }
 
 /// Unpacks a tensor.
+#[tactic(auto, using(tce_tools::proofs::NoHalf::same_left))]
 pub fn unpack_tensor<D: Disk>(
     alloc: Global,
     shape: &Shape,
@@ -58,6 +62,7 @@ pub fn unpack_tensor<D: Disk>(
     ensures done { IfOk result (λ report. IsUnpacking (D.files disk.old) (D.files disk.new) shape.now tensor.now flat.now (string_bytes report)) }
     ensures refused { IfErr result (λ refusal. ForSome (D.files disk.old) (λ files. IsFree refusal ⊎ IsArrayRefusal files tensor.now shape.now refusal)) }
     ensures unchanged { IfErr result (λ refusal. refusal ≢ Refusal.Disk → D.files disk.new ≡ D.files disk.old) }
+    ensures no_half { LeavesUnpacking tensor.now flat.now shape.now (D.files disk.old) (D.files disk.new) }
     ensures others { others flat.now (D.files disk.new) ≡ others flat.now (D.files disk.old) }
     ensures cause { HasCause (D.faults disk.old) (D.faults disk.new) (result ≡ Err Refusal.Disk) }
     ensures told { TellsFaults (D.faults disk.old) (D.faults disk.new) (result ≡ Err Refusal.Disk) }
@@ -73,6 +78,7 @@ pub fn unpack_tensor<D: Disk>(
 }
 
 /// Converts the array of a tensor.
+#[tactic(auto, using(tce_tools::proofs::NoHalf::same_left))]
 pub fn convert_tensor<D: Disk>(
     alloc: Global,
     shape: &Shape,
@@ -84,6 +90,7 @@ pub fn convert_tensor<D: Disk>(
     ensures done { IfOk result (λ report. IsConverting (D.files disk.old) (D.files disk.new) shape.now tensor.now form (string_bytes report)) }
     ensures refused { IfErr result (λ refusal. ForSome (D.files disk.old) (λ files. IsFree refusal ⊎ IsFormRefusal files tensor.now form shape.now refusal)) }
     ensures unchanged { IfErr result (λ refusal. refusal ≢ Refusal.Disk → D.files disk.new ≡ D.files disk.old) }
+    ensures no_half { LeavesConverting tensor.now form shape.now (D.files disk.old) (D.files disk.new) }
     ensures others { others (converted_file tensor.now) (D.files disk.new) ≡ others (converted_file tensor.now) (D.files disk.old) }
     ensures cause { HasCause (D.faults disk.old) (D.faults disk.new) (result ≡ Err Refusal.Disk) }
     ensures told { TellsFaults (D.faults disk.old) (D.faults disk.new) (result ≡ Err Refusal.Disk) }

@@ -9,3 +9,4 @@ pub mod FullCells
 pub mod Moved
 pub mod WordCoords
 pub mod Pieces
+pub mod Walked

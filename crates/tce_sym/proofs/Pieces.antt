@@ -7,10 +7,10 @@ use Rattle.tce_space.proofs.Tilings.{word_number-lt, word_number_injective}
 use Rattle.tce_array.specs.declared.form.Form.TheVariants.{One}
 use Rattle.tce_tools.specs.declared.storage.Storage.TheVariants.{Array}
 use Rattle.tce_tools.specs.Runs.{moved}
-use Rattle.tce_tools.specs.Storage.{stored_bytes}
+use Rattle.tce_tools.specs.Storage.{bare_bytes}
 use Rattle.tce_tools.proofs.PieceWrites.{IsChange}
 use Rattle.tce_tools.proofs.Shuffles.{copied, kept}
-use Rattle.tce_tools.proofs.Stored.{stored_same}
+use Rattle.tce_tools.proofs.Stored.{bare_same}
 use Rattle.tce_sym.specs.declared.tile_rows.TileRow.{TileRow}
 use Rattle.tce_sym.specs.TileRows.{IsTileRow, AreWords}
 
@@ -24,11 +24,11 @@ among_words s element count xs h = let test : nat_lt (word_number s xs) count �
 behind_words : (s : Tiling) (element : List ℕ → ℕ) (count : ℕ) (xs : List ℕ) → count ≤ word_number s xs → first_words s element count xs ≡ 0
 behind_words s element count xs h = let test : nat_lt (word_number s xs) count ≡ false = grind (arith, h) in ap (λ b. if b then element xs else 0) test
 
-pub no_words : (s : Tiling) → IsTiling s → (f : List ℕ → ℕ) → stored_bytes (Array One) s (λ _. 0) ≡ stored_bytes (Array One) s (first_words s f 0)
-no_words s t f = stored_same (Array One) s t (λ _. 0) (first_words s f 0) (λ xs h. sym (behind_words s f 0 xs (omega arith)))
+pub no_words : (s : Tiling) → IsTiling s → (f : List ℕ → ℕ) → bare_bytes (Array One) s (λ _. 0) ≡ bare_bytes (Array One) s (first_words s f 0)
+no_words s t f = bare_same (Array One) s t (λ _. 0) (first_words s f 0) (λ xs h. sym (behind_words s f 0 xs (omega arith)))
 
-pub all_words : (s : Tiling) → IsTiling s → (f : List ℕ → ℕ) (n : ℕ) → padded_words s ≤ n → stored_bytes (Array One) s (first_words s f n) ≡ stored_bytes (Array One) s f
-all_words s t f n le = stored_same (Array One) s t (first_words s f n) f (λ xs h. among_words s f n xs (omega (arith, word_number-lt s xs t.same_rank t.positive h)))
+pub all_words : (s : Tiling) → IsTiling s → (f : List ℕ → ℕ) (n : ℕ) → padded_words s ≤ n → bare_bytes (Array One) s (first_words s f n) ≡ bare_bytes (Array One) s f
+all_words s t f n le = bare_same (Array One) s t (first_words s f n) f (λ xs h. among_words s f n xs (omega (arith, word_number-lt s xs t.same_rank t.positive h)))
 
 -- a piece that is written
 pub piece_change : (s : Tiling) (f : List ℕ → ℕ) (vs : List ℕ) (done len : ℕ) → IsTiling s → length vs ≡ len → done + len ≤ padded_words s → AreWords s f done len vs

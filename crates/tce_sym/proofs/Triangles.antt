@@ -1,5 +1,5 @@
 -- Numbers of pairs.
-use Rattle.std.proofs.Common.{◌≡◌, ◌∙◌, ℕ, zero, suc, ◌+◌, ◌-◌, ◌*◌, ◌/◌, ◌<◌, ◌≤◌, Bool, true, false, sym, refl, ap, subst, arith, inl, inr}
+use Rattle.std.proofs.Common.{◌≡◌, ◌∙◌, ℕ, zero, suc, ◌+◌, ◌-◌, ◌*◌, ◌/◌, ◌<◌, ◌≤◌, Bool, true, false, if◌then◌else◌, sym, refl, ap, subst, arith, inl, inr}
 use Rattle.std.proofs.Math.Nat.{mul-div_cancel}
 use Rattle.std.proofs.lemmas.Bool.{cases_lt}
 use Rattle.tce_sym.specs.Storage.{IsPair, pairs}
@@ -54,6 +54,23 @@ pair_below negated a b m h l =
     let first = in_reach negated a b h in
     let second : tri (reach negated b) + reach negated b ≤ tri (reach negated m) = tri_le (suc (reach negated b)) (reach negated m) (reach_less negated b m l) in
     omega (arith, pairs_are negated b, pairs_are negated m, first, second)
+
+tri_sum : (n k : ℕ) → tri (n + k) ≡ tri n + n * k + tri k
+tri_sum n zero = let none : n + zero ≡ n = omega arith in let same : tri (n + zero) ≡ tri n = ap tri none in omega arith
+tri_sum n (suc k) =
+    let before = tri_sum n k in
+    let next : n + suc k ≡ suc (n + k) = omega arith in
+    let last : tri (n + suc k) ≡ tri (n + k) + (n + k) = ap tri next in
+    omega arith
+
+-- so many columns on
+pub pairs_more : (negated : Bool) (b k : ℕ) → pairs negated (b + k) ≡ pairs negated b + (b + (if negated then 0 else 1)) * k + pairs true k
+pairs_more true b k = let sum = tri_sum b k in omega (arith, sum, pairs_are true (b + k), pairs_are true b, pairs_are true k)
+pairs_more false b k =
+    let sum = tri_sum (suc b) k in
+    let next : suc (b + k) ≡ suc b + k = omega arith in
+    let same : tri (suc (b + k)) ≡ tri (suc b + k) = ap tri next in
+    omega (arith, sum, same, pairs_are false (b + k), pairs_are false b, pairs_are true k)
 
 -- a number is told by its triangle and the rest
 tri_apart : (n m a b : ℕ) → a < n → b < m → tri n + a ≡ tri m + b → (n ≡ m) × (a ≡ b)

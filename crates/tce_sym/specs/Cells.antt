@@ -1,11 +1,11 @@
 -- Elements of the whole array, by the place of their other coordinates and the two.
-use Rattle.std.specs.Prelude.{◌≡◌, ℕ, ◌+◌, ◌*◌, ◌^◌, ◌<◌, ◌≤◌, Bool, nat_lt, if◌then◌else◌, List}
+use Rattle.std.specs.Prelude.{◌≡◌, ℕ, ◌+◌, ◌*◌, ◌^◌, ◌<◌, ◌≤◌, Bool, false, nat_lt, if◌then◌else◌, List}
 use Rattle.tce_space.specs.Box.{product, place}
 use Rattle.tce_sym.specs.declared.symmetry.Symmetry.{Symmetry}
 use Rattle.tce_sym.specs.declared.cells.Triangles.{Triangles}
 use Rattle.tce_sym.specs.declared.cells.Pair.{Pair}
 use Rattle.tce_sym.specs.declared.rows.Row.{Row}
-use Rattle.tce_sym.specs.Lines.{AreSlots}
+use Rattle.tce_sym.specs.declared.walks.Walk.{Walk}
 use Rattle.tce_sym.specs.Storage.{at_first, at_second, at_others, pairs, stored_word, turned}
 
 pub record AreTriangles (t : Triangles) : Type 0 where
@@ -14,7 +14,6 @@ pub record AreTriangles (t : Triangles) : Type 0 where
   pub count : t.count ≡ t.others * t.pairs
   pub small : t.count ≤ 2 ^ 48
   pub few : t.others ≤ 2 ^ 48
-  pub slots : AreSlots t.slots
   pub grid : t.slots.grid.count ≡ t.count
 
 -- the triangles are those of a tensor
@@ -54,3 +53,14 @@ abbrev pub moved_pair : Row → ℕ → Pair
 moved_pair row k =
     if row.is_second then record { outer = row.pair.outer; first = row.pair.first; second = row.pair.second + k }
     else record { outer = row.pair.outer + k; first = row.pair.first; second = row.pair.second }
+
+-- a walk goes through the words of a row of stored elements, or of mirrored ones
+pub record IsWalkOf (t : Triangles) (row : Row) (walk : Walk) : Type 0 where
+  pub place : walk.place ≡ pair_place t row.pair
+  pub step : walk.step ≡ (if row.is_second then row.pair.second + (if t.negated then 0 else 1) else t.pairs)
+  pub grows : walk.grows ≡ row.is_second
+
+pub record IsMirroredWalkOf (t : Triangles) (row : Row) (walk : Walk) : Type 0 where
+  pub place : walk.place ≡ pair_place t (mirror row.pair)
+  pub step : walk.step ≡ (if row.is_second then 1 else t.pairs)
+  pub grows : walk.grows ≡ false

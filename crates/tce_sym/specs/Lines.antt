@@ -1,8 +1,9 @@
 -- Lines of stored words that are held in memory, each in a slot: its mark in the first row, and its words in the rows below.
-use Rattle.std.specs.Prelude.{◌≡◌, ℕ, ◌+◌, ◌*◌, ◌<◌, ◌≤◌, List, length, slice_index}
+use Rattle.std.specs.Prelude.{◌≡◌, ℕ, ◌+◌, ◌*◌, ◌<◌, ◌≤◌, ◌^◌, true, if◌then◌else◌, List, slice_index}
 use Rattle.tce_sym.specs.declared.lines.Grid.{Grid}
-use Rattle.tce_sym.specs.declared.slots.Slots.{Slots}
-use Rattle.tce_sym.specs.Storage.{stored_word}
+use Rattle.tce_sym.specs.declared.lines.Wanted.{Wanted}
+use Rattle.tce_sym.specs.declared.walks.Walk.{Walk}
+use Rattle.tce_sym.specs.Storage.{stored_word, pairs}
 
 -- there is room for the marks and the lines
 pub record IsGrid (g : Grid) (room : ℕ) : Type 0 where
@@ -16,7 +17,16 @@ pub record AreLines (g : Grid) (bytes lines : List ℕ) : Type 0 where
   pub held : (slot start k : ℕ) → slot ≤ g.last → k < g.line → slice_index lines slot ≡ start + 1 → start + k < g.count
       → slice_index lines ((1 + k) * g.pitch + slot) ≡ stored_word bytes (start + k)
 
--- all slots are in the grid
-pub record AreSlots (slots : Slots) : Type 0 where
-  pub last : slots.columns + slots.pieces + 1 ≤ slots.grid.last
-  pub shift : slots.shift < 64
+-- the word that is wanted is among those that are read, and so is the first line
+pub record IsWanted (g : Grid) (wanted : Wanted) : Type 0 where
+  pub start : wanted.start ≤ wanted.place
+  pub near : wanted.place < wanted.start + wanted.span
+  pub place : wanted.place < g.count
+  pub line : g.line ≤ wanted.span
+  pub short : wanted.span ≤ 2048
+  pub slot : wanted.slot ≤ g.last
+  pub count : g.count ≤ 2 ^ 48
+
+-- the place of a word so many steps on
+abbrev pub walk_place : Walk → ℕ → ℕ
+walk_place walk k = walk.place + walk.step * k + (if walk.grows then pairs true k else 0)

@@ -4,9 +4,10 @@ ghost use Rattle.std.specs.Option.{ForSome, IsSomeAnd};
 ghost use Rattle.tce_space.specs.Tiling.{padded_words};
 ghost use Rattle.tce_outside.specs.Files.{file, others};
 ghost use Rattle.tce_outside.specs.Fault.{HasCause, TellsFaults};
-ghost use Rattle.tce_array.specs.Forms.{array_bytes};
+ghost use Rattle.tce_array.specs.Forms.{head_len, array_bytes};
 ghost use Rattle.tce_tools.specs.Flat.{contents};
-ghost use Rattle.tce_tools.specs.Storage.{holding_by};
+ghost use Rattle.tce_tools.specs.Storage.{bare_bytes, holding_by};
+ghost use Rattle.tce_tools.specs.NoHalf.{LeavesNoHalfOf};
 ghost use Rattle.tce_sym.specs.Storage.{AreRight, IsStored, full_cell, stored_count};
 ghost use Rattle.tce_sym.specs.Lines.{IsGrid, AreLines};
 ghost use Rattle.tce_sym.specs.Cells.{AreTriangles, AreOf};
@@ -16,10 +17,10 @@ use crate::cells::{Triangles, triangles_of};
 use crate::rows::{read_row, row_of};
 use crate::symmetry::Symmetry;
 use crate::tile_rows::tile_row_at;
-use tce_array::{Form, create};
+use tce_array::{Form, form_len};
 use tce_outside::{Disk, Failed, OutFault};
 use tce_space::Shape;
-use tce_tools::write_words;
+use tce_tools::{Storage, write_start, write_words};
 
 // The most words that are written at once.
 const LONGEST_PIECE: usize = 2048;
@@ -37,51 +38,108 @@ fn clear(words: &mut [u64])
     words.fill(0);
 }
 
+// A whole tensor, and the file of which it is.
+#[derive(Clone, Copy)]
+struct Source<'a> {
+    shape: &'a Shape,
+    s: &'a Symmetry,
+    packed: &'a str,
+    triangles: &'a Triangles,
+}
+
 // The words of the array file from one on: elements, and zeros for the padding.
 fn read_piece<D: Disk>(
     disk: &mut D,
-    shape: &Shape,
-    s: &Symmetry,
-    packed: &str,
-    triangles: &Triangles,
+    source: &Source,
     lines: &mut [u64],
     start: u64,
     words: &mut [u64],
 ) -> Result<(), Failed>
-    requires right { AreRight shape.now.extents s.now }
-    requires inside { start + length words.old ≤ padded_words shape.now }
+    requires right { AreRight source.now.shape.now.extents source.now.s.now }
+    requires inside { start + length words.old ≤ padded_words source.now.shape.now }
+    requires few { length words.old ≤ 2048 }
     requires fits { start + length words.old < 2 ^ 64 }
-    requires file { ForSome (D.files disk.old) (λ fs. IsSomeAnd (file fs packed.now) (λ bytes. IsStored shape.now.extents s.now bytes)) }
-    requires triangles { AreTriangles triangles.now }
-    requires of { AreOf shape.now.extents s.now triangles.now }
-    requires count { triangles.now.count ≡ stored_count shape.now.extents s.now }
-    requires grid { IsGrid triangles.now.slots.grid (length lines.old) }
-    requires lines { ForSome (D.files disk.old) (λ fs. AreLines triangles.now.slots.grid (contents fs packed.now) lines.old) }
-    ensures read { OnOk result (ForSome (D.files disk.old) (λ fs. AreWords shape.now (full_cell shape.now.extents s.now (contents fs packed.now)) start (length words.old) words.new)) }
-    ensures lines { OnOk result (ForSome (D.files disk.old) (λ fs. AreLines triangles.now.slots.grid (contents fs packed.now) lines.new)) }
+    requires file { ForSome (D.files disk.old) (λ fs. IsSomeAnd (file fs source.now.packed.now) (λ bytes. IsStored source.now.shape.now.extents source.now.s.now bytes)) }
+    requires triangles { AreTriangles source.now.triangles.now }
+    requires of { AreOf source.now.shape.now.extents source.now.s.now source.now.triangles.now }
+    requires count { source.now.triangles.now.count ≡ stored_count source.now.shape.now.extents source.now.s.now }
+    requires grid { IsGrid source.now.triangles.now.slots.grid (length lines.old) }
+    requires lines { ForSome (D.files disk.old) (λ fs. AreLines source.now.triangles.now.slots.grid (contents fs source.now.packed.now) lines.old) }
+    ensures read { OnOk result (ForSome (D.files disk.old) (λ fs. AreWords source.now.shape.now (full_cell source.now.shape.now.extents source.now.s.now (contents fs source.now.packed.now)) start (length words.old) words.new)) }
+    ensures lines { OnOk result (ForSome (D.files disk.old) (λ fs. AreLines source.now.triangles.now.slots.grid (contents fs source.now.packed.now) lines.new)) }
     ensures len { length words.new ≡ length words.old }
     ensures same { D.files disk.new ≡ D.files disk.old }
     ensures cause { HasCause (D.faults disk.old) (D.faults disk.new) (IsErr result) }
     ensures told { TellsFaults (D.faults disk.old) (D.faults disk.new) (IsErr result) }
 {
+    let shape = source.shape;
     clear(words);
     let mut filled = 0;
     while filled < words.len() {
         let tile_row = tile_row_at(shape, start + filled as u64);
-        let row = row_of(shape, s, &tile_row);
+        let row = row_of(shape, source.s, &tile_row);
         let len = tile_row.len.min((words.len() - filled) as u64) as usize;
         let used = tile_row.used.min(len as u64) as usize;
         let part = &mut words[filled..filled + used];
-        read_row(disk, packed, triangles, lines, &row, part)?;
+        read_row(disk, source.packed, source.triangles, lines, &row, part)?;
         filled += len;
+    }
+    Ok(())
+}
+
+// Makes the file of all elements, with zeros in the place of its head.
+#[tactic(auto, using(tce_tools::proofs::NoHalf::unmade_left))]
+fn expand_elements<D: Disk>(
+    disk: &mut D,
+    shape: &Shape,
+    s: &Symmetry,
+    packed: &str,
+    array: &str,
+    lines: &mut [u64],
+) -> Result<(), OutFault>
+    requires names { packed.now ≢ array.now }
+    requires some { 32 ≤ length lines.old }
+    requires right { AreRight shape.now.extents s.now }
+    requires file { ForSome (D.files disk.old) (λ fs. IsSomeAnd (file fs packed.now) (λ bytes. IsStored shape.now.extents s.now bytes)) }
+    ensures made { OnOk result (D.files disk.new ≡ holding_by array.now (λ fs. bare_bytes (Storage.Array Form.One) shape.now (full_cell shape.now.extents s.now (contents fs packed.now))) (D.files disk.old)) }
+    ensures memory { IsErrOf result OutFault.Memory → D.files disk.new ≡ D.files disk.old }
+    ensures no_half { LeavesNoHalfOf array.now (head_len Form.One shape.now) (λ fs. array_bytes shape.now (full_cell shape.now.extents s.now (contents fs packed.now))) (D.files disk.old) (D.files disk.new) }
+    ensures others { others array.now (D.files disk.new) ≡ others array.now (D.files disk.old) }
+    ensures cause { HasCause (D.faults disk.old) (D.faults disk.new) (IsErrOf result OutFault.Failed) }
+    ensures told { TellsFaults (D.faults disk.old) (D.faults disk.new) (IsErrOf result OutFault.Failed) }
+{
+    disk.make(array, form_len(Form::One, shape))?;
+    clear(lines);
+    let triangles = triangles_of(shape, s, lines.len());
+    let source = Source {
+        shape,
+        s,
+        packed,
+        triangles: &triangles,
+    };
+    let mut bytes = [0; 8 * LONGEST_PIECE];
+    let mut buffer = [0; LONGEST_PIECE];
+    let head = Form::One.head_len(shape);
+    let padded = shape.padded_words();
+    let mut done = 0;
+    while done < padded {
+        let len = (padded - done).min(LONGEST_PIECE as u64);
+        let words = &mut buffer[..len as usize];
+        let Ok(()) = read_piece(disk, &source, lines, done, words) else {
+            return Err(OutFault::Failed);
+        };
+        let Ok(()) = write_words(disk, array, Form::One, head + 8 * done, &mut bytes, words) else {
+            return Err(OutFault::Failed);
+        };
+        done += len;
     }
     Ok(())
 }
 
 /// Makes the array file, in the first form, of the whole tensor of which `packed` stores one element for each pair.
 ///
-/// For want of memory (`Memory`) no file changes. Where the disk fails (`Failed`), the array file may hold anything or be
-/// absent. All other files stay in every case. The stored words are read in lines, and the array is written in pieces, tile
+/// For want of memory (`Memory`) no file changes. Where the disk fails (`Failed`), the array file is as it was, is absent,
+/// begins with zeros as no array does, or is whole but for its head, which is written last. All other files stay in every case. The stored words are read in lines, and the array is written in pieces, tile
 /// by tile, so that the call needs no memory of its own, however large the files are. [`expand_through`] does the same with
 /// more lines, and faster.
 pub fn expand<D: Disk>(
@@ -96,6 +154,7 @@ pub fn expand<D: Disk>(
     requires file { ForSome (D.files disk.old) (λ fs. IsSomeAnd (file fs packed.now) (λ bytes. IsStored shape.now.extents s.now bytes)) }
     ensures expanded { OnOk result (D.files disk.new ≡ holding_by array.now (λ fs. array_bytes shape.now (full_cell shape.now.extents s.now (contents fs packed.now))) (D.files disk.old)) }
     ensures memory { IsErrOf result OutFault.Memory → D.files disk.new ≡ D.files disk.old }
+    ensures no_half { LeavesNoHalfOf array.now (head_len Form.One shape.now) (λ fs. array_bytes shape.now (full_cell shape.now.extents s.now (contents fs packed.now))) (D.files disk.old) (D.files disk.new) }
     ensures others { others array.now (D.files disk.new) ≡ others array.now (D.files disk.old) }
     ensures cause { HasCause (D.faults disk.old) (D.faults disk.new) (IsErrOf result OutFault.Failed) }
     ensures told { TellsFaults (D.faults disk.old) (D.faults disk.new) (IsErrOf result OutFault.Failed) }
@@ -120,28 +179,15 @@ pub fn expand_through<D: Disk>(
     requires file { ForSome (D.files disk.old) (λ fs. IsSomeAnd (file fs packed.now) (λ bytes. IsStored shape.now.extents s.now bytes)) }
     ensures expanded { OnOk result (D.files disk.new ≡ holding_by array.now (λ fs. array_bytes shape.now (full_cell shape.now.extents s.now (contents fs packed.now))) (D.files disk.old)) }
     ensures memory { IsErrOf result OutFault.Memory → D.files disk.new ≡ D.files disk.old }
+    ensures no_half { LeavesNoHalfOf array.now (head_len Form.One shape.now) (λ fs. array_bytes shape.now (full_cell shape.now.extents s.now (contents fs packed.now))) (D.files disk.old) (D.files disk.new) }
     ensures others { others array.now (D.files disk.new) ≡ others array.now (D.files disk.old) }
     ensures cause { HasCause (D.faults disk.old) (D.faults disk.new) (IsErrOf result OutFault.Failed) }
     ensures told { TellsFaults (D.faults disk.old) (D.faults disk.new) (IsErrOf result OutFault.Failed) }
 {
-    create(disk, array, Form::One, shape)?;
-    clear(lines);
-    let triangles = triangles_of(shape, s, lines.len());
-    let mut bytes = [0; 8 * LONGEST_PIECE];
-    let mut buffer = [0; LONGEST_PIECE];
-    let head = Form::One.head_len(shape);
-    let padded = shape.padded_words();
-    let mut done = 0;
-    while done < padded {
-        let len = (padded - done).min(LONGEST_PIECE as u64);
-        let words = &mut buffer[..len as usize];
-        let Ok(()) = read_piece(disk, shape, s, packed, &triangles, lines, done, words) else {
-            return Err(OutFault::Failed);
-        };
-        let Ok(()) = write_words(disk, array, Form::One, head + 8 * done, &mut bytes, words) else {
-            return Err(OutFault::Failed);
-        };
-        done += len;
+    let _limits = shape.elements();
+    expand_elements(disk, shape, s, packed, array, lines)?;
+    match write_start(disk, array, Storage::Array(Form::One), shape) {
+        Ok(()) => Ok(()),
+        Err(Failed) => Err(OutFault::Failed),
     }
-    Ok(())
 }

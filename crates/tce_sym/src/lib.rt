@@ -20,6 +20,7 @@ mod rows;
 mod slots;
 mod symmetry;
 mod tile_rows;
+mod walks;
 
 pub use expansion::{MOST_LINE_WORDS, expand, expand_through};
 pub use fault::SymFault;

@@ -6,7 +6,7 @@ ghost use Rattle.tce_outside.specs.Files.{file};
 ghost use Rattle.tce_outside.specs.Fault.{HasCause, TellsFaults};
 ghost use Rattle.tce_tools.specs.Flat.{contents};
 ghost use Rattle.tce_sym.specs.Storage.{stored_word};
-ghost use Rattle.tce_sym.specs.Lines.{IsGrid, AreLines};
+ghost use Rattle.tce_sym.specs.Lines.{IsGrid, IsWanted, AreLines};
 
 use tce_array::Form;
 use tce_outside::{Disk, Failed};
@@ -15,8 +15,8 @@ use tce_tools::read_words;
 /// The most words of a line.
 pub const LONGEST_LINE: usize = 256;
 
-// The most words that are read at once, of which several lines are made.
-const WINDOW: usize = 2048;
+/// The most words that are read at once, of which several lines are made.
+pub const WINDOW: usize = 2048;
 
 /// How lines stand in memory: a row of marks, one for each slot, and below it a row for each word of a line. A mark is one
 /// more than the place of its line's first word, or 0 where the slot has none.
@@ -32,18 +32,22 @@ pub struct Grid {
     pub count: u64,
 }
 
-/// A stored word that is wanted, the slot for its line, and which lines are read with it where the slot does not hold it.
+/// A stored word that is wanted, and the words that are read for it, of which lines are made.
 #[derive(Clone, Copy)]
 pub struct Wanted {
     /// The place of the word.
     pub place: u64,
-    /// The slot for its line.
+    /// The place of the first word that is read.
+    pub start: u64,
+    /// How many words are read, as far as there are so many.
+    pub span: usize,
+    /// The slot for the first line.
     pub slot: usize,
     /// The slots from a line to the next.
     pub next: usize,
     /// The places from the first line to the second.
     pub step: u64,
-    /// How many places more there are each time from a line to the next. If none, lines begin at multiples of their length.
+    /// How many places more there are each time from a line to the next.
     pub growth: u64,
 }
 
@@ -95,21 +99,17 @@ fn put_lines(grid: &Grid, lines: &mut [u64], wanted: Wanted, start: u64, words: 
     }
 }
 
-// The word of a place, and its line alone.
-fn read_line<D: Disk>(
+// A stored word, and the lines of few words.
+fn read_few<D: Disk>(
     disk: &mut D,
     packed: &str,
     grid: &Grid,
     lines: &mut [u64],
     wanted: Wanted,
-    start: u64,
 ) -> Result<u64, Failed>
     requires grid { IsGrid grid.now (length lines.old) }
-    requires slot { wanted.slot ≤ grid.now.last }
-    requires start { start ≤ wanted.place }
-    requires near { wanted.place < start + grid.now.line }
-    requires place { wanted.place < grid.now.count }
-    requires count { grid.now.count ≤ 2 ^ 48 }
+    requires wanted { IsWanted grid.now wanted }
+    requires span { wanted.span ≤ 256 }
     requires file { ForSome (D.files disk.old) (λ fs. IsSomeAnd (file fs packed.now) (λ bytes. length bytes ≡ 32 + 8 * grid.now.count)) }
     requires lines { ForSome (D.files disk.old) (λ fs. AreLines grid.now (contents fs packed.now) lines.old) }
     ensures word { IfOk result (λ word. ForSome (D.files disk.old) (λ fs. word ≡ stored_word (contents fs packed.now) wanted.place)) }
@@ -118,30 +118,33 @@ fn read_line<D: Disk>(
     ensures cause { HasCause (D.faults disk.old) (D.faults disk.new) (IsErr result) }
     ensures told { TellsFaults (D.faults disk.old) (D.faults disk.new) (IsErr result) }
 {
-    let len = (grid.count - start).min(grid.line as u64) as usize;
+    let len = (grid.count - wanted.start).min(wanted.span as u64) as usize;
     let mut bytes = [0; 8 * LONGEST_LINE];
     let mut buffer = [0; LONGEST_LINE];
     let words = &mut buffer[..len];
-    read_words(disk, packed, Form::One, 32 + 8 * start, &mut bytes, words)?;
-    put_line(grid, lines, wanted.slot, start, words);
-    Ok(words[(wanted.place - start) as usize])
+    read_words(
+        disk,
+        packed,
+        Form::One,
+        32 + 8 * wanted.start,
+        &mut bytes,
+        words,
+    )?;
+    put_lines(grid, lines, wanted, wanted.start, words);
+    Ok(words[(wanted.place - wanted.start) as usize])
 }
 
-// The word of a place, its line, and those behind it.
-fn read_lines<D: Disk>(
+// A stored word, and the lines of many words.
+fn read_many<D: Disk>(
     disk: &mut D,
     packed: &str,
     grid: &Grid,
     lines: &mut [u64],
     wanted: Wanted,
-    start: u64,
 ) -> Result<u64, Failed>
     requires grid { IsGrid grid.now (length lines.old) }
-    requires slot { wanted.slot ≤ grid.now.last }
-    requires start { start ≤ wanted.place }
-    requires near { wanted.place < start + grid.now.line }
-    requires place { wanted.place < grid.now.count }
-    requires count { grid.now.count ≤ 2 ^ 48 }
+    requires wanted { IsWanted grid.now wanted }
+    requires span { wanted.span ≤ 2048 }
     requires file { ForSome (D.files disk.old) (λ fs. IsSomeAnd (file fs packed.now) (λ bytes. length bytes ≡ 32 + 8 * grid.now.count)) }
     requires lines { ForSome (D.files disk.old) (λ fs. AreLines grid.now (contents fs packed.now) lines.old) }
     ensures word { IfOk result (λ word. ForSome (D.files disk.old) (λ fs. word ≡ stored_word (contents fs packed.now) wanted.place)) }
@@ -150,17 +153,24 @@ fn read_lines<D: Disk>(
     ensures cause { HasCause (D.faults disk.old) (D.faults disk.new) (IsErr result) }
     ensures told { TellsFaults (D.faults disk.old) (D.faults disk.new) (IsErr result) }
 {
-    let len = (grid.count - start).min(WINDOW as u64) as usize;
+    let len = (grid.count - wanted.start).min(wanted.span as u64) as usize;
     let mut bytes = [0; 8 * WINDOW];
     let mut buffer = [0; WINDOW];
     let words = &mut buffer[..len];
-    read_words(disk, packed, Form::One, 32 + 8 * start, &mut bytes, words)?;
-    put_lines(grid, lines, wanted, start, words);
-    Ok(words[(wanted.place - start) as usize])
+    read_words(
+        disk,
+        packed,
+        Form::One,
+        32 + 8 * wanted.start,
+        &mut bytes,
+        words,
+    )?;
+    put_lines(grid, lines, wanted, wanted.start, words);
+    Ok(words[(wanted.place - wanted.start) as usize])
 }
 
-/// The stored word at a place. Where the slot does not hold it, its line is read, and others behind it where they are near.
-pub fn word_at<D: Disk>(
+/// A stored word, and the lines that are read for it.
+pub fn read_word<D: Disk>(
     disk: &mut D,
     packed: &str,
     grid: &Grid,
@@ -168,9 +178,7 @@ pub fn word_at<D: Disk>(
     wanted: Wanted,
 ) -> Result<u64, Failed>
     requires grid { IsGrid grid.now (length lines.old) }
-    requires slot { wanted.slot ≤ grid.now.last }
-    requires place { wanted.place < grid.now.count }
-    requires count { grid.now.count ≤ 2 ^ 48 }
+    requires wanted { IsWanted grid.now wanted }
     requires file { ForSome (D.files disk.old) (λ fs. IsSomeAnd (file fs packed.now) (λ bytes. length bytes ≡ 32 + 8 * grid.now.count)) }
     requires lines { ForSome (D.files disk.old) (λ fs. AreLines grid.now (contents fs packed.now) lines.old) }
     ensures word { IfOk result (λ word. ForSome (D.files disk.old) (λ fs. word ≡ stored_word (contents fs packed.now) wanted.place)) }
@@ -179,24 +187,26 @@ pub fn word_at<D: Disk>(
     ensures cause { HasCause (D.faults disk.old) (D.faults disk.new) (IsErr result) }
     ensures told { TellsFaults (D.faults disk.old) (D.faults disk.new) (IsErr result) }
 {
-    let mark = lines[wanted.slot];
-    if 0 < mark && mark <= wanted.place + 1 && wanted.place + 1 - mark < grid.line as u64 {
-        let behind = (wanted.place + 1 - mark) as usize;
-        return Ok(lines[(1 + behind) * grid.pitch + wanted.slot]);
-    }
-    if wanted.growth == 0 {
-        let start = wanted.place - wanted.place % grid.line as u64;
-        if wanted.step == 0 {
-            let word = read_line(disk, packed, grid, lines, wanted, start)?;
-            return Ok(word);
-        }
-        let word = read_lines(disk, packed, grid, lines, wanted, start)?;
+    if wanted.span <= LONGEST_LINE {
+        let word = read_few(disk, packed, grid, lines, wanted)?;
         return Ok(word);
     }
-    if (wanted.step as usize) < WINDOW / 4 {
-        let word = read_lines(disk, packed, grid, lines, wanted, wanted.place)?;
-        return Ok(word);
-    }
-    let word = read_line(disk, packed, grid, lines, wanted, wanted.place)?;
+    let word = read_many(disk, packed, grid, lines, wanted)?;
     Ok(word)
+}
+
+/// The word of a place, if the slot holds it.
+pub fn held_word(grid: &Grid, lines: &[u64], slot: usize, place: u64) -> Option<u64>
+    requires grid { IsGrid grid.now (length lines.now) }
+    requires slot { slot ≤ grid.now.last }
+    requires place { place < grid.now.count }
+    requires count { grid.now.count ≤ 2 ^ 48 }
+    ensures { (bytes : List ℕ) → AreLines grid.now bytes lines.now → ForSome result (λ word. word ≡ stored_word bytes place) }
+{
+    let mark = lines[slot];
+    if 0 < mark && mark <= place + 1 && place + 1 - mark < grid.line as u64 {
+        let behind = (place + 1 - mark) as usize;
+        return Some(lines[(1 + behind) * grid.pitch + slot]);
+    }
+    None
 }

@@ -1,17 +1,18 @@
 // Rows: elements that follow each other along the last dimension.
-ghost use Rattle.std.specs.Prelude.{◌≡◌, ℕ, ◌+◌, ◌*◌, ◌<◌, ◌≤◌, ◌^◌, Bool, IsTrue, false, length, slice_index, OnOk, IsErr};
+ghost use Rattle.std.specs.Prelude.{◌≡◌, ℕ, ◌+◌, ◌*◌, ◌<◌, ◌≤◌, ◌^◌, Bool, IsTrue, false, length, replicate, slice_index, OnOk, IsErr};
 ghost use Rattle.std.specs.Option.{ForSome, IsSomeAnd};
 ghost use Rattle.tce_space.specs.Box.{IsInside};
 ghost use Rattle.tce_outside.specs.Files.{file};
 ghost use Rattle.tce_outside.specs.Fault.{HasCause, TellsFaults};
 ghost use Rattle.tce_tools.specs.Flat.{contents};
-ghost use Rattle.tce_sym.specs.Storage.{AreRight};
+ghost use Rattle.tce_sym.specs.Storage.{AreRight, IsPair, stored_word, turned};
 ghost use Rattle.tce_sym.specs.Lines.{IsGrid, AreLines};
-ghost use Rattle.tce_sym.specs.Cells.{AreTriangles, IsAmong, IsPairOf, cell_of, moved_pair};
+ghost use Rattle.tce_sym.specs.Cells.{AreTriangles, IsAmong, IsPairOf, IsWalkOf, IsMirroredWalkOf, cell_of, mirror, moved_pair, pair_place};
 
-use crate::cells::{Pair, Triangles, cell_at};
-use crate::symmetry::{Symmetry, at_others};
+use crate::cells::{Pair, Triangles};
+use crate::symmetry::{Symmetry, at_others, pairs, signed};
 use crate::tile_rows::TileRow;
+use crate::walks::{Walk, read_walk};
 use tce_outside::{Disk, Failed};
 use tce_space::{Shape, place};
 
@@ -65,25 +66,220 @@ pub fn row_of(shape: &Shape, s: &Symmetry, row: &TileRow) -> Row
     row_at(shape, s, row.coords.as_slice())
 }
 
-// The element so many steps on.
-fn moved_pair(row: &Row, steps: u64) -> Pair
-    requires outer { (moved_pair row.now steps).outer < 2 ^ 64 }
-    requires second { (moved_pair row.now steps).second < 2 ^ 64 }
-    ensures { result ≡ moved_pair row.now steps }
+// The row from the element so many steps on.
+fn moved_row(row: &Row, steps: usize) -> Row
+    requires outer { row.now.pair.outer + steps < 2 ^ 64 }
+    requires second { row.now.pair.second + steps < 2 ^ 64 }
+    ensures pair { result.pair ≡ moved_pair row.now steps }
+    ensures kind { result.is_second ≡ row.now.is_second }
 {
-    if row.is_second {
-        Pair {
-            outer: row.pair.outer,
+    let outer = row.pair.outer;
+    let second = row.pair.second;
+    let steps = steps as u64;
+    Row {
+        pair: Pair {
+            outer: if row.is_second { outer } else { outer + steps },
             first: row.pair.first,
-            second: row.pair.second + steps,
-        }
-    } else {
-        Pair {
-            outer: row.pair.outer + steps,
-            first: row.pair.first,
-            second: row.pair.second,
-        }
+            second: if row.is_second {
+                second + steps
+            } else {
+                second
+            },
+        },
+        is_second: row.is_second,
     }
+}
+
+// How many elements from the first on are mirrored: their second coordinate is the lower one.
+fn mirrored_len(row: &Row, len: usize) -> usize
+    ensures within { result ≤ len }
+    ensures mirrored { (k : ℕ) → k < result → (moved_pair row.now k).second < (moved_pair row.now k).first }
+    ensures others { (k : ℕ) → result ≤ k → k < len → (moved_pair row.now k).first ≤ (moved_pair row.now k).second }
+{
+    let below = row.pair.first.saturating_sub(row.pair.second);
+    if row.is_second {
+        return below.min(len as u64) as usize;
+    }
+    if below > 0 { len } else { 0 }
+}
+
+// How many elements from the first on are 0 between equal coordinates, where no element is mirrored.
+fn diagonal_len(negated: bool, row: &Row, len: usize) -> usize
+    requires { (k : ℕ) → k < len → (moved_pair row.now k).first ≤ (moved_pair row.now k).second }
+    ensures within { result ≤ len }
+    ensures negated { 0 < result → IsTrue negated }
+    ensures diagonal { (k : ℕ) → k < result → (moved_pair row.now k).second ≤ (moved_pair row.now k).first }
+    ensures others { (k : ℕ) → result ≤ k → k < len → IsPair negated (moved_pair row.now k).first (moved_pair row.now k).second }
+{
+    if !negated || row.pair.first < row.pair.second {
+        return 0;
+    }
+    if row.is_second {
+        return len.min(1);
+    }
+    len
+}
+
+// The words of a row of stored elements.
+fn stored_walk(triangles: &Triangles, row: &Row) -> Walk
+    requires triangles { AreTriangles triangles.now }
+    requires among { IsAmong triangles.now row.now.pair }
+    requires stored { IsPair triangles.now.negated row.now.pair.first row.now.pair.second }
+    ensures { IsWalkOf triangles.now row.now result }
+{
+    let slots = &triangles.slots;
+    let pair = &row.pair;
+    let before = pair.outer * triangles.pairs;
+    let column = pair.second + u64::from(!triangles.negated);
+    let outer = pair.outer.wrapping_mul(slots.by_outer);
+    Walk {
+        place: before + (pairs(triangles.negated, pair.second) + pair.first),
+        step: if row.is_second {
+            column
+        } else {
+            triangles.pairs
+        },
+        grows: row.is_second,
+        slot: outer.wrapping_add(pair.second.wrapping_mul(slots.by_second)),
+        next: if row.is_second {
+            slots.by_second
+        } else {
+            slots.by_outer
+        },
+        column,
+        region: slots.columns,
+    }
+}
+
+// The words of a row of mirrored elements.
+fn mirrored_walk(triangles: &Triangles, row: &Row) -> Walk
+    requires triangles { AreTriangles triangles.now }
+    requires among { IsAmong triangles.now row.now.pair }
+    requires mirrored { row.now.pair.second < row.now.pair.first }
+    ensures { IsMirroredWalkOf triangles.now row.now result }
+{
+    let slots = &triangles.slots;
+    let pair = &row.pair;
+    let before = pair.outer * triangles.pairs;
+    Walk {
+        place: before + (pairs(triangles.negated, pair.first) + pair.second),
+        step: if row.is_second { 1 } else { triangles.pairs },
+        grows: false,
+        slot: pair.outer,
+        next: u64::from(!row.is_second),
+        column: slots.grid.line as u64,
+        region: slots.pieces,
+    }
+}
+
+// Turns the signs of words, if they are to be.
+fn turn(negated: bool, words: &mut [u64])
+    ensures { (k : ℕ) → k < length words.new → slice_index words.new k ≡ turned negated (slice_index words.old k) }
+{
+    for k in 0..words.len() {
+        words[k] = signed(negated, words[k]);
+    }
+}
+
+// Makes each word 0.
+fn clear(words: &mut [u64])
+    ensures { words.new ≡ replicate (length words.old) 0 }
+{
+    words.fill(0);
+}
+
+// The elements of a row, all of which are stored.
+fn read_stored<D: Disk>(
+    disk: &mut D,
+    packed: &str,
+    triangles: &Triangles,
+    lines: &mut [u64],
+    row: &Row,
+    words: &mut [u64],
+) -> Result<(), Failed>
+    requires triangles { AreTriangles triangles.now }
+    requires among { (k : ℕ) → k < length words.old → IsAmong triangles.now (moved_pair row.now k) }
+    requires stored { (k : ℕ) → k < length words.old → IsPair triangles.now.negated (moved_pair row.now k).first (moved_pair row.now k).second }
+    requires few { length words.old ≤ 2048 }
+    requires file { ForSome (D.files disk.old) (λ fs. IsSomeAnd (file fs packed.now) (λ bytes. length bytes ≡ 32 + 8 * triangles.now.count)) }
+    requires grid { IsGrid triangles.now.slots.grid (length lines.old) }
+    requires lines { ForSome (D.files disk.old) (λ fs. AreLines triangles.now.slots.grid (contents fs packed.now) lines.old) }
+    ensures read { OnOk result (ForSome (D.files disk.old) (λ fs. (k : ℕ) → k < length words.new → slice_index words.new k ≡ stored_word (contents fs packed.now) (pair_place triangles.now (moved_pair row.now k)))) }
+    ensures lines { OnOk result (ForSome (D.files disk.old) (λ fs. AreLines triangles.now.slots.grid (contents fs packed.now) lines.new)) }
+    ensures same { D.files disk.new ≡ D.files disk.old }
+    ensures cause { HasCause (D.faults disk.old) (D.faults disk.new) (IsErr result) }
+    ensures told { TellsFaults (D.faults disk.old) (D.faults disk.new) (IsErr result) }
+{
+    if words.is_empty() {
+        return Ok(());
+    }
+    let walk = stored_walk(triangles, row);
+    read_walk(disk, packed, &triangles.slots.grid, lines, &walk, words)?;
+    Ok(())
+}
+
+// The elements of a row, all of which are mirrored.
+fn read_mirrored<D: Disk>(
+    disk: &mut D,
+    packed: &str,
+    triangles: &Triangles,
+    lines: &mut [u64],
+    row: &Row,
+    words: &mut [u64],
+) -> Result<(), Failed>
+    requires triangles { AreTriangles triangles.now }
+    requires among { (k : ℕ) → k < length words.old → IsAmong triangles.now (moved_pair row.now k) }
+    requires mirrored { (k : ℕ) → k < length words.old → (moved_pair row.now k).second < (moved_pair row.now k).first }
+    requires few { length words.old ≤ 2048 }
+    requires file { ForSome (D.files disk.old) (λ fs. IsSomeAnd (file fs packed.now) (λ bytes. length bytes ≡ 32 + 8 * triangles.now.count)) }
+    requires grid { IsGrid triangles.now.slots.grid (length lines.old) }
+    requires lines { ForSome (D.files disk.old) (λ fs. AreLines triangles.now.slots.grid (contents fs packed.now) lines.old) }
+    ensures read { OnOk result (ForSome (D.files disk.old) (λ fs. (k : ℕ) → k < length words.new → slice_index words.new k ≡ turned triangles.now.negated (stored_word (contents fs packed.now) (pair_place triangles.now (mirror (moved_pair row.now k)))))) }
+    ensures lines { OnOk result (ForSome (D.files disk.old) (λ fs. AreLines triangles.now.slots.grid (contents fs packed.now) lines.new)) }
+    ensures same { D.files disk.new ≡ D.files disk.old }
+    ensures cause { HasCause (D.faults disk.old) (D.faults disk.new) (IsErr result) }
+    ensures told { TellsFaults (D.faults disk.old) (D.faults disk.new) (IsErr result) }
+{
+    if words.is_empty() {
+        return Ok(());
+    }
+    let walk = mirrored_walk(triangles, row);
+    read_walk(disk, packed, &triangles.slots.grid, lines, &walk, words)?;
+    turn(triangles.negated, words);
+    Ok(())
+}
+
+// The elements of a row, of which none is mirrored.
+fn read_others<D: Disk>(
+    disk: &mut D,
+    packed: &str,
+    triangles: &Triangles,
+    lines: &mut [u64],
+    row: &Row,
+    words: &mut [u64],
+) -> Result<(), Failed>
+    requires triangles { AreTriangles triangles.now }
+    requires among { (k : ℕ) → k < length words.old → IsAmong triangles.now (moved_pair row.now k) }
+    requires others { (k : ℕ) → k < length words.old → (moved_pair row.now k).first ≤ (moved_pair row.now k).second }
+    requires few { length words.old ≤ 2048 }
+    requires file { ForSome (D.files disk.old) (λ fs. IsSomeAnd (file fs packed.now) (λ bytes. length bytes ≡ 32 + 8 * triangles.now.count)) }
+    requires grid { IsGrid triangles.now.slots.grid (length lines.old) }
+    requires lines { ForSome (D.files disk.old) (λ fs. AreLines triangles.now.slots.grid (contents fs packed.now) lines.old) }
+    ensures read { OnOk result (ForSome (D.files disk.old) (λ fs. (k : ℕ) → k < length words.new → slice_index words.new k ≡ cell_of triangles.now (contents fs packed.now) (moved_pair row.now k))) }
+    ensures lines { OnOk result (ForSome (D.files disk.old) (λ fs. AreLines triangles.now.slots.grid (contents fs packed.now) lines.new)) }
+    ensures same { D.files disk.new ≡ D.files disk.old }
+    ensures cause { HasCause (D.faults disk.old) (D.faults disk.new) (IsErr result) }
+    ensures told { TellsFaults (D.faults disk.old) (D.faults disk.new) (IsErr result) }
+{
+    if words.is_empty() {
+        return Ok(());
+    }
+    let zeros = diagonal_len(triangles.negated, row, words.len());
+    let behind = moved_row(row, zeros);
+    let (diagonal, stored) = words.split_at_mut(zeros);
+    clear(diagonal);
+    read_stored(disk, packed, triangles, lines, &behind, stored)?;
+    Ok(())
 }
 
 /// The elements of a row.
@@ -97,6 +293,7 @@ pub fn read_row<D: Disk>(
 ) -> Result<(), Failed>
     requires triangles { AreTriangles triangles.now }
     requires among { (k : ℕ) → k < length words.old → IsAmong triangles.now (moved_pair row.now k) }
+    requires few { length words.old ≤ 2048 }
     requires file { ForSome (D.files disk.old) (λ fs. IsSomeAnd (file fs packed.now) (λ bytes. length bytes ≡ 32 + 8 * triangles.now.count)) }
     requires grid { IsGrid triangles.now.slots.grid (length lines.old) }
     requires lines { ForSome (D.files disk.old) (λ fs. AreLines triangles.now.slots.grid (contents fs packed.now) lines.old) }
@@ -106,8 +303,13 @@ pub fn read_row<D: Disk>(
     ensures cause { HasCause (D.faults disk.old) (D.faults disk.new) (IsErr result) }
     ensures told { TellsFaults (D.faults disk.old) (D.faults disk.new) (IsErr result) }
 {
-    for k in 0..words.len() {
-        words[k] = cell_at(disk, packed, triangles, lines, moved_pair(row, k as u64))?;
+    if words.is_empty() {
+        return Ok(());
     }
+    let len = mirrored_len(row, words.len());
+    let behind = moved_row(row, len);
+    let (mirrored, rest) = words.split_at_mut(len);
+    read_mirrored(disk, packed, triangles, lines, row, mirrored)?;
+    read_others(disk, packed, triangles, lines, &behind, rest)?;
     Ok(())
 }

@@ -1,17 +1,15 @@
-// Which slot is for which line: that of a column, the pairs with one second coordinate, or that of a piece of a triangle.
+// Which slots are for which lines: those of columns, the pairs with one second coordinate, and those of pieces of triangles.
 ghost use Rattle.std.specs.Prelude.{◌≡◌, ◌+◌, ◌*◌, ◌<◌, ◌≤◌, length};
 ghost use Rattle.tce_sym.specs.Storage.{AreRight};
-ghost use Rattle.tce_sym.specs.Lines.{IsGrid, AreSlots};
+ghost use Rattle.tce_sym.specs.Lines.{IsGrid};
 
-use crate::lines::{Grid, LONGEST_LINE};
+use crate::lines::{Grid, LONGEST_LINE, WINDOW};
 use crate::symmetry::Symmetry;
+use crate::walks::Region;
 use tce_space::Shape;
 use tce_tools::is_row_major;
 
-// The lines of a triangle that are read at once where the array's rows go through many triangles.
-const LINES_AHEAD: u64 = 32;
-
-// The slots for pieces where they do not.
+// The slots for pieces.
 const PIECES: u64 = 8192;
 
 /// The slots for the lines. Slots of columns come first, then those of pieces.
@@ -19,18 +17,14 @@ const PIECES: u64 = 8192;
 pub struct Slots {
     /// The room for the lines.
     pub grid: Grid,
-    /// The last slot of a column: one less than a power of two.
-    pub columns: u64,
+    /// Those of columns.
+    pub columns: Region,
+    /// Those of pieces.
+    pub pieces: Region,
     /// The slots from a column to that with the next place of the others.
     pub by_outer: u64,
     /// The slots from a column to the next.
     pub by_second: u64,
-    /// The last slot of a piece, counted from the first: one less than a power of two.
-    pub pieces: u64,
-    /// The lines of a triangle that are read at once.
-    pub ahead: u64,
-    /// A line has two to this power words, where there are so many.
-    pub shift: u32,
 }
 
 // A power of two that is no less than a number, or the highest one within a limit.
@@ -106,11 +100,43 @@ fn columns_of(shape: &Shape, s: &Symmetry, room: usize) -> (u64, u64, u64)
     (product_behind(edges, first), edges[second], edges[first])
 }
 
+// The slots for columns.
+fn columns_from(columns: u64, by_second: u64) -> Region {
+    Region {
+        base: 0,
+        mask: columns.saturating_sub(1),
+        shift: 0,
+        groups: 1,
+        ahead: 0,
+        unit: 1,
+        next: by_second as usize,
+        growth: 1,
+    }
+}
+
+// The slots for pieces behind so many for columns: as many for each triangle as there is room for, up to so many triangles.
+fn pieces_behind(grid: &Grid, columns: u64, pieces: u64, others: u64) -> Region
+    requires { 0 < pieces }
+{
+    let groups = power_within(others, pieces);
+    let ahead = pieces / groups;
+    let line = grid.line.min(LONGEST_LINE) as u64;
+    Region {
+        base: columns,
+        mask: groups - 1,
+        shift: shift_of(grid.line),
+        groups,
+        ahead: (ahead.saturating_sub(1)).wrapping_mul(groups),
+        unit: line * ahead.min(WINDOW as u64 / line.max(1)),
+        next: groups as usize,
+        growth: 0,
+    }
+}
+
 /// The slots for the lines of a tensor of which so many words are stored.
 pub fn slots_of(shape: &Shape, s: &Symmetry, count: u64, room: usize) -> Slots
     requires right { AreRight shape.now.extents s.now }
     requires some { 32 ≤ room }
-    ensures slots { AreSlots result }
     ensures grid { IsGrid result.grid room }
     ensures count { result.grid.count ≡ count }
 {
@@ -119,19 +145,14 @@ pub fn slots_of(shape: &Shape, s: &Symmetry, count: u64, room: usize) -> Slots
     let limit = (room as u64 / 64).max(1);
     let others = behind / along.max(1);
     let columns = power_within(behind, limit);
-    let pieces = if is_last {
-        power_within(PIECES, limit)
-    } else {
-        power_within(others.saturating_mul(LINES_AHEAD), limit)
-    };
+    let pieces = power_within(PIECES, limit);
     let grid = grid_of((columns + pieces) as usize, wanted, count, room);
+    let by_second = if is_last { 1 } else { others };
     Slots {
         grid,
-        columns: columns - 1,
+        columns: columns_from(columns, by_second),
+        pieces: pieces_behind(&grid, columns, pieces, others),
         by_outer: if is_last { along } else { 1 },
-        by_second: if is_last { 1 } else { others },
-        pieces: pieces - 1,
-        ahead: if is_last { 1 } else { LINES_AHEAD },
-        shift: shift_of(grid.line),
+        by_second,
     }
 }

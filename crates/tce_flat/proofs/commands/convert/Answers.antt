@@ -2,6 +2,8 @@ use Rattle.std.proofs.Common.{rules, ◌∙◌}
 use Rattle.tce_flat.specs.Refusals.{IsFormRefusal}
 use Rattle.tce_flat.proofs.Names.{short_tensor, short_spec}
 use Rattle.tce_flat.proofs.Tools.{converted_from, refused_for, unchanged_from, cause_from, shaped}
+use Rattle.tce_flat.specs.NoHalf.{LeavesConverting}
+use Rattle.tce_flat.proofs.NoHalf.{left_for}
 use Rattle.tce_flat.proofs.commands.convert.Goals as goal
 
 pub find_tensor-requires-clause-spec : goal.find_tensor-requires-clause-spec
@@ -31,3 +33,8 @@ returns-clause-cause g c = cause_from _ _ _ _ _ c.in_ok-found.ensures.cause c.co
 
 pub returns-clause-told : goal.returns-clause-told
 returns-clause-told g c = λ no. c.convert_tensor-moved.ensures.told no ∙ c.in_ok-found.ensures.told (search rules)
+
+pub returns-clause-no_half : goal.returns-clause-no_half
+returns-clause-no_half g c =
+    left_for (LeavesConverting c.args.tensor.now c.args.form) c.args.spec.now c.args.tensor.now c.shape.result.now (g.D.Disk.files c.args.disk.now) _ _ c.in_ok-found.ensures.same
+    (shaped _ c.args.spec.now c.args.tensor.now _ c.shape.result.now c.shape.ensures c.in_ok-found.ensures.found) c.convert_tensor-moved.ensures.no_half

@@ -25,7 +25,6 @@ returns-clause-triangles c =
           ∙ ap (λ n. product (at_others c.args.s.now c.args.shape.now.extents) * n) (c.pairs.ensures ∙ ap (pairs c.args.s.now.negated) extent));
       small = c.stored_count-count.ensures.small;
       few = omega (arith, others c, small.others);
-      slots = c.slots_of.ensures.slots;
       grid = c.slots_of.ensures.count;
     }
 

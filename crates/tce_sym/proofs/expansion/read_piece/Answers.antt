@@ -5,7 +5,6 @@ use Rattle.tce_space.specs.Tiling.{Tiling}
 use Rattle.tce_tools.specs.Flat.{contents}
 use Rattle.tce_tools.specs.Runs.{moved}
 use Rattle.tce_sym.specs.Storage.{full_cell}
-use Rattle.tce_sym.specs.Lines.{AreLines}
 use Rattle.tce_sym.specs.Cells.{moved_pair}
 use Rattle.tce_sym.specs.TileRows.{AreWords}
 use Rattle.tce_sym.proofs.FullCells.{among, cell_is}
@@ -17,7 +16,7 @@ use Rattle.tce_sym.proofs.expansion.read_piece.Goals as goal
 pub loop-filled-init : goal.loop-filled-init
 loop-filled-init g c = record {
   filled = omega arith;
-  read = λ x told. none_filled c.args.shape.now (full_cell c.args.shape.now.extents c.args.s.now (contents x c.args.packed.now)) c.args.start (length c.args.words.now) c.clear.new.words c.clear.ensures;
+  read = λ x told. none_filled c.args.source.now.shape.now (full_cell c.args.source.now.shape.now.extents c.args.source.now.s.now (contents x c.args.source.now.packed.now)) c.args.start (length c.args.words.now) c.clear.new.words c.clear.ensures;
   lines = c.requires.lines;
   files = refl;
   later = omega arith;
@@ -26,7 +25,7 @@ loop-filled-init g c = record {
 
 pub row_of-row-requires-clause-inside : goal.row_of-row-requires-clause-inside
 row_of-row-requires-clause-inside g c = λ some.
-    subst (IsInside c.args.shape.now.extents) (moved_none c.tile_row_at-tile_row.result.coords.items) (c.tile_row_at-tile_row.ensures.row.inside 0 some)
+    subst (IsInside c.args.source.now.shape.now.extents) (moved_none c.tile_row_at-tile_row.result.coords.items) (c.tile_row_at-tile_row.ensures.row.inside 0 some)
 
 pub read_row-requires-clause-among : goal.read_row-requires-clause-among
 read_row-requires-clause-among g c k short =
@@ -36,17 +35,17 @@ read_row-requires-clause-among g c k short =
     length-take-le n (drop c.loop-filled.filled c.loop-filled.words) (omega (arith, length-drop c.loop-filled.filled c.loop-filled.words, c.loop-filled-test.true, c.min-len.ensures, c.min-used.ensures)) in
     let within : k < c.tile_row_at-tile_row.result.used = omega (arith, part, short, c.min-used.ensures) in
     let some : 0 < c.tile_row_at-tile_row.result.used = omega (arith, within) in
-    let first : IsInside c.args.shape.now.extents xs = subst (IsInside c.args.shape.now.extents) (moved_none xs) (c.tile_row_at-tile_row.ensures.row.inside 0 some) in
-    among c.args.shape.now.extents c.args.s.now (moved xs k) c.args.triangles.now (moved_pair c.row_of-row.result k) c.requires.right (c.tile_row_at-tile_row.ensures.row.inside k within) c.requires.of
-    (moved_is c.args.shape.now.extents c.args.s.now xs c.row_of-row.result k c.requires.right first (c.row_of-row.ensures.pair some) (c.row_of-row.ensures.second some) (c.row_of-row.ensures.other some))
+    let first : IsInside c.args.source.now.shape.now.extents xs = subst (IsInside c.args.source.now.shape.now.extents) (moved_none xs) (c.tile_row_at-tile_row.ensures.row.inside 0 some) in
+    among c.args.source.now.shape.now.extents c.args.source.now.s.now (moved xs k) c.args.source.now.triangles.now (moved_pair c.row_of-row.result k) c.requires.right (c.tile_row_at-tile_row.ensures.row.inside k within) c.requires.of
+    (moved_is c.args.source.now.shape.now.extents c.args.source.now.s.now xs c.row_of-row.result k c.requires.right first (c.row_of-row.ensures.pair some) (c.row_of-row.ensures.second some) (c.row_of-row.ensures.other some))
 
 pub loop-filled-smaller : goal.loop-filled-smaller
 loop-filled-smaller g c = omega (arith, c.tile_row_at-tile_row.ensures.row.some, c.min-len.ensures, c.loop-filled-test.true, c.loop-filled.auto.words)
 
 pub loop-filled-preserved : goal.loop-filled-preserved
 loop-filled-preserved g c =
-    let s : Tiling = c.args.shape.now in
-    let ns : List ℕ = c.args.shape.now.extents in
+    let s : Tiling = c.args.source.now.shape.now in
+    let ns : List ℕ = c.args.source.now.shape.now.extents in
     let xs : List ℕ = c.tile_row_at-tile_row.result.coords.items in
     let n : ℕ = c.loop-filled.filled + c.min-used.result - c.loop-filled.filled in
     let part : length (take n (drop c.loop-filled.filled c.loop-filled.words)) ≡ n =
@@ -54,19 +53,19 @@ loop-filled-preserved g c =
     let size : length c.read_row.new.words ≡ c.min-used.result = omega (arith, c.read_row.auto.words, part) in
     let pair_at : (k : ℕ) (within : k < c.tile_row_at-tile_row.result.used) → _ = λ k within.
     let some : 0 < c.tile_row_at-tile_row.result.used = omega (arith, within) in
-    moved_is c.args.shape.now.extents c.args.s.now xs c.row_of-row.result k c.requires.right (subst (IsInside c.args.shape.now.extents) (moved_none xs) (c.tile_row_at-tile_row.ensures.row.inside 0 some))
+    moved_is c.args.source.now.shape.now.extents c.args.source.now.s.now xs c.row_of-row.result k c.requires.right (subst (IsInside c.args.source.now.shape.now.extents) (moved_none xs) (c.tile_row_at-tile_row.ensures.row.inside 0 some))
     (c.row_of-row.ensures.pair some) (c.row_of-row.ensures.second some) (c.row_of-row.ensures.other some) in
     record {
       filled = omega (arith, c.min-len.ensures, c.loop-filled-test.true, c.loop-filled.auto.words);
       read = λ x told.
-          let bytes : List ℕ = contents x c.args.packed.now in
+          let bytes : List ℕ = contents x c.args.source.now.packed.now in
           let values = c.in_ok-read_row.ensures.read x (c.loop-filled.invariant.files ∙ told) in
-          more_filled s (full_cell ns c.args.s.now bytes) c.args.start c.loop-filled.filled c.min-len.result c.min-used.result c.tile_row_at-tile_row.result c.loop-filled.words c.read_row.new.words
+          more_filled s (full_cell ns c.args.source.now.s.now bytes) c.args.start c.loop-filled.filled c.min-len.result c.min-used.result c.tile_row_at-tile_row.result c.loop-filled.words c.read_row.new.words
           c.tile_row_at-tile_row.ensures.limits c.tile_row_at-tile_row.ensures.row (omega (arith, c.min-len.ensures)) c.min-used.ensures size (omega (arith, c.min-len.ensures, c.loop-filled-test.true))
           (λ k short.
           let within : k < c.tile_row_at-tile_row.result.used = omega (arith, short, c.min-used.ensures) in
           values k (omega (arith, size, short))
-          ∙ cell_is ns c.args.s.now bytes (moved xs k) c.args.triangles.now (moved_pair c.row_of-row.result k) c.requires.right (c.tile_row_at-tile_row.ensures.row.inside k within)
+          ∙ cell_is ns c.args.source.now.s.now bytes (moved xs k) c.args.source.now.triangles.now (moved_pair c.row_of-row.result k) c.requires.right (c.tile_row_at-tile_row.ensures.row.inside k within)
           c.requires.triangles c.requires.of (pair_at k within))
           (c.loop-filled.invariant.read x told);
       lines = λ x told. c.in_ok-read_row.ensures.lines x (c.loop-filled.invariant.files ∙ told);
@@ -78,7 +77,7 @@ loop-filled-preserved g c =
 pub returns-clause-read : goal.returns-clause-read
 returns-clause-read g c = λ x told.
     let all : c.loop-filled.filled ≡ length c.args.words.now = omega (arith, c.loop-filled.invariant.filled, c.loop-filled-test.false, c.loop-filled.auto.words) in
-    subst (λ n. AreWords c.args.shape.now (full_cell c.args.shape.now.extents c.args.s.now (contents x c.args.packed.now)) c.args.start n c.loop-filled.words) all (c.loop-filled.invariant.read x told).values
+    subst (λ n. AreWords c.args.source.now.shape.now (full_cell c.args.source.now.shape.now.extents c.args.source.now.s.now (contents x c.args.source.now.packed.now)) c.args.start n c.loop-filled.words) all (c.loop-filled.invariant.read x told).values
 
 pub returns-clause-told : goal.returns-clause-told
 returns-clause-told g c = λ _. c.loop-filled.invariant.counted

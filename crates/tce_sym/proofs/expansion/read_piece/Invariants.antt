@@ -9,8 +9,8 @@ use Rattle.tce_sym.proofs.expansion.read_piece.Given as goal
 abbrev pub invariant-loop-filled : goal.invariant-loop-filled
 invariant-loop-filled g l = record {
   filled : l.filled ≤ length l.fn.words;
-  read : ForSome (g.D.Disk.files l.fn.disk) (λ fs. AreFilled l.shape (full_cell l.shape.extents l.s (contents fs l.packed)) l.start l.filled l.words);
-  lines : ForSome (g.D.Disk.files l.fn.disk) (λ fs. AreLines l.triangles.slots.grid (contents fs l.packed) l.lines);
+  read : ForSome (g.D.Disk.files l.fn.disk) (λ fs. AreFilled l.source.shape.now (full_cell l.source.shape.now.extents l.source.s.now (contents fs l.source.packed.now)) l.start l.filled l.words);
+  lines : ForSome (g.D.Disk.files l.fn.disk) (λ fs. AreLines l.source.triangles.now.slots.grid (contents fs l.source.packed.now) l.lines);
   files : g.D.Disk.files l.disk ≡ g.D.Disk.files l.fn.disk;
   later : g.D.Disk.faults l.fn.disk ≤ g.D.Disk.faults l.disk;
   counted : g.D.Disk.faults l.disk ≡ g.D.Disk.faults l.fn.disk;

@@ -1,6 +1,5 @@
-use Rattle.std.proofs.Common.{◌≡◌, ◌∙◌, ◌<◌, ◌≤◌, ◌+◌, ◌-◌, length, take, drop, arith}
-use Rattle.std.proofs.lemmas.List.{get_or-take, length-take-le, length-drop}
-use Rattle.tce_sym.proofs.HeldLines.{part_read}
+use Rattle.std.proofs.Common.{arith}
+use Rattle.std.proofs.lemmas.List.{length-take-le}
 use Rattle.tce_sym.proofs.lines.put_lines.Goals as goal
 
 pub put_line-requires-clause-start : goal.put_line-requires-clause-start

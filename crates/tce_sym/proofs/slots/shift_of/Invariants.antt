@@ -1,4 +1,4 @@
-use Rattle.std.proofs.Common.{◌<◌, ◌≤◌, ◌-◌}
+use Rattle.std.proofs.Common.{◌≤◌, ◌-◌}
 use Rattle.tce_sym.proofs.slots.shift_of.Given as goal
 
 abbrev pub invariant-loop-shift : goal.invariant-loop-shift
