@@ -1,5 +1,5 @@
 -- Loops that rows put at the top, which show a conflict where they cross.
-use Rattle.std.proofs.Common.{◌≡◌, ℕ, Bool, true, false, not, ◌&&◌, ◌||◌, List, [], ◌∷◌, inl, inr, refl, arith, ◌∙◌, sym, ap}
+use Rattle.std.proofs.Common.{◌≡◌, ℕ, Bool, true, false, not, ◌&&◌, ◌||◌, List, ◌∷◌, inl, inr, arith, ◌∙◌, sym, ap}
 use Rattle.std.specs.Prelude.{IsTrue}
 use Rattle.std.proofs.lemmas.Bool.{cases_Bool, both_ways}
 use Rattle.tce_space.specs.IndexSet.{IsWithin, has}

@@ -2,9 +2,9 @@
 #![tactic(auto)]
 
 mod bound;
+mod groups;
 mod joint;
 mod operands;
-mod recent;
 mod root;
 mod rules;
 mod steps;

@@ -11,14 +11,14 @@ ghost use Rattle.tce_check.specs.First.{First, FirstPair};
 ghost use Rattle.tce_check.specs.Verdict.{WhereJoined, IsLeastUncovered};
 ghost use Rattle.tce_check.specs.Joint.{ChoiceCovered, ChoiceUncovered, IsFirstUncovered, IsBound};
 
+use crate::groups::Groups;
 use crate::joint::joint;
-use crate::recent::Recent;
 use crate::verdict::Verdict;
 use tce_nesting::{Choice, Row};
 use tce_space::{IndexSet, Space};
 use tce_tree::Tree;
 
-// A node but the root, the loops of its parent, the sets that may be fused above it, and the rows that are to stand for its steps.
+// A node but the root, the loops of its parent, the sets that may be fused above it, and the rows that are to stand for its steps, with their groups.
 #[derive(Clone, Copy)]
 pub(crate) struct Node<'a> {
     pub(crate) space: &'a Space,
@@ -27,6 +27,7 @@ pub(crate) struct Node<'a> {
     pub(crate) outer: IndexSet,
     pub(crate) choices: &'a [Choice],
     pub(crate) rows: &'a [Row],
+    pub(crate) groups: &'a Groups,
     // Some row stands for every state that costs no less.
     pub(crate) bound: Option<u128>,
 }
@@ -77,7 +78,7 @@ impl<'a> Node<'a> {
     }
 
     // Whether the choice's set may not be fused, or some row stands for its step.
-    fn is_covered(&self, joint: &Row, choice: &Choice, recent: &mut Recent) -> bool
+    fn is_covered(&self, joint: &Row, choice: &Choice) -> bool
         requires bound { IsBound self.now.outer self.now.rows.now self.now.bound }
         requires small { joint.now.cost < 2 ^ 97 }
         requires size { choice.now.size ≤ 2 ^ 90 }
@@ -88,11 +89,13 @@ impl<'a> Node<'a> {
             return true;
         }
         !joint.classes.allowed(choice.fused)
-            || recent.is_stood_for(self.rows, &state_of(joint, choice), self.outer)
+            || self
+                .groups
+                .is_stood_for(self.rows, &state_of(joint, choice), self.outer)
     }
 
     // The first choice for whose step no row stands.
-    fn first_uncovered_choice(&self, joint: &Row, recent: &mut Recent) -> Option<Choice>
+    fn first_uncovered_choice(&self, joint: &Row) -> Option<Choice>
         requires sizes { All (λ choice. choice.size ≤ 2 ^ 90) self.now.choices.now }
         requires bound { IsBound self.now.outer self.now.rows.now self.now.bound }
         requires small { joint.now.cost < 2 ^ 97 }
@@ -101,7 +104,7 @@ impl<'a> Node<'a> {
         ensures size { IfSome result (λ choice. choice.size ≤ 2 ^ 90) }
     {
         for choice in self.choices {
-            if !self.is_covered(joint, choice, recent) {
+            if !self.is_covered(joint, choice) {
                 return Some(*choice);
             }
         }
@@ -109,7 +112,7 @@ impl<'a> Node<'a> {
     }
 
     // Of the steps from two rows the one of the least set for which no row stands.
-    fn first_uncovered_step(&self, left: &Row, right: &Row, recent: &mut Recent) -> Option<Step>
+    fn first_uncovered_step(&self, left: &Row, right: &Row) -> Option<Step>
         requires inside { self.now.number < operations self.now.tree.now }
         requires choices { AreChoices self.now.space.now self.now.tree.now self.now.number self.now.choices.now }
         requires sizes { All (λ choice. choice.size ≤ 2 ^ 90) self.now.choices.now }
@@ -120,11 +123,11 @@ impl<'a> Node<'a> {
             (WhereJoined self.now.tree.now self.now.number (StepsCovered self.now.space.now self.now.tree.now self.now.outer self.now.number self.now.rows.now) left.now right.now)
             (λ found. IsLeastUncovered self.now.space.now self.now.tree.now self.now.outer self.now.number self.now.rows.now found.fused found.state left.now right.now) }
     {
-        let joint = joint(left, right, self.tree.loops(self.number))?;
-        if self.stands_for_all(joint.cost) {
+        if self.stands_for_all(left.cost + right.cost) {
             return None;
         }
-        let choice = self.first_uncovered_choice(&joint, recent)?;
+        let joint = joint(left, right, self.tree.loops(self.number))?;
+        let choice = self.first_uncovered_choice(&joint)?;
         let state = state_of(&joint, &choice);
         Some(Step {
             fused: choice.fused,
@@ -133,7 +136,7 @@ impl<'a> Node<'a> {
     }
 
     // The first such step with one left row, by the right row.
-    fn first_uncovered_with(&self, left: &Row, rights: &[Row], recent: &mut Recent) -> Option<Step>
+    fn first_uncovered_with(&self, left: &Row, rights: &[Row]) -> Option<Step>
         requires inside { self.now.number < operations self.now.tree.now }
         requires choices { AreChoices self.now.space.now self.now.tree.now self.now.number self.now.choices.now }
         requires sizes { All (λ choice. choice.size ≤ 2 ^ 90) self.now.choices.now }
@@ -146,7 +149,7 @@ impl<'a> Node<'a> {
             (IsLeastUncovered self.now.space.now self.now.tree.now self.now.outer self.now.number self.now.rows.now found.fused found.state left.now) rights.now) }
     {
         for right in rights {
-            if let Some(step) = self.first_uncovered_step(left, right, recent) {
+            if let Some(step) = self.first_uncovered_step(left, right) {
                 return Some(step);
             }
         }
@@ -166,9 +169,8 @@ impl<'a> Node<'a> {
             (λ found. FirstPair (WhereJoined self.now.tree.now self.now.number (StepsCovered self.now.space.now self.now.tree.now self.now.outer self.now.number self.now.rows.now))
             (IsLeastUncovered self.now.space.now self.now.tree.now self.now.outer self.now.number self.now.rows.now found.fused found.state) lefts.now rights.now) }
     {
-        let mut recent = Recent::new();
         for left in lefts {
-            if let Some(step) = self.first_uncovered_with(left, rights, &mut recent) {
+            if let Some(step) = self.first_uncovered_with(left, rights) {
                 return Some(step);
             }
         }

@@ -8,6 +8,7 @@ ghost use Rattle.tce_check.specs.First.{IsFirst};
 ghost use Rattle.tce_check.specs.Verdict.{CoversAt, FailsAt};
 
 use crate::bound::bound_of;
+use crate::groups::Groups;
 use crate::operands::{leaf_row, left_rows, right_rows};
 use crate::steps::{Node, Step};
 use tce_nesting::{Tables, choices};
@@ -27,6 +28,7 @@ fn first_uncovered_at(space: &Space, tree: &Tree, tables: &Tables, v: u8) -> Opt
     let outer = tree.loops(parent);
     let choices = choices(space, tree, v);
     let rows = tables.rows(v);
+    let groups = Groups::of(rows, outer);
     let node = Node {
         space,
         tree,
@@ -34,6 +36,7 @@ fn first_uncovered_at(space: &Space, tree: &Tree, tables: &Tables, v: u8) -> Opt
         outer,
         choices: choices.as_slice(),
         rows,
+        groups: &groups,
         bound: bound_of(rows, outer),
     };
     node.first_uncovered(

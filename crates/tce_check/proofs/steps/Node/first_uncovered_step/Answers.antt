@@ -1,4 +1,4 @@
-use Rattle.std.proofs.Common.{refl, subst}
+use Rattle.std.proofs.Common.{◌+◌, refl, ap, ◌∙◌, subst}
 use Rattle.std.specs.List.{Any}
 use Rattle.tce_states.specs.Relation.{Relation, HasNoConflict}
 use Rattle.tce_states.specs.Row.{Row, StandsFor, rows_joined}
@@ -26,7 +26,7 @@ returns c =
 pub returns-then-stands_for_all : goal.returns-then-stands_for_all
 returns-then-stands_for_all c =
     let node = c.args.self.now in
-    let join = subst (λ s. IsJointOf s c.args.left.now c.args.right.now c.in_ok-joint.joint) c.loops.ensures.value c.in_ok-joint.ensures.joins in
-    let all = subst (λ (r : Row). (relation : Relation) → Any (StandsFor node.outer relation r.cost) node.rows.now) c.joint-2.view_is
+    let cost = ap (λ (l : Row). l.cost + c.right.inside.cost) c.left.view_is ∙ ap (λ (r : Row). c.args.left.now.cost + r.cost) c.right.view_is in
+    let all = subst (λ n. (relation : Relation) → Any (StandsFor node.outer relation n) node.rows.now) cost
     (c.stands_for_all.ensures c.if-stands_for_all.true) in
-    λ quiet. steps_of_bound node.space.now node.tree.now node.outer node.number node.rows.now c.args.left.now c.args.right.now c.in_ok-joint.joint join all
+    λ quiet. steps_of_bound node.space.now node.tree.now node.outer node.number node.rows.now c.args.left.now c.args.right.now all

@@ -1,7 +1,7 @@
 use Rattle.std.specs.List.{AllWithin}
 use Rattle.tce_states.specs.Relation.{above}
 use Rattle.tce_states.specs.Row.{Row, StandsFor}
-use Rattle.tce_check.proofs.recent.place_of.Given as goal
+use Rattle.tce_check.proofs.groups.place_of.Given as goal
 
 abbrev pub invariant-loop-place : goal.invariant-loop-place
 invariant-loop-place l = AllWithin (λ (row : Row). StandsFor l.outer (above l.state.classes) l.state.cost row → ⊥) l.rows 0 l.place
