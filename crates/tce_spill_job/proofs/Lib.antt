@@ -1,0 +1,11 @@
+pub mod Roots
+pub mod PieceReads
+pub mod Sources
+pub mod Values
+pub mod Reports
+pub mod Afforded
+pub mod Ended
+pub mod Causes
+pub mod Turns
+pub mod Others
+pub mod Ready

@@ -1,0 +1,98 @@
+use Rattle.std.proofs.Common.{ℕ, ◌+◌, List, sym, subst, ap, ◌∙◌, arith, rules}
+use Rattle.tce_space.specs.IndexSet.{has}
+use Rattle.tce_tree.specs.ContractionTree.{operations}
+use Rattle.tce_spill_job.specs.Reports.{HasRun}
+use Rattle.tce_spill_job.proofs.Roots.{told_more, told_same}
+use Rattle.tce_spill_job.proofs.Reports.{taken_more, run_taken, run_more, run_same}
+use Rattle.tce_spill_job.proofs.Ended.{late_fault, failed_left, failed_takings}
+use Rattle.tce_spill_job.proofs.Turns.{operands_there, held_more, held_same}
+use Rattle.tce_spill_job.proofs.run.run_all.Goals as goal
+use Rattle.tce_spill_job.proofs.run.run_all.Goals.{then-has_root+in-Ok-run_piece+in-Ok-push_piece, else-has_root}
+
+pub run_piece-requires-clause-operands : goal.run_piece-requires-clause-operands
+run_piece-requires-clause-operands g c =
+    let size = c.count-count.ensures.value ∙ ap operations c.tree.ensures.tree in
+    operands_there (g.D.Disk.files c.args.disk.now) (g.D.Disk.files c.loop-root.disk) c.args.spec.now (has c.args.spilling.cuts) c.args.spilling.budget c.loop-root.root c.tree.ensures.rules c.requires.can
+    (omega (arith, c.loop-root-test.true, size)) (sym c.has_root.ensures ∙ c.if-has_root.true) c.requires.operands c.loop-root.invariant.told c.loop-root.invariant.held
+
+pub returns-in_default-push_piece-clause-left : goal.returns-in_default-push_piece-clause-left
+returns-in_default-push_piece-clause-left g c =
+    let size = c.count-count.ensures.value ∙ ap operations c.tree.ensures.tree in (
+      c.loop-root.root + 1,
+      record {
+        inside = omega (arith, c.loop-root-test.true, size);
+        files = told_more (g.D.Disk.files c.args.disk.now) (g.D.Disk.files c.loop-root.disk) (g.D.Disk.files c.run_piece.new.disk) c.args.spec.now (has c.args.spilling.cuts) c.loop-root.root
+            (sym c.has_root.ensures ∙ c.if-has_root.true) c.loop-root.invariant.told c.in-Ok-run_piece.ensures.told;
+      },
+    )
+
+pub returns-in_default-push_piece-clause-takings : goal.returns-in_default-push_piece-clause-takings
+returns-in_default-push_piece-clause-takings g c =
+    let size = c.count-count.ensures.value ∙ ap operations c.tree.ensures.tree in
+    let before = g.R.Room.takings c.args.room.now in
+    let now = g.R.Room.takings c.loop-root.room in
+    let one = c.in-Ok-run_piece.ensures.reported in
+    record {
+      end = c.loop-root.root + 1;
+      inside = omega (arith, c.loop-root-test.true, size);
+      taken = taken_more c.args.spec.now (has c.args.spilling.cuts) c.loop-root.root c.args.spilling.budget before now (g.R.Room.takings c.run_piece.new.room) (sym c.has_root.ensures ∙ c.if-has_root.true)
+          (run_taken c.args.spec.now (has c.args.spilling.cuts) c.loop-root.root c.args.spilling.budget before now c.loop-root.text.items c.loop-root.invariant.run)
+          (record { plan = one.plan; least = one.least; taken = one.taken });
+    }
+
+pub returns-in-Err-clause-refused : goal.returns-in-Err-clause-refused
+returns-in-Err-clause-refused g c =
+    let size = c.count-count.ensures.value ∙ ap operations c.tree.ensures.tree in
+    late_fault (g.D.Disk.files c.args.disk.now) (g.D.Disk.files c.loop-root.disk) c.args.spec.now (has c.args.spilling.cuts) c.loop-root.root c.in-Err.fault c.tree.ensures.rules
+    (omega (arith, c.loop-root-test.true, size)) (sym c.has_root.ensures ∙ c.if-has_root.true) c.loop-root.invariant.told c.in-Err.ensures.refused
+
+pub returns-in-Err-clause-left : goal.returns-in-Err-clause-left
+returns-in-Err-clause-left g c =
+    let size = c.count-count.ensures.value ∙ ap operations c.tree.ensures.tree in
+    failed_left (g.D.Disk.files c.args.disk.now) (g.D.Disk.files c.loop-root.disk) (g.D.Disk.files c.run_piece.new.disk) c.args.spec.now (has c.args.spilling.cuts) c.loop-root.root c.in-Err.fault
+    (omega (arith, c.loop-root-test.true, size)) (sym c.has_root.ensures ∙ c.if-has_root.true) c.loop-root.invariant.told c.in-Err.ensures.unchanged c.in-Err.ensures.others c.in-Err.ensures.no_half c.in-Err.ensures.refused
+
+pub returns-in-Err-clause-takings : goal.returns-in-Err-clause-takings
+returns-in-Err-clause-takings g c =
+    let size = c.count-count.ensures.value ∙ ap operations c.tree.ensures.tree in
+    let before = g.R.Room.takings c.args.room.now in
+    let now = g.R.Room.takings c.loop-root.room in
+    failed_takings c.args.spec.now (has c.args.spilling.cuts) c.loop-root.root c.args.spilling.budget before now (g.R.Room.takings c.run_piece.new.room)
+    (omega (arith, c.loop-root-test.true, size)) (sym c.has_root.ensures ∙ c.if-has_root.true)
+    (run_taken c.args.spec.now (has c.args.spilling.cuts) c.loop-root.root c.args.spilling.budget before now c.loop-root.text.items c.loop-root.invariant.run) c.in-Err.ensures.takings
+
+pub loop-root-preserved : goal.loop-root-preserved
+loop-root-preserved g c =
+    let s = c.args.spec.now in
+    let cut = has c.args.spilling.cuts in
+    let n = c.loop-root.root in
+    let budget = c.args.spilling.budget in
+    let start = g.D.Disk.files c.args.disk.now in
+    let now = g.D.Disk.files c.loop-root.disk in
+    let before = g.R.Room.takings c.args.room.now in
+    let then = g.R.Room.takings c.loop-root.room in
+    let size = c.count-count.ensures.value ∙ ap operations c.tree.ensures.tree in
+    elim c.if-has_root.branch [
+      | then-has_root+in-Ok-run_piece+in-Ok-push_piece w ↦
+          let root = sym c.has_root.ensures ∙ w.if-has_root.true in
+          let after = g.R.Room.takings w.run_piece.new.room in
+          let more =
+          run_more s cut n budget before then after c.loop-root.text.items w.push_piece.new.text.items w.in-Ok-run_piece.report root c.loop-root.invariant.run w.in-Ok-run_piece.ensures.reported w.in-Ok-push_piece.ensures in record {
+            told = ap (λ d. g.D.Disk.files d) w.disk-is ∙ told_more start now (g.D.Disk.files w.run_piece.new.disk) s cut n root c.loop-root.invariant.told w.in-Ok-run_piece.ensures.told;
+            held = held_more start s cut budget n c.tree.ensures.rules c.requires.can (omega (arith, c.loop-root-test.true, size)) root c.loop-root.invariant.held;
+            run =
+                subst (λ (x : List (ℕ × ℕ)). HasRun s cut (n + 1) budget before x c.if-has_root.text.items) (sym (ap (λ r. g.R.Room.takings r) w.room-is))
+                (subst (λ (t : List ℕ). HasRun s cut (n + 1) budget before after t) (sym (ap (λ t. t.items) w.text-is)) more);
+            counted = ap (λ d. g.D.Disk.faults d) w.disk-is ∙ w.in-Ok-run_piece.ensures.quiet (search rules) ∙ c.loop-root.invariant.counted;
+          }
+      | else-has_root w ↦
+          let root = sym c.has_root.ensures ∙ w.if-has_root.false in
+          let same = run_same s cut n budget before then c.loop-root.text.items root c.loop-root.invariant.run in record {
+            told = ap (λ d. g.D.Disk.files d) w.disk-is ∙ told_same start now s cut n root c.loop-root.invariant.told;
+            held = held_same start s cut budget n c.tree.ensures.rules c.requires.can (omega (arith, c.loop-root-test.true, size)) root c.loop-root.invariant.held;
+            run =
+                subst (λ (x : List (ℕ × ℕ)). HasRun s cut (n + 1) budget before x c.if-has_root.text.items) (sym (ap (λ r. g.R.Room.takings r) w.room-is))
+                (subst (λ (t : List ℕ). HasRun s cut (n + 1) budget before then t) (sym (ap (λ t. t.items) w.text-is)) same);
+            counted = ap (λ d. g.D.Disk.faults d) w.disk-is ∙ c.loop-root.invariant.counted;
+          }
+    ]
