@@ -3,17 +3,20 @@ use Rattle.std.proofs.Common.{◌≡◌, refl, sym, ap, ◌∙◌, ◌⊎◌, in
 use Rattle.tce_command.specs.Outcome.{HasLine}
 use Rattle.tce_command.specs.Refusals.{IsFree, SameRefusal}
 use Rattle.tce_command.specs.CommandRefusals.{EndsAlike, HasNames, MayReplace}
-use Rattle.tce_command.specs.Report.{LineNames, IsWellFormed, NamesNoIndex, NamesNothing, code_of, einsum_status, error_text, line_over, refusal_line, status_of, sym_line, wants_memory}
+use Rattle.tce_command.specs.Report.{LineNames, IsWellFormed, IsWrong, NamesNoIndex, NamesNothing, code_of, einsum_status, ending_of, error_text, line_over, refusal_line, status_of, sym_line, trouble_of, wants_memory}
 use Rattle.tce_tree.specs.declared.fault.TreeFault.TheVariants as trees
 use Rattle.tce_declarations.specs.declared.fault.SpecFault.{SpecFault}
 use Rattle.tce_declarations.specs.declared.fault.SpecFault.TheVariants.{Memory, Tree}
 use Rattle.tce_command.specs.declared.trouble.ArrayTrouble.TheVariants as contents
+use Rattle.tce_command.specs.declared.trouble.CertFlaw.{CertFlaw}
+use Rattle.tce_command.specs.declared.trouble.CertFlaw.TheVariants as flaws
 use Rattle.tce_command.specs.declared.trouble.EinsumTrouble.{EinsumTrouble}
 use Rattle.tce_command.specs.declared.trouble.EinsumTrouble.TheVariants as einsums
 use Rattle.tce_command.specs.declared.trouble.SymTrouble.{SymTrouble}
 use Rattle.tce_command.specs.declared.refusal.Refusal.{Refusal}
 use Rattle.tce_command.specs.declared.refusal.Refusal.TheVariants as refusals
-use Rattle.tce_command.specs.declared.command_refusal.CommandRefusal.TheVariants.{Common}
+use Rattle.tce_command.specs.declared.command_refusal.CommandRefusal.{CommandRefusal}
+use Rattle.tce_command.specs.declared.command_refusal.CommandRefusal.TheVariants.{Common, Certificate}
 use Rattle.tce_command.specs.declared.status.Status.{Status}
 use Rattle.tce_command.specs.declared.status.Status.TheVariants.{Done, BadWords, SpecRefused, NoFile, ArrayRefused, BudgetTooSmall, IntermediatesTooLarge, CertRefused, DiskFault, SinkFault, WantOfMemory, FlatRefused, UnknownTensor, DoesNotFit, EinsumRefused, SymRefused}
 
@@ -68,6 +71,20 @@ well_formed (refusals.Array tensor (contents.BadHeader place)) = tt
 well_formed (refusals.Einsum (einsums.Spec fault)) = of_text_of_einsum fault
 well_formed (refusals.Einsum trouble) = tt
 well_formed refusal = tt
+
+pub is_wrong : (flaw : CertFlaw) → IsWrong (trouble_of flaw)
+is_wrong (flaws.BadText line) = tt
+is_wrong (flaws.WrongTree line) = tt
+is_wrong (flaws.NotLegal v) = tt
+is_wrong (flaws.OrderWrong v) = tt
+is_wrong (flaws.SizeWrong v size) = tt
+is_wrong (flaws.TotalWrong total) = tt
+is_wrong (flaws.NotCovered v fused classes cost) = tt
+is_wrong (flaws.BelowTotal sum) = tt
+
+pub ends_well_formed : (refusal : CommandRefusal) → IsWellFormed (ending_of refusal)
+ends_well_formed (Common refusal) = well_formed refusal
+ends_well_formed (Certificate flaw line) = is_wrong flaw
 
 -- what a line names is all that it says beside its status
 pub over : (names : LineNames) (status : Status) → NamesNothing status → error_text status ≡ line_over names status

@@ -23,6 +23,8 @@ use Rattle.tce_command.specs.declared.trouble.ArrayTrouble.{ArrayTrouble}
 use Rattle.tce_command.specs.declared.trouble.ArrayTrouble.TheVariants as contents
 use Rattle.tce_command.specs.declared.trouble.CertTrouble.{CertTrouble}
 use Rattle.tce_command.specs.declared.trouble.CertTrouble.TheVariants as troubles
+use Rattle.tce_command.specs.declared.trouble.CertFlaw.{CertFlaw}
+use Rattle.tce_command.specs.declared.trouble.CertFlaw.TheVariants as flaws
 use Rattle.tce_command.specs.declared.trouble.EinsumTrouble.{EinsumTrouble}
 use Rattle.tce_command.specs.declared.trouble.EinsumTrouble.TheVariants as einsums
 use Rattle.tce_command.specs.declared.trouble.SymTrouble.{SymTrouble}
@@ -147,20 +149,20 @@ error_text (DoesNotFit place) = codes "error 13: element " ++ decimal place ++ c
 error_text (EinsumRefused trouble) = codes "error 14: " ++ einsum_text trouble ++ codes "\n"
 error_text (SymRefused trouble) = sym_text trouble
 
--- what is wrong with the text of a certificate
+-- what is wrong with the text of a certificate; want of memory has a line of its own
 abbrev pub cert_text : CertFault → List ℕ
 cert_text (certs.BadText line) = codes "line " ++ decimal line ++ codes ": bad text"
 cert_text (certs.WrongTree line) = codes "line " ++ decimal line ++ codes ": does not fit the tree"
-cert_text certs.Memory = codes "want of memory" ++ [] ++ []
+cert_text certs.Memory = []
 
 -- a step for which no row stands: its node, the fused set, and the state to which it leads
 abbrev pub step_text : IndexSpace → ℕ → ℕ → List ℕ → ℕ → List ℕ
 step_text space v fused classes cost =
     codes "node " ++ decimal v ++ codes ": fused " ++ set_text space fused ++ codes " classes " ++ classes_text space classes ++ codes " cost " ++ decimal cost ++ codes " not covered"
 
--- which rule a plan breaks, and where
+-- which rule a plan breaks, and where; an accepted one breaks none
 abbrev pub verdict_text : IndexSpace → Verdict → List ℕ
-verdict_text space verdicts.Accepted = codes "accepted"
+verdict_text space verdicts.Accepted = []
 verdict_text space (verdicts.NotLegal v) = codes "node " ++ decimal v ++ codes ": fusion not legal"
 verdict_text space (verdicts.OrderWrong v) = codes "node " ++ decimal v ++ codes ": loop order"
 verdict_text space (verdicts.SizeWrong v size) = codes "node " ++ decimal v ++ codes ": size " ++ decimal size
@@ -249,6 +251,17 @@ abbrev pub fault_of : ArrayTrouble → ArrayFault
 fault_of (contents.BadLength len) = arrays.BadLength len
 fault_of (contents.BadHeader place) = arrays.BadHeader place
 
+-- what a status says of a certificate with this flaw
+abbrev pub trouble_of : CertFlaw → CertTrouble
+trouble_of (flaws.BadText line) = troubles.Text (certs.BadText line)
+trouble_of (flaws.WrongTree line) = troubles.Text (certs.WrongTree line)
+trouble_of (flaws.NotLegal v) = troubles.Verdict (verdicts.NotLegal v)
+trouble_of (flaws.OrderWrong v) = troubles.Verdict (verdicts.OrderWrong v)
+trouble_of (flaws.SizeWrong v size) = troubles.Verdict (verdicts.SizeWrong v size)
+trouble_of (flaws.TotalWrong total) = troubles.Verdict (verdicts.TotalWrong total)
+trouble_of (flaws.NotCovered v fused classes cost) = troubles.Verdict (verdicts.NotCovered v fused classes cost)
+trouble_of (flaws.BelowTotal sum) = troubles.Verdict (verdicts.BelowTotal sum)
+
 -- the status of a command that is refused so
 abbrev pub einsum_status : EinsumTrouble → Status
 einsum_status (einsums.Spec fault) = if wants_memory fault then WantOfMemory else EinsumRefused (einsums.Spec fault)
@@ -275,4 +288,4 @@ refusal_line refusal = error_text (status_of refusal)
 
 abbrev pub ending_of : CommandRefusal → Status
 ending_of (commands.Common refusal) = status_of refusal
-ending_of (commands.Certificate trouble line) = CertRefused trouble
+ending_of (commands.Certificate flaw line) = CertRefused (trouble_of flaw)

@@ -1,9 +1,9 @@
 // Why commands are refused, those on certificates among them.
 ghost use Rattle.tce_command.specs.CommandRefusals.{IsOfCertificate};
-ghost use Rattle.tce_command.specs.Report.{NamesDeclared};
+ghost use Rattle.tce_command.specs.Report.{NamesDeclared, trouble_of};
 
 use crate::refusal::Refusal;
-use crate::trouble::CertTrouble;
+use crate::trouble::CertFlaw;
 use crate::trouble_line::{TroubleLine, trouble_line};
 use tce_space::Space;
 
@@ -13,17 +13,17 @@ pub enum CommandRefusal {
     /// For a reason that other commands have too.
     Common(Refusal),
     /// The certificate is refused, with the line that says why.
-    Certificate(CertTrouble, TroubleLine),
+    Certificate(CertFlaw, TroubleLine),
 }
 
 impl CommandRefusal {
     /// The refusal of a certificate. Indexes are named by this space.
-    pub fn certificate(space: &Space, trouble: CertTrouble) -> Self
-        requires { NamesDeclared space.now trouble }
-        ensures { IsOfCertificate space.now trouble result }
+    pub fn certificate(space: &Space, flaw: CertFlaw) -> Self
+        requires { NamesDeclared space.now (trouble_of flaw) }
+        ensures { IsOfCertificate space.now flaw result }
     {
-        let line = trouble_line(space, &trouble);
-        CommandRefusal::Certificate(trouble, line)
+        let line = trouble_line(space, &flaw);
+        CommandRefusal::Certificate(flaw, line)
     }
 }
 

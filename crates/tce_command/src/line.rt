@@ -3,9 +3,9 @@ ghost use Rattle.std.specs.Prelude.{◌≡◌, ◌+◌, ◌≤◌, ◌++◌, len
 ghost use Rattle.std.specs.Fmt.{decimal};
 ghost use Rattle.tce_command.specs.Report as reports;
 
-use crate::{EinsumTrouble, Status, SymTrouble};
+use crate::refusal::wants_memory;
+use crate::{ArrayTrouble, EinsumTrouble, Refusal, Status, SymTrouble};
 use arrayvec::ArrayString;
-use tce_array::ArrayFault;
 use tce_declarations::{Limit, SpecFault};
 use tce_fields::decimal_text;
 use tce_space::Name;
@@ -13,32 +13,39 @@ use tce_tree::TreeFault;
 
 pub(crate) type Line = ArrayString<256>;
 
-// The line of a status that names no index; `Done` and `SinkFault` have none. Of a file of stored pairs it is what is wrong
-// with it: that line names a tensor too.
-pub(crate) fn error_line(status: &Status) -> Line
-    requires no_index { reports.NamesNoIndex status.now }
-    requires well_formed { reports.IsWellFormed status.now }
-    ensures { result.bytes ≡ reports.error_text status.now }
+// The line of words that are those of no command.
+pub(crate) fn words_line() -> Line
+    ensures { result.bytes ≡ reports.error_text Status.BadWords }
 {
-    match status {
-        Status::Done | Status::SinkFault => Line::new(),
-        Status::BadWords => fixed("error 1: bad words\n"),
-        Status::SpecRefused(fault) => spec_line(fault),
-        Status::NoFile(name) => joined("error 3: no file ", name.as_str(), "\n"),
-        Status::ArrayRefused(tensor, fault) => array_line(tensor, *fault),
-        Status::BudgetTooSmall(least) => numbered("error 5: budget needs ", *least as u128, "\n"),
-        Status::IntermediatesTooLarge(memory) => numbered("error 6: intermediates ", *memory, "\n"),
-        Status::CertRefused(_) => unreachable!(),
-        Status::DiskFault => fixed("error 8: disk fault\n"),
-        Status::WantOfMemory => fixed("error 10: want of memory\n"),
-        Status::FlatRefused(len) => numbered("error 11: flat length ", *len as u128, "\n"),
-        Status::UnknownTensor(name) => joined("error 12: no tensor ", name.as_str(), "\n"),
-        Status::DoesNotFit(place) => {
-            numbered("error 13: element ", *place as u128, " does not fit\n")
-        }
-        Status::EinsumRefused(trouble) => einsum_line(trouble),
-        Status::SymRefused(trouble) => sym_text(*trouble),
+    fixed("error 1: bad words\n")
+}
+
+// The line of a refusal.
+pub(crate) fn refusal_line(refusal: &Refusal) -> Line
+    ensures { result.bytes ≡ reports.refusal_line refusal.now }
+{
+    match refusal {
+        Refusal::Specification(fault) if wants_memory(fault) => memory_line(),
+        Refusal::Specification(fault) => spec_line(fault),
+        Refusal::Missing(name) => joined("error 3: no file ", name.as_str(), "\n"),
+        Refusal::Array(tensor, trouble) => array_line(tensor, *trouble),
+        Refusal::Budget(least) => numbered("error 5: budget needs ", *least as u128, "\n"),
+        Refusal::Intermediates(memory) => numbered("error 6: intermediates ", *memory, "\n"),
+        Refusal::Flat(len) => numbered("error 11: flat length ", *len as u128, "\n"),
+        Refusal::Tensor(name) => joined("error 12: no tensor ", name.as_str(), "\n"),
+        Refusal::Misfit(place) => numbered("error 13: element ", *place as u128, " does not fit\n"),
+        Refusal::Einsum(EinsumTrouble::Spec(fault)) if wants_memory(fault) => memory_line(),
+        Refusal::Einsum(trouble) => einsum_line(trouble),
+        Refusal::Symmetry(tensor, trouble) => symmetry_line(tensor, *trouble),
+        Refusal::Disk => fixed("error 8: disk fault\n"),
+        Refusal::Memory => memory_line(),
     }
+}
+
+fn memory_line() -> Line
+    ensures { result.bytes ≡ reports.error_text Status.WantOfMemory }
+{
+    fixed("error 10: want of memory\n")
 }
 
 fn fixed(text: &str) -> Line
@@ -51,7 +58,7 @@ fn fixed(text: &str) -> Line
     line
 }
 
-pub(crate) fn joined(before: &str, text: &str, after: &str) -> Line
+fn joined(before: &str, text: &str, after: &str) -> Line
     requires { length before.now + length text.now + length after.now ≤ 256 }
     ensures bytes { result.bytes ≡ before.now ++ text.now ++ after.now }
     ensures len { length result.bytes ≤ length before.now + length text.now + length after.now }
@@ -171,12 +178,11 @@ fn tree_text(fault: &TreeFault) -> Line
 }
 
 // The line of a file that is no array.
-fn array_line(tensor: &Name, fault: ArrayFault) -> Line
-    requires { reports.IsOfContents fault }
-    ensures { result.bytes ≡ reports.error_text (Status.ArrayRefused tensor.now fault) }
+fn array_line(tensor: &Name, trouble: ArrayTrouble) -> Line
+    ensures { result.bytes ≡ reports.error_text (Status.ArrayRefused tensor.now (reports.fault_of trouble)) }
 {
     let mut line = named("error 4: ", tensor, ".tca: ");
-    line.push_str(array_text(fault).as_str());
+    line.push_str(array_text(trouble).as_str());
     line.push_str("\n");
     line
 }
@@ -222,7 +228,7 @@ fn label_text(label: u8) -> Line
 }
 
 // The line of a file in which a tensor is stored once for each pair.
-pub(crate) fn symmetry_line(tensor: &Name, trouble: SymTrouble) -> Line
+fn symmetry_line(tensor: &Name, trouble: SymTrouble) -> Line
     ensures { result.bytes ≡ reports.sym_line tensor.now.bytes trouble }
 {
     let mut line = named("error 16: ", tensor, ".sym: ");
@@ -241,14 +247,12 @@ fn sym_text(trouble: SymTrouble) -> Line
     }
 }
 
-fn array_text(fault: ArrayFault) -> Line
-    requires { reports.IsOfContents fault }
-    ensures text { result.bytes ≡ reports.array_text fault }
+fn array_text(trouble: ArrayTrouble) -> Line
+    ensures text { result.bytes ≡ reports.array_text (reports.fault_of trouble) }
     ensures len { length result.bytes ≤ 60 }
 {
-    match fault {
-        ArrayFault::BadLength(len) => numbered("length ", len as u128, ""),
-        ArrayFault::BadHeader(place) => numbered("head byte ", place as u128, ""),
-        ArrayFault::NoFile | ArrayFault::Disk => unreachable!(),
+    match trouble {
+        ArrayTrouble::BadLength(len) => numbered("length ", len as u128, ""),
+        ArrayTrouble::BadHeader(place) => numbered("head byte ", place as u128, ""),
     }
 }

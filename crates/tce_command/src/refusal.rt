@@ -4,7 +4,7 @@ ghost use Rattle.tce_command.specs.Refusals.{NamesFile};
 ghost use Rattle.tce_command.specs.Report.{IsWellFormed, einsum_status, refusal_line, status_of, wants_memory};
 
 use crate::Status;
-use crate::line::{Line, error_line, symmetry_line};
+use crate::line::{Line, refusal_line};
 use crate::trouble::{ArrayTrouble, EinsumTrouble, SymTrouble};
 use tce_declarations::SpecFault;
 use tce_space::{FileName, Name};
@@ -40,7 +40,7 @@ pub enum Refusal {
 }
 
 // Whether a fault is want of memory.
-fn wants_memory(fault: &SpecFault) -> bool
+pub(crate) fn wants_memory(fault: &SpecFault) -> bool
     ensures { result ≡ wants_memory fault.now }
 {
     matches!(
@@ -96,19 +96,6 @@ impl Refusal {
     pub(crate) fn line(&self) -> Line
         ensures { result.bytes ≡ refusal_line self.now }
     {
-        match self {
-            Refusal::Symmetry(tensor, trouble) => symmetry_line(tensor, *trouble),
-            Refusal::Specification(_)
-            | Refusal::Missing(_)
-            | Refusal::Array(_, _)
-            | Refusal::Budget(_)
-            | Refusal::Intermediates(_)
-            | Refusal::Flat(_)
-            | Refusal::Tensor(_)
-            | Refusal::Misfit(_)
-            | Refusal::Einsum(_)
-            | Refusal::Disk
-            | Refusal::Memory => error_line(&self.status()),
-        }
+        refusal_line(self)
     }
 }

@@ -3,16 +3,18 @@ ghost use Rattle.std.specs.Prelude.{◌≡◌, ◌⊎◌};
 ghost use Rattle.tce_outside.specs.Fault.{HasCause};
 ghost use Rattle.tce_command.specs.Outcome.{Grew, GrewWithin, HasErrorLine, HasLine, IsKept};
 ghost use Rattle.tce_command.specs.CommandRefusals.{HasNames};
-ghost use Rattle.tce_command.specs.Report.{LineNames, ending_of, line_over};
+ghost use Rattle.tce_command.specs.Report.{IsWellFormed, LineNames, ending_of, line_over};
 
-use crate::line::error_line;
+use crate::line::words_line;
 use crate::{CommandRefusal, Status};
 use tce_outside::{OutFault, Sink};
 
 /// Puts the line of a refusal, and gives the status that the command ends with: `WantOfMemory` in the place of that of
 /// the refusal where the sink has no memory for the line, but never in the place of `DiskFault`.
+#[tactic(auto, using(crate::proofs::Statuses::ends_well_formed))]
 pub fn refuse<K: Sink>(refusal: CommandRefusal, out: &mut K) -> Status
     ensures kept { IsKept (ending_of refusal) result }
+    ensures well_formed { IsWellFormed result }
     ensures line { (names : LineNames) → HasNames names refusal → HasErrorLine names result (K.bytes out.old) (K.bytes out.new) (K.faults out.old) (K.faults out.new) }
     ensures cause { HasCause (K.faults out.old) (K.faults out.new) ⊥ }
 {
@@ -21,8 +23,8 @@ pub fn refuse<K: Sink>(refusal: CommandRefusal, out: &mut K) -> Status
             let line = refusal.line();
             put_line(refusal.status(), line.as_str(), out)
         }
-        CommandRefusal::Certificate(trouble, line) => {
-            put_line(Status::CertRefused(trouble), line.text.as_str(), out)
+        CommandRefusal::Certificate(flaw, line) => {
+            put_line(Status::CertRefused(flaw.trouble()), line.text.as_str(), out)
         }
     }
 }
@@ -31,17 +33,20 @@ pub fn refuse<K: Sink>(refusal: CommandRefusal, out: &mut K) -> Status
 /// or `WantOfMemory` where the sink has no memory for the line.
 pub fn refuse_words<K: Sink>(out: &mut K) -> Status
     ensures kept { IsKept Status.BadWords result }
+    ensures well_formed { IsWellFormed result }
     ensures line { (names : LineNames) → HasErrorLine names result (K.bytes out.old) (K.bytes out.new) (K.faults out.old) (K.faults out.new) }
     ensures cause { HasCause (K.faults out.old) (K.faults out.new) ⊥ }
 {
-    let line = error_line(&Status::BadWords);
+    let line = words_line();
     put_line(Status::BadWords, line.as_str(), out)
 }
 
 // Puts the line of a status.
 fn put_line<K: Sink>(status: Status, line: &str, out: &mut K) -> Status
-    requires { HasLine status }
+    requires line { HasLine status }
+    requires well_formed { IsWellFormed status }
     ensures kept { IsKept status result }
+    ensures well_formed { IsWellFormed result }
     ensures line { (names : LineNames) → line.now ≡ line_over names status → HasErrorLine names result (K.bytes out.old) (K.bytes out.new) (K.faults out.old) (K.faults out.new) }
     ensures cause { HasCause (K.faults out.old) (K.faults out.new) ⊥ }
 {
@@ -60,6 +65,7 @@ pub fn finish<K: Sink>(report: &[u8], out: &mut K) -> Status
     ensures failed { result ≡ Status.SinkFault → GrewWithin report.now (K.bytes out.old) (K.bytes out.new) }
     ensures memory { result ≡ Status.WantOfMemory → K.bytes out.new ≡ K.bytes out.old }
     ensures cases { (result ≡ Status.Done) ⊎ ((result ≡ Status.SinkFault) ⊎ (result ≡ Status.WantOfMemory)) }
+    ensures well_formed { IsWellFormed result }
     ensures cause { HasCause (K.faults out.old) (K.faults out.new) (result ≡ Status.SinkFault) }
 {
     match out.put(report) {

@@ -1,11 +1,13 @@
 // What is wrong with array files, certificates, einsum texts and files of stored pairs.
-ghost use Rattle.std.specs.Prelude.{◌≡◌};
-ghost use Rattle.tce_command.specs.Report.{fault_of};
+ghost use Rattle.std.specs.Prelude.{◌≡◌, MatchOption};
+ghost use Rattle.tce_command.specs.Report.{fault_of, trouble_of};
 
 use tce_array::ArrayFault;
 use tce_cert::CertFault;
 use tce_check::Verdict;
 use tce_declarations::SpecFault;
+use tce_nesting::Nesting;
+use tce_space::IndexSet;
 
 /// Why a file that is there is no array of a tensor's shape.
 #[derive(Clone, Copy, Debug, PartialEq, Eq)]
@@ -35,6 +37,75 @@ pub enum CertTrouble {
     Text(CertFault),
     /// The plan breaks this rule.
     Verdict(Verdict),
+}
+
+/// What is wrong with a certificate: what [`CertTrouble`] says of it, without want of memory and an accepted plan.
+#[derive(Debug, Drop)]
+pub enum CertFlaw {
+    /// This line, counted from 1, has none of the forms of lines, has no line feed, or is missing.
+    BadText(u64),
+    /// This line, counted from 1, has a form, and does not fit the tree or its place.
+    WrongTree(u64),
+    /// At this node two loops have scopes of which neither contains the other.
+    NotLegal(u8),
+    /// At this node the fused loops do not lead its order and its parent's.
+    OrderWrong(u8),
+    /// This node keeps that many elements, and another number is stated.
+    SizeWrong(u8, u128),
+    /// The nodes but the root keep that many elements together, and another number is stated.
+    TotalWrong(u128),
+    /// No row of this node stands for the state with these classes and this cost, to which a step with this fused set leads.
+    NotCovered(u8, IndexSet, Nesting, u128),
+    /// At the root two rows have this sum, which is below the stated memory.
+    BelowTotal(u128),
+}
+
+impl CertFlaw {
+    /// What is wrong with a text that is not read, or `None` where memory was wanting.
+    pub fn of_text(fault: CertFault) -> Option<Self>
+        ensures { MatchOption result (fault ≡ CertFault.Memory) (λ flaw. trouble_of flaw ≡ CertTrouble.Text fault) }
+    {
+        match fault {
+            CertFault::BadText(line) => Some(CertFlaw::BadText(line)),
+            CertFault::WrongTree(line) => Some(CertFlaw::WrongTree(line)),
+            CertFault::Memory => None,
+        }
+    }
+
+    /// What is wrong with a plan, or `None` where it is accepted.
+    pub fn of_plan(verdict: Verdict) -> Option<Self>
+        ensures { MatchOption result (verdict ≡ Verdict.Accepted) (λ flaw. trouble_of flaw ≡ CertTrouble.Verdict verdict) }
+    {
+        match verdict {
+            Verdict::Accepted => None,
+            Verdict::NotLegal(v) => Some(CertFlaw::NotLegal(v)),
+            Verdict::OrderWrong(v) => Some(CertFlaw::OrderWrong(v)),
+            Verdict::SizeWrong(v, size) => Some(CertFlaw::SizeWrong(v, size)),
+            Verdict::TotalWrong(total) => Some(CertFlaw::TotalWrong(total)),
+            Verdict::NotCovered(v, fused, classes, cost) => {
+                Some(CertFlaw::NotCovered(v, fused, classes, cost))
+            }
+            Verdict::BelowTotal(sum) => Some(CertFlaw::BelowTotal(sum)),
+        }
+    }
+
+    /// What a status says of the certificate.
+    pub fn trouble(self) -> CertTrouble
+        ensures { result ≡ trouble_of self }
+    {
+        match self {
+            CertFlaw::BadText(line) => CertTrouble::Text(CertFault::BadText(line)),
+            CertFlaw::WrongTree(line) => CertTrouble::Text(CertFault::WrongTree(line)),
+            CertFlaw::NotLegal(v) => CertTrouble::Verdict(Verdict::NotLegal(v)),
+            CertFlaw::OrderWrong(v) => CertTrouble::Verdict(Verdict::OrderWrong(v)),
+            CertFlaw::SizeWrong(v, size) => CertTrouble::Verdict(Verdict::SizeWrong(v, size)),
+            CertFlaw::TotalWrong(total) => CertTrouble::Verdict(Verdict::TotalWrong(total)),
+            CertFlaw::NotCovered(v, fused, classes, cost) => {
+                CertTrouble::Verdict(Verdict::NotCovered(v, fused, classes, cost))
+            }
+            CertFlaw::BelowTotal(sum) => CertTrouble::Verdict(Verdict::BelowTotal(sum)),
+        }
+    }
 }
 
 /// Why an einsum text that is contracted along a path is refused.

@@ -5,11 +5,9 @@ ghost use Rattle.tce_report.specs.NodeLine.{set_text};
 ghost use Rattle.tce_cert.specs.Lines.{classes_text};
 ghost use Rattle.tce_command.specs.Report as reports;
 
-use crate::line::{joined, numbered};
-use crate::trouble::CertTrouble;
+use crate::line::numbered;
+use crate::trouble::CertFlaw;
 use arrayvec::ArrayString;
-use tce_cert::CertFault;
-use tce_check::Verdict;
 use tce_fields::{decimal_text, members_of};
 use tce_nesting::Nesting;
 use tce_report::push_names;
@@ -23,58 +21,46 @@ pub struct TroubleLine {
 
 type LongText = ArrayString<4700>;
 
-pub(crate) fn trouble_line(space: &Space, trouble: &CertTrouble) -> TroubleLine
-    requires { reports.NamesDeclared space.now trouble.now }
-    ensures { result.text.bytes ≡ codes "error 7: " ++ reports.trouble_text space.now trouble.now ++ codes "\n" }
+pub(crate) fn trouble_line(space: &Space, flaw: &CertFlaw) -> TroubleLine
+    requires { reports.NamesDeclared space.now (reports.trouble_of flaw.now) }
+    ensures { result.text.bytes ≡ codes "error 7: " ++ reports.trouble_text space.now (reports.trouble_of flaw.now) ++ codes "\n" }
 {
     let mut line = LongText::new();
     line.push_str("error 7: ");
-    match trouble {
-        CertTrouble::Text(fault) => push_fault(&mut line, *fault),
-        CertTrouble::Verdict(verdict) => push_verdict(&mut line, space, verdict),
-    }
+    push_flaw(&mut line, space, flaw);
     line.push_str("\n");
     TroubleLine { text: line }
 }
 
-// What is wrong in the text.
-fn push_fault(line: &mut LongText, fault: CertFault)
-    requires { length line.old.bytes ≤ 9 }
-    ensures text { line.new.bytes ≡ line.old.bytes ++ reports.cert_text fault }
-    ensures room { length line.new.bytes ≤ 100 }
-{
-    let text = match fault {
-        CertFault::BadText(at) => numbered("line ", at as u128, ": bad text"),
-        CertFault::WrongTree(at) => numbered("line ", at as u128, ": does not fit the tree"),
-        CertFault::Memory => joined("want of memory", "", ""),
-    };
-    line.push_str(text.as_str());
-}
-
-// Which rule the plan breaks, and where.
-fn push_verdict(line: &mut LongText, space: &Space, verdict: &Verdict)
-    requires declared { reports.NamesDeclared space.now (CertTrouble.Verdict verdict.now) }
+// What is wrong, and where.
+fn push_flaw(line: &mut LongText, space: &Space, flaw: &CertFlaw)
+    requires declared { reports.NamesDeclared space.now (reports.trouble_of flaw.now) }
     requires room { length line.old.bytes ≤ 9 }
-    ensures text { line.new.bytes ≡ line.old.bytes ++ reports.verdict_text space.now verdict.now }
+    ensures text { line.new.bytes ≡ line.old.bytes ++ reports.trouble_text space.now (reports.trouble_of flaw.now) }
     ensures room { length line.new.bytes ≤ 4690 }
 {
-    match verdict {
-        Verdict::Accepted => line.push_str("accepted"),
-        Verdict::NotLegal(v) => {
+    match flaw {
+        CertFlaw::BadText(at) => {
+            line.push_str(numbered("line ", *at as u128, ": bad text").as_str())
+        }
+        CertFlaw::WrongTree(at) => {
+            line.push_str(numbered("line ", *at as u128, ": does not fit the tree").as_str())
+        }
+        CertFlaw::NotLegal(v) => {
             line.push_str(numbered("node ", *v as u128, ": fusion not legal").as_str())
         }
-        Verdict::OrderWrong(v) => {
+        CertFlaw::OrderWrong(v) => {
             line.push_str(numbered("node ", *v as u128, ": loop order").as_str())
         }
-        Verdict::SizeWrong(v, size) => {
+        CertFlaw::SizeWrong(v, size) => {
             line.push_str(numbered("node ", *v as u128, ": size ").as_str());
             line.push_str(decimal_text(*size).as_str())
         }
-        Verdict::TotalWrong(total) => line.push_str(numbered("memory ", *total, "").as_str()),
-        Verdict::NotCovered(v, fused, classes, cost) => {
+        CertFlaw::TotalWrong(total) => line.push_str(numbered("memory ", *total, "").as_str()),
+        CertFlaw::NotCovered(v, fused, classes, cost) => {
             push_step(line, space, *v, *fused, classes, *cost)
         }
-        Verdict::BelowTotal(sum) => line.push_str(numbered("below total ", *sum, "").as_str()),
+        CertFlaw::BelowTotal(sum) => line.push_str(numbered("below total ", *sum, "").as_str()),
     }
 }
 

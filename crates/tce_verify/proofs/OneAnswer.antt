@@ -14,7 +14,7 @@ use Rattle.tce_check.proofs.Verdicts.{one_verdict}
 use Rattle.tce_spec.specs.Specification.{Specification}
 use Rattle.tce_source.proofs.Outcomes.{one, one_refusal, not_both}
 use Rattle.tce_command.specs.Refusals.{IsFree, SameRefusal}
-use Rattle.tce_command.specs.Report.{line_over}
+use Rattle.tce_command.specs.Report.{line_over, trouble_of}
 use Rattle.tce_command.specs.CommandRefusals.{MayReplace, EndsAlike}
 use Rattle.tce_command.specs.declared.status.Status.TheVariants.{CertRefused}
 use Rattle.tce_command.specs.declared.trouble.CertTrouble.{CertTrouble}
@@ -93,7 +93,7 @@ one_unread name found a b p q free = absurd p
 pub granted : (files : Files) (spec cert : List ℕ) (a : CommandRefusal) → CanVerify files spec cert → IsVerifyRefusal files spec cert a → MayReplace a
 granted files spec cert (Common a) can (inl source) = not_both files spec can.specification a can.specified source
 granted files spec cert (Common a) can (inr unread) = unread_free cert (file files cert) can.text a can.held unread.1
-granted files spec cert (Certificate t line) can p = absurd (accepted_alone files spec cert t can p)
+granted files spec cert (Certificate t line) can p = absurd (accepted_alone files spec cert (trouble_of t) can p)
 
 pub alone : (files : Files) (spec cert : List ℕ) (a b : CommandRefusal) → IsVerifyRefusal files spec cert a → IsVerifyRefusal files spec cert b → (MayReplace b → ⊥)
     → MayReplace a ⊎ EndsAlike a b
@@ -106,7 +106,7 @@ alone files spec cert (Common a) (Certificate u other) (inr p) q free = inl (unr
 alone files spec cert (Certificate t line) (Common b) p (inl q) free = absurd (free (not_both files spec p.specification b p.specified q))
 alone files spec cert (Certificate t line) (Common b) p (inr q) free = absurd (free (unread_free cert (file files cert) p.text b p.held q.1))
 alone files spec cert (Certificate t line) (Certificate u other) p q free =
-    let same = trouble_alone files spec cert t u p q in
+    let same = trouble_alone files spec cert (trouble_of t) (trouble_of u) p q in
     inr (refl, λ space. ap (λ x. line_over space (CertRefused x)) same)
 
 pub one_report : (files : Files) (spec cert report other : List ℕ) → IsVerified files spec cert report → IsVerified files spec cert other → report ≡ other

@@ -4,6 +4,7 @@ use Rattle.std.specs.Option.{ForSome}
 use Rattle.tce_outside.specs.Files.{Files, file}
 use Rattle.tce_spec.specs.Specification.{Specification}
 use Rattle.tce_command.specs.CommandRefusals.{IsWrittenOver}
+use Rattle.tce_command.specs.Report.{trouble_of}
 use Rattle.tce_command.specs.declared.trouble.CertTrouble.{CertTrouble}
 use Rattle.tce_command.specs.declared.refusal.Refusal.{Refusal}
 use Rattle.tce_command.specs.declared.refusal.Refusal.TheVariants.{Missing, Disk, Memory}
@@ -35,10 +36,10 @@ pub record HasTrouble (files : Files) (spec cert : List ℕ) (trouble : CertTrou
 
 abbrev pub IsVerifyRefusal : Files → List ℕ → List ℕ → CommandRefusal → Type 0
 IsVerifyRefusal files spec cert (Common refusal) = IsFileRefusal files spec cert refusal
-IsVerifyRefusal files spec cert (Certificate trouble line) = HasTrouble files spec cert trouble
+IsVerifyRefusal files spec cert (Certificate flaw line) = HasTrouble files spec cert (trouble_of flaw)
 
 -- the line of a refused certificate names indexes by the space of the specification in the file
 abbrev pub IsWrittenFor : Option Files → List ℕ → CommandRefusal → Type 0
 IsWrittenFor told spec (Common refusal) = ⊤
-IsWrittenFor told spec (Certificate trouble line) =
-    (s : Specification) × (ForSome told (λ files. HasSpecification files spec s) × IsWrittenOver s.declarations.space (Certificate trouble line))
+IsWrittenFor told spec (Certificate flaw line) =
+    (s : Specification) × (ForSome told (λ files. HasSpecification files spec s) × IsWrittenOver s.declarations.space (Certificate flaw line))

@@ -4,7 +4,6 @@ ghost use Rattle.std.specs.Option.{ForSome};
 ghost use Rattle.std.specs.String.{string_bytes};
 ghost use Rattle.tce_outside.specs.Fault.{HasCause, TellsFaults};
 ghost use Rattle.tce_command.specs.Command.{NamesCertificate, NamesSpec};
-ghost use Rattle.tce_command.specs.Report.{IsWellFormed, ending_of};
 ghost use Rattle.tce_verify.specs.Done.{IsVerified, report_text};
 ghost use Rattle.tce_verify.specs.Refusals.{IsVerifyRefusal, IsWrittenFor};
 
@@ -30,7 +29,6 @@ pub fn verify<D: Disk>(
     ensures done { IfOk result (λ report. ForSome (D.files disk.old) (λ files. IsVerified files spec.now cert.now (string_bytes report))) }
     ensures refused { IfErr result (λ refusal. ForSome (D.files disk.old) (λ files. IsVerifyRefusal files spec.now cert.now refusal)) }
     ensures line { IfErr result (λ refusal. IsWrittenFor (D.files disk.old) spec.now refusal) }
-    ensures well_formed { IfErr result (λ refusal. IsWellFormed (ending_of refusal)) }
     ensures unchanged { D.files disk.new ≡ D.files disk.old }
     ensures cause { HasCause (D.faults disk.old) (D.faults disk.new) (result ≡ Err (CommandRefusal.Common Refusal.Disk)) }
     ensures told { TellsFaults (D.faults disk.old) (D.faults disk.new) (result ≡ Err (CommandRefusal.Common Refusal.Disk)) }

@@ -3,22 +3,21 @@ ghost use Rattle.std.specs.Prelude.{IfOk, IfErr, OnOk};
 ghost use Rattle.tce_fusion.specs.Least.{IsLeast};
 ghost use Rattle.tce_nesting.specs.Plan.{PlanFits};
 ghost use Rattle.tce_check.specs.Verdict.{IsAccepted};
-ghost use Rattle.tce_command.specs.Report.{IsWellFormed, ending_of};
 ghost use Rattle.tce_verify.specs.Certificates.{IsCertificateOf};
-ghost use Rattle.tce_verify.specs.Judging.{IsAcceptedText, IsJudgement, IsPlanRefusal};
+ghost use Rattle.tce_verify.specs.Judging.{IsAcceptedText, IsJudgement, IsPlanRefusal, SaysFault};
 
 use std::alloc::Global;
 use tce_cert::{CertFault, read_cert};
-use tce_check::{Verdict, check};
-use tce_command::{CertTrouble, CommandRefusal, Refusal};
+use tce_check::check;
+use tce_command::{CertFlaw, CommandRefusal, Refusal};
 use tce_nesting::Plan;
+use tce_space::Space;
 use tce_spec::Spec;
 
 /// The memory of the plan that a text is the certificate of, in elements, where the plan is accepted.
 pub fn judge(alloc: Global, spec: &Spec, text: &[u8]) -> Result<u128, CommandRefusal>
     ensures accepted { IfOk result (IsAcceptedText spec.now text.now) }
     ensures refused { IfErr result (IsJudgement spec.now text.now) }
-    ensures well_formed { IfErr result (λ refusal. IsWellFormed (ending_of refusal)) }
 {
     let plan = read_plan(alloc, spec, text)?;
     judge_plan(spec, &plan)?;
@@ -29,7 +28,6 @@ pub fn judge(alloc: Global, spec: &Spec, text: &[u8]) -> Result<u128, CommandRef
 fn read_plan(alloc: Global, spec: &Spec, text: &[u8]) -> Result<Plan, CommandRefusal>
     ensures read { IfOk result (λ plan. IsCertificateOf spec.now plan text.now) }
     ensures refused { IfErr result (IsJudgement spec.now text.now) }
-    ensures well_formed { IfErr result (λ refusal. IsWellFormed (ending_of refusal)) }
 {
     let space = spec.space();
     let tree = spec.tree();
@@ -37,8 +35,17 @@ fn read_plan(alloc: Global, spec: &Spec, text: &[u8]) -> Result<Plan, CommandRef
     let _count = tree.count();
     match read_cert(alloc, space, tree, text) {
         Ok(plan) => Ok(plan),
-        Err(CertFault::Memory) => Err(CommandRefusal::Common(Refusal::Memory)),
-        Err(fault) => Err(CommandRefusal::certificate(space, CertTrouble::Text(fault))),
+        Err(fault) => Err(text_refusal(space, fault)),
+    }
+}
+
+// The refusal of a text with this fault, or want of memory.
+fn text_refusal(space: &Space, fault: CertFault) -> CommandRefusal
+    ensures { SaysFault space.now fault result }
+{
+    match CertFlaw::of_text(fault) {
+        Some(flaw) => CommandRefusal::certificate(space, flaw),
+        None => CommandRefusal::Common(Refusal::Memory),
     }
 }
 
@@ -48,13 +55,13 @@ fn judge_plan(spec: &Spec, plan: &Plan) -> Result<(), CommandRefusal>
     ensures accepted { OnOk result (IsAccepted spec.now.declarations.space spec.now.tree plan.now) }
     ensures least { OnOk result (IsLeast spec.now.declarations.space spec.now.tree plan.now.fusion.0.items) }
     ensures refused { IfErr result (IsPlanRefusal spec.now plan.now) }
-    ensures well_formed { IfErr result (λ refusal. IsWellFormed (ending_of refusal)) }
 {
     let space = spec.space();
     let tree = spec.tree();
     let _declared = space.index_count();
-    match check(space, tree, plan) {
-        Verdict::Accepted => Ok(()),
-        verdict => Err(CommandRefusal::certificate(space, CertTrouble::Verdict(verdict))),
+    let verdict = check(space, tree, plan);
+    match CertFlaw::of_plan(verdict) {
+        Some(flaw) => Err(CommandRefusal::certificate(space, flaw)),
+        None => Ok(()),
     }
 }

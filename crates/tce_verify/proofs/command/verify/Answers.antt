@@ -1,7 +1,6 @@
 use Rattle.std.proofs.Common.{refl, ◌∙◌, ap, sym, subst, inr, ℕ, List, Err}
 use Rattle.std.proofs.lemmas.Result.{err_from_is_err_and}
 use Rattle.tce_command.specs.declared.command_refusal.CommandRefusal.{CommandRefusal}
-use Rattle.tce_command.proofs.Statuses.{well_formed}
 use Rattle.tce_verify.specs.Judging.{IsAcceptedText, IsJudgement}
 use Rattle.tce_verify.proofs.Judged.{judged, written_for, verified, no_fault, is_disk, is_given, cause_since, told_since, as_disk, is_err_disk, ok_no_disk}
 use Rattle.tce_verify.proofs.command.verify.Goals as goal
@@ -15,21 +14,6 @@ pub returns-in_err-text-clause-line : goal.returns-in_err-text-clause-line
 returns-in_err-text-clause-line g c =
     let p = err_from_is_err_and c.from_residual-in_err-text.result c.from_residual-in_err-text.ensures.1 in
     rw (p.1, p.2) tt
-
-pub returns-in_err-source-clause-well_formed : goal.returns-in_err-source-clause-well_formed
-returns-in_err-source-clause-well_formed g c =
-    let p = err_from_is_err_and c.from_residual.result c.from_residual.ensures.1 in
-    rw (p.1, p.2) (well_formed c.in_err-source.field-0.0)
-
-pub returns-in_err-text-clause-well_formed : goal.returns-in_err-text-clause-well_formed
-returns-in_err-text-clause-well_formed g c =
-    let p = err_from_is_err_and c.from_residual-in_err-text.result c.from_residual-in_err-text.ensures.1 in
-    rw (p.1, p.2) (well_formed c.in_err-text.field-0.0)
-
-pub returns-in_err-memory-clause-well_formed : goal.returns-in_err-memory-clause-well_formed
-returns-in_err-memory-clause-well_formed g c =
-    let p = err_from_is_err_and c.from_residual-in_err-memory.result c.from_residual-in_err-memory.ensures.1 in
-    rw (p.1, p.2) c.in_err-memory.ensures.well_formed
 
 pub returns-in_err-text-clause-cause : goal.returns-in_err-text-clause-cause
 returns-in_err-text-clause-cause g c =
