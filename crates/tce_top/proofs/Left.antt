@@ -8,11 +8,12 @@ use Rattle.tce_space.specs.Space.{IndexSpace}
 use Rattle.tce_spec.specs.Canonical.{canonical_of}
 use Rattle.tce_source.specs.Source.{Specifies}
 use Rattle.tce_command.specs.Command.{Command, run, batch, plan, cert, check, pack, unpack, convert, expand, einsum, demo, IsCommand}
-use Rattle.tce_command.specs.Report.{LineNames, IsWellFormed, NamesNoIndex, NamesNothing, cert_line, ending_of, line_over}
+use Rattle.tce_command.specs.Report.{LineNames, NamesNoIndex, NamesNothing, cert_line, ending_of, line_over, trouble_of}
 use Rattle.tce_command.specs.CommandRefusals.{HasNames, MayReplace}
 use Rattle.tce_command.proofs.Statuses.{is_plain, over}
-use Rattle.tce_command.specs.Outcome.{Grew, GrewWithin, HasErrorLine, IsFault, IsKept, IsRefusal}
+use Rattle.tce_command.specs.Outcome.{Grew, GrewWithin, HasErrorLine, IsFault, IsRefusal}
 use Rattle.tce_command.specs.declared.trouble.CertTrouble.{CertTrouble}
+use Rattle.tce_command.specs.declared.trouble.CertFlaw.{CertFlaw}
 use Rattle.tce_command.specs.declared.trouble.SymTrouble.{SymTrouble}
 use Rattle.tce_command.specs.declared.trouble_line.TroubleLine.{TroubleLine}
 use Rattle.arrayvec.specs.ArrayString.{ArrayString}
@@ -23,20 +24,10 @@ use Rattle.tce_command.specs.declared.status.Status.{Status}
 use Rattle.tce_command.specs.declared.status.Status.TheVariants.{Done, BadWords, SpecRefused, NoFile, ArrayRefused, BudgetTooSmall, IntermediatesTooLarge, CertRefused, DiskFault, SinkFault, WantOfMemory, FlatRefused, UnknownTensor, DoesNotFit, EinsumRefused, SymRefused}
 use Rattle.tce_top.specs.Performed.{HasIndexes, IsCommandRefusal, IsDone, KeepsRoom, LeavesFormulas, MayLeaveOther, NamesItsIndexes}
 use Rattle.tce_command.proofs.Commands.{one_command}
-use Rattle.tce_top.specs.Outcome.{AreNamed, IsDemonstration, IsPartOfBatch, IsTensorOf, IsWholeEinsum, IsWholeRun}
-use Rattle.tce_run.specs.BatchDone.{IsBatchLeft, IsCutOff}
+use Rattle.tce_top.specs.Outcome.{AreNamed, IsDemonstration, IsPartOfBatch, IsTensorOf, IsWholeBatch, IsWholeEinsum, IsWholeRun}
+use Rattle.tce_run.specs.BatchDone.{IsCutOff}
 use Rattle.tce_top.proofs.Joined.{Kept, Put, free_fault}
 use Rattle.tce_top.proofs.Expansions.{words_tensor}
-
--- a status that is kept, or gives way to want of memory, is well formed as it was
-pub stays_well_formed : (due status : Status) → IsKept due status → IsWellFormed due → IsWellFormed status
-stays_well_formed due status (inl same) h = subst IsWellFormed (sym same) h
-stays_well_formed due status (inr memory) h = subst IsWellFormed (sym memory.0) tt
-
-pub finished_well_formed : (status : Status) → (status ≡ Done) ⊎ ((status ≡ SinkFault) ⊎ (status ≡ WantOfMemory)) → IsWellFormed status
-finished_well_formed status (inl is) = subst IsWellFormed (sym is) tt
-finished_well_formed status (inr (inl is)) = subst IsWellFormed (sym is) tt
-finished_well_formed status (inr (inr is)) = subst IsWellFormed (sym is) tt
 
 -- Files and takings.
 
@@ -193,19 +184,19 @@ pair_line words told command tensor trouble status before after faults faults_af
 not_kept : (trouble : CertTrouble) (status : Status) (A : Type 0) → NamesNoIndex status → status ≡ CertRefused trouble → A
 not_kept trouble status A plain kept = absurd (subst NamesNoIndex kept plain)
 
-certificate_line : (space : IndexSpace) (trouble : CertTrouble) (text : TroubleLine) (status : Status) (before after : Option (List ℕ)) (faults faults_after : ℕ) → text.text.bytes ≡ cert_line space trouble
-    → PutFor (Certificate trouble text) status before after faults faults_after → NamesNoIndex status → Kept (Certificate trouble text) status → (names : LineNames)
+certificate_line : (space : IndexSpace) (flaw : CertFlaw) (text : TroubleLine) (status : Status) (before after : Option (List ℕ)) (faults faults_after : ℕ) → text.text.bytes ≡ cert_line space (trouble_of flaw)
+    → PutFor (Certificate flaw text) status before after faults faults_after → NamesNoIndex status → Kept (Certificate flaw text) status → (names : LineNames)
     → HasErrorLine names status before after faults faults_after
-certificate_line space trouble text status before after faults faults_after is line plain (inl kept) names = not_kept trouble status _ plain kept
-certificate_line space trouble text status before after faults faults_after is line plain (inr memory) names =
+certificate_line space flaw text status before after faults faults_after is line plain (inl kept) names = not_kept (trouble_of flaw) status _ plain kept
+certificate_line space flaw text status before after faults faults_after is line plain (inr memory) names =
     let own : LineNames = record { space = space; tensor = [] } in
     no_memory_names own names status before after faults faults_after memory.0 (line own is)
 
 pub plain_line : (words : List (List ℕ)) (command : Command) (told : Option Files) (r : CommandRefusal) (status : Status) (before after : Option (List ℕ)) (faults faults_after : ℕ)
     → IsCommand words command → ForSome told (λ files. IsCommandRefusal files command r) → NamesItsIndexes command told r → PutFor r status before after faults faults_after → NamesNoIndex status → Kept r status
     → (names : LineNames) → IsTensorOf words told status names.tensor → HasErrorLine names status before after faults faults_after
-plain_line words command told (Certificate trouble text) status before after faults faults_after is refused own line plain kept names of =
-    certificate_line own.0 trouble text status before after faults faults_after own.2 line plain kept names
+plain_line words command told (Certificate flaw text) status before after faults faults_after is refused own line plain kept names of =
+    certificate_line own.0 flaw text status before after faults faults_after own.2 line plain kept names
 plain_line words command told (Common (Symmetry tensor trouble)) status before after faults faults_after is refused own line plain kept names of =
     pair_line words told command tensor trouble status before after faults faults_after is refused line kept names of
 plain_line words command told (Common (Specification fault)) status before after faults faults_after is refused own line plain kept names of = line names tt
@@ -263,6 +254,27 @@ whole_run spec budget files put before after taken taken_after report out out_af
     least = done.least;
     reported = ap (λ text. put ++ text) done.reported;
     taken_is = done.taking;
+    within = done.within;
+  },
+)
+
+-- Several formulas, whole.
+
+pub whole_batch : (spec : List ℕ) (budget : ℕ) (files : Files) (put : List ℕ) (before after : Option Files) (taken taken_after : List (ℕ × ℕ)) (report : List ℕ) (out out_after : Option (List ℕ))
+    → IsDone (batch spec budget) before after taken taken_after report → Grew report out out_after → before ≡ Some files → out ≡ Some put
+    → (left : Files) × (put_after : List ℕ) × (after ≡ Some left) × (out_after ≡ Some put_after) × IsWholeBatch spec budget files left taken taken_after put put_after
+whole_batch spec budget files put before after taken taken_after report out out_after done grew told sink = (
+  _,
+  put ++ report,
+  done.written ∙ ap (option_map _) told,
+  grew ∙ ap (option_map (λ bytes. bytes ++ report)) sink,
+  record {
+    formulas = done.formulas;
+    specified = done.specified files told;
+    written = refl;
+    report = report;
+    run_are = done.run;
+    reported = refl;
     within = done.within;
   },
 )

@@ -1,5 +1,5 @@
 -- What the program leaves.
-use Rattle.std.specs.Prelude.{◌≡◌, ◌≤◌, ⊤, ℕ, List, [], ◌∷◌, ◌++◌, Option, Some}
+use Rattle.std.specs.Prelude.{◌≡◌, ◌≤◌, ⊤, ℕ, List, [], ◌∷◌, ◌++◌, All, Option, Some}
 use Rattle.std.specs.declared.result.Result.TheVariants.{Ok}
 use Rattle.tce_outside.specs.Files.{Files, with_file}
 use Rattle.tce_space.specs.Space.{IndexSpace}
@@ -17,7 +17,10 @@ use Rattle.tce_einsum.specs.HasValue.{HasValueOfEinsum}
 use Rattle.tce_tensors.specs.TensorFiles.{file_of}
 use Rattle.tce_tensors.specs.ResultBytes.{result_bytes}
 use Rattle.tce_tensors.specs.Takings.{tile_take}
+use Rattle.tce_batch_job.specs.Files.{files_after}
+use Rattle.tce_batch_job.specs.Reports.{HasRun}
 use Rattle.tce_source.specs.Source.{HasSpecification}
+use Rattle.tce_source.specs.BatchSource.{HasBatch}
 use Rattle.tce_run.specs.BatchDone.{AreFirstRun}
 use Rattle.tce_command.specs.Command.{Command, batch, demo, expand, IsCommand}
 use Rattle.tce_command.specs.declared.status.Status.{Status}
@@ -42,6 +45,16 @@ pub record IsWholeRun (spec : List ℕ) (budget : ℕ) (files after : Files) (ta
       ≡ put ++ run_text specification.declarations.space specification.tree (stated plan) (tile_take specification budget) (file_of specification specification.result) (form_len One (shape_of specification specification.result))
   pub taken_is : taken_after ≡ taken ++ (plan.memory, tile_take specification budget) ∷ []
   pub within : tile_take specification budget ≤ budget
+
+-- formulas that are run over a disk and a sink that tell: the file holds them; the files are those that they leave, evaluated one after the other; the sink grew by their report; and the room gave for each in turn, the memory of a least plan and the words for tiles, which are within the budget
+pub record IsWholeBatch (spec : List ℕ) (budget : ℕ) (files after : Files) (taken taken_after : List (ℕ × ℕ)) (put put_after : List ℕ) : Type 0 where
+  pub formulas : List Specification
+  pub specified : HasBatch files spec formulas
+  pub written : after ≡ files_after formulas files
+  pub report : List ℕ
+  pub run_are : HasRun formulas budget taken taken_after report
+  pub reported : put_after ≡ put ++ report
+  pub within : All (λ (s : Specification). tile_take s budget ≤ budget) formulas
 
 -- an einsum whose disk tells: its file holds the canonical text of the specification that the text and the path produce, and specifies it; all other files are the old ones; and the value of the specification, at each assignment of the output's labels, is the sum over all assignments of the other labels of the product of the operands
 pub record IsWholeEinsum (text path spec : List ℕ) (files after : Files) : Type 0 where

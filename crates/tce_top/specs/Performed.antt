@@ -6,7 +6,7 @@ use Rattle.tce_space.specs.Space.{IndexSpace}
 use Rattle.tce_spec.specs.Specification.{Specification}
 use Rattle.tce_source.specs.Source.{HasSpecification}
 use Rattle.tce_command.specs.Command.{Command, run, batch, plan, cert, check, pack, unpack, convert, expand, einsum, demo}
-use Rattle.tce_command.specs.Report.{cert_line}
+use Rattle.tce_command.specs.Report.{cert_line, trouble_of}
 use Rattle.tce_command.specs.Refusals.{IsFree}
 use Rattle.tce_command.specs.CommandRefusals.{MayReplace, OnCommon}
 use Rattle.tce_command.specs.declared.refusal.Refusal.TheVariants.{Disk}
@@ -27,8 +27,9 @@ use Rattle.tce_verify.specs.Refusals.{IsVerifyRefusal}
 use Rattle.tce_flat.specs.Tensors.{array_file, converted_file}
 use Rattle.tce_flat.specs.Refusals.{CanPack, CanUnpack, CanConvert, CanExpand, IsPackRefusal, IsUnpackRefusal, IsConvertRefusal, IsExpandRefusal}
 use Rattle.tce_flat.specs.Done.{IsPacked, IsUnpacked, IsConverted, IsExpanded}
+use Rattle.tce_flat.specs.NoHalf.{LeavesFor, LeavesPacking, LeavesUnpacking, LeavesConverting, LeavesExpanding}
 use Rattle.tce_example.specs.Files.{DemoOthersStay}
-use Rattle.tce_demo.specs.Done.{IsDemonstrated, IsDemoTaking}
+use Rattle.tce_demo.specs.Done.{IsDemonstrated, IsDemoTaking, LeavesDemonstration}
 
 -- the disk has all that the command needs; an einsum needs its words alone, and a demonstration nothing
 abbrev pub CanDo : Files → Command → Type 0
@@ -90,6 +91,16 @@ OthersStay (expand spec tensor) before after = StayBut (array_file tensor) befor
 OthersStay (einsum text path spec) before after = StayBut spec before after
 OthersStay (demo seed v o) before after = DemoOthersStay before after
 
+-- what is left of the file of numbers that a command makes, wherever the command ends: the file as it was, absent or beginning with zeros, or whole but for its first bytes, which are written last
+abbrev pub LeavesNoHalf : Command → Option Files → Option Files → Type 0
+LeavesNoHalf (run spec budget) before after = OnlyResultDiffers spec before after
+LeavesNoHalf (pack spec tensor flat) before after = LeavesFor (LeavesPacking tensor flat) spec tensor before after
+LeavesNoHalf (unpack spec tensor flat) before after = LeavesFor (LeavesUnpacking tensor flat) spec tensor before after
+LeavesNoHalf (convert spec tensor form) before after = LeavesFor (LeavesConverting tensor form) spec tensor before after
+LeavesNoHalf (expand spec tensor) before after = LeavesFor (LeavesExpanding tensor) spec tensor before after
+LeavesNoHalf (demo seed v o) before after = LeavesDemonstration seed v o before after
+LeavesNoHalf command before after = ⊤
+
 -- the takings are as they were, or a run or a demonstration took once, or the first of several formulas did in turn
 abbrev pub MayTake : Command → Option Files → List (ℕ × ℕ) → List (ℕ × ℕ) → Type 0
 MayTake (run spec budget) before taken taken_after = (taken_after ≡ taken) ⊎ IsTaking before taken taken_after spec budget
@@ -120,5 +131,6 @@ HasIndexes files command space = ⊥
 
 -- the line of a refused certificate names the indexes of that specification
 abbrev pub NamesItsIndexes : Command → Option Files → CommandRefusal → Type 0
-NamesItsIndexes command told (Certificate trouble line) = (space : IndexSpace) × ForSome told (λ files. HasIndexes files command space) × (line.text.bytes ≡ cert_line space trouble)
+NamesItsIndexes command told (Certificate flaw line) =
+    (space : IndexSpace) × ForSome told (λ files. HasIndexes files command space) × (line.text.bytes ≡ cert_line space (trouble_of flaw))
 NamesItsIndexes command told (Common refusal) = ⊤

@@ -5,8 +5,7 @@ ghost use Rattle.tce_outside.specs.Fault.{HasCause, TellsFaults};
 ghost use Rattle.tce_command.specs.Command.{KeepsRules};
 ghost use Rattle.tce_command.specs.CommandCode.{command_of};
 ghost use Rattle.tce_command.specs.CommandRefusals.{MayReplace};
-ghost use Rattle.tce_command.specs.Report.{IsWellFormed, ending_of};
-ghost use Rattle.tce_top.specs.Performed.{IsCommandRefusal, IsDone, KeepsRoom, LeavesFormulas, MayLeaveOther, MayTake, NamesItsIndexes, OthersStay};
+ghost use Rattle.tce_top.specs.Performed.{IsCommandRefusal, IsDone, KeepsRoom, LeavesFormulas, LeavesNoHalf, MayLeaveOther, MayTake, NamesItsIndexes, OthersStay};
 
 use std::alloc::Global;
 use tce_certify::{certify, write_einsum};
@@ -20,7 +19,6 @@ use tce_verify::verify;
 use tce_words::Room;
 
 /// Does what a command says, and gives its report.
-#[tactic(auto, using(tce_command::proofs::Statuses::well_formed))]
 pub fn perform<D: Disk, R: Room>(
     alloc: Global,
     command: Command<'_>,
@@ -31,11 +29,11 @@ pub fn perform<D: Disk, R: Room>(
     ensures done { IfOk result (λ report. IsDone (command_of command.entry) (D.files disk.old) (D.files disk.new) (R.takings room.old) (R.takings room.new) report.items) }
     ensures refused { IfErr result (λ refusal. ForSome (D.files disk.old) (λ files. IsCommandRefusal files (command_of command.entry) refusal)) }
     ensures line { IfErr result (NamesItsIndexes (command_of command.entry) (D.files disk.old)) }
-    ensures well_formed { IfErr result (λ refusal. IsWellFormed (ending_of refusal)) }
     ensures unchanged { IfErr result (λ refusal. MayLeaveOther (command_of command.entry) refusal ⊎ (D.files disk.new ≡ D.files disk.old)) }
     ensures left { IfErr result (λ refusal. LeavesFormulas (command_of command.entry) refusal (D.files disk.old) (D.files disk.new)) }
     ensures takings { IfErr result (λ refusal. MayTake (command_of command.entry) (D.files disk.old) (R.takings room.old) (R.takings room.new)) }
     ensures untaken { IfErr result (λ refusal. MayReplace refusal ⊎ KeepsRoom (command_of command.entry) (D.files disk.old) (R.takings room.old) (R.takings room.new)) }
+    ensures no_half { LeavesNoHalf (command_of command.entry) (D.files disk.old) (D.files disk.new) }
     ensures others { OthersStay (command_of command.entry) (D.files disk.old) (D.files disk.new) }
     ensures cause { HasCause (D.faults disk.old) (D.faults disk.new) (result ≡ Err (CommandRefusal.Common Refusal.Disk)) }
     ensures told { TellsFaults (D.faults disk.old) (D.faults disk.new) (result ≡ Err (CommandRefusal.Common Refusal.Disk)) }

@@ -7,9 +7,9 @@ ghost use Rattle.tce_command.specs.Command.{batch, einsum, run, IsCommand, IsNoC
 ghost use Rattle.tce_command.specs.Report.{IsWellFormed, LineNames, NamesNoIndex};
 ghost use Rattle.tce_command.specs.declared.trouble.CertTrouble.{CertTrouble};
 ghost use Rattle.tce_command.specs.Outcome.{Answers, Grew, GrewWithin, HasErrorLine, HasLine, IsFault, IsRefusal};
-ghost use Rattle.tce_top.specs.Performed.{KeepsRoom, MayTake, OthersStay};
+ghost use Rattle.tce_top.specs.Performed.{KeepsRoom, LeavesNoHalf, MayTake, OthersStay};
 ghost use Rattle.tce_top.specs.Cause.{IsCause, OfCommand, Told};
-ghost use Rattle.tce_top.specs.Outcome.{AreNamed, IsDemonstration, IsFinished, IsPartOfBatch, IsTensorOf, IsWholeEinsum, IsWholeRun};
+ghost use Rattle.tce_top.specs.Outcome.{AreNamed, IsDemonstration, IsFinished, IsPartOfBatch, IsTensorOf, IsWholeBatch, IsWholeEinsum, IsWholeRun};
 ghost use Rattle.tce_run.specs.BatchDone.{IsCutOff};
 
 use crate::perform::perform;
@@ -37,6 +37,12 @@ pub fn tce<D: Disk, K: Sink, R: Room>(
         → (files : Files) (put : List ℕ) → D.files disk.old ≡ Some files → K.bytes out.old ≡ Some put
         → (after : Files) × (put_after : List ℕ) × (D.files disk.new ≡ Some after) × (K.bytes out.new ≡ Some put_after)
         × IsWholeRun spec budget files after (R.takings room.old) (R.takings room.new) put put_after }
+
+    // Formulas that are run, where the disk and the sink tell.
+    ensures batch { result ≡ Status.Done → (spec : List ℕ) (budget : ℕ) → IsCommand (map string_bytes words.now) (batch spec budget)
+        → (files : Files) (put : List ℕ) → D.files disk.old ≡ Some files → K.bytes out.old ≡ Some put
+        → (after : Files) × (put_after : List ℕ) × (D.files disk.new ≡ Some after) × (K.bytes out.new ≡ Some put_after)
+        × IsWholeBatch spec budget files after (R.takings room.old) (R.takings room.new) put put_after }
 
     // An einsum that is done, where the disk tells.
     ensures einsum { result ≡ Status.Done → (text path spec : List ℕ) → IsCommand (map string_bytes words.now) (einsum text path spec)
@@ -72,6 +78,7 @@ pub fn tce<D: Disk, K: Sink, R: Room>(
         ⊎ IsPartOfBatch (map string_bytes words.now) (D.files disk.old) (D.files disk.new) }
     ensures cut_off { result ≡ Status.DiskFault → (spec : List ℕ) (budget : ℕ) → IsCommand (map string_bytes words.now) (batch spec budget)
         → (D.files disk.new ≡ D.files disk.old) ⊎ IsCutOff (D.files disk.old) (D.files disk.new) spec }
+    ensures no_half { OfCommand (map string_bytes words.now) (λ command. LeavesNoHalf command (D.files disk.old) (D.files disk.new)) }
     ensures takings { OfCommand (map string_bytes words.now) (λ command. MayTake command (D.files disk.old) (R.takings room.old) (R.takings room.new)) }
     ensures others { OfCommand (map string_bytes words.now) (λ command. OthersStay command (D.files disk.old) (D.files disk.new)) }
 {

@@ -1,10 +1,8 @@
 use Rattle.std.proofs.Common.{refl, inl, sym, subst, rules}
 use Rattle.tce_command.specs.Command.{batch, einsum, run}
 use Rattle.tce_command.specs.Outcome.{Grew}
-use Rattle.tce_command.specs.Report.{ending_of}
-use Rattle.tce_command.specs.declared.status.Status.TheVariants.{BadWords}
 use Rattle.tce_command.proofs.Commands.{one_command}
-use Rattle.tce_top.specs.Performed.{CanDo, IsCommandRefusal, IsDone, KeepsRoom, LeavesFormulas, MayTake, OthersStay}
+use Rattle.tce_top.specs.Performed.{CanDo, IsCommandRefusal, IsDone, KeepsRoom, LeavesFormulas, LeavesNoHalf, MayTake, OthersStay}
 use Rattle.tce_top.proofs.Joined.{done_can, done_takes, done_cause, done_answers, refused_cause, refused_answers}
 use Rattle.tce_top.proofs.Left as left
 use Rattle.tce_top.proofs.top.tce.Goals as goal
@@ -26,6 +24,16 @@ returns-in-Ok-clause-run g c = λ done spec budget is files put told sink.
     let same = one_command _ _ (run spec budget) c.in-Some.ensures is in
     let grew : Grew c.in-Ok.report.items (g.K.Sink.bytes c.args.out.now) (g.K.Sink.bytes c.finish.new.out) = search (rules, c.finish.ensures.done done) in
     left.whole_run spec budget files put _ _ _ _ _ _ _
+    (subst
+    (λ k. IsDone k (g.D.Disk.files c.args.disk.now) (g.D.Disk.files c.perform.new.disk) (g.R.Room.takings c.args.room.now) (g.R.Room.takings c.perform.new.room) c.in-Ok.report.items)
+    (sym same) c.in-Ok.ensures.done)
+    grew told sink
+
+pub returns-in-Ok-clause-batch : goal.returns-in-Ok-clause-batch
+returns-in-Ok-clause-batch g c = λ done spec budget is files put told sink.
+    let same = one_command _ _ (batch spec budget) c.in-Some.ensures is in
+    let grew : Grew c.in-Ok.report.items (g.K.Sink.bytes c.args.out.now) (g.K.Sink.bytes c.finish.new.out) = search (rules, c.finish.ensures.done done) in
+    left.whole_batch spec budget files put _ _ _ _ _ _ _
     (subst
     (λ k. IsDone k (g.D.Disk.files c.args.disk.now) (g.D.Disk.files c.perform.new.disk) (g.R.Room.takings c.args.room.now) (g.R.Room.takings c.perform.new.room) c.in-Ok.report.items)
     (sym same) c.in-Ok.ensures.done)
@@ -109,17 +117,18 @@ returns-in-Err-clause-cert_line g c = λ trouble e.
     left.named_line _ _ _ _ _ _ _ _ c.in-Some.ensures
     (left.cert_lines _ _ c.in-Err.refusal c.refuse.result trouble _ _ _ _ c.in-Err.ensures.line c.refuse.ensures.line c.refuse.ensures.kept e)
 
-pub returns-in_default-clause-well_formed : goal.returns-in_default-clause-well_formed
-returns-in_default-clause-well_formed g c = left.stays_well_formed BadWords c.refuse_words.result c.refuse_words.ensures.kept tt
-
-pub returns-in-Ok-clause-well_formed : goal.returns-in-Ok-clause-well_formed
-returns-in-Ok-clause-well_formed g c = left.finished_well_formed c.finish.result c.finish.ensures.cases
-
-pub returns-in-Err-clause-well_formed : goal.returns-in-Err-clause-well_formed
-returns-in-Err-clause-well_formed g c = left.stays_well_formed (ending_of c.in-Err.refusal) c.refuse.result c.refuse.ensures.kept c.in-Err.ensures.well_formed
-
 pub returns-in-Ok-clause-disk_told : goal.returns-in-Ok-clause-disk_told
 returns-in-Ok-clause-disk_told g c = λ none. c.in-Ok.ensures.told (search rules)
 
 pub returns-in-Err-clause-disk_told : goal.returns-in-Err-clause-disk_told
 returns-in-Err-clause-disk_told g c = λ none. c.in-Err.ensures.told (left.no_failure _ c.in-Err.refusal c.refuse.result refl c.refuse.ensures.kept none)
+
+pub returns-in-Ok-clause-no_half : goal.returns-in-Ok-clause-no_half
+returns-in-Ok-clause-no_half g c = λ command is.
+    let same = one_command _ _ command c.in-Some.ensures is in
+    subst (λ k. LeavesNoHalf k (g.D.Disk.files c.args.disk.now) (g.D.Disk.files c.perform.new.disk)) (sym same) c.perform.ensures.no_half
+
+pub returns-in-Err-clause-no_half : goal.returns-in-Err-clause-no_half
+returns-in-Err-clause-no_half g c = λ command is.
+    let same = one_command _ _ command c.in-Some.ensures is in
+    subst (λ k. LeavesNoHalf k (g.D.Disk.files c.args.disk.now) (g.D.Disk.files c.perform.new.disk)) (sym same) c.perform.ensures.no_half
