@@ -1,7 +1,7 @@
 use std::process::Abort;
 use tce_kernel::{
-    add_vv, clear, dot, minus_sv, minus_vs, minus_vv, mul_add_sv, mul_add_vv, mul_sv, mul_vv,
-    plus_sv, plus_vv, sum,
+    add_vv, clear, dot, minus_sv, minus_vs, minus_vv, mul_add_four, mul_add_sv, mul_add_vv, mul_sv,
+    mul_vv, plus_sv, plus_vv, sum,
 };
 
 const MOST: usize = 68;
@@ -212,4 +212,35 @@ fn differences_equal_plain_loops(rt: HostRuntime) {
     let mut by_one = runs;
     by_one.b = [S; MOST];
     expect_minus_vs(&rt, &by_one);
+}
+
+// The n first places have grown by the products of 2, 3, 5 and the last number with their rows.
+fn expect_four(rt: &impl Abort, n: usize, found: &[u64; MOST], runs: &Runs, more: &Runs) {
+    for t in 0..MOST {
+        let (old, a, b) = (runs.old[t], runs.a[t], runs.b[t]);
+        let even = old
+            .wrapping_add(a.wrapping_mul(2))
+            .wrapping_add(b.wrapping_mul(3));
+        let due = even
+            .wrapping_add(more.a[t].wrapping_mul(5))
+            .wrapping_sub(more.b[t]);
+        assert!(rt; found[t] == if t < n { due } else { old }, "{n} {t}");
+    }
+}
+
+#[test]
+fn four_rows_equal_plain_loops(rt: HostRuntime) {
+    let (runs, more) = (Runs::of(11), Runs::of(14));
+    for n in 0..MOST {
+        let mut words = runs.old;
+        mul_add_four(
+            &mut words[..n],
+            [2, 3, 5, u64::MAX],
+            &runs.a[..n],
+            &runs.b[..n],
+            &more.a[..n],
+            &more.b[..n],
+        );
+        expect_four(&rt, n, &words, &runs, &more);
+    }
 }

@@ -3,7 +3,7 @@ ghost use Rattle.std.specs.Prelude.{◌≡◌, ◌<◌, ◌≤◌, length, IfOk}
 use std::alloc::{AllocError, Global};
 use std::process::Abort;
 use std::test::Fail;
-use tce_words::{HeapRoom, RefusingRoom, Room, Words};
+use tce_words::{HeapRoom, RefusingRoom, Room, Strided, Words};
 
 // The run out begins at 0, a at 200 and b at 400: each has at most 67 places, at most 3 apart.
 const LEN: usize = 602;
@@ -166,6 +166,48 @@ fn summing_runs_equal_plain_loops(rt: HostRuntime) -> Result<(), Fail> {
             sum_plainly(&mut plain, out as usize, a as usize, b as usize, n as usize);
             expect_words(&rt, &words, &plain, "sum");
         }
+    }
+    Ok(())
+}
+
+// Four rows from 200 on, 70 apart, with factors from 500 on, 3 apart, go to the words at 0.
+fn add_four(words: &mut Words, n: u64)
+    requires length { length words.old ≡ 602 }
+    requires n { n ≤ 67 }
+    ensures { length words.new ≡ 602 }
+{
+    let factors = Strided {
+        first: 500,
+        step: 3,
+    };
+    let rows = Strided {
+        first: 200,
+        step: 70,
+    };
+    words.mul_add_four(0, factors, rows, n);
+}
+
+fn add_four_plainly(words: &mut [u64; LEN], n: usize)
+    requires { n ≤ 67 }
+{
+    for row in 0..4 {
+        for t in 0..n {
+            let product = words[500 + 3 * row].wrapping_mul(words[200 + 70 * row + t]);
+            words[t] = words[t].wrapping_add(product);
+        }
+    }
+}
+
+#[test]
+fn four_rows_equal_plain_loops(rt: HostRuntime) -> Result<(), Fail> {
+    let mut room = HeapRoom::new(rt.alloc());
+    let old = noise(3);
+    for n in 0..68u64 {
+        let mut words = block_of(&mut room, &old)?;
+        add_four(&mut words, n);
+        let mut plain = old;
+        add_four_plainly(&mut plain, n as usize);
+        expect_words(&rt, &words, &plain, "four");
     }
     Ok(())
 }

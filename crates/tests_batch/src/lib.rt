@@ -3,3 +3,5 @@
 
 #[cfg(test)]
 mod formulas;
+#[cfg(test)]
+mod pieces;

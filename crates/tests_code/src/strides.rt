@@ -180,3 +180,42 @@ fn long_loops_run(rt: HostRuntime) {
     expect_word(&rt, &words, 20, 204);
     expect_word(&rt, &words, 21, 64);
 }
+
+// Five rows of eight words, each a word further than the one before, are added with one factor each: first those of the
+// right operand, then those of the left one.
+fn add_rows(words: &mut Words)
+    requires { length words.old ≡ 24 }
+    ensures { length words.new ≡ 24 }
+{
+    let row = Loop {
+        len: 5,
+        out: 0,
+        left: 1,
+        right: 1,
+    };
+    let along_right = Loop {
+        len: 8,
+        out: 1,
+        left: 0,
+        right: 1,
+    };
+    let along_left = Loop {
+        len: 8,
+        out: 1,
+        left: 1,
+        right: 0,
+    };
+    grow_by_products(words, &[row, along_right], 12, 0, 0);
+    grow_by_products(words, &[row, along_left], 12, 0, 0);
+}
+
+#[test]
+fn rows_are_added_with_their_factors(rt: HostRuntime) {
+    let mut words = block_of(&rt, rt.alloc(), &[1, 2, 3, 4, 5, 6, 7, 8, 9, 10, 11, 12]);
+    add_rows(&mut words);
+    expect_word(&rt, &words, 12, 2 * 55);
+    expect_word(&rt, &words, 13, 2 * 70);
+    expect_word(&rt, &words, 16, 2 * 115);
+    expect_word(&rt, &words, 19, 2 * 160);
+    expect_word(&rt, &words, 20, 0);
+}

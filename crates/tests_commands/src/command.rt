@@ -1,15 +1,11 @@
 //! Words that are read, and lines that were written by hand.
-ghost use Rattle.tce_command.specs.Report.{NamesDeclared};
+ghost use Rattle.tce_command.specs.Report.{NamesDeclared, trouble_of};
 
 use crate::given::{check, must};
 use std::alloc::Global;
 use std::process::Abort;
 use std::test::Fail;
-use tce_cert::CertFault;
-use tce_check::Verdict;
-use tce_command::{
-    ArrayTrouble, CertTrouble, CommandRefusal, Refusal, finish, refuse, refuse_words,
-};
+use tce_command::{ArrayTrouble, CertFlaw, CommandRefusal, Refusal, finish, refuse, refuse_words};
 use tce_declarations::{Limit, SpecFault};
 use tce_nesting::Nesting;
 use tce_outside::MemSink;
@@ -105,11 +101,11 @@ fn two_indexes(rt: &impl Abort, alloc: Global) -> Result<Space, Fail> {
     Ok(space)
 }
 
-// What the trouble of a certificate puts on the sink.
-fn expect_trouble(rt: &impl Abort, alloc: Global, space: &Space, trouble: CertTrouble, line: &str)
-    requires { NamesDeclared space.now trouble }
+// What the flaw of a certificate puts on the sink.
+fn expect_flaw(rt: &impl Abort, alloc: Global, space: &Space, flaw: CertFlaw, line: &str)
+    requires { NamesDeclared space.now (trouble_of flaw) }
 {
-    let refusal = CommandRefusal::certificate(space, trouble);
+    let refusal = CommandRefusal::certificate(space, flaw);
     check_line(rt, alloc, refusal, 7, line);
 }
 
@@ -118,11 +114,11 @@ fn certificates_are_refused_with_their_line(rt: HostRuntime) {
     let alloc = rt.alloc();
     let space = must(&rt, two_indexes(&rt, alloc));
     assert!(rt; space.index_count() == 2);
-    let text = CertTrouble::Text(CertFault::WrongTree(9));
+    let text = CertFlaw::WrongTree(9);
     let line = "error 7: line 9: does not fit the tree\n";
-    expect_trouble(&rt, alloc, &space, text, line);
-    let order = CertTrouble::Verdict(Verdict::OrderWrong(1));
-    expect_trouble(&rt, alloc, &space, order, "error 7: node 1: loop order\n");
+    expect_flaw(&rt, alloc, &space, text, line);
+    let order = CertFlaw::OrderWrong(1);
+    expect_flaw(&rt, alloc, &space, order, "error 7: node 1: loop order\n");
 }
 
 #[test]
@@ -133,9 +129,9 @@ fn steps_that_are_not_covered_have_their_line(rt: HostRuntime) {
     let i = IndexSet::empty().with(0);
     let j = IndexSet::empty().with(1);
     let classes = Nesting::none().with_class(j).with_class(i);
-    let step = CertTrouble::Verdict(Verdict::NotCovered(3, i.union(j), classes, 12));
+    let step = CertFlaw::NotCovered(3, i.union(j), classes, 12);
     let line = "error 7: node 3: fused i,j classes j/i cost 12 not covered\n";
-    expect_trouble(&rt, alloc, &space, step, line);
+    expect_flaw(&rt, alloc, &space, step, line);
 }
 
 #[test]

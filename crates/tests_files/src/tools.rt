@@ -353,6 +353,13 @@ fn ended(disk: &mut FaultyDisk, shape: &Shape, command: u8) -> Option<Result<(),
     }
 }
 
+// A file that a command did not make to its end is not there, or begins with zeros as no array does.
+fn expect_no_half(rt: &impl Abort, disk: &MemDisk, call: u64) {
+    if let Some(bytes) = disk.file("B.tca") {
+        assert!(rt; bytes.starts_with(&[0; 8]), "half a file at call {call}");
+    }
+}
+
 // A command over a disk whose call with this number fails.
 fn expect_failure(
     rt: &impl Abort,
@@ -368,6 +375,9 @@ fn expect_failure(
     let mut disk = failing(rt, alloc, files, call);
     let done = ended(&mut disk, &shape, command);
     assert!(rt; is_fault(done, disk.faults()), "call {call} of {command}");
+    if disk.faults() == 1 {
+        expect_no_half(rt, disk.inner(), call);
+    }
     expect_file(rt, disk.inner(), "a.flat", flat);
     expect_file(rt, disk.inner(), "A.tca", array);
 }

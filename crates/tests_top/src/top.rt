@@ -7,6 +7,7 @@ mod einsums;
 mod failing;
 mod flat_files;
 mod given;
+mod losing;
 mod plans;
 mod refused;
 mod runs;

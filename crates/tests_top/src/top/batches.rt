@@ -74,6 +74,7 @@ fn an_operand_of_the_first_formula_may_be_missing(rt: HostRuntime) -> Result<(),
 const REFUSED: &str = "\
 C[i,j] = sum{k}(A[i,k] * B[k,j])/C and D/D[i,j] = sum{k}(C[i,k] * A[k,j])/|3|A 2 2 2 1 1 1 2 3 4;B 2 2 2 1 1 5 6 7 8|2|error 2: line 8: bad text
 C[i,j] = sum{k}(A[i,k] * B[k,j])/tensor E[N]/D[i,j] = sum{k}(C[i,k] * A[k,j])/|3|A 2 2 2 1 1 1 2 3 4;B 2 2 2 1 1 5 6 7 8|2|error 2: line 8: bad text
+C[i,j] = sum{k}(A[i,k] * B[k,j])/D[i,j] = (((((((((((((((((((((((((((((((((((((((((((((((((((((((((((((((((C[i,j] * A[i,j])))))))))))))))))))))))))))))))))))))))))))))))))))))))))))))))))/|3|A 2 2 2 1 1 1 2 3 4;B 2 2 2 1 1 5 6 7 8|2|error 2: line 8: bad text
 D[i,j] = sum{k}(C[i,k] * A[k,j])/C[i,j] = sum{k}(A[i,k] * B[k,j])/|3|A 2 2 2 1 1 1 2 3 4;B 2 2 2 1 1 5 6 7 8|3|error 3: no file C.tca
 C[i,j] = A[i,j] * A[i,j]/D[i,j] = sum{k}(C[i,k] * B[k,j])/|3|A 2 2 2 1 1 1 2 3 4|3|error 3: no file B.tca
 C[i,j] = A[i,j] * A[i,j]/D[i,j] = sum{k}(C[i,k] * B[k,j])/|3|A 2 2 2 1 1 1 2 3 4;B 2 2 1 1 1 5 6|4|error 4: B.tca: length 64

@@ -1,6 +1,7 @@
 //! Demonstrations.
 
 use super::given::{check, check_files, check_taking, check_text_file, must, perform};
+use super::losing::LosingDisk;
 use std::alloc::Global;
 use std::process::Abort;
 use tce_outside::{FaultySink, MemDisk, MemSink};
@@ -98,4 +99,42 @@ fn a_demonstration_may_want_memory(rt: HostRuntime) {
     );
     check_text_file(&rt, &disk, "other.tce", "range");
     check(&rt, room.takings().is_empty(), "nothing is taken");
+}
+
+// A disk with the six files of the smallest demonstration.
+fn demonstrated(rt: &impl Abort, alloc: Global) -> MemDisk {
+    let mut disk = MemDisk::new(alloc);
+    let mut out = MemSink::new(alloc);
+    let mut room = HeapRoom::new(alloc);
+    let ended = perform(alloc, "demo 1 1 1", &mut disk, &mut out, &mut room);
+    check(rt, must(rt, ended) == 0, "the demonstration");
+    disk
+}
+
+// How a command ends where an operand has this length, or is lost, whenever it is looked for.
+fn expect_lost(
+    rt: &impl Abort,
+    alloc: Global,
+    words: &str,
+    len: Option<u64>,
+    code: u8,
+    line: &str,
+) {
+    let mut disk = LosingDisk::new(demonstrated(rt, alloc), "demoB.tca", len);
+    let mut out = MemSink::new(alloc);
+    let mut room = HeapRoom::new(alloc);
+    let ended = perform(alloc, words, &mut disk, &mut out, &mut room);
+    check(rt, must(rt, ended) == code, line);
+    check(rt, out.bytes() == line.as_bytes(), line);
+    check(rt, room.takings().is_empty(), line);
+}
+
+#[test]
+fn a_demonstration_that_loses_a_file_ends_as_its_run(rt: HostRuntime) {
+    let absent = "error 3: no file demoB.tca\n";
+    expect_lost(&rt, rt.alloc(), "demo 1 1 1", None, 3, absent);
+    expect_lost(&rt, rt.alloc(), "run demo.tce 16384", None, 3, absent);
+    let short = "error 4: demoB.tca: length 8\n";
+    expect_lost(&rt, rt.alloc(), "demo 1 1 1", Some(8), 4, short);
+    expect_lost(&rt, rt.alloc(), "run demo.tce 16384", Some(8), 4, short);
 }

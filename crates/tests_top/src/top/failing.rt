@@ -20,6 +20,8 @@ struct Trial<'a> {
     words: &'a str,
     taking: Option<(u64, u64)>,
     written: &'a str,
+    // that file has numbers, was not there before, and is whole only where the command is done
+    has_numbers: bool,
 }
 
 const FLAT: &str = "range N 5 tile 2\nindex N i\ntensor A[N]\ntensor C[N]\nC[i] = A[i] * A[i]\n";
@@ -38,6 +40,13 @@ fn check_before(rt: &impl Abort, alloc: Global, trial: &Trial<'_>, disk: &MemDis
     check_text_file(rt, disk, "s.tce", trial.spec);
     check_text_file(rt, disk, "e.cert", trial.cert);
     must(rt, check_files(rt, alloc, disk, trial.files));
+}
+
+// The file that a command that is not done makes is not there or begins with zeros, as no array does.
+fn check_no_half(rt: &impl Abort, trial: &Trial<'_>, disk: &MemDisk) {
+    if let Some(bytes) = disk.file(trial.written) {
+        check(rt, bytes.starts_with(&[0; 8]), trial.words);
+    }
 }
 
 // The number of the one call that fails.
@@ -72,6 +81,9 @@ fn is_done(rt: &impl Abort, alloc: Global, trial: &Trial<'_>, call: u64) -> bool
     check_before(rt, alloc, trial, disk.inner());
     check_takings(rt, trial, code, room.takings());
     check_ending(rt, call, code, &out, disk.faults());
+    if code != 0 && trial.has_numbers {
+        check_no_half(rt, trial, disk.inner());
+    }
     code == 0
 }
 
@@ -132,6 +144,7 @@ fn check_run(
         words,
         taking: Some(taking),
         written: "C.tca",
+        has_numbers: true,
     };
     check_trial(rt, alloc, &trial);
 }
@@ -160,6 +173,21 @@ fn check_plain(
         words,
         taking: None,
         written,
+        has_numbers: false,
+    };
+    check_trial(rt, alloc, &trial);
+}
+
+// A command that moves numbers.
+fn check_move(rt: &impl Abort, alloc: Global, files: &str, words: &str, written: &str) {
+    let trial = Trial {
+        spec: FLAT,
+        files,
+        cert: "",
+        words,
+        taking: None,
+        written,
+        has_numbers: true,
     };
     check_trial(rt, alloc, &trial);
 }
@@ -168,11 +196,11 @@ fn check_plain(
 fn each_call_of_a_move_may_fail(rt: HostRuntime) {
     let alloc = rt.alloc();
     let words = "pack s.tce A a.flat";
-    check_plain(&rt, alloc, FLAT, "=a.flat 1 2 3 4 5", words, "A.tca");
+    check_move(&rt, alloc, "=a.flat 1 2 3 4 5", words, "A.tca");
     let array = "A 1 5 2 1 2 3 4 5 0";
     let words = "unpack s.tce A b.flat";
-    check_plain(&rt, alloc, FLAT, array, words, "b.flat");
-    check_plain(&rt, alloc, FLAT, array, "convert s.tce A 4", "A.v2.tca");
+    check_move(&rt, alloc, array, words, "b.flat");
+    check_move(&rt, alloc, array, "convert s.tce A 4", "A.v2.tca");
 }
 
 #[test]
@@ -192,6 +220,7 @@ fn each_call_of_a_demonstration_may_fail(rt: HostRuntime) {
         words: "demo 1 1 1",
         taking: Some((5, 5)),
         written: "demoS.tca",
+        has_numbers: false,
     };
     check_trial(&rt, rt.alloc(), &trial);
 }
