@@ -17,3 +17,4 @@ pub mod Leaving
 pub mod Asking
 pub mod Running
 pub mod Stepping
+pub mod Positions

@@ -55,15 +55,13 @@ touched_window c new array tile place at shape own indexes first write w cache h
   window_is = subst (λ s. IsTileWindow s indexes first at w) same window;
 }
 
--- an element stands in the tile where it stands in that of an array of this shape
-element_in : (o : Option ArrayRef) (shape own : Tiling) (xs : List ℕ) (tile place : ℕ) → IsSomeAnd o (λ a. a.shape ≡ shape) → IsSomeAnd o (λ a. IsElementAt a.shape xs tile place) → own ≡ shape
-    → IsElementAt own xs tile place
-element_in None shape own xs tile place h e same = absurd h
-element_in (Some a) shape own xs tile place h e same = subst (λ s. IsElementAt s xs tile place) (h ∙ sym same) e
+-- an element stands in the tile of an array as in one of its shape
+element_in : (o : Option ArrayRef) (shape : Tiling) (xs : List ℕ) (tile place : ℕ) → IsSomeAnd o (λ a. a.shape ≡ shape) → IsElementAt shape xs tile place → IsSomeAnd o (λ a. IsElementAt a.shape xs tile place)
+element_in None shape xs tile place h e = absurd h
+element_in (Some a) shape xs tile place h e = subst (λ s. IsElementAt s xs tile place) (sym h) e
 
-pub element_of : (c : CacheState) (array tile place : ℕ) (shape own : Tiling) (xs : List ℕ) → HasShape c array shape → IsArrayAt c.arrays array (λ a. IsElementAt a.shape xs tile place) → own ≡ shape
-    → IsElementAt own xs tile place
-element_of c array tile place shape own xs has element same = element_in (slice_get c.arrays array) shape own xs tile place has element same
+pub element_of : (c : CacheState) (array tile place : ℕ) (shape : Tiling) (xs : List ℕ) → HasShape c array shape → IsElementAt shape xs tile place → IsArrayAt c.arrays array (λ a. IsElementAt a.shape xs tile place)
+element_of c array tile place shape xs has element = element_in (slice_get c.arrays array) shape xs tile place has element
 
 -- an index for each dimension
 pub rank_of : (shape own : Tiling) (indexes : List ℕ) (first : Assignment) → IsInside shape.extents (map first indexes) → own ≡ shape → length indexes ≡ length own.extents

@@ -8,4 +8,5 @@ pub mod Touches
 pub mod Blocks
 pub mod Along
 pub mod Windows
+pub mod Positions
 pub mod Evaluations

@@ -13,8 +13,10 @@ ghost use Rattle.tce_workspace.specs.Steps.{IsKept, IsChanged};
 ghost use Rattle.tce_windows.specs.Sequences.{IsLoopSequence};
 ghost use Rattle.tce_windows.specs.Turns.{turns_of};
 ghost use Rattle.tce_exec.specs.Blocks.{IsBlockOf, AreOutside, loops_of};
+ghost use Rattle.tce_exec.specs.Positions.{IsPosition};
 ghost use Rattle.tce_exec.specs.Windows.{AreSteps};
 
+use crate::position::Position;
 use crate::steps::Windows;
 use crate::turns::{begin_block, compute_turns, grow_turns, grow_turns_by_products};
 use crate::windows::{node_window, pair_windows, sum_windows};
@@ -50,16 +52,17 @@ fn run_sum<D: Disk>(
     tail: &Tail,
     numbers: &[u64; 24],
     block: &Block,
-    first: &[u64; 24],
+    first: &Position,
     sequence: &mut LoopSequence,
     windows: &mut Windows,
 ) -> Result<(), Failed>
     requires prepared { IsPrepared (workspace evaluation.now words.old cache.old (D.files disk.old)) }
+    requires position { IsPosition evaluation.now.space.now first.now }
     requires tail { IsTailAt (setting_in (workspace evaluation.now words.old cache.old (D.files disk.old))) tail.now (assignment_of numbers.now) }
     requires block { IsBlockOf evaluation.now.space.now tail.now (part_of block.now) }
     requires sum { right_of evaluation.now.tree.now tail.now.node ≡ None }
     requires few { cache.old.touches + 3 ≤ 2 ^ 100 }
-    requires first { slice_index first.now ≡ (turns_of (loops_of tail.now) (assignment_of numbers.now) (part_of block.now)).first }
+    requires first { slice_index first.now.numbers ≡ (turns_of (loops_of tail.now) (assignment_of numbers.now) (part_of block.now)).first }
     requires sequence { IsLoopSequence (loops_of tail.now) sequence.old }
     requires steps { AreSteps (workspace evaluation.now words.old cache.old (D.files disk.old)).places tail.now windows.old }
     ensures changed { OnOk result (let w = workspace evaluation.now words.old cache.old (D.files disk.old) in
@@ -89,17 +92,18 @@ fn run_pair<D: Disk>(
     right: &Operand,
     numbers: &[u64; 24],
     block: &Block,
-    first: &[u64; 24],
+    first: &Position,
     sequence: &mut LoopSequence,
     windows: &mut Windows,
 ) -> Result<(), Failed>
     requires prepared { IsPrepared (workspace evaluation.now words.old cache.old (D.files disk.old)) }
+    requires position { IsPosition evaluation.now.space.now first.now }
     requires tail { IsTailAt (setting_in (workspace evaluation.now words.old cache.old (D.files disk.old))) tail.now (assignment_of numbers.now) }
     requires block { IsBlockOf evaluation.now.space.now tail.now (part_of block.now) }
     requires right { right_of evaluation.now.tree.now tail.now.node ≡ Some right.now }
     requires alone { tail.now.sum ≡ None }
     requires few { cache.old.touches + 3 ≤ 2 ^ 100 }
-    requires first { slice_index first.now ≡ (turns_of (loops_of tail.now) (assignment_of numbers.now) (part_of block.now)).first }
+    requires first { slice_index first.now.numbers ≡ (turns_of (loops_of tail.now) (assignment_of numbers.now) (part_of block.now)).first }
     requires sequence { IsLoopSequence (loops_of tail.now) sequence.old }
     requires steps { AreSteps (workspace evaluation.now words.old cache.old (D.files disk.old)).places tail.now windows.old }
     ensures changed { OnOk result (let w = workspace evaluation.now words.old cache.old (D.files disk.old) in
@@ -142,17 +146,18 @@ fn run_joined<D: Disk>(
     sum: u8,
     numbers: &[u64; 24],
     block: &Block,
-    first: &[u64; 24],
+    first: &Position,
     sequence: &mut LoopSequence,
     windows: &mut Windows,
 ) -> Result<(), Failed>
     requires prepared { IsPrepared (workspace evaluation.now words.old cache.old (D.files disk.old)) }
+    requires position { IsPosition evaluation.now.space.now first.now }
     requires tail { IsTailAt (setting_in (workspace evaluation.now words.old cache.old (D.files disk.old))) tail.now (assignment_of numbers.now) }
     requires block { IsBlockOf evaluation.now.space.now tail.now (part_of block.now) }
     requires right { right_of evaluation.now.tree.now tail.now.node ≡ Some right.now }
     requires joined { tail.now.sum ≡ Some sum }
     requires few { cache.old.touches + 3 ≤ 2 ^ 100 }
-    requires first { slice_index first.now ≡ (turns_of (loops_of tail.now) (assignment_of numbers.now) (part_of block.now)).first }
+    requires first { slice_index first.now.numbers ≡ (turns_of (loops_of tail.now) (assignment_of numbers.now) (part_of block.now)).first }
     requires sequence { IsLoopSequence (loops_of tail.now) sequence.old }
     requires steps { AreSteps (workspace evaluation.now words.old cache.old (D.files disk.old)).places tail.now windows.old }
     ensures changed { OnOk result (let w = workspace evaluation.now words.old cache.old (D.files disk.old) in
@@ -203,15 +208,16 @@ pub(crate) fn run_block<D: Disk>(
     tail: &Tail,
     numbers: &[u64; 24],
     block: &Block,
-    first: &mut [u64; 24],
+    first: &mut Position,
     sequence: &mut LoopSequence,
     windows: &mut Windows,
 ) -> Result<(), Failed>
     requires prepared { IsPrepared (workspace evaluation.now words.old cache.old (D.files disk.old)) }
+    requires position { IsPosition evaluation.now.space.now first.old }
     requires tail { IsTailAt (setting_in (workspace evaluation.now words.old cache.old (D.files disk.old))) tail.now (assignment_of numbers.now) }
     requires block { IsBlockOf evaluation.now.space.now tail.now (part_of block.now) }
     requires few { cache.old.touches + 3 ≤ 2 ^ 100 }
-    requires others { AreOutside (loops_of tail.now) (assignment_of numbers.now) (slice_index first.old) }
+    requires others { AreOutside (loops_of tail.now) (assignment_of numbers.now) (slice_index first.old.numbers) }
     requires sequence { IsLoopSequence (loops_of tail.now) sequence.old }
     requires steps { AreSteps (workspace evaluation.now words.old cache.old (D.files disk.old)).places tail.now windows.old }
     ensures changed { OnOk result (let w = workspace evaluation.now words.old cache.old (D.files disk.old) in
@@ -219,13 +225,14 @@ pub(crate) fn run_block<D: Disk>(
     ensures kept { IsKept (workspace evaluation.now words.old cache.old (D.files disk.old)) (workspace evaluation.now words.new cache.new (D.files disk.new)) }
     ensures sequence { OnOk result (IsLoopSequence (loops_of tail.now) sequence.new) }
     ensures steps { OnOk result (AreSteps (workspace evaluation.now words.new cache.new (D.files disk.new)).places tail.now windows.new) }
-    ensures others { AreOutside (loops_of tail.now) (assignment_of numbers.now) (slice_index first.new) }
+    ensures others { AreOutside (loops_of tail.now) (assignment_of numbers.now) (slice_index first.new.numbers) }
+    ensures position { IsPosition evaluation.now.space.now first.new }
     ensures cause { HasCause (D.faults disk.old) (D.faults disk.new) (IsErr result) }
     ensures told { TellsFaults (D.faults disk.old) (D.faults disk.new) (IsErr result) }
 {
     let _indexes = evaluation.space.index_count();
     let _nodes = evaluation.tree.count();
-    begin_block(first, tail, block);
+    begin_block(evaluation.space, first, tail, block);
     let Some(right) = evaluation.tree.right(tail.node) else {
         return run_sum(
             evaluation, words, cache, disk, tail, numbers, block, first, sequence, windows,

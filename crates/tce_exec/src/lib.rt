@@ -16,6 +16,7 @@
 mod block;
 mod cuts;
 mod first;
+mod position;
 mod run;
 mod runner;
 mod slot;

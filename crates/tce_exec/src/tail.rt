@@ -9,6 +9,7 @@ ghost use Rattle.tce_workspace.specs.Steps.{IsKept, IsChanged};
 
 use crate::block::run_block;
 use crate::cuts::{cuts_of, sequence_of};
+use crate::position::Position;
 use crate::steps::{Windows, set_steps};
 use tce_block::{Block, Blocks};
 use tce_cache::Cache;
@@ -47,7 +48,8 @@ pub fn run_tail<D: Disk>(
     let mut windows = Windows::blank();
     set_steps(evaluation, cache, tail, &mut windows);
     let mut sequence = sequence_of(tail, &cuts, &windows);
-    let mut first = *numbers;
+    let mut first = Position::zero(evaluation.space);
+    first.go_to(evaluation.space, numbers);
     let mut block = Block::default();
     while blocks.next_in(&mut block) {
         run_block(

@@ -6,21 +6,25 @@ ghost use Rattle.tce_windows.specs.Loops.{AreLoops, AreMade, place_along};
 ghost use Rattle.tce_windows.specs.Sequences.{IsLoopSequence};
 ghost use Rattle.tce_windows.specs.Turns.{turns_of};
 ghost use Rattle.tce_exec.specs.Blocks.{loops_of, IsWithin, HaveNone};
+ghost use Rattle.tce_exec.specs.Positions.{IsPosition};
 
-use crate::set_numbers;
+use crate::position::Position;
 use tce_block::Block;
+use tce_space::Space;
 use tce_strides::Operation;
 use tce_walk::Tail;
 use tce_windows::{LoopSequence, Window, compute, grow, grow_by_products};
 use tce_words::Words;
 
 /// Gives the loops their numbers at the first turn of a block, among those of all indexes.
-pub(crate) fn begin_block(first: &mut [u64; 24], tail: &Tail, block: &Block)
+pub(crate) fn begin_block(space: &Space, first: &mut Position, tail: &Tail, block: &Block)
+    requires position { IsPosition space.now first.old }
     requires loops { AreLoops (loops_of tail.now) (part_of block.now).len }
     requires each { length (part_of block.now).from ≡ length (loops_of tail.now) }
-    ensures { slice_index first.new ≡ (turns_of (loops_of tail.now) (slice_index first.old) (part_of block.now)).first }
+    ensures numbers { slice_index first.new.numbers ≡ (turns_of (loops_of tail.now) (slice_index first.old.numbers) (part_of block.now)).first }
+    ensures position { IsPosition space.now first.new }
 {
-    set_numbers(first, tail.loops.0.as_slice(), block.from.as_slice());
+    first.begin(space, tail.loops.0.as_slice(), block.from.as_slice());
 }
 
 /// Adds the operand's words to the result's.

@@ -15,8 +15,10 @@ ghost use Rattle.tce_workspace.specs.Workspace.{workspace, setting_in, shape_ove
 ghost use Rattle.tce_workspace.specs.Prepared.{IsPrepared, IsStored};
 ghost use Rattle.tce_workspace.specs.Operands.{IsPlaceOf};
 ghost use Rattle.tce_workspace.specs.Steps.{IsKept, IsRead};
+ghost use Rattle.tce_exec.specs.Positions.{IsPosition};
 ghost use Rattle.tce_exec.specs.Windows.{AreTensorSteps, AreOperandSteps, ArePlaceSteps, HasPlace, IsTouchedTile, IsOperandWindow, IsPlaceWindow, KeepsLast, AreSumWindows, ArePairWindows};
 
+use crate::position::Position;
 use crate::steps::Windows;
 use tce_cache::Cache;
 use tce_operands::slot_place;
@@ -24,14 +26,14 @@ use tce_outside::{Disk, Failed};
 use tce_tree::{Leaf, Operand};
 use tce_windows::Window;
 use tce_words::Words;
-use tce_workspace::{Evaluation, find_element};
+use tce_workspace::Evaluation;
 
 // Where the word of an inner node at these numbers stands. A slot of one word has it at its beginning.
-fn place_in_slot(evaluation: &Evaluation, words: &Words, v: u8, first: &[u64; 24]) -> u64
+fn place_in_slot(evaluation: &Evaluation, words: &Words, v: u8, first: &Position) -> u64
     requires laid { IsLayout evaluation.now.space.now evaluation.now.tree.now evaluation.now.fusion.now.0.items evaluation.now.layout.now.0.items }
-    requires inner { IsSlotAt evaluation.now.space.now evaluation.now.tree.now evaluation.now.fusion.now.0.items v (slice_index first.now) }
+    requires inner { IsSlotAt evaluation.now.space.now evaluation.now.tree.now evaluation.now.fusion.now.0.items v (slice_index first.now.numbers) }
     requires room { memory evaluation.now.space.now evaluation.now.tree.now evaluation.now.fusion.now.0.items ≤ length words.now }
-    ensures { result ≡ slot_word (slot_at evaluation.now.layout.now.0.items v) (slice_index first.now) }
+    ensures { result ≡ slot_word (slot_at evaluation.now.layout.now.0.items v) (slice_index first.now.numbers) }
 {
     // The length of the block bounds all places.
     let _len = words.len();
@@ -39,7 +41,7 @@ fn place_in_slot(evaluation: &Evaluation, words: &Words, v: u8, first: &[u64; 24
     if slot.size == 1 {
         return slot.offset;
     }
-    slot_place(slot, first)
+    slot_place(slot, &first.numbers)
 }
 
 // Finds the window of an inner node's slot.
@@ -47,14 +49,14 @@ pub(crate) fn node_window(
     evaluation: &Evaluation,
     words: &Words,
     v: u8,
-    first: &[u64; 24],
+    first: &Position,
     window: &mut Window,
 )
     requires laid { IsLayout evaluation.now.space.now evaluation.now.tree.now evaluation.now.fusion.now.0.items evaluation.now.layout.now.0.items }
-    requires inner { IsSlotAt evaluation.now.space.now evaluation.now.tree.now evaluation.now.fusion.now.0.items v (slice_index first.now) }
+    requires inner { IsSlotAt evaluation.now.space.now evaluation.now.tree.now evaluation.now.fusion.now.0.items v (slice_index first.now.numbers) }
     requires steps { window.old.steps ≡ (slot_at evaluation.now.layout.now.0.items v).steps }
     requires room { memory evaluation.now.space.now evaluation.now.tree.now evaluation.now.fusion.now.0.items ≤ length words.now }
-    ensures { IsSlotWindow (slot_at evaluation.now.layout.now.0.items v) (slice_index first.now) window.new }
+    ensures { IsSlotWindow (slot_at evaluation.now.layout.now.0.items v) (slice_index first.now.numbers) window.new }
 {
     window.first = place_in_slot(evaluation, words, v, first);
 }
@@ -62,33 +64,34 @@ pub(crate) fn node_window(
 // Finds the window of the tile in which the element of a tensor at the first turn lies. The tile is touched, with `write` for
 // writing.
 fn touch_window<D: Disk>(
-    _evaluation: &Evaluation,
+    evaluation: &Evaluation,
     words: &mut Words,
     cache: &mut Cache,
     disk: &mut D,
     leaf: &Leaf,
-    first: &[u64; 24],
+    first: &Position,
     write: bool,
     window: &mut Window,
 ) -> Result<(), Failed>
-    requires prepared { IsPrepared (workspace _evaluation.now words.old cache.old (D.files disk.old)) }
-    requires stored { IsStored (workspace _evaluation.now words.old cache.old (D.files disk.old)) leaf.now.tensor leaf.now.indexes.items }
+    requires prepared { IsPrepared (workspace evaluation.now words.old cache.old (D.files disk.old)) }
+    requires position { IsPosition evaluation.now.space.now first.now }
+    requires stored { IsStored (workspace evaluation.now words.old cache.old (D.files disk.old)) leaf.now.tensor leaf.now.indexes.items }
     requires known { All (λ i. i < 24) leaf.now.indexes.items }
-    requires inside { IsInside (shape_over _evaluation.now.space.now leaf.now.indexes.items).extents (map (slice_index first.now) leaf.now.indexes.items) }
+    requires inside { IsInside (shape_over evaluation.now.space.now leaf.now.indexes.items).extents (map (slice_index first.now.numbers) leaf.now.indexes.items) }
     requires writable { IsTrue write → IsWritable cache.old leaf.now.tensor }
-    requires steps { AreTensorSteps (shape_over _evaluation.now.space.now leaf.now.indexes.items) leaf.now.indexes.items window.old.steps }
+    requires steps { AreTensorSteps (shape_over evaluation.now.space.now leaf.now.indexes.items) leaf.now.indexes.items window.old.steps }
     requires few { cache.old.touches + 1 ≤ 2 ^ 100 }
-    ensures window { OnOk result (IsTouchedTile 1 cache.new leaf.now.tensor (shape_over _evaluation.now.space.now leaf.now.indexes.items)
-        leaf.now.indexes.items (slice_index first.now) write window.new) }
+    ensures window { OnOk result (IsTouchedTile 1 cache.new leaf.now.tensor (shape_over evaluation.now.space.now leaf.now.indexes.items)
+        leaf.now.indexes.items (slice_index first.now.numbers) write window.new) }
     ensures last { OnOk result (KeepsLast cache.old cache.new) }
-    ensures read { OnOk result (IsRead 1 (workspace _evaluation.now words.old cache.old (D.files disk.old)) (workspace _evaluation.now words.new cache.new (D.files disk.new))) }
-    ensures kept { IsKept (workspace _evaluation.now words.old cache.old (D.files disk.old)) (workspace _evaluation.now words.new cache.new (D.files disk.new)) }
+    ensures read { OnOk result (IsRead 1 (workspace evaluation.now words.old cache.old (D.files disk.old)) (workspace evaluation.now words.new cache.new (D.files disk.new))) }
+    ensures kept { IsKept (workspace evaluation.now words.old cache.old (D.files disk.old)) (workspace evaluation.now words.new cache.new (D.files disk.new)) }
     ensures cause { HasCause (D.faults disk.old) (D.faults disk.new) (IsErr result) }
     ensures told { TellsFaults (D.faults disk.old) (D.faults disk.new) (IsErr result) }
 {
     // The length of the block bounds all places.
     let _len = words.len();
-    let element = find_element(cache, leaf, first);
+    let element = first.element(evaluation.space, leaf.indexes.as_slice());
     let at = cache.touch(disk, words, leaf.tensor, element.tile, write)?;
     window.first = at + element.place;
     Ok(())
@@ -101,14 +104,15 @@ pub(crate) fn operand_window<D: Disk>(
     cache: &mut Cache,
     disk: &mut D,
     operand: &Operand,
-    first: &[u64; 24],
+    first: &Position,
     window: &mut Window,
 ) -> Result<(), Failed>
     requires prepared { IsPrepared (workspace evaluation.now words.old cache.old (D.files disk.old)) }
-    requires place { HasPlace (workspace evaluation.now words.old cache.old (D.files disk.old)) operand.now (slice_index first.now) }
+    requires position { IsPosition evaluation.now.space.now first.now }
+    requires place { HasPlace (workspace evaluation.now words.old cache.old (D.files disk.old)) operand.now (slice_index first.now.numbers) }
     requires steps { AreOperandSteps (workspace evaluation.now words.old cache.old (D.files disk.old)).places operand.now window.old.steps }
     requires few { cache.old.touches + 1 ≤ 2 ^ 100 }
-    ensures window { OnOk result (IsOperandWindow 1 (workspace evaluation.now words.new cache.new (D.files disk.new)) operand.now (slice_index first.now) window.new) }
+    ensures window { OnOk result (IsOperandWindow 1 (workspace evaluation.now words.new cache.new (D.files disk.new)) operand.now (slice_index first.now.numbers) window.new) }
     ensures last { OnOk result (KeepsLast cache.old cache.new) }
     ensures read { OnOk result (IsRead 1 (workspace evaluation.now words.old cache.old (D.files disk.old)) (workspace evaluation.now words.new cache.new (D.files disk.new))) }
     ensures kept { IsKept (workspace evaluation.now words.old cache.old (D.files disk.old)) (workspace evaluation.now words.new cache.new (D.files disk.new)) }
@@ -135,14 +139,15 @@ pub(crate) fn place_window<D: Disk>(
     cache: &mut Cache,
     disk: &mut D,
     v: u8,
-    first: &[u64; 24],
+    first: &Position,
     window: &mut Window,
 ) -> Result<(), Failed>
     requires prepared { IsPrepared (workspace evaluation.now words.old cache.old (D.files disk.old)) }
-    requires place { IsPlaceOf (workspace evaluation.now words.old cache.old (D.files disk.old)) v (slice_index first.now) }
+    requires position { IsPosition evaluation.now.space.now first.now }
+    requires place { IsPlaceOf (workspace evaluation.now words.old cache.old (D.files disk.old)) v (slice_index first.now.numbers) }
     requires steps { ArePlaceSteps (workspace evaluation.now words.old cache.old (D.files disk.old)).places v window.old.steps }
     requires few { cache.old.touches + 1 ≤ 2 ^ 100 }
-    ensures window { OnOk result (IsPlaceWindow 1 (workspace evaluation.now words.new cache.new (D.files disk.new)) v (slice_index first.now) window.new) }
+    ensures window { OnOk result (IsPlaceWindow 1 (workspace evaluation.now words.new cache.new (D.files disk.new)) v (slice_index first.now.numbers) window.new) }
     ensures last { OnOk result (KeepsLast cache.old cache.new) }
     ensures read { OnOk result (IsRead 1 (workspace evaluation.now words.old cache.old (D.files disk.old)) (workspace evaluation.now words.new cache.new (D.files disk.new))) }
     ensures kept { IsKept (workspace evaluation.now words.old cache.old (D.files disk.old)) (workspace evaluation.now words.new cache.new (D.files disk.new)) }
@@ -173,16 +178,17 @@ pub(crate) fn sum_windows<D: Disk>(
     cache: &mut Cache,
     disk: &mut D,
     v: u8,
-    first: &[u64; 24],
+    first: &Position,
     windows: &mut Windows,
 ) -> Result<(), Failed>
     requires prepared { IsPrepared (workspace evaluation.now words.old cache.old (D.files disk.old)) }
-    requires node { IsNodeAt (setting_in (workspace evaluation.now words.old cache.old (D.files disk.old))) v (slice_index first.now) }
+    requires position { IsPosition evaluation.now.space.now first.now }
+    requires node { IsNodeAt (setting_in (workspace evaluation.now words.old cache.old (D.files disk.old))) v (slice_index first.now.numbers) }
     requires free { reads_constant evaluation.now.tree.now (operation_of_node evaluation.now.tree.now v) ≡ false }
     requires left_steps { AreOperandSteps (workspace evaluation.now words.old cache.old (D.files disk.old)).places (left_of evaluation.now.tree.now v) windows.old.left.steps }
     requires out_steps { ArePlaceSteps (workspace evaluation.now words.old cache.old (D.files disk.old)).places v windows.old.out.steps }
     requires few { cache.old.touches + 2 ≤ 2 ^ 100 }
-    ensures windows { OnOk result (AreSumWindows (workspace evaluation.now words.new cache.new (D.files disk.new)) (left_of evaluation.now.tree.now v) v (slice_index first.now) windows.new) }
+    ensures windows { OnOk result (AreSumWindows (workspace evaluation.now words.new cache.new (D.files disk.new)) (left_of evaluation.now.tree.now v) v (slice_index first.now.numbers) windows.new) }
     ensures read { OnOk result (IsRead 2 (workspace evaluation.now words.old cache.old (D.files disk.old)) (workspace evaluation.now words.new cache.new (D.files disk.new))) }
     ensures kept { IsKept (workspace evaluation.now words.old cache.old (D.files disk.old)) (workspace evaluation.now words.new cache.new (D.files disk.new)) }
     ensures cause { HasCause (D.faults disk.old) (D.faults disk.new) (IsErr result) }
@@ -212,20 +218,21 @@ pub(crate) fn pair_windows<D: Disk>(
     v: u8,
     right: &Operand,
     out: u8,
-    first: &[u64; 24],
+    first: &Position,
     windows: &mut Windows,
 ) -> Result<(), Failed>
     requires prepared { IsPrepared (workspace evaluation.now words.old cache.old (D.files disk.old)) }
-    requires node { IsNodeAt (setting_in (workspace evaluation.now words.old cache.old (D.files disk.old))) v (slice_index first.now) }
+    requires position { IsPosition evaluation.now.space.now first.now }
+    requires node { IsNodeAt (setting_in (workspace evaluation.now words.old cache.old (D.files disk.old))) v (slice_index first.now.numbers) }
     requires free { reads_constant evaluation.now.tree.now (operation_of_node evaluation.now.tree.now v) ≡ false }
     requires right { right_of evaluation.now.tree.now v ≡ Some right.now }
-    requires place { IsPlaceOf (workspace evaluation.now words.old cache.old (D.files disk.old)) out (slice_index first.now) }
+    requires place { IsPlaceOf (workspace evaluation.now words.old cache.old (D.files disk.old)) out (slice_index first.now.numbers) }
     requires left_steps { AreOperandSteps (workspace evaluation.now words.old cache.old (D.files disk.old)).places (left_of evaluation.now.tree.now v) windows.old.left.steps }
     requires right_steps { AreOperandSteps (workspace evaluation.now words.old cache.old (D.files disk.old)).places right.now windows.old.right.steps }
     requires out_steps { ArePlaceSteps (workspace evaluation.now words.old cache.old (D.files disk.old)).places out windows.old.out.steps }
     requires few { cache.old.touches + 3 ≤ 2 ^ 100 }
     ensures own { windows.new.own ≡ windows.old.own }
-    ensures windows { OnOk result (ArePairWindows (workspace evaluation.now words.new cache.new (D.files disk.new)) (left_of evaluation.now.tree.now v) right.now out (slice_index first.now) windows.new) }
+    ensures windows { OnOk result (ArePairWindows (workspace evaluation.now words.new cache.new (D.files disk.new)) (left_of evaluation.now.tree.now v) right.now out (slice_index first.now.numbers) windows.new) }
     ensures read { OnOk result (IsRead 3 (workspace evaluation.now words.old cache.old (D.files disk.old)) (workspace evaluation.now words.new cache.new (D.files disk.new))) }
     ensures kept { IsKept (workspace evaluation.now words.old cache.old (D.files disk.old)) (workspace evaluation.now words.new cache.new (D.files disk.new)) }
     ensures cause { HasCause (D.faults disk.old) (D.faults disk.new) (IsErr result) }

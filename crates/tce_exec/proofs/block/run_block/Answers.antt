@@ -27,27 +27,27 @@ begin_block-requires-clause-each g c =
 
 pub run_sum-requires-clause-first : goal.run_sum-requires-clause-first
 run_sum-requires-clause-first g c =
-    c.begin_block.ensures ∙ begun_first (loops_of c.args.tail.now) (assignment_of c.args.numbers.now) (slice_index c.args.first.now) (part_of c.args.block.now) c.requires.others
+    c.begin_block.ensures.numbers ∙ begun_first (loops_of c.args.tail.now) (assignment_of c.args.numbers.now) (slice_index c.args.first.now.numbers) (part_of c.args.block.now) c.requires.others
 
 pub run_pair-requires-clause-first : goal.run_pair-requires-clause-first
 run_pair-requires-clause-first g c =
-    c.begin_block.ensures ∙ begun_first (loops_of c.args.tail.now) (assignment_of c.args.numbers.now) (slice_index c.args.first.now) (part_of c.args.block.now) c.requires.others
+    c.begin_block.ensures.numbers ∙ begun_first (loops_of c.args.tail.now) (assignment_of c.args.numbers.now) (slice_index c.args.first.now.numbers) (part_of c.args.block.now) c.requires.others
 
 pub run_joined-requires-clause-first : goal.run_joined-requires-clause-first
 run_joined-requires-clause-first g c =
-    c.begin_block.ensures ∙ begun_first (loops_of c.args.tail.now) (assignment_of c.args.numbers.now) (slice_index c.args.first.now) (part_of c.args.block.now) c.requires.others
+    c.begin_block.ensures.numbers ∙ begun_first (loops_of c.args.tail.now) (assignment_of c.args.numbers.now) (slice_index c.args.first.now.numbers) (part_of c.args.block.now) c.requires.others
 
 pub returns-in_default-clause-others : goal.returns-in_default-clause-others
 returns-in_default-clause-others g c =
-    outside_still (loops_of c.args.tail.now) (assignment_of c.args.numbers.now) (slice_index c.begin_block.new.first) (part_of c.args.block.now)
-    (c.begin_block.ensures ∙ begun_first (loops_of c.args.tail.now) (assignment_of c.args.numbers.now) (slice_index c.args.first.now) (part_of c.args.block.now) c.requires.others)
+    outside_still (loops_of c.args.tail.now) (assignment_of c.args.numbers.now) (slice_index c.begin_block.new.first.numbers) (part_of c.args.block.now)
+    (c.begin_block.ensures.numbers ∙ begun_first (loops_of c.args.tail.now) (assignment_of c.args.numbers.now) (slice_index c.args.first.now.numbers) (part_of c.args.block.now) c.requires.others)
 
 pub returns-in-None-clause-others : goal.returns-in-None-clause-others
 returns-in-None-clause-others g c =
-    outside_still (loops_of c.args.tail.now) (assignment_of c.args.numbers.now) (slice_index c.begin_block.new.first) (part_of c.args.block.now)
-    (c.begin_block.ensures ∙ begun_first (loops_of c.args.tail.now) (assignment_of c.args.numbers.now) (slice_index c.args.first.now) (part_of c.args.block.now) c.requires.others)
+    outside_still (loops_of c.args.tail.now) (assignment_of c.args.numbers.now) (slice_index c.begin_block.new.first.numbers) (part_of c.args.block.now)
+    (c.begin_block.ensures.numbers ∙ begun_first (loops_of c.args.tail.now) (assignment_of c.args.numbers.now) (slice_index c.args.first.now.numbers) (part_of c.args.block.now) c.requires.others)
 
 pub returns-in-Some-sum-clause-others : goal.returns-in-Some-sum-clause-others
 returns-in-Some-sum-clause-others g c =
-    outside_still (loops_of c.args.tail.now) (assignment_of c.args.numbers.now) (slice_index c.begin_block.new.first) (part_of c.args.block.now)
-    (c.begin_block.ensures ∙ begun_first (loops_of c.args.tail.now) (assignment_of c.args.numbers.now) (slice_index c.args.first.now) (part_of c.args.block.now) c.requires.others)
+    outside_still (loops_of c.args.tail.now) (assignment_of c.args.numbers.now) (slice_index c.begin_block.new.first.numbers) (part_of c.args.block.now)
+    (c.begin_block.ensures.numbers ∙ begun_first (loops_of c.args.tail.now) (assignment_of c.args.numbers.now) (slice_index c.args.first.now.numbers) (part_of c.args.block.now) c.requires.others)

@@ -17,7 +17,7 @@ pair_windows-requires-clause-node g c =
     let a : Assignment = assignment_of c.args.numbers.now in
     let part : Part = part_of c.args.block.now in
     let h : IsAtBlock x c.args.tail.now a part = record { space = c.index_count-indexes.ensures.limits; tree = c.count-nodes.ensures.kept; prepared = c.requires.prepared; tail_is = c.requires.tail; block = c.requires.block } in
-    node_at_first x c.args.tail.now a part (slice_index c.args.first.now) h c.requires.first
+    node_at_first x c.args.tail.now a part (slice_index c.args.first.now.numbers) h c.requires.first
 
 pub pair_windows-requires-clause-place : goal.pair_windows-requires-clause-place
 pair_windows-requires-clause-place g c =
@@ -25,7 +25,7 @@ pair_windows-requires-clause-place g c =
     let a : Assignment = assignment_of c.args.numbers.now in
     let part : Part = part_of c.args.block.now in
     let h : IsAtBlock x c.args.tail.now a part = record { space = c.index_count-indexes.ensures.limits; tree = c.count-nodes.ensures.kept; prepared = c.requires.prepared; tail_is = c.requires.tail; block = c.requires.block } in
-    sum_at_first x c.args.tail.now a part c.args.sum (slice_index c.args.first.now) h c.requires.joined c.requires.first
+    sum_at_first x c.args.tail.now a part c.args.sum (slice_index c.args.first.now.numbers) h c.requires.joined c.requires.first
 
 pub node_window-requires-clause-inner : goal.node_window-requires-clause-inner
 node_window-requires-clause-inner g c =
@@ -33,7 +33,7 @@ node_window-requires-clause-inner g c =
     let a : Assignment = assignment_of c.args.numbers.now in
     let part : Part = part_of c.args.block.now in
     let h : IsAtBlock x c.args.tail.now a part = record { space = c.index_count-indexes.ensures.limits; tree = c.count-nodes.ensures.kept; prepared = c.requires.prepared; tail_is = c.requires.tail; block = c.requires.block } in
-    own_slot x c.args.tail.now a part c.args.sum (slice_index c.args.first.now) h c.requires.joined c.requires.first
+    own_slot x c.args.tail.now a part c.args.sum (slice_index c.args.first.now.numbers) h c.requires.joined c.requires.first
 
 pub node_window-requires-clause-room : goal.node_window-requires-clause-room
 node_window-requires-clause-room g c =
@@ -55,9 +55,9 @@ compute_turns-requires-clause-out g c =
     let a : Assignment = assignment_of c.args.numbers.now in
     let part : Part = part_of c.args.block.now in
     let h : IsAtBlock x c.args.tail.now a part = record { space = c.index_count-indexes.ensures.limits; tree = c.count-nodes.ensures.kept; prepared = c.requires.prepared; tail_is = c.requires.tail; block = c.requires.block } in
-    let ready = operands_ready x y c.args.tail.now a part c.args.right.now c.args.sum (slice_index c.args.first.now) c.pair_windows.new.windows h c.in_ok-pair_windows.ensures.kept c.in_ok-pair_windows.ensures.read
+    let ready = operands_ready x y c.args.tail.now a part c.args.right.now c.args.sum (slice_index c.args.first.now.numbers) c.pair_windows.new.windows h c.in_ok-pair_windows.ensures.kept c.in_ok-pair_windows.ensures.read
     c.requires.first c.requires.right c.in_ok-pair_windows.ensures.windows in
-    let own = slot_places_ready y c.args.tail.now a part c.args.right.now c.args.sum (slice_index c.args.first.now) c.pair_windows.new.windows.left c.pair_windows.new.windows.right c.node_window.new.window ready
+    let own = slot_places_ready y c.args.tail.now a part c.args.right.now c.args.sum (slice_index c.args.first.now.numbers) c.pair_windows.new.windows.left c.pair_windows.new.windows.right c.node_window.new.window ready
     c.requires.first c.requires.joined c.node_window.ensures in
     own.out_is
 
@@ -68,7 +68,7 @@ compute_turns-requires-clause-left g c =
     let a : Assignment = assignment_of c.args.numbers.now in
     let part : Part = part_of c.args.block.now in
     let h : IsAtBlock x c.args.tail.now a part = record { space = c.index_count-indexes.ensures.limits; tree = c.count-nodes.ensures.kept; prepared = c.requires.prepared; tail_is = c.requires.tail; block = c.requires.block } in
-    let ready = operands_ready x y c.args.tail.now a part c.args.right.now c.args.sum (slice_index c.args.first.now) c.pair_windows.new.windows h c.in_ok-pair_windows.ensures.kept c.in_ok-pair_windows.ensures.read
+    let ready = operands_ready x y c.args.tail.now a part c.args.right.now c.args.sum (slice_index c.args.first.now.numbers) c.pair_windows.new.windows h c.in_ok-pair_windows.ensures.kept c.in_ok-pair_windows.ensures.read
     c.requires.first c.requires.right c.in_ok-pair_windows.ensures.windows in
     ready.left_in
 
@@ -79,7 +79,7 @@ compute_turns-requires-clause-right g c =
     let a : Assignment = assignment_of c.args.numbers.now in
     let part : Part = part_of c.args.block.now in
     let h : IsAtBlock x c.args.tail.now a part = record { space = c.index_count-indexes.ensures.limits; tree = c.count-nodes.ensures.kept; prepared = c.requires.prepared; tail_is = c.requires.tail; block = c.requires.block } in
-    let ready = operands_ready x y c.args.tail.now a part c.args.right.now c.args.sum (slice_index c.args.first.now) c.pair_windows.new.windows h c.in_ok-pair_windows.ensures.kept c.in_ok-pair_windows.ensures.read
+    let ready = operands_ready x y c.args.tail.now a part c.args.right.now c.args.sum (slice_index c.args.first.now.numbers) c.pair_windows.new.windows h c.in_ok-pair_windows.ensures.kept c.in_ok-pair_windows.ensures.read
     c.requires.first c.requires.right c.in_ok-pair_windows.ensures.windows in
     ready.right_in
 
@@ -90,9 +90,9 @@ compute_turns-requires-clause-apart_from_left g c =
     let a : Assignment = assignment_of c.args.numbers.now in
     let part : Part = part_of c.args.block.now in
     let h : IsAtBlock x c.args.tail.now a part = record { space = c.index_count-indexes.ensures.limits; tree = c.count-nodes.ensures.kept; prepared = c.requires.prepared; tail_is = c.requires.tail; block = c.requires.block } in
-    let ready = operands_ready x y c.args.tail.now a part c.args.right.now c.args.sum (slice_index c.args.first.now) c.pair_windows.new.windows h c.in_ok-pair_windows.ensures.kept c.in_ok-pair_windows.ensures.read
+    let ready = operands_ready x y c.args.tail.now a part c.args.right.now c.args.sum (slice_index c.args.first.now.numbers) c.pair_windows.new.windows h c.in_ok-pair_windows.ensures.kept c.in_ok-pair_windows.ensures.read
     c.requires.first c.requires.right c.in_ok-pair_windows.ensures.windows in
-    let own = slot_places_ready y c.args.tail.now a part c.args.right.now c.args.sum (slice_index c.args.first.now) c.pair_windows.new.windows.left c.pair_windows.new.windows.right c.node_window.new.window ready
+    let own = slot_places_ready y c.args.tail.now a part c.args.right.now c.args.sum (slice_index c.args.first.now.numbers) c.pair_windows.new.windows.left c.pair_windows.new.windows.right c.node_window.new.window ready
     c.requires.first c.requires.joined c.node_window.ensures in
     own.from_left
 
@@ -103,9 +103,9 @@ compute_turns-requires-clause-apart_from_right g c =
     let a : Assignment = assignment_of c.args.numbers.now in
     let part : Part = part_of c.args.block.now in
     let h : IsAtBlock x c.args.tail.now a part = record { space = c.index_count-indexes.ensures.limits; tree = c.count-nodes.ensures.kept; prepared = c.requires.prepared; tail_is = c.requires.tail; block = c.requires.block } in
-    let ready = operands_ready x y c.args.tail.now a part c.args.right.now c.args.sum (slice_index c.args.first.now) c.pair_windows.new.windows h c.in_ok-pair_windows.ensures.kept c.in_ok-pair_windows.ensures.read
+    let ready = operands_ready x y c.args.tail.now a part c.args.right.now c.args.sum (slice_index c.args.first.now.numbers) c.pair_windows.new.windows h c.in_ok-pair_windows.ensures.kept c.in_ok-pair_windows.ensures.read
     c.requires.first c.requires.right c.in_ok-pair_windows.ensures.windows in
-    let own = slot_places_ready y c.args.tail.now a part c.args.right.now c.args.sum (slice_index c.args.first.now) c.pair_windows.new.windows.left c.pair_windows.new.windows.right c.node_window.new.window ready
+    let own = slot_places_ready y c.args.tail.now a part c.args.right.now c.args.sum (slice_index c.args.first.now.numbers) c.pair_windows.new.windows.left c.pair_windows.new.windows.right c.node_window.new.window ready
     c.requires.first c.requires.joined c.node_window.ensures in
     own.from_right
 
@@ -124,9 +124,9 @@ grow_turns_by_products-requires-clause-out g c =
     let a : Assignment = assignment_of c.args.numbers.now in
     let part : Part = part_of c.args.block.now in
     let h : IsAtBlock x c.args.tail.now a part = record { space = c.index_count-indexes.ensures.limits; tree = c.count-nodes.ensures.kept; prepared = c.requires.prepared; tail_is = c.requires.tail; block = c.requires.block } in
-    let ready = operands_ready x y c.args.tail.now a part c.args.right.now c.args.sum (slice_index c.args.first.now) c.pair_windows.new.windows h c.in_ok-pair_windows.ensures.kept c.in_ok-pair_windows.ensures.read
+    let ready = operands_ready x y c.args.tail.now a part c.args.right.now c.args.sum (slice_index c.args.first.now.numbers) c.pair_windows.new.windows h c.in_ok-pair_windows.ensures.kept c.in_ok-pair_windows.ensures.read
     c.requires.first c.requires.right c.in_ok-pair_windows.ensures.windows in
-    let places = sum_places_ready y c.args.tail.now a part c.args.right.now c.args.sum (slice_index c.args.first.now) c.pair_windows.new.windows ready c.requires.first c.requires.joined
+    let places = sum_places_ready y c.args.tail.now a part c.args.right.now c.args.sum (slice_index c.args.first.now.numbers) c.pair_windows.new.windows ready c.requires.first c.requires.joined
     c.in_ok-pair_windows.ensures.windows in
     within_later y.words c.compute_turns.new.words _ _ _ c.node_window.new.window c.args.tail.now part c.pair_windows.new.windows.out c.compute_turns.ensures.made places.out_is
 
@@ -137,7 +137,7 @@ grow_turns_by_products-requires-clause-left g c =
     let a : Assignment = assignment_of c.args.numbers.now in
     let part : Part = part_of c.args.block.now in
     let h : IsAtBlock x c.args.tail.now a part = record { space = c.index_count-indexes.ensures.limits; tree = c.count-nodes.ensures.kept; prepared = c.requires.prepared; tail_is = c.requires.tail; block = c.requires.block } in
-    let ready = operands_ready x y c.args.tail.now a part c.args.right.now c.args.sum (slice_index c.args.first.now) c.pair_windows.new.windows h c.in_ok-pair_windows.ensures.kept c.in_ok-pair_windows.ensures.read
+    let ready = operands_ready x y c.args.tail.now a part c.args.right.now c.args.sum (slice_index c.args.first.now.numbers) c.pair_windows.new.windows h c.in_ok-pair_windows.ensures.kept c.in_ok-pair_windows.ensures.read
     c.requires.first c.requires.right c.in_ok-pair_windows.ensures.windows in
     within_later y.words c.compute_turns.new.words _ _ _ c.node_window.new.window c.args.tail.now part c.pair_windows.new.windows.left c.compute_turns.ensures.made ready.left_in
 
@@ -148,7 +148,7 @@ grow_turns_by_products-requires-clause-right g c =
     let a : Assignment = assignment_of c.args.numbers.now in
     let part : Part = part_of c.args.block.now in
     let h : IsAtBlock x c.args.tail.now a part = record { space = c.index_count-indexes.ensures.limits; tree = c.count-nodes.ensures.kept; prepared = c.requires.prepared; tail_is = c.requires.tail; block = c.requires.block } in
-    let ready = operands_ready x y c.args.tail.now a part c.args.right.now c.args.sum (slice_index c.args.first.now) c.pair_windows.new.windows h c.in_ok-pair_windows.ensures.kept c.in_ok-pair_windows.ensures.read
+    let ready = operands_ready x y c.args.tail.now a part c.args.right.now c.args.sum (slice_index c.args.first.now.numbers) c.pair_windows.new.windows h c.in_ok-pair_windows.ensures.kept c.in_ok-pair_windows.ensures.read
     c.requires.first c.requires.right c.in_ok-pair_windows.ensures.windows in
     within_later y.words c.compute_turns.new.words _ _ _ c.node_window.new.window c.args.tail.now part c.pair_windows.new.windows.right c.compute_turns.ensures.made ready.right_in
 
@@ -159,9 +159,9 @@ grow_turns_by_products-requires-clause-apart_from_left g c =
     let a : Assignment = assignment_of c.args.numbers.now in
     let part : Part = part_of c.args.block.now in
     let h : IsAtBlock x c.args.tail.now a part = record { space = c.index_count-indexes.ensures.limits; tree = c.count-nodes.ensures.kept; prepared = c.requires.prepared; tail_is = c.requires.tail; block = c.requires.block } in
-    let ready = operands_ready x y c.args.tail.now a part c.args.right.now c.args.sum (slice_index c.args.first.now) c.pair_windows.new.windows h c.in_ok-pair_windows.ensures.kept c.in_ok-pair_windows.ensures.read
+    let ready = operands_ready x y c.args.tail.now a part c.args.right.now c.args.sum (slice_index c.args.first.now.numbers) c.pair_windows.new.windows h c.in_ok-pair_windows.ensures.kept c.in_ok-pair_windows.ensures.read
     c.requires.first c.requires.right c.in_ok-pair_windows.ensures.windows in
-    let places = sum_places_ready y c.args.tail.now a part c.args.right.now c.args.sum (slice_index c.args.first.now) c.pair_windows.new.windows ready c.requires.first c.requires.joined
+    let places = sum_places_ready y c.args.tail.now a part c.args.right.now c.args.sum (slice_index c.args.first.now.numbers) c.pair_windows.new.windows ready c.requires.first c.requires.joined
     c.in_ok-pair_windows.ensures.windows in
     places.from_left
 
@@ -172,9 +172,9 @@ grow_turns_by_products-requires-clause-apart_from_right g c =
     let a : Assignment = assignment_of c.args.numbers.now in
     let part : Part = part_of c.args.block.now in
     let h : IsAtBlock x c.args.tail.now a part = record { space = c.index_count-indexes.ensures.limits; tree = c.count-nodes.ensures.kept; prepared = c.requires.prepared; tail_is = c.requires.tail; block = c.requires.block } in
-    let ready = operands_ready x y c.args.tail.now a part c.args.right.now c.args.sum (slice_index c.args.first.now) c.pair_windows.new.windows h c.in_ok-pair_windows.ensures.kept c.in_ok-pair_windows.ensures.read
+    let ready = operands_ready x y c.args.tail.now a part c.args.right.now c.args.sum (slice_index c.args.first.now.numbers) c.pair_windows.new.windows h c.in_ok-pair_windows.ensures.kept c.in_ok-pair_windows.ensures.read
     c.requires.first c.requires.right c.in_ok-pair_windows.ensures.windows in
-    let places = sum_places_ready y c.args.tail.now a part c.args.right.now c.args.sum (slice_index c.args.first.now) c.pair_windows.new.windows ready c.requires.first c.requires.joined
+    let places = sum_places_ready y c.args.tail.now a part c.args.right.now c.args.sum (slice_index c.args.first.now.numbers) c.pair_windows.new.windows ready c.requires.first c.requires.joined
     c.in_ok-pair_windows.ensures.windows in
     places.from_right
 
@@ -185,11 +185,11 @@ returns-clause-changed g c =
     let a : Assignment = assignment_of c.args.numbers.now in
     let part : Part = part_of c.args.block.now in
     let h : IsAtBlock x c.args.tail.now a part = record { space = c.index_count-indexes.ensures.limits; tree = c.count-nodes.ensures.kept; prepared = c.requires.prepared; tail_is = c.requires.tail; block = c.requires.block } in
-    let ready = operands_ready x y c.args.tail.now a part c.args.right.now c.args.sum (slice_index c.args.first.now) c.pair_windows.new.windows h c.in_ok-pair_windows.ensures.kept c.in_ok-pair_windows.ensures.read
+    let ready = operands_ready x y c.args.tail.now a part c.args.right.now c.args.sum (slice_index c.args.first.now.numbers) c.pair_windows.new.windows h c.in_ok-pair_windows.ensures.kept c.in_ok-pair_windows.ensures.read
     c.requires.first c.requires.right c.in_ok-pair_windows.ensures.windows in
-    let places = sum_places_ready y c.args.tail.now a part c.args.right.now c.args.sum (slice_index c.args.first.now) c.pair_windows.new.windows ready c.requires.first c.requires.joined
+    let places = sum_places_ready y c.args.tail.now a part c.args.right.now c.args.sum (slice_index c.args.first.now.numbers) c.pair_windows.new.windows ready c.requires.first c.requires.joined
     c.in_ok-pair_windows.ensures.windows in
-    let own = slot_places_ready y c.args.tail.now a part c.args.right.now c.args.sum (slice_index c.args.first.now) c.pair_windows.new.windows.left c.pair_windows.new.windows.right c.node_window.new.window ready
+    let own = slot_places_ready y c.args.tail.now a part c.args.right.now c.args.sum (slice_index c.args.first.now.numbers) c.pair_windows.new.windows.left c.pair_windows.new.windows.right c.node_window.new.window ready
     c.requires.first c.requires.joined c.node_window.ensures in
     (joined_runs x y c.args.tail.now a part c.args.right.now c.args.sum c.pair_windows.new.windows c.node_window.new.window c.compute_turns.new.words c.grow_turns_by_products.new.words c.requires.prepared
     c.in_ok-pair_windows.ensures.kept c.in_ok-pair_windows.ensures.read ready own places c.len-len.ensures.words c.len-later.ensures.words c.requires.joined c.compute_turns.ensures.made c.grow_turns_by_products.ensures.made).changed
@@ -201,11 +201,11 @@ returns-clause-kept g c =
     let a : Assignment = assignment_of c.args.numbers.now in
     let part : Part = part_of c.args.block.now in
     let h : IsAtBlock x c.args.tail.now a part = record { space = c.index_count-indexes.ensures.limits; tree = c.count-nodes.ensures.kept; prepared = c.requires.prepared; tail_is = c.requires.tail; block = c.requires.block } in
-    let ready = operands_ready x y c.args.tail.now a part c.args.right.now c.args.sum (slice_index c.args.first.now) c.pair_windows.new.windows h c.in_ok-pair_windows.ensures.kept c.in_ok-pair_windows.ensures.read
+    let ready = operands_ready x y c.args.tail.now a part c.args.right.now c.args.sum (slice_index c.args.first.now.numbers) c.pair_windows.new.windows h c.in_ok-pair_windows.ensures.kept c.in_ok-pair_windows.ensures.read
     c.requires.first c.requires.right c.in_ok-pair_windows.ensures.windows in
-    let places = sum_places_ready y c.args.tail.now a part c.args.right.now c.args.sum (slice_index c.args.first.now) c.pair_windows.new.windows ready c.requires.first c.requires.joined
+    let places = sum_places_ready y c.args.tail.now a part c.args.right.now c.args.sum (slice_index c.args.first.now.numbers) c.pair_windows.new.windows ready c.requires.first c.requires.joined
     c.in_ok-pair_windows.ensures.windows in
-    let own = slot_places_ready y c.args.tail.now a part c.args.right.now c.args.sum (slice_index c.args.first.now) c.pair_windows.new.windows.left c.pair_windows.new.windows.right c.node_window.new.window ready
+    let own = slot_places_ready y c.args.tail.now a part c.args.right.now c.args.sum (slice_index c.args.first.now.numbers) c.pair_windows.new.windows.left c.pair_windows.new.windows.right c.node_window.new.window ready
     c.requires.first c.requires.joined c.node_window.ensures in
     (joined_runs x y c.args.tail.now a part c.args.right.now c.args.sum c.pair_windows.new.windows c.node_window.new.window c.compute_turns.new.words c.grow_turns_by_products.new.words c.requires.prepared
     c.in_ok-pair_windows.ensures.kept c.in_ok-pair_windows.ensures.read ready own places c.len-len.ensures.words c.len-later.ensures.words c.requires.joined c.compute_turns.ensures.made c.grow_turns_by_products.ensures.made).kept
@@ -213,7 +213,7 @@ returns-clause-kept g c =
 pub returns-clause-steps : goal.returns-clause-steps
 returns-clause-steps g c =
     let y : Workspace = workspace c.args.evaluation.now c.pair_windows.new.words c.pair_windows.new.cache (g.D.Disk.files c.pair_windows.new.disk) in
-    joined_steps y c.args.tail.now c.args.right.now c.args.sum (slice_index c.args.first.now) c.pair_windows.new.windows c.node_window.new.window c.requires.right c.requires.joined c.in_ok-pair_windows.ensures.windows c.node_window.ensures.steps_are
+    joined_steps y c.args.tail.now c.args.right.now c.args.sum (slice_index c.args.first.now.numbers) c.pair_windows.new.windows c.node_window.new.window c.requires.right c.requires.joined c.in_ok-pair_windows.ensures.windows c.node_window.ensures.steps_are
 
 pub pair_windows-requires-clause-right_steps : goal.pair_windows-requires-clause-right_steps
 pair_windows-requires-clause-right_steps g c = c.requires.steps.right_are c.args.right.now c.requires.right

@@ -17,7 +17,7 @@ pair_windows-requires-clause-node g c =
     let a : Assignment = assignment_of c.args.numbers.now in
     let part : Part = part_of c.args.block.now in
     let h : IsAtBlock x c.args.tail.now a part = record { space = c.index_count-indexes.ensures.limits; tree = c.count-nodes.ensures.kept; prepared = c.requires.prepared; tail_is = c.requires.tail; block = c.requires.block } in
-    node_at_first x c.args.tail.now a part (slice_index c.args.first.now) h c.requires.first
+    node_at_first x c.args.tail.now a part (slice_index c.args.first.now.numbers) h c.requires.first
 
 pub pair_windows-requires-clause-place : goal.pair_windows-requires-clause-place
 pair_windows-requires-clause-place g c =
@@ -25,7 +25,7 @@ pair_windows-requires-clause-place g c =
     let a : Assignment = assignment_of c.args.numbers.now in
     let part : Part = part_of c.args.block.now in
     let h : IsAtBlock x c.args.tail.now a part = record { space = c.index_count-indexes.ensures.limits; tree = c.count-nodes.ensures.kept; prepared = c.requires.prepared; tail_is = c.requires.tail; block = c.requires.block } in
-    own_place x c.args.tail.now.node (slice_index c.args.first.now) (node_at_first x c.args.tail.now a part (slice_index c.args.first.now) h c.requires.first)
+    own_place x c.args.tail.now.node (slice_index c.args.first.now.numbers) (node_at_first x c.args.tail.now a part (slice_index c.args.first.now.numbers) h c.requires.first)
 
 pub operation_of-operation-requires : goal.operation_of-operation-requires
 operation_of-operation-requires g c =
@@ -47,9 +47,9 @@ compute_turns-requires-clause-out g c =
     let a : Assignment = assignment_of c.args.numbers.now in
     let part : Part = part_of c.args.block.now in
     let h : IsAtBlock x c.args.tail.now a part = record { space = c.index_count-indexes.ensures.limits; tree = c.count-nodes.ensures.kept; prepared = c.requires.prepared; tail_is = c.requires.tail; block = c.requires.block } in
-    let ready = operands_ready x y c.args.tail.now a part c.args.right.now c.args.tail.now.node (slice_index c.args.first.now) c.pair_windows.new.windows h c.in_ok-pair_windows.ensures.kept c.in_ok-pair_windows.ensures.read
+    let ready = operands_ready x y c.args.tail.now a part c.args.right.now c.args.tail.now.node (slice_index c.args.first.now.numbers) c.pair_windows.new.windows h c.in_ok-pair_windows.ensures.kept c.in_ok-pair_windows.ensures.read
     c.requires.first c.requires.right c.in_ok-pair_windows.ensures.windows in
-    let places = own_ready y c.args.tail.now a part c.args.right.now (slice_index c.args.first.now) c.pair_windows.new.windows ready c.requires.first c.in_ok-pair_windows.ensures.windows in
+    let places = own_ready y c.args.tail.now a part c.args.right.now (slice_index c.args.first.now.numbers) c.pair_windows.new.windows ready c.requires.first c.in_ok-pair_windows.ensures.windows in
     places.out_is
 
 pub compute_turns-requires-clause-left : goal.compute_turns-requires-clause-left
@@ -59,7 +59,7 @@ compute_turns-requires-clause-left g c =
     let a : Assignment = assignment_of c.args.numbers.now in
     let part : Part = part_of c.args.block.now in
     let h : IsAtBlock x c.args.tail.now a part = record { space = c.index_count-indexes.ensures.limits; tree = c.count-nodes.ensures.kept; prepared = c.requires.prepared; tail_is = c.requires.tail; block = c.requires.block } in
-    let ready = operands_ready x y c.args.tail.now a part c.args.right.now c.args.tail.now.node (slice_index c.args.first.now) c.pair_windows.new.windows h c.in_ok-pair_windows.ensures.kept c.in_ok-pair_windows.ensures.read
+    let ready = operands_ready x y c.args.tail.now a part c.args.right.now c.args.tail.now.node (slice_index c.args.first.now.numbers) c.pair_windows.new.windows h c.in_ok-pair_windows.ensures.kept c.in_ok-pair_windows.ensures.read
     c.requires.first c.requires.right c.in_ok-pair_windows.ensures.windows in
     ready.left_in
 
@@ -70,7 +70,7 @@ compute_turns-requires-clause-right g c =
     let a : Assignment = assignment_of c.args.numbers.now in
     let part : Part = part_of c.args.block.now in
     let h : IsAtBlock x c.args.tail.now a part = record { space = c.index_count-indexes.ensures.limits; tree = c.count-nodes.ensures.kept; prepared = c.requires.prepared; tail_is = c.requires.tail; block = c.requires.block } in
-    let ready = operands_ready x y c.args.tail.now a part c.args.right.now c.args.tail.now.node (slice_index c.args.first.now) c.pair_windows.new.windows h c.in_ok-pair_windows.ensures.kept c.in_ok-pair_windows.ensures.read
+    let ready = operands_ready x y c.args.tail.now a part c.args.right.now c.args.tail.now.node (slice_index c.args.first.now.numbers) c.pair_windows.new.windows h c.in_ok-pair_windows.ensures.kept c.in_ok-pair_windows.ensures.read
     c.requires.first c.requires.right c.in_ok-pair_windows.ensures.windows in
     ready.right_in
 
@@ -81,9 +81,9 @@ compute_turns-requires-clause-apart_from_left g c =
     let a : Assignment = assignment_of c.args.numbers.now in
     let part : Part = part_of c.args.block.now in
     let h : IsAtBlock x c.args.tail.now a part = record { space = c.index_count-indexes.ensures.limits; tree = c.count-nodes.ensures.kept; prepared = c.requires.prepared; tail_is = c.requires.tail; block = c.requires.block } in
-    let ready = operands_ready x y c.args.tail.now a part c.args.right.now c.args.tail.now.node (slice_index c.args.first.now) c.pair_windows.new.windows h c.in_ok-pair_windows.ensures.kept c.in_ok-pair_windows.ensures.read
+    let ready = operands_ready x y c.args.tail.now a part c.args.right.now c.args.tail.now.node (slice_index c.args.first.now.numbers) c.pair_windows.new.windows h c.in_ok-pair_windows.ensures.kept c.in_ok-pair_windows.ensures.read
     c.requires.first c.requires.right c.in_ok-pair_windows.ensures.windows in
-    let places = own_ready y c.args.tail.now a part c.args.right.now (slice_index c.args.first.now) c.pair_windows.new.windows ready c.requires.first c.in_ok-pair_windows.ensures.windows in
+    let places = own_ready y c.args.tail.now a part c.args.right.now (slice_index c.args.first.now.numbers) c.pair_windows.new.windows ready c.requires.first c.in_ok-pair_windows.ensures.windows in
     places.from_left
 
 pub compute_turns-requires-clause-apart_from_right : goal.compute_turns-requires-clause-apart_from_right
@@ -93,9 +93,9 @@ compute_turns-requires-clause-apart_from_right g c =
     let a : Assignment = assignment_of c.args.numbers.now in
     let part : Part = part_of c.args.block.now in
     let h : IsAtBlock x c.args.tail.now a part = record { space = c.index_count-indexes.ensures.limits; tree = c.count-nodes.ensures.kept; prepared = c.requires.prepared; tail_is = c.requires.tail; block = c.requires.block } in
-    let ready = operands_ready x y c.args.tail.now a part c.args.right.now c.args.tail.now.node (slice_index c.args.first.now) c.pair_windows.new.windows h c.in_ok-pair_windows.ensures.kept c.in_ok-pair_windows.ensures.read
+    let ready = operands_ready x y c.args.tail.now a part c.args.right.now c.args.tail.now.node (slice_index c.args.first.now.numbers) c.pair_windows.new.windows h c.in_ok-pair_windows.ensures.kept c.in_ok-pair_windows.ensures.read
     c.requires.first c.requires.right c.in_ok-pair_windows.ensures.windows in
-    let places = own_ready y c.args.tail.now a part c.args.right.now (slice_index c.args.first.now) c.pair_windows.new.windows ready c.requires.first c.in_ok-pair_windows.ensures.windows in
+    let places = own_ready y c.args.tail.now a part c.args.right.now (slice_index c.args.first.now.numbers) c.pair_windows.new.windows ready c.requires.first c.in_ok-pair_windows.ensures.windows in
     places.from_right
 
 pub returns-clause-changed : goal.returns-clause-changed
@@ -105,9 +105,9 @@ returns-clause-changed g c =
     let a : Assignment = assignment_of c.args.numbers.now in
     let part : Part = part_of c.args.block.now in
     let h : IsAtBlock x c.args.tail.now a part = record { space = c.index_count-indexes.ensures.limits; tree = c.count-nodes.ensures.kept; prepared = c.requires.prepared; tail_is = c.requires.tail; block = c.requires.block } in
-    let ready = operands_ready x y c.args.tail.now a part c.args.right.now c.args.tail.now.node (slice_index c.args.first.now) c.pair_windows.new.windows h c.in_ok-pair_windows.ensures.kept c.in_ok-pair_windows.ensures.read
+    let ready = operands_ready x y c.args.tail.now a part c.args.right.now c.args.tail.now.node (slice_index c.args.first.now.numbers) c.pair_windows.new.windows h c.in_ok-pair_windows.ensures.kept c.in_ok-pair_windows.ensures.read
     c.requires.first c.requires.right c.in_ok-pair_windows.ensures.windows in
-    let places = own_ready y c.args.tail.now a part c.args.right.now (slice_index c.args.first.now) c.pair_windows.new.windows ready c.requires.first c.in_ok-pair_windows.ensures.windows in
+    let places = own_ready y c.args.tail.now a part c.args.right.now (slice_index c.args.first.now.numbers) c.pair_windows.new.windows ready c.requires.first c.in_ok-pair_windows.ensures.windows in
     (pair_runs x y c.args.tail.now a part c.args.right.now c.operation_of-operation.result c.kind.result c.pair_windows.new.windows c.compute_turns.new.words c.requires.prepared c.in_ok-pair_windows.ensures.kept
     c.in_ok-pair_windows.ensures.read ready places c.len-len.ensures.words c.requires.alone c.kind.ensures c.operation_of-operation.ensures c.compute_turns.ensures.made).changed
 
@@ -118,16 +118,16 @@ returns-clause-kept g c =
     let a : Assignment = assignment_of c.args.numbers.now in
     let part : Part = part_of c.args.block.now in
     let h : IsAtBlock x c.args.tail.now a part = record { space = c.index_count-indexes.ensures.limits; tree = c.count-nodes.ensures.kept; prepared = c.requires.prepared; tail_is = c.requires.tail; block = c.requires.block } in
-    let ready = operands_ready x y c.args.tail.now a part c.args.right.now c.args.tail.now.node (slice_index c.args.first.now) c.pair_windows.new.windows h c.in_ok-pair_windows.ensures.kept c.in_ok-pair_windows.ensures.read
+    let ready = operands_ready x y c.args.tail.now a part c.args.right.now c.args.tail.now.node (slice_index c.args.first.now.numbers) c.pair_windows.new.windows h c.in_ok-pair_windows.ensures.kept c.in_ok-pair_windows.ensures.read
     c.requires.first c.requires.right c.in_ok-pair_windows.ensures.windows in
-    let places = own_ready y c.args.tail.now a part c.args.right.now (slice_index c.args.first.now) c.pair_windows.new.windows ready c.requires.first c.in_ok-pair_windows.ensures.windows in
+    let places = own_ready y c.args.tail.now a part c.args.right.now (slice_index c.args.first.now.numbers) c.pair_windows.new.windows ready c.requires.first c.in_ok-pair_windows.ensures.windows in
     (pair_runs x y c.args.tail.now a part c.args.right.now c.operation_of-operation.result c.kind.result c.pair_windows.new.windows c.compute_turns.new.words c.requires.prepared c.in_ok-pair_windows.ensures.kept
     c.in_ok-pair_windows.ensures.read ready places c.len-len.ensures.words c.requires.alone c.kind.ensures c.operation_of-operation.ensures c.compute_turns.ensures.made).kept
 
 pub returns-clause-steps : goal.returns-clause-steps
 returns-clause-steps g c =
     let y : Workspace = workspace c.args.evaluation.now c.pair_windows.new.words c.pair_windows.new.cache (g.D.Disk.files c.pair_windows.new.disk) in
-    pair_steps y c.args.tail.now c.args.right.now (slice_index c.args.first.now) c.pair_windows.new.windows c.requires.right c.requires.alone c.in_ok-pair_windows.ensures.windows
+    pair_steps y c.args.tail.now c.args.right.now (slice_index c.args.first.now.numbers) c.pair_windows.new.windows c.requires.right c.requires.alone c.in_ok-pair_windows.ensures.windows
 
 pub pair_windows-requires-clause-right_steps : goal.pair_windows-requires-clause-right_steps
 pair_windows-requires-clause-right_steps g c = c.requires.steps.right_are c.args.right.now c.requires.right

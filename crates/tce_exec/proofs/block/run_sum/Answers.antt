@@ -16,7 +16,7 @@ sum_windows-requires-clause-node g c =
     let a : Assignment = assignment_of c.args.numbers.now in
     let part : Part = part_of c.args.block.now in
     let h : IsAtBlock x c.args.tail.now a part = record { space = c.index_count-indexes.ensures.limits; tree = c.count-nodes.ensures.kept; prepared = c.requires.prepared; tail_is = c.requires.tail; block = c.requires.block } in
-    node_at_first x c.args.tail.now a part (slice_index c.args.first.now) h c.requires.first
+    node_at_first x c.args.tail.now a part (slice_index c.args.first.now.numbers) h c.requires.first
 
 pub grow_turns-requires-clause-loops : goal.grow_turns-requires-clause-loops
 grow_turns-requires-clause-loops g c =
@@ -33,7 +33,7 @@ grow_turns-requires-clause-out g c =
     let a : Assignment = assignment_of c.args.numbers.now in
     let part : Part = part_of c.args.block.now in
     let h : IsAtBlock x c.args.tail.now a part = record { space = c.index_count-indexes.ensures.limits; tree = c.count-nodes.ensures.kept; prepared = c.requires.prepared; tail_is = c.requires.tail; block = c.requires.block } in
-    let ready = sum_ready x y c.args.tail.now a part (slice_index c.args.first.now) c.sum_windows.new.windows h c.in_ok-sum_windows.ensures.kept c.in_ok-sum_windows.ensures.read c.requires.first
+    let ready = sum_ready x y c.args.tail.now a part (slice_index c.args.first.now.numbers) c.sum_windows.new.windows h c.in_ok-sum_windows.ensures.kept c.in_ok-sum_windows.ensures.read c.requires.first
     c.in_ok-sum_windows.ensures.windows in
     ready.out
 
@@ -44,7 +44,7 @@ grow_turns-requires-clause-operand g c =
     let a : Assignment = assignment_of c.args.numbers.now in
     let part : Part = part_of c.args.block.now in
     let h : IsAtBlock x c.args.tail.now a part = record { space = c.index_count-indexes.ensures.limits; tree = c.count-nodes.ensures.kept; prepared = c.requires.prepared; tail_is = c.requires.tail; block = c.requires.block } in
-    let ready = sum_ready x y c.args.tail.now a part (slice_index c.args.first.now) c.sum_windows.new.windows h c.in_ok-sum_windows.ensures.kept c.in_ok-sum_windows.ensures.read c.requires.first
+    let ready = sum_ready x y c.args.tail.now a part (slice_index c.args.first.now.numbers) c.sum_windows.new.windows h c.in_ok-sum_windows.ensures.kept c.in_ok-sum_windows.ensures.read c.requires.first
     c.in_ok-sum_windows.ensures.windows in
     ready.operand
 
@@ -55,7 +55,7 @@ grow_turns-requires-clause-apart g c =
     let a : Assignment = assignment_of c.args.numbers.now in
     let part : Part = part_of c.args.block.now in
     let h : IsAtBlock x c.args.tail.now a part = record { space = c.index_count-indexes.ensures.limits; tree = c.count-nodes.ensures.kept; prepared = c.requires.prepared; tail_is = c.requires.tail; block = c.requires.block } in
-    let ready = sum_ready x y c.args.tail.now a part (slice_index c.args.first.now) c.sum_windows.new.windows h c.in_ok-sum_windows.ensures.kept c.in_ok-sum_windows.ensures.read c.requires.first
+    let ready = sum_ready x y c.args.tail.now a part (slice_index c.args.first.now.numbers) c.sum_windows.new.windows h c.in_ok-sum_windows.ensures.kept c.in_ok-sum_windows.ensures.read c.requires.first
     c.in_ok-sum_windows.ensures.windows in
     ready.apart
 
@@ -66,7 +66,7 @@ returns-clause-changed g c =
     let a : Assignment = assignment_of c.args.numbers.now in
     let part : Part = part_of c.args.block.now in
     let h : IsAtBlock x c.args.tail.now a part = record { space = c.index_count-indexes.ensures.limits; tree = c.count-nodes.ensures.kept; prepared = c.requires.prepared; tail_is = c.requires.tail; block = c.requires.block } in
-    let ready = sum_ready x y c.args.tail.now a part (slice_index c.args.first.now) c.sum_windows.new.windows h c.in_ok-sum_windows.ensures.kept c.in_ok-sum_windows.ensures.read c.requires.first
+    let ready = sum_ready x y c.args.tail.now a part (slice_index c.args.first.now.numbers) c.sum_windows.new.windows h c.in_ok-sum_windows.ensures.kept c.in_ok-sum_windows.ensures.read c.requires.first
     c.in_ok-sum_windows.ensures.windows in
     (sum_runs x y c.args.tail.now a part c.sum_windows.new.windows c.grow_turns.new.words c.requires.prepared c.in_ok-sum_windows.ensures.kept c.in_ok-sum_windows.ensures.read ready c.len-len.ensures.words c.requires.sum
     c.grow_turns.ensures.made).changed
@@ -78,7 +78,7 @@ returns-clause-kept g c =
     let a : Assignment = assignment_of c.args.numbers.now in
     let part : Part = part_of c.args.block.now in
     let h : IsAtBlock x c.args.tail.now a part = record { space = c.index_count-indexes.ensures.limits; tree = c.count-nodes.ensures.kept; prepared = c.requires.prepared; tail_is = c.requires.tail; block = c.requires.block } in
-    let ready = sum_ready x y c.args.tail.now a part (slice_index c.args.first.now) c.sum_windows.new.windows h c.in_ok-sum_windows.ensures.kept c.in_ok-sum_windows.ensures.read c.requires.first
+    let ready = sum_ready x y c.args.tail.now a part (slice_index c.args.first.now.numbers) c.sum_windows.new.windows h c.in_ok-sum_windows.ensures.kept c.in_ok-sum_windows.ensures.read c.requires.first
     c.in_ok-sum_windows.ensures.windows in
     (sum_runs x y c.args.tail.now a part c.sum_windows.new.windows c.grow_turns.new.words c.requires.prepared c.in_ok-sum_windows.ensures.kept c.in_ok-sum_windows.ensures.read ready c.len-len.ensures.words c.requires.sum
     c.grow_turns.ensures.made).kept
@@ -86,7 +86,7 @@ returns-clause-kept g c =
 pub returns-clause-steps : goal.returns-clause-steps
 returns-clause-steps g c =
     let y : Workspace = workspace c.args.evaluation.now c.sum_windows.new.words c.sum_windows.new.cache (g.D.Disk.files c.sum_windows.new.disk) in
-    sum_steps y c.args.tail.now (slice_index c.args.first.now) c.sum_windows.new.windows c.requires.sum c.in_ok-sum_windows.ensures.windows
+    sum_steps y c.args.tail.now (slice_index c.args.first.now.numbers) c.sum_windows.new.windows c.requires.sum c.in_ok-sum_windows.ensures.windows
 
 pub sum_windows-requires-clause-out_steps : goal.sum_windows-requires-clause-out_steps
 sum_windows-requires-clause-out_steps g c = c.requires.steps.sum_are c.requires.sum

@@ -1,4 +1,4 @@
-use Rattle.std.proofs.Common.{◌≡◌, ◌<◌, length, map, slice_index, All, refl, sym, ap, ap₂, ◌∙◌, subst, arith, rules}
+use Rattle.std.proofs.Common.{◌≡◌, ◌<◌, length, map, slice_index, All, refl, sym, ap, ap₂, ◌∙◌, subst, rules}
 use Rattle.tce_block.specs.Parts.{blocks}
 use Rattle.tce_block.specs.Cuts.{part_of}
 use Rattle.tce_workspace.specs.Workspace.{Workspace, workspace}
@@ -36,7 +36,8 @@ loop-blocks-init g c =
     c.new-blocks.ensures ∙ ap₂ blocks (e.extents ∙ ap (map (extent_at x.places.space)) c.as_slice.ensures.value) (e.edges ∙ ap (map (edge_at x.places.space)) c.as_slice.ensures.value) in
     record {
       along = subst (IsAlong x x c.args.tail.now (slice_index c.args.numbers.now)) (sym all) (begun x c.args.tail.now (slice_index c.args.numbers.now) c.requires.prepared);
-      others = λ i m. refl;
+      others = λ i m. ap (λ f. f i) c.go_to.ensures.numbers;
+      position = c.go_to.ensures.position;
       sequence = c.sequence_of-sequence.ensures;
       steps = c.set_steps.ensures;
       counted = refl;
@@ -65,6 +66,7 @@ loop-blocks-preserved g c =
           (stepped x y z c.args.tail.now (slice_index c.args.numbers.now) c.loop-blocks.blocks (part_of c.next_in.new.block) c.requires.prepared c.loop-blocks.invariant.along (first_told c.next_in.result (part_of c.next_in.new.block) c.loop-blocks.blocks c.next_in.ensures.block c.loop-blocks-test.true)
           e.kept e.changed);
       others = e.others;
+      position = e.position;
       sequence = e.sequence;
       steps = e.steps;
       counted = e.told (search rules) ∙ c.loop-blocks.invariant.counted;

@@ -7,12 +7,12 @@ use Rattle.tce_workspace.proofs.Reading.{each_of}
 use Rattle.tce_exec.specs.Blocks.{loops_of}
 use Rattle.tce_exec.proofs.turns.begin_block.Goals as goal
 
-pub set_numbers-requires-clause-known : goal.set_numbers-requires-clause-known
-set_numbers-requires-clause-known c =
+pub begin-requires-clause-known : goal.begin-requires-clause-known
+begin-requires-clause-known c =
     subst (All (λ i. i < 24)) (sym c.as_slice.ensures.value)
     (All-from_recursion (λ i. i < 24) (loops_of c.args.tail.now) (each_of (λ i. i < 24) (loops_of c.args.tail.now) c.requires.loops.below))
 
-pub returns : goal.returns
-returns c =
-    c.set_numbers.ensures
-    ∙ ap₂ (λ (ls fs : List ℕ). λ i. if among ls i then assignment ls fs i else slice_index c.args.first.now i) c.as_slice.ensures.value c.as_slice-2.ensures.value
+pub returns-clause-numbers : goal.returns-clause-numbers
+returns-clause-numbers c =
+    c.begin.ensures.numbers
+    ∙ ap₂ (λ (ls fs : List ℕ). λ i. if among ls i then assignment ls fs i else slice_index c.args.first.now.numbers i) c.as_slice.ensures.value c.as_slice-2.ensures.value

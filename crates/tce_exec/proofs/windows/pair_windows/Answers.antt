@@ -11,13 +11,13 @@ use Rattle.tce_exec.proofs.windows.pair_windows.Goals as goal
 pub operand_window-requires-clause-place : goal.operand_window-requires-clause-place
 operand_window-requires-clause-place g c =
     let x : Workspace = workspace c.args.evaluation.now c.args.words.now c.args.cache.now (g.D.Disk.files c.args.disk.now) in
-    subst (λ o. HasPlace x o (slice_index c.args.first.now)) (sym c.left-operand.ensures.value)
-    (left_place x c.args.v (slice_index c.args.first.now) c.count-nodes.ensures.kept c.requires.prepared c.requires.node c.requires.free)
+    subst (λ o. HasPlace x o (slice_index c.args.first.now.numbers)) (sym c.left-operand.ensures.value)
+    (left_place x c.args.v (slice_index c.args.first.now.numbers) c.count-nodes.ensures.kept c.requires.prepared c.requires.node c.requires.free)
 
 pub operand_window-requires-2-clause-place : goal.operand_window-requires-2-clause-place
 operand_window-requires-2-clause-place g c =
     let y : Workspace = workspace c.args.evaluation.now c.operand_window.new.words c.operand_window.new.cache (g.D.Disk.files c.operand_window.new.disk) in
-    right_place y c.args.v (slice_index c.args.first.now) c.args.right.now c.count-nodes.ensures.kept c.in_ok-operand_window.ensures.read.prepared
+    right_place y c.args.v (slice_index c.args.first.now.numbers) c.args.right.now c.count-nodes.ensures.kept c.in_ok-operand_window.ensures.read.prepared
     (record { known = c.requires.node.known; inside = c.requires.node.inside }) c.requires.free c.requires.right
 
 pub place_window-requires-clause-place : goal.place_window-requires-clause-place
@@ -25,7 +25,7 @@ place_window-requires-clause-place g c =
     let x : Workspace = workspace c.args.evaluation.now c.args.words.now c.args.cache.now (g.D.Disk.files c.args.disk.now) in
     let y : Workspace = workspace c.args.evaluation.now c.operand_window.new.words c.operand_window.new.cache (g.D.Disk.files c.operand_window.new.disk) in
     let z : Workspace = workspace c.args.evaluation.now c.operand_window-2.new.words c.operand_window-2.new.cache (g.D.Disk.files c.operand_window-2.new.disk) in
-    node_after x z c.args.out (slice_index c.args.first.now) (kept_on x y z c.in_ok-operand_window.ensures.kept c.in_ok-operand_window-2.ensures.kept) c.requires.place
+    node_after x z c.args.out (slice_index c.args.first.now.numbers) (kept_on x y z c.in_ok-operand_window.ensures.kept c.in_ok-operand_window-2.ensures.kept) c.requires.place
 
 pub returns-in_err-operand_window-2-clause-kept : goal.returns-in_err-operand_window-2-clause-kept
 returns-in_err-operand_window-2-clause-kept g c =
@@ -48,10 +48,10 @@ returns-clause-windows g c =
     let z : Workspace = workspace c.args.evaluation.now c.operand_window-2.new.words c.operand_window-2.new.cache (g.D.Disk.files c.operand_window-2.new.disk) in
     let v : Workspace = workspace c.args.evaluation.now c.place_window.new.words c.place_window.new.cache (g.D.Disk.files c.place_window.new.disk) in
     record {
-      left_is = operand_later 2 z v (left_of y.places.tree c.args.v) (slice_index c.args.first.now) c.operand_window.new.window (omega arith) c.in_ok-place_window.ensures.kept c.in_ok-place_window.ensures.last
-          (operand_later 1 y z (left_of y.places.tree c.args.v) (slice_index c.args.first.now) c.operand_window.new.window (omega arith) c.in_ok-operand_window-2.ensures.kept c.in_ok-operand_window-2.ensures.last
-          (subst (λ o. IsOperandWindow 1 y o (slice_index c.args.first.now) c.operand_window.new.window) c.left-operand.ensures.value c.in_ok-operand_window.ensures.window));
-      right_is = operand_later 1 z v c.args.right.now (slice_index c.args.first.now) c.operand_window-2.new.window (omega arith) c.in_ok-place_window.ensures.kept c.in_ok-place_window.ensures.last c.in_ok-operand_window-2.ensures.window;
+      left_is = operand_later 2 z v (left_of y.places.tree c.args.v) (slice_index c.args.first.now.numbers) c.operand_window.new.window (omega arith) c.in_ok-place_window.ensures.kept c.in_ok-place_window.ensures.last
+          (operand_later 1 y z (left_of y.places.tree c.args.v) (slice_index c.args.first.now.numbers) c.operand_window.new.window (omega arith) c.in_ok-operand_window-2.ensures.kept c.in_ok-operand_window-2.ensures.last
+          (subst (λ o. IsOperandWindow 1 y o (slice_index c.args.first.now.numbers) c.operand_window.new.window) c.left-operand.ensures.value c.in_ok-operand_window.ensures.window));
+      right_is = operand_later 1 z v c.args.right.now (slice_index c.args.first.now.numbers) c.operand_window-2.new.window (omega arith) c.in_ok-place_window.ensures.kept c.in_ok-place_window.ensures.last c.in_ok-operand_window-2.ensures.window;
       out_is = c.in_ok-place_window.ensures.window;
     }
 

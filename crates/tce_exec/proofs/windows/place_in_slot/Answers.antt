@@ -13,14 +13,14 @@ slot_place-requires c =
     let e = c.args.evaluation.now in
     let p : Places = record { space = e.space.now; tree = e.tree.now; fusion = e.fusion.now.0.items; slots = e.layout.now.0.items; result = e.result.now.indexes.items } in
     let room : memory e.space.now e.tree.now e.fusion.now.0.items ≤ 2 ^ 64 = omega (arith, c.requires.room, c.len-len.ensures.limit) in
-    slot_low p c.deref.result.now c.args.v (slice_index c.args.first.now) (2 ^ 64) c.deref.ensures.0 c.requires.laid c.requires.inner room
+    slot_low p c.deref.result.now c.args.v (slice_index c.args.first.now.numbers) (2 ^ 64) c.deref.ensures.0 c.requires.laid c.requires.inner room
 
 pub returns-then-slot-eq1 : goal.returns-then-slot-eq1
 returns-then-slot-eq1 c =
     let e = c.args.evaluation.now in
     let slots = e.layout.now.0.items in
-    let found = (slots_lead_to_places e.space.now e.tree.now e.fusion.now.0.items slots c.requires.laid).in_slot c.args.v (slice_index c.args.first.now) c.requires.inner in
+    let found = (slots_lead_to_places e.space.now e.tree.now e.fusion.now.0.items slots c.requires.laid).in_slot c.args.v (slice_index c.args.first.now.numbers) c.requires.inner in
     let same : slot_at c.deref.result.now c.args.v ≡ slot_at slots c.args.v = ap (λ s. slot_at s c.args.v) c.deref.ensures.0 in
     let one : (slot_at slots c.args.v).size ≡ 1 = ap (λ (s : Slot). s.size) (sym same) ∙ c.if-slot-eq1.true in
-    let here : (slot_at slots c.args.v).offset ≡ slot_word (slot_at slots c.args.v) (slice_index c.args.first.now) = omega (arith, found.0, found.1, one) in
+    let here : (slot_at slots c.args.v).offset ≡ slot_word (slot_at slots c.args.v) (slice_index c.args.first.now.numbers) = omega (arith, found.0, found.1, one) in
     ap (λ (s : Slot). s.offset) same ∙ here

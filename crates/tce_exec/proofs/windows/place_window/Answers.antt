@@ -13,7 +13,7 @@ pub touch_window-requires-clause-inside : goal.touch_window-requires-clause-insi
 touch_window-requires-clause-inside g c =
     let x : Workspace = workspace c.args.evaluation.now c.args.words.now c.args.cache.now (g.D.Disk.files c.args.disk.now) in
     let last : c.args.v + 1 ≡ operations x.places.tree = omega (arith, c.if-v-count.true, c.count-count.ensures.value) in
-    root_inside x (slice_index c.args.first.now) c.requires.prepared (place_at_root x c.args.v (slice_index c.args.first.now) last c.requires.place)
+    root_inside x (slice_index c.args.first.now.numbers) c.requires.prepared (place_at_root x c.args.v (slice_index c.args.first.now.numbers) last c.requires.place)
 
 pub touch_window-requires-clause-steps : goal.touch_window-requires-clause-steps
 touch_window-requires-clause-steps g c = c.requires.steps.root (omega (arith, c.if-v-count.true, c.count-count.ensures.value))

@@ -11,14 +11,14 @@ use Rattle.tce_exec.proofs.windows.sum_windows.Goals as goal
 pub operand_window-requires-clause-place : goal.operand_window-requires-clause-place
 operand_window-requires-clause-place g c =
     let x : Workspace = workspace c.args.evaluation.now c.args.words.now c.args.cache.now (g.D.Disk.files c.args.disk.now) in
-    subst (λ o. HasPlace x o (slice_index c.args.first.now)) (sym c.left-left.ensures.value)
-    (left_place x c.args.v (slice_index c.args.first.now) c.count-nodes.ensures.kept c.requires.prepared c.requires.node c.requires.free)
+    subst (λ o. HasPlace x o (slice_index c.args.first.now.numbers)) (sym c.left-left.ensures.value)
+    (left_place x c.args.v (slice_index c.args.first.now.numbers) c.count-nodes.ensures.kept c.requires.prepared c.requires.node c.requires.free)
 
 pub place_window-requires-clause-place : goal.place_window-requires-clause-place
 place_window-requires-clause-place g c =
     let x : Workspace = workspace c.args.evaluation.now c.args.words.now c.args.cache.now (g.D.Disk.files c.args.disk.now) in
     let y : Workspace = workspace c.args.evaluation.now c.operand_window.new.words c.operand_window.new.cache (g.D.Disk.files c.operand_window.new.disk) in
-    node_after x y c.args.v (slice_index c.args.first.now) c.in_ok-operand_window.ensures.kept (own_place x c.args.v (slice_index c.args.first.now) c.requires.node)
+    node_after x y c.args.v (slice_index c.args.first.now.numbers) c.in_ok-operand_window.ensures.kept (own_place x c.args.v (slice_index c.args.first.now.numbers) c.requires.node)
 
 pub returns-in_err-place_window-clause-kept : goal.returns-in_err-place_window-clause-kept
 returns-in_err-place_window-clause-kept g c =
@@ -32,8 +32,8 @@ returns-clause-windows g c =
     let y : Workspace = workspace c.args.evaluation.now c.operand_window.new.words c.operand_window.new.cache (g.D.Disk.files c.operand_window.new.disk) in
     let z : Workspace = workspace c.args.evaluation.now c.place_window.new.words c.place_window.new.cache (g.D.Disk.files c.place_window.new.disk) in
     record {
-      left_is = operand_later 1 y z (left_of y.places.tree c.args.v) (slice_index c.args.first.now) c.operand_window.new.window (omega arith) c.in_ok-place_window.ensures.kept c.in_ok-place_window.ensures.last
-          (subst (λ o. IsOperandWindow 1 y o (slice_index c.args.first.now) c.operand_window.new.window) c.left-left.ensures.value c.in_ok-operand_window.ensures.window);
+      left_is = operand_later 1 y z (left_of y.places.tree c.args.v) (slice_index c.args.first.now.numbers) c.operand_window.new.window (omega arith) c.in_ok-place_window.ensures.kept c.in_ok-place_window.ensures.last
+          (subst (λ o. IsOperandWindow 1 y o (slice_index c.args.first.now.numbers) c.operand_window.new.window) c.left-left.ensures.value c.in_ok-operand_window.ensures.window);
       out_is = c.in_ok-place_window.ensures.window;
     }
 

@@ -1,6 +1,7 @@
-use Rattle.std.proofs.Common.{◌+◌, ◌*◌, ◌≤◌, ◌^◌, ap, map, slice_index, refl, arith}
+use Rattle.std.proofs.Common.{◌+◌, ◌*◌, ◌≤◌, ◌^◌, ap, map, slice_index, refl, subst, arith}
 use Rattle.tce_space.specs.Tiling.{Tiling}
 use Rattle.tce_cache.specs.Cache.{State as CacheState}
+use Rattle.tce_workspace.specs.Elements.{IsElementAt}
 use Rattle.tce_workspace.specs.Workspace.{Workspace, workspace, shape_over}
 use Rattle.tce_workspace.proofs.Workspaces.{touched_reads}
 use Rattle.tce_exec.proofs.Touching.{element_of, touched_window, touched_room, touch_keeps_last}
@@ -12,9 +13,10 @@ overflow_add-window g c =
     let new : CacheState = c.touch.new.self in
     let e = c.in_ok-at.ensures in
     let l = c.args.leaf.now in
-    let shape : Tiling = shape_over c.args._evaluation.now.space.now l.indexes.items in
-    let found = c.find_element-element.result in
-    let element = element_of old l.tensor found.tile found.place shape shape (map (slice_index c.args.first.now) l.indexes.items) c.requires.stored.array c.find_element-element.ensures refl in
+    let shape : Tiling = shape_over c.args.evaluation.now.space.now l.indexes.items in
+    let found = c.element-element.result in
+    let element : IsElementAt shape (map (slice_index c.args.first.now.numbers) l.indexes.items) found.tile found.place =
+    subst (λ is. IsElementAt (shape_over c.args.evaluation.now.space.now is) (map (slice_index c.args.first.now.numbers) is) found.tile found.place) c.as_slice.ensures.value c.element-element.ensures in
     let room : old.at + old.frames * old.frame_words ≤ 2 ^ 60 = omega (arith, c.requires.prepared.room, c.len-len.ensures.limit) in
     omega (
       arith,
@@ -28,19 +30,21 @@ returns-clause-window g c =
     let new : CacheState = c.touch.new.self in
     let e = c.in_ok-at.ensures in
     let l = c.args.leaf.now in
-    let shape : Tiling = shape_over c.args._evaluation.now.space.now l.indexes.items in
-    let found = c.find_element-element.result in
-    let element = element_of old l.tensor found.tile found.place shape shape (map (slice_index c.args.first.now) l.indexes.items) c.requires.stored.array c.find_element-element.ensures refl in
-    touched_window old new l.tensor found.tile found.place c.in_ok-at.at shape shape l.indexes.items (slice_index c.args.first.now)
-    c.args.write _ c.requires.prepared.cache c.requires.stored.array c.find_element-element.ensures e.touched c.requires.steps.tiling refl c.requires.known
+    let shape : Tiling = shape_over c.args.evaluation.now.space.now l.indexes.items in
+    let found = c.element-element.result in
+    let element : IsElementAt shape (map (slice_index c.args.first.now.numbers) l.indexes.items) found.tile found.place =
+    subst (λ is. IsElementAt (shape_over c.args.evaluation.now.space.now is) (map (slice_index c.args.first.now.numbers) is) found.tile found.place) c.as_slice.ensures.value c.element-element.ensures in
+    touched_window old new l.tensor found.tile found.place c.in_ok-at.at shape shape l.indexes.items (slice_index c.args.first.now.numbers)
+    c.args.write _ c.requires.prepared.cache c.requires.stored.array
+    (element_of old l.tensor found.tile found.place shape (map (slice_index c.args.first.now.numbers) l.indexes.items) c.requires.stored.array element) e.touched c.requires.steps.tiling refl c.requires.known
     (record { first_is = ap (λ p. c.in_ok-at.at + p) element.place_is; steps_are = c.requires.steps.steps_are })
 
 pub returns-clause-last : goal.returns-clause-last
 returns-clause-last g c =
-    touch_keeps_last c.args.cache.now c.touch.new.self c.args.leaf.now.tensor c.find_element-element.result.tile c.in_ok-at.at c.args.write c.requires.prepared.cache c.in_ok-at.ensures.touched
+    touch_keeps_last c.args.cache.now c.touch.new.self c.args.leaf.now.tensor c.element-element.result.tile c.in_ok-at.at c.args.write c.requires.prepared.cache c.in_ok-at.ensures.touched
 
 pub returns-clause-read : goal.returns-clause-read
 returns-clause-read g c =
-    let x : Workspace = workspace c.args._evaluation.now c.args.words.now c.args.cache.now (g.D.Disk.files c.args.disk.now) in
+    let x : Workspace = workspace c.args.evaluation.now c.args.words.now c.args.cache.now (g.D.Disk.files c.args.disk.now) in
     let e = c.in_ok-at.ensures in
     touched_reads x c.touch.new.words c.touch.new.self (g.D.Disk.files c.touch.new.disk) c.requires.prepared e.same e.arrays e.cache e.outside e.others
