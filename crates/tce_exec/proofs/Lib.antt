@@ -18,3 +18,4 @@ pub mod Asking
 pub mod Running
 pub mod Stepping
 pub mod Positions
+pub mod Plans

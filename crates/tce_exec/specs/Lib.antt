@@ -9,4 +9,5 @@ pub mod Blocks
 pub mod Along
 pub mod Windows
 pub mod Positions
+pub mod Plans
 pub mod Evaluations

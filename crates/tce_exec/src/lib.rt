@@ -16,6 +16,7 @@
 mod block;
 mod cuts;
 mod first;
+mod plan;
 mod position;
 mod run;
 mod runner;
@@ -30,7 +31,6 @@ mod windows;
 pub use first::set_numbers;
 pub use run::run_code;
 pub use slot::slot_window;
-pub use tail::run_tail;
 pub use tile::{tile_steps, tile_window};
 pub use window_laws::{
     blocks_stay_in_tiles, changes_keep_cells, slots_show_nodes, slots_show_words, tiles_show_nodes,

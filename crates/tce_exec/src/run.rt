@@ -12,8 +12,11 @@ ghost use Rattle.tce_walk.specs.Run.{IsCodeOf};
 ghost use Rattle.tce_workspace.specs.Workspace.{workspace};
 ghost use Rattle.tce_workspace.specs.Prepared.{IsPrepared};
 ghost use Rattle.tce_workspace.specs.Steps.{IsKept};
+ghost use Rattle.tce_exec.specs.Evaluations.{places_of};
+ghost use Rattle.tce_exec.specs.Plans.{AreKept};
 ghost use Rattle.tce_exec.specs.Run.{workspace_of, IsZero, IsRun};
 
+use crate::plan::Kept;
 use crate::runner::Runner;
 use tce_cache::Cache;
 use tce_code::Code;
@@ -30,6 +33,7 @@ fn run_on<D: Disk>(runner: &mut Runner<'_, D>, code: &Code) -> Result<(), Failed
     requires code { IsCodeOf runner.old.evaluation.tree.now runner.old.evaluation.fusion.now.0.items code.now }
     requires prepared { IsPrepared (workspace runner.old.evaluation runner.old.words.now runner.old.cache.now (D.files runner.old.disk.now)) }
     requires working { runner.old.failed ≡ false }
+    requires right { AreKept (places_of runner.old.evaluation) runner.old.kept }
     requires distinct { IsTrue (is_distinct runner.old.evaluation.result.now.indexes.items) }
     requires zero { IsZero (workspace runner.old.evaluation runner.old.words.now runner.old.cache.now (D.files runner.old.disk.now)) }
     requires few { runner.old.cache.now.touches + touch_bound runner.old.evaluation.space.now runner.old.evaluation.tree.now (program_of code.now) ≤ 2 ^ 100 }
@@ -91,6 +95,7 @@ pub fn run_code<D: Disk>(
         words,
         cache,
         disk,
+        kept: Kept::new(space),
         failed: false,
     };
     let answer = run_on(&mut runner, code);
@@ -99,6 +104,7 @@ pub fn run_code<D: Disk>(
         words: _,
         cache: _,
         disk: _,
+        kept: _,
         failed: _,
     } = runner;
     answer

@@ -2,9 +2,12 @@
 ghost use Rattle.std.specs.Prelude.{◌≡◌, false};
 ghost use Rattle.tce_workspace.specs.Workspace.{workspace, setting_in, state_in};
 ghost use Rattle.tce_workspace.specs.Prepared.{IsPrepared};
+ghost use Rattle.tce_exec.specs.Evaluations.{places_of};
 ghost use Rattle.tce_exec.specs.Keeping.{IsLater};
+ghost use Rattle.tce_exec.specs.Plans.{AreKept};
 
-use crate::run_tail;
+use crate::plan::Kept;
+use crate::tail::run_tail;
 use tce_cache::Cache;
 use tce_outside::{Disk, Failed};
 use tce_walk::{Machine, Tail};
@@ -17,6 +20,7 @@ pub(crate) struct Runner<'a, D: Disk> {
     pub(crate) words: &'a mut Words,
     pub(crate) cache: &'a mut Cache,
     pub(crate) disk: &'a mut D,
+    pub(crate) kept: Kept,
     // Whether a call has failed. Nothing is known of the tiles then.
     pub(crate) failed: bool,
 }
@@ -32,7 +36,8 @@ impl<'a, D: Disk> Machine for Runner<'a, D> {
 
     ghost faults = { λ m. D.faults m.disk.now };
 
-    ghost ready = { λ m. IsPrepared (workspace m.evaluation m.words.now m.cache.now (D.files m.disk.now)) × (m.failed ≡ false) };
+    ghost ready = { λ m. IsPrepared (workspace m.evaluation m.words.now m.cache.now (D.files m.disk.now)) × (m.failed ≡ false)
+        × AreKept (places_of m.evaluation) m.kept };
 
     ghost keeps = { λ x y. (y.evaluation ≡ x.evaluation) × (y.words.ghost_name ≡ x.words.ghost_name) × (y.cache.ghost_name ≡ x.cache.ghost_name)
         × (y.disk.ghost_name ≡ x.disk.ghost_name)
@@ -63,6 +68,7 @@ impl<'a, D: Disk> Machine for Runner<'a, D> {
             self.disk,
             tail,
             numbers,
+            &mut self.kept,
         );
         self.failed = answer.is_err();
         answer

@@ -1,87 +1,31 @@
-use Rattle.std.proofs.Common.{◌≡◌, ◌<◌, length, map, slice_index, All, refl, sym, ap, ap₂, ◌∙◌, subst, rules}
-use Rattle.tce_block.specs.Parts.{blocks}
-use Rattle.tce_block.specs.Cuts.{part_of}
-use Rattle.tce_workspace.specs.Workspace.{Workspace, workspace}
-use Rattle.tce_workspace.proofs.Following.{kept_on}
-use Rattle.tce_space.specs.Space.{extent_at, edge_at}
-use Rattle.tce_windows.specs.Loops.{AreLoops}
-use Rattle.tce_exec.specs.Blocks.{blocks_of, loops_of}
-use Rattle.tce_exec.specs.Along.{IsAlong}
-use Rattle.tce_exec.proofs.Along.{begun, is_block, few_left, stepped, loops_declared, has_turns, ended, edge_loops, first_told, none_told}
+use Rattle.std.proofs.Common.{◌%◌, slice_index, IsTrue}
+use Rattle.std.proofs.lemmas.List.Elements.{All-set}
+use Rattle.tce_workspace.specs.Workspace.{workspace}
+use Rattle.tce_exec.specs.Evaluations.{places_of}
+use Rattle.tce_exec.specs.Plans.{IsPlan}
+use Rattle.tce_exec.specs.declared.plan.Plan.{Plan}
+use Rattle.tce_exec.proofs.Along.{loops_declared, edge_loops}
 use Rattle.tce_exec.proofs.Stepping.{can_step}
 use Rattle.tce_exec.proofs.tail.run_tail.Goals as goal
 
-pub cuts_of-cuts-requires-clause-declared : goal.cuts_of-cuts-requires-clause-declared
-cuts_of-cuts-requires-clause-declared g c =
-    let x : Workspace = workspace c.args.evaluation.now c.args.words.now c.args.cache.now (g.D.Disk.files c.args.disk.now) in
-    subst (λ l. All (λ i. i < length x.places.space.indexes) l) (sym c.as_slice.ensures.value)
-    (loops_declared x c.args.tail.now (slice_index c.args.numbers.now) c.index_count-indexes.ensures.limits c.requires.prepared c.requires.tail)
-
-pub set_steps-requires : goal.set_steps-requires
-set_steps-requires g c =
+pub turn_to-requires-clause-steps : goal.turn_to-requires-clause-steps
+turn_to-requires-clause-steps g c =
     can_step (workspace c.args.evaluation.now c.args.words.now c.args.cache.now (g.D.Disk.files c.args.disk.now)) c.args.tail.now (slice_index c.args.numbers.now)
     c.index_count-indexes.ensures.limits c.count-nodes.ensures.kept c.requires.prepared c.requires.tail
 
-pub sequence_of-sequence-requires-clause-loops : goal.sequence_of-sequence-requires-clause-loops
-sequence_of-sequence-requires-clause-loops g c =
-    let x : Workspace = workspace c.args.evaluation.now c.args.words.now c.args.cache.now (g.D.Disk.files c.args.disk.now) in
-    subst (AreLoops (loops_of c.args.tail.now)) (sym (c.cuts_of-cuts.ensures.edges ∙ ap (map (edge_at x.places.space)) c.as_slice.ensures.value))
-    (edge_loops x c.args.tail.now (slice_index c.args.numbers.now) c.index_count-indexes.ensures.limits c.requires.prepared c.requires.tail)
+pub turn_to-requires-clause-declared : goal.turn_to-requires-clause-declared
+turn_to-requires-clause-declared g c =
+    loops_declared (workspace c.args.evaluation.now c.args.words.now c.args.cache.now (g.D.Disk.files c.args.disk.now)) c.args.tail.now (slice_index c.args.numbers.now)
+    c.index_count-indexes.ensures.limits c.requires.prepared c.requires.tail
 
-pub loop-blocks-init : goal.loop-blocks-init
-loop-blocks-init g c =
-    let x : Workspace = workspace c.args.evaluation.now c.args.words.now c.args.cache.now (g.D.Disk.files c.args.disk.now) in
-    let e = c.cuts_of-cuts.ensures in
-    let all : c.new-blocks.result ≡ blocks_of x.places.space c.args.tail.now =
-    c.new-blocks.ensures ∙ ap₂ blocks (e.extents ∙ ap (map (extent_at x.places.space)) c.as_slice.ensures.value) (e.edges ∙ ap (map (edge_at x.places.space)) c.as_slice.ensures.value) in
-    record {
-      along = subst (IsAlong x x c.args.tail.now (slice_index c.args.numbers.now)) (sym all) (begun x c.args.tail.now (slice_index c.args.numbers.now) c.requires.prepared);
-      others = λ i m. ap (λ f. f i) c.go_to.ensures.numbers;
-      position = c.go_to.ensures.position;
-      sequence = c.sequence_of-sequence.ensures;
-      steps = c.set_steps.ensures;
-      counted = refl;
-    }
+pub turn_to-requires-clause-loops : goal.turn_to-requires-clause-loops
+turn_to-requires-clause-loops g c =
+    edge_loops (workspace c.args.evaluation.now c.args.words.now c.args.cache.now (g.D.Disk.files c.args.disk.now)) c.args.tail.now (slice_index c.args.numbers.now)
+    c.index_count-indexes.ensures.limits c.requires.prepared c.requires.tail
 
-pub run_block-requires-clause-block : goal.run_block-requires-clause-block
-run_block-requires-clause-block g c =
-    let x : Workspace = workspace c.args.evaluation.now c.args.words.now c.args.cache.now (g.D.Disk.files c.args.disk.now) in
-    let y : Workspace = workspace c.args.evaluation.now c.loop-blocks.words c.loop-blocks.cache (g.D.Disk.files c.loop-blocks.disk) in
-    is_block x y c.args.tail.now (slice_index c.args.numbers.now) c.loop-blocks.blocks (part_of c.next_in.new.block) c.loop-blocks.invariant.along (first_told c.next_in.result (part_of c.next_in.new.block) c.loop-blocks.blocks c.next_in.ensures.block c.loop-blocks-test.true)
-
-pub run_block-requires-clause-few : goal.run_block-requires-clause-few
-run_block-requires-clause-few g c =
-    let x : Workspace = workspace c.args.evaluation.now c.args.words.now c.args.cache.now (g.D.Disk.files c.args.disk.now) in
-    let y : Workspace = workspace c.args.evaluation.now c.loop-blocks.words c.loop-blocks.cache (g.D.Disk.files c.loop-blocks.disk) in
-    few_left x y c.args.tail.now (slice_index c.args.numbers.now) c.loop-blocks.blocks (part_of c.next_in.new.block) c.loop-blocks.invariant.along (first_told c.next_in.result (part_of c.next_in.new.block) c.loop-blocks.blocks c.next_in.ensures.block c.loop-blocks-test.true) c.requires.few
-
-pub loop-blocks-preserved : goal.loop-blocks-preserved
-loop-blocks-preserved g c =
-    let x : Workspace = workspace c.args.evaluation.now c.args.words.now c.args.cache.now (g.D.Disk.files c.args.disk.now) in
-    let y : Workspace = workspace c.args.evaluation.now c.loop-blocks.words c.loop-blocks.cache (g.D.Disk.files c.loop-blocks.disk) in
-    let z : Workspace = workspace c.args.evaluation.now c.run_block.new.words c.run_block.new.cache (g.D.Disk.files c.run_block.new.disk) in
-    let e = c.in_ok-run_block.ensures in
-    record {
-      along = subst (IsAlong x z c.args.tail.now (slice_index c.args.numbers.now)) (sym c.next_in.ensures.rest)
-          (stepped x y z c.args.tail.now (slice_index c.args.numbers.now) c.loop-blocks.blocks (part_of c.next_in.new.block) c.requires.prepared c.loop-blocks.invariant.along (first_told c.next_in.result (part_of c.next_in.new.block) c.loop-blocks.blocks c.next_in.ensures.block c.loop-blocks-test.true)
-          e.kept e.changed);
-      others = e.others;
-      position = e.position;
-      sequence = e.sequence;
-      steps = e.steps;
-      counted = e.told (search rules) ∙ c.loop-blocks.invariant.counted;
-    }
-
-pub returns-in_err-run_block-clause-kept : goal.returns-in_err-run_block-clause-kept
-returns-in_err-run_block-clause-kept g c =
-    let x : Workspace = workspace c.args.evaluation.now c.args.words.now c.args.cache.now (g.D.Disk.files c.args.disk.now) in
-    let y : Workspace = workspace c.args.evaluation.now c.loop-blocks.words c.loop-blocks.cache (g.D.Disk.files c.loop-blocks.disk) in
-    let z : Workspace = workspace c.args.evaluation.now c.run_block.new.words c.run_block.new.cache (g.D.Disk.files c.run_block.new.disk) in
-    kept_on x y z c.loop-blocks.invariant.along.kept c.in_err-run_block.ensures.kept
-
-pub returns-clause-changed : goal.returns-clause-changed
-returns-clause-changed g c =
-    let x : Workspace = workspace c.args.evaluation.now c.args.words.now c.args.cache.now (g.D.Disk.files c.args.disk.now) in
-    let y : Workspace = workspace c.args.evaluation.now c.loop-blocks.words c.loop-blocks.cache (g.D.Disk.files c.loop-blocks.disk) in
-    ended x y c.args.tail.now (slice_index c.args.numbers.now) c.loop-blocks.blocks c.index_count-indexes.ensures.limits (has_turns x.places.space c.index_count-indexes.ensures.limits)
-    c.requires.prepared c.len-len.ensures.words c.requires.tail c.loop-blocks.invariant.along (none_told c.next_in.result (part_of c.next_in.new.block) c.loop-blocks.blocks c.next_in.ensures.block c.loop-blocks-test.false)
+pub returns-clause-right : goal.returns-clause-right
+returns-clause-right g c = record {
+  position = c.in_ok-run_blocks.ensures.position;
+  plans = All-set (λ (plan : Plan). IsTrue plan.made → IsPlan (places_of c.args.evaluation.now) plan) c.args.kept.now.plans (c.args.tail.now.node % 8) _
+      (λ made. c.in_ok-run_blocks.ensures.plan.is) c.requires.right.plans;
+}

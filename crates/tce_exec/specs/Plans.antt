@@ -1,0 +1,31 @@
+-- What stays from run to run of one tail.
+use Rattle.std.specs.Prelude.{◌≡◌, IsTrue, map}
+use Rattle.std.specs.List.{All}
+use Rattle.tce_space.specs.Space.{extent_at, edge_at}
+use Rattle.tce_block.specs.Cuts.{IsCut, extents_of, edges_of}
+use Rattle.tce_operands.specs.NodeStates.{Places}
+use Rattle.tce_walk.specs.declared.machine.Tail.{Tail}
+use Rattle.tce_windows.specs.Sequences.{IsLoopSequence}
+use Rattle.tce_exec.specs.Blocks.{loops_of}
+use Rattle.tce_exec.specs.Positions.{IsPosition}
+use Rattle.tce_exec.specs.Windows.{AreSteps}
+use Rattle.tce_exec.specs.declared.plan.Plan.{Plan}
+use Rattle.tce_exec.specs.declared.plan.Kept.{Kept}
+
+-- the cuts of its tail's loops, a sequence of them, and the steps of its windows
+pub record IsPlan (p : Places) (plan : Plan) : Type 0 where
+  pub cuts_are : All IsCut plan.cuts.items
+  pub extents_are : extents_of plan.cuts.items ≡ map (extent_at p.space) (loops_of plan.tail)
+  pub edges_are : edges_of plan.cuts.items ≡ map (edge_at p.space) (loops_of plan.tail)
+  pub sequence_is : IsLoopSequence (loops_of plan.tail) plan.sequence
+  pub steps_are : AreSteps p plan.tail plan.windows
+
+-- it is that of this tail
+pub record IsPlanFor (p : Places) (tail : Tail) (plan : Plan) : Type 0 where
+  pub is : IsPlan p plan
+  pub tail_is : plan.tail ≡ tail
+
+-- what a run keeps is right: where the last block began, and each plan that was made
+pub record AreKept (p : Places) (k : Kept) : Type 0 where
+  pub position : IsPosition p.space k.position
+  pub plans : All (λ (plan : Plan). IsTrue plan.made → IsPlan p plan) k.plans

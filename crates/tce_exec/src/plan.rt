@@ -1,0 +1,115 @@
+// What stays from run to run of one tail.
+ghost use Rattle.std.specs.Prelude.{◌≡◌, ◌<◌, ◌≤◌, false, length, map, All, IsTrue};
+ghost use Rattle.tce_operands.specs.NodeStates.{Places};
+ghost use Rattle.tce_space.specs.Space.{edge_at};
+ghost use Rattle.tce_windows.specs.Loops.{AreLoops};
+ghost use Rattle.tce_exec.specs.Blocks.{loops_of};
+ghost use Rattle.tce_exec.specs.Evaluations.{places_of};
+ghost use Rattle.tce_exec.specs.Windows.{CanStep};
+ghost use Rattle.tce_exec.specs.Plans.{IsPlan, IsPlanFor, AreKept};
+
+use crate::cuts::{cuts_of, sequence_of};
+use crate::position::Position;
+use crate::steps::{Windows, set_steps};
+use arrayvec::ArrayVec;
+use tce_block::Cut;
+use tce_cache::Cache;
+use tce_space::{LoopOrder, Space};
+use tce_walk::Tail;
+use tce_windows::LoopSequence;
+use tce_workspace::Evaluation;
+
+/// How the loops of a tail are cut, in which sequence they run, and the steps of its windows.
+#[derive(Drop)]
+pub(crate) struct Plan {
+    // Whether the plan is that of its tail.
+    pub made: bool,
+    pub tail: Tail,
+    pub cuts: ArrayVec<Cut, 10>,
+    pub windows: Windows,
+    pub sequence: LoopSequence,
+}
+
+// The same loops in a list of their own.
+fn copied(loops: &[u8]) -> ArrayVec<u8, 10>
+    requires { length loops.now ≤ 10 }
+    ensures { result.items ≡ loops.now }
+{
+    let mut copy = ArrayVec::new();
+    for index in loops {
+        copy.push(*index);
+    }
+    copy
+}
+
+impl Plan {
+    // The plan of no tail.
+    fn blank() -> Plan
+        ensures { result.made ≡ false }
+    {
+        let windows = Windows::blank();
+        let sequence = LoopSequence::of(&[], &[], &windows.out, &windows.left, &windows.right);
+        Plan {
+            made: false,
+            tail: Tail {
+                loops: LoopOrder(ArrayVec::new()),
+                node: 0,
+                sum: None,
+            },
+            cuts: ArrayVec::new(),
+            windows,
+            sequence,
+        }
+    }
+
+    /// Becomes the plan of a tail, where it is that of another one.
+    pub(crate) fn turn_to(&mut self, evaluation: &Evaluation, cache: &Cache, tail: &Tail)
+        requires before { IsTrue self.old.made → IsPlan (places_of evaluation.now) self.old }
+        requires steps { CanStep (places_of evaluation.now) evaluation.now.result.now.tensor cache.now tail.now }
+        requires declared { All (λ i. i < length evaluation.now.space.now.indexes) (loops_of tail.now) }
+        requires loops { AreLoops (loops_of tail.now) (map (edge_at evaluation.now.space.now) (loops_of tail.now)) }
+        ensures { IsPlanFor (places_of evaluation.now) tail.now self.new }
+    {
+        if self.made && self.tail == *tail {
+            return;
+        }
+        self.cuts = cuts_of(evaluation.space, tail.loops.0.as_slice());
+        set_steps(evaluation, cache, tail, &mut self.windows);
+        self.sequence = sequence_of(tail, &self.cuts, &self.windows);
+        self.tail = Tail {
+            loops: LoopOrder(copied(tail.loops.0.as_slice())),
+            node: tail.node,
+            sum: tail.sum,
+        };
+        self.made = true;
+    }
+}
+
+/// What a run keeps from tail to tail: the numbers at which the last block began, and plans of the tails that ran last.
+#[derive(Drop)]
+pub(crate) struct Kept {
+    pub position: Position,
+    // Each tail has its place by its node.
+    pub plans: [Plan; 8],
+}
+
+impl Kept {
+    /// Nothing has run.
+    pub(crate) fn new(space: &Space) -> Kept
+        ensures { (p : Places) → p.space ≡ space.now → AreKept p result }
+    {
+        Kept {
+            position: Position::zero(space),
+            plans: [
+                Plan::blank(),
+                Plan::blank(),
+                Plan::blank(),
+                Plan::blank(),
+                Plan::blank(),
+                Plan::blank(),
+                Plan::blank(),
+                Plan::blank(),
+            ],
+        }
+    }
+}
