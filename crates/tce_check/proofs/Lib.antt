@@ -3,3 +3,4 @@ pub mod Joints
 pub mod FromTables
 pub mod Verdicts
 pub mod Tops
+pub mod Covering

@@ -1,10 +1,14 @@
 -- Loops that rows put at the top, which show a conflict where they cross.
-use Rattle.std.proofs.Common.{◌≡◌, ℕ, Bool, true, false, not, ◌&&◌, ◌||◌, List, ◌∷◌, inl, inr, arith, ◌∙◌, sym, ap}
+use Rattle.std.proofs.Common.{◌≡◌, ℕ, ◌+◌, ◌<◌, Bool, true, false, not, ◌&&◌, ◌||◌, List, [], ◌∷◌, ◌++◌, length, get_or, inl, inr, arith, ◌∙◌, sym, ap, subst}
 use Rattle.std.specs.Prelude.{IsTrue}
-use Rattle.std.proofs.lemmas.Bool.{cases_Bool, both_ways}
+use Rattle.std.proofs.lemmas.Bool.{cases_Bool, cases_eq, both_ways}
+use Rattle.std.proofs.lemmas.List.{get_or_append_left, get_or_push}
+use Rattle.std.proofs.lemmas.List.Elements.{at_read}
 use Rattle.tce_space.specs.IndexSet.{IsWithin, has}
 use Rattle.tce_states.specs.Relation.{Relation, above, joined, HasNoConflict}
-use Rattle.tce_check.specs.Joint.{IsTopOf}
+use Rattle.tce_states.specs.Row.{Row}
+use Rattle.tce_check.specs.declared.ends.Ends.{Ends}
+use Rattle.tce_check.specs.Ends.{IsTopOf, AreEnds, HaveEnds, DoCross, HaveConflict}
 
 module _ (loops : ℕ) (r s : Relation) (a b : ℕ) (left : IsTopOf loops r a) (right : IsTopOf loops s b) (quiet : HasNoConflict loops (joined r s)) where
   in_right : (x y : Bool) → y ≡ true → (x || y) ≡ true
@@ -43,3 +47,68 @@ no_top loops top r none = record {
   within = λ i h. absurd (both_ways (has top i) (none i) h);
   upper = λ i j h in_loops out. absurd (both_ways (has top i) (none i) h);
 }
+
+-- each of the loops that a reached set has not is below those that it has; the rest of the classes tells what it is above else
+pub record IsReached (loops : ℕ) (classes rest : List ℕ) (reached : ℕ) : Type 0 where
+  pub within : IsWithin reached loops
+  pub upper : (i j : ℕ) → IsTrue (has loops i) → IsTrue (has loops j) → has reached j ≡ false → above classes i j ≡ (has reached i || above rest i j)
+
+pub reached_none : (loops : ℕ) (classes : List ℕ) (reached : ℕ) → ((i : ℕ) → has reached i ≡ false) → IsReached loops classes classes reached
+reached_none loops classes reached none = record {
+  within = λ i h. absurd (both_ways (has reached i) (none i) h);
+  upper = λ i j p q low. ap (λ b. b || above classes i j) (sym (none i));
+}
+
+-- what is reached is above the other loops
+pub reached_is_top : (loops : ℕ) (classes rest : List ℕ) (reached : ℕ) → IsReached loops classes rest reached → IsTopOf loops (above classes) reached
+reached_is_top loops classes rest reached is = record {
+  within = is.within;
+  upper = λ i j p q low. is.upper i j (is.within i p) q low ∙ ap (λ b. b || above rest i j) p;
+}
+
+-- one more class
+pub reached_further : (loops c both : ℕ) (classes rest : List ℕ) (reached wider : ℕ) → ((i : ℕ) → has both i ≡ (has c i && has loops i)) → ((i : ℕ) → has wider i ≡ (has reached i || has both i))
+    → IsReached loops classes (c ∷ rest) reached → IsReached loops classes rest wider
+reached_further loops c both classes rest reached wider meets joins is = record {
+  within = λ i h. inside (has reached i) (has c i) (has loops i) (is.within i) (sym (members i) ∙ h);
+  upper = λ i j p q low.
+      let parts = left_low (has reached j) (has loops j) (has c j) (sym (members j) ∙ low) q in
+      is.upper i j p q parts.0 ∙ wider_upper (has reached i) (has loops i) (has c i) (has c j) (above rest i j) p parts.1 ∙ ap (λ b. b || above rest i j) (sym (members i));
+}
+  where
+    members : (i : ℕ) → has wider i ≡ (has reached i || (has c i && has loops i))
+    members i = joins i ∙ ap (λ b. has reached i || b) (meets i)
+
+    inside : (a b d : Bool) → (a ≡ true → d ≡ true) → (a || (b && d)) ≡ true → d ≡ true
+    inside a b d known h = grind arith
+
+    wider_upper : (reached_i loops_i c_i c_j rest : Bool) → loops_i ≡ true → c_j ≡ false → (reached_i || (not c_j && (c_i || rest))) ≡ ((reached_i || (c_i && loops_i)) || rest)
+    wider_upper reached_i loops_i c_i c_j rest p q = grind arith
+
+    left_low : (reached_j loops_j c_j : Bool) → (reached_j || (c_j && loops_j)) ≡ false → loops_j ≡ true → (reached_j ≡ false) × (c_j ≡ false)
+    left_low reached_j loops_j c_j low p = grind arith
+
+-- ends that cross show a conflict
+pub crossing_ends : (left right : Ends) (a b : ℕ) → ((loops : ℕ) (x : Row) → AreEnds loops x left → IsTopOf loops (above x.classes) a)
+    → ((loops : ℕ) (y : Row) → AreEnds loops y right → IsTopOf loops (above y.classes) b) → DoCross a b → HaveConflict left right
+crossing_ends left right a b here there crossing loops x y ends other quiet =
+    tops_do_not_cross loops (above x.classes) (above y.classes) a b (here loops x ends) (there loops y other) quiet crossing.0 crossing.1
+
+-- the ends of one more row
+pub ends_further : (loops n : ℕ) (rows : List Row) (old new : List Ends) (x : Row) (last : Ends) → new ≡ old ++ last ∷ [] → length old ≡ n → n < length rows
+    → x ≡ get_or rows n x → AreEnds loops x last → ((k : ℕ) (y : Row) (e : Ends) → k < n → AreEnds loops (get_or rows k y) (get_or old k e))
+    → (k : ℕ) (y : Row) (e : Ends) → k < n + 1 → AreEnds loops (get_or rows k y) (get_or new k e)
+ends_further loops n rows old new x last grown count low is ends each k y e inside = elim (cases_eq k n) [
+  | inl at ↦
+      subst (λ m. AreEnds loops (get_or rows m y) (get_or new m e)) (sym at)
+      (subst (AreEnds loops (get_or rows n y)) (sym (ap (λ l. get_or l n e) grown ∙ get_or_push old last e n count))
+      (at_read rows (λ (z : Row). AreEnds loops z last) n x low is ends y))
+  | inr other ↦
+      let before : k < n = omega (arith, inside, other) in
+      let within : k < length old = omega (arith, before, count) in
+      subst (AreEnds loops (get_or rows k y)) (sym (ap (λ l. get_or l k e) grown ∙ get_or_append_left old (last ∷ []) e k within)) (each k y e before)
+]
+
+-- ends that are listed, at a place
+pub ends_at : (loops k : ℕ) (rows : List Row) (ends : List Ends) (x : Row) (e : Ends) → HaveEnds loops rows ends → k < length rows → x ≡ get_or rows k x → e ≡ get_or ends k e → AreEnds loops x e
+ends_at loops k rows ends x e have low is at = subst (λ (z : Row). AreEnds loops z e) (sym is) (subst (AreEnds loops (get_or rows k x)) (sym at) (have.each k x e low))

@@ -1,8 +1,7 @@
 -- The steps from two rows that are joined, by the join's classes and choice by choice, and what stands for all states from a cost on.
-use Rattle.std.specs.Prelude.{◌≡◌, ℕ, ◌+◌, ◌<◌, List, length, slice_index_or, Option, IfSome, IsTrue, false}
+use Rattle.std.specs.Prelude.{◌≡◌, ℕ, ◌+◌, ◌<◌, List, length, slice_index_or, Option, IfSome}
 use Rattle.std.specs.List.{AllWithin, Any}
-use Rattle.tce_space.specs.IndexSet.{IsWithin, has}
-use Rattle.tce_states.specs.Relation.{Relation, above, none}
+use Rattle.tce_states.specs.Relation.{above, none}
 use Rattle.tce_states.specs.Row.{Row, StandsFor}
 use Rattle.tce_nesting.specs.Classes.{restricted, IsJoinOf, AllowsSet}
 use Rattle.tce_nesting.specs.declared.choice.Choice.{Choice}
@@ -11,11 +10,6 @@ use Rattle.tce_nesting.specs.declared.choice.Choice.{Choice}
 pub record IsJointOf (loops : ℕ) (left right joint : Row) : Type 0 where
   pub classes : IsJoinOf loops (above left.classes) (above right.classes) joint.classes
   pub cost : joint.cost ≡ left.cost + right.cost
-
--- these loops are above all others
-pub record IsTopOf (loops : ℕ) (r : Relation) (top : ℕ) : Type 0 where
-  pub within : IsWithin top loops
-  pub upper : (i j : ℕ) → IsTrue (has top i) → IsTrue (has loops j) → has top j ≡ false → IsTrue (r i j)
 
 -- a row stands for the step that a joined state makes with the choice, if its classes allow the set
 abbrev pub ChoiceCovered : ℕ → List Row → Row → Choice → Type 0

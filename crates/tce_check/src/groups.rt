@@ -9,19 +9,29 @@ use tce_space::IndexSet;
 // A prime, so that parts which differ in few loops mostly have different groups.
 const GROUPS: usize = 1021;
 
-// How many rows have a group. Those behind them are asked where no other row stands for a state.
-const GROUPED: usize = 16_384;
+// How many rows have an entry. Those behind them are asked where no other row stands for a state.
+const GROUPED: usize = 131_072;
 
-// The first rows of a node by their largest upper part: the outer loops that they put above the others.
+// The greatest prime for which all remainders are bits of a number.
+const MARKS: u32 = 31;
+
+// A row in its group: its place, its cost where that is less than 2^32, and the marks of its upper parts.
+#[derive(Clone, Copy)]
+struct Entry {
+    place: u32,
+    cost: u32,
+    marks: u32,
+}
+
+// The rows of a node by their largest upper part: the outer loops that they put above the others.
 //
 // The upper parts of a row that stands for a state are upper parts of the state too, so the row is looked for in their
 // groups. No answer rests on it: where no row of a group stands for the state, all rows are asked.
 #[derive(Drop)]
 pub(crate) struct Groups {
-    // For each group the place of its last row and 1, or 0.
-    last: [u32; GROUPS],
-    // For each row that of the row before it in its group.
-    before: [u32; GROUPED],
+    // For each group the place behind its last entry. It begins where the group before it ends.
+    ends: [u32; GROUPS],
+    entries: [Entry; GROUPED],
 }
 
 // The largest part of the outer loops that is above the others.
@@ -38,6 +48,20 @@ fn largest_part(classes: &Nesting, outer: IndexSet) -> IndexSet {
     part
 }
 
+// A bit for each part of the outer loops that is above the others, and mostly another one for another part.
+fn marks_of(classes: &Nesting, outer: IndexSet) -> u32 {
+    let mut marks = 0;
+    let mut reached = IndexSet::empty();
+    for class in classes.classes() {
+        reached = reached.union(class.meet(outer));
+        if outer.within(reached) {
+            return marks;
+        }
+        marks |= 1 << (reached.bits() % MARKS);
+    }
+    marks
+}
+
 // The number of the group of a part.
 fn group_of(part: IndexSet) -> usize
     ensures { result < 1021 }
@@ -45,43 +69,98 @@ fn group_of(part: IndexSet) -> usize
     part.bits() as usize % GROUPS
 }
 
+// The cost of a row where it is less than 2^32.
+fn low_cost(row: &Row) -> u32 {
+    row.cost.min(u32::MAX as u128) as u32
+}
+
+// Where the entries of each group begin.
+fn starts_of(rows: &[Row], outer: IndexSet) -> [u32; GROUPS] {
+    let mut starts = [0; GROUPS];
+    for row in rows {
+        let group = group_of(largest_part(&row.classes, outer));
+        starts[group] = u32::saturating_add(starts[group], 1);
+    }
+    let mut next: u32 = 0;
+    for group in 0..GROUPS {
+        let count = starts[group];
+        starts[group] = next;
+        next = next.saturating_add(count);
+    }
+    starts
+}
+
 impl Groups {
-    // The groups of a node's rows.
-    pub(crate) fn of(rows: &[Row], outer: IndexSet) -> Groups {
-        let mut groups = Groups {
-            last: [0; GROUPS],
-            before: [0; GROUPED],
-        };
-        for (place, row) in rows.iter().enumerate() {
-            groups.add(place, largest_part(&row.classes, outer));
+    // No rows.
+    pub(crate) fn new() -> Groups {
+        Groups {
+            ends: [0; GROUPS],
+            entries: [Entry {
+                place: 0,
+                cost: 0,
+                marks: 0,
+            }; GROUPED],
         }
-        groups
+    }
+
+    // Takes the rows of a node in the place of those that it had.
+    pub(crate) fn fill(&mut self, rows: &[Row], outer: IndexSet) {
+        self.ends = starts_of(rows, outer);
+        for (place, row) in rows.iter().enumerate() {
+            self.add(place, row, outer);
+        }
     }
 
     // Adds the row at a place to the group of its largest part.
-    fn add(&mut self, place: usize, part: IndexSet) {
-        if place < GROUPED {
-            let group = group_of(part);
-            self.before[place] = self.last[group];
-            self.last[group] = place as u32 + 1;
+    fn add(&mut self, place: usize, row: &Row, outer: IndexSet) {
+        let group = group_of(largest_part(&row.classes, outer));
+        let at = self.ends[group] as usize;
+        if place < GROUPED && at < GROUPED {
+            self.entries[at] = Entry {
+                place: place as u32,
+                cost: low_cost(row),
+                marks: marks_of(&row.classes, outer),
+            };
+            self.ends[group] = at as u32 + 1;
         }
     }
 
-    // Whether a row in the group of a part stands for a state.
-    fn stands_in(&self, part: IndexSet, rows: &[Row], state: &Row, outer: IndexSet) -> bool
+    // The entries of the group of a part.
+    fn entries_of(&self, part: IndexSet) -> &[Entry] {
+        let group = group_of(part);
+        let from = if group == 0 {
+            0
+        } else {
+            self.ends[group - 1] as usize
+        };
+        let to = self.ends[group] as usize;
+        if from <= to && to <= GROUPED {
+            &self.entries[from..to]
+        } else {
+            &self.entries[0..0]
+        }
+    }
+
+    // Whether a row in the group of a part stands for a state with these marks.
+    fn stands_in(
+        &self,
+        part: IndexSet,
+        marks: u32,
+        rows: &[Row],
+        state: &Row,
+        outer: IndexSet,
+    ) -> bool
         ensures { IsTrue result → Any (StandsFor outer (above state.now.classes) state.now.cost) rows.now }
     {
-        let mut next = self.last[group_of(part)] as usize;
-        for _ in 0..GROUPED {
-            if next == 0 || GROUPED < next {
-                return false;
-            }
-            if let Some(row) = rows.get(next - 1) {
-                if stands_for(row, state, outer) {
-                    return true;
+        let cost = low_cost(state);
+        for entry in self.entries_of(part) {
+            if entry.cost <= cost && entry.marks & !marks == 0 {
+                if let Some(row) = rows.get(entry.place as usize) {
+                    if stands_for(row, state, outer) {
+                        return true;
+                    }
                 }
             }
-            next = self.before[next - 1] as usize;
         }
         false
     }
@@ -90,14 +169,15 @@ impl Groups {
     fn is_likely(&self, rows: &[Row], state: &Row, outer: IndexSet) -> bool
         ensures { IsTrue result → Any (StandsFor outer (above state.now.classes) state.now.cost) rows.now }
     {
+        let marks = marks_of(&state.classes, outer);
         let mut reached = IndexSet::empty();
         for class in state.classes.classes() {
-            if self.stands_in(reached, rows, state, outer) {
+            if self.stands_in(reached, marks, rows, state, outer) {
                 return true;
             }
             reached = reached.union(class.meet(outer));
         }
-        self.stands_in(reached, rows, state, outer)
+        self.stands_in(reached, marks, rows, state, outer)
     }
 
     // Whether some row stands for a state.

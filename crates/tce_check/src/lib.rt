@@ -2,6 +2,8 @@
 #![tactic(auto)]
 
 mod bound;
+mod cover;
+mod ends;
 mod groups;
 mod joint;
 mod operands;

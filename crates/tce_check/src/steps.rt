@@ -112,7 +112,7 @@ impl<'a> Node<'a> {
     }
 
     // Of the steps from two rows the one of the least set for which no row stands.
-    fn first_uncovered_step(&self, left: &Row, right: &Row) -> Option<Step>
+    pub(crate) fn first_uncovered_step(&self, left: &Row, right: &Row) -> Option<Step>
         requires inside { self.now.number < operations self.now.tree.now }
         requires choices { AreChoices self.now.space.now self.now.tree.now self.now.number self.now.choices.now }
         requires sizes { All (λ choice. choice.size ≤ 2 ^ 90) self.now.choices.now }
@@ -169,6 +169,9 @@ impl<'a> Node<'a> {
             (λ found. FirstPair (WhereJoined self.now.tree.now self.now.number (StepsCovered self.now.space.now self.now.tree.now self.now.outer self.now.number self.now.rows.now))
             (IsLeastUncovered self.now.space.now self.now.tree.now self.now.outer self.now.number self.now.rows.now found.fused found.state) lefts.now rights.now) }
     {
+        if self.covers(lefts, rights) {
+            return None;
+        }
         for left in lefts {
             if let Some(step) = self.first_uncovered_with(left, rights) {
                 return Some(step);

@@ -16,7 +16,13 @@ use tce_space::Space;
 use tce_tree::Tree;
 
 // The first step at a node for which none of its rows stands; none at the root.
-fn first_uncovered_at(space: &Space, tree: &Tree, tables: &Tables, v: u8) -> Option<Step>
+fn first_uncovered_at(
+    space: &Space,
+    tree: &Tree,
+    tables: &Tables,
+    groups: &mut Groups,
+    v: u8,
+) -> Option<Step>
     requires measured { IsMeasured space.now tree.now }
     requires lists { length tables.now + 1 ≡ operations tree.now }
     requires rows { RowsFit tree.now tables.now }
@@ -28,7 +34,7 @@ fn first_uncovered_at(space: &Space, tree: &Tree, tables: &Tables, v: u8) -> Opt
     let outer = tree.loops(parent);
     let choices = choices(space, tree, v);
     let rows = tables.rows(v);
-    let groups = Groups::of(rows, outer);
+    groups.fill(rows, outer);
     let node = Node {
         space,
         tree,
@@ -36,7 +42,7 @@ fn first_uncovered_at(space: &Space, tree: &Tree, tables: &Tables, v: u8) -> Opt
         outer,
         choices: choices.as_slice(),
         rows,
-        groups: &groups,
+        groups,
         bound: bound_of(rows, outer),
     };
     node.first_uncovered(
@@ -57,8 +63,9 @@ pub(crate) fn first_uncovered_node(
     ensures { MatchOption result (NodesCovered space.now tree.now tables.now)
         (λ found. IsFirst (operations tree.now - 1) (CoversAt space.now tree.now tables.now) (FailsAt space.now tree.now tables.now found.1.fused found.1.state) found.0) }
 {
+    let mut groups = Groups::new();
     for v in 0..tree.count() - 1 {
-        if let Some(step) = first_uncovered_at(space, tree, tables, v) {
+        if let Some(step) = first_uncovered_at(space, tree, tables, &mut groups, v) {
             return Some((v, step));
         }
     }
