@@ -50,11 +50,25 @@ fn first_below_with(tree: &Tree, root: u8, left: &Row, rights: &[Row], total: u1
         (λ sum. First (WhereJoined tree.now root (λ l r. total ≤ l.cost + r.cost) left.now) (IsBelow tree.now root total sum left.now) rights.now) }
 {
     for right in rights {
-        if let Some(joint) = joint(left, right, tree.loops(root)) {
-            if joint.cost < total {
-                return Some(joint.cost);
-            }
+        if let Some(sum) = sum_below(tree, root, left, right, total) {
+            return Some(sum);
         }
     }
     None
+}
+
+// The sum of two rows, where they have no conflict and it is below the total.
+fn sum_below(tree: &Tree, root: u8, left: &Row, right: &Row, total: u128) -> Option<u128>
+    requires inside { root < operations tree.now }
+    requires left { left.now.cost < 2 ^ 96 }
+    requires right { right.now.cost < 2 ^ 96 }
+    ensures { MatchOption result (WhereJoined tree.now root (λ l r. total ≤ l.cost + r.cost) left.now right.now)
+        (λ sum. IsBelow tree.now root total sum left.now right.now) }
+{
+    let sum = left.cost + right.cost;
+    if total <= sum {
+        return None;
+    }
+    joint(left, right, tree.loops(root))?;
+    Some(sum)
 }
