@@ -6,3 +6,4 @@ pub mod Turns
 pub mod Renumbered
 pub mod NodeSets
 pub mod Ranges
+pub mod PiecePlans

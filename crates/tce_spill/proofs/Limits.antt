@@ -105,7 +105,7 @@ except_other cut n u ne = elim (cases_Bool (cut u)) [
 ]
 
 -- without the cut of `n` all pieces are the same but the one in which `n` stands
-other_piece : (tree : ContractionTree) (cut : Cuts) (n r r0 : ℕ) → IsRootOver tree (except cut n) n r0 → r < operations tree → is_root tree (except cut n) r ≡ true → (r ≡ r0 → ⊥)
+pub other_piece : (tree : ContractionTree) (cut : Cuts) (n r r0 : ℕ) → IsRootOver tree (except cut n) n r0 → r < operations tree → is_root tree (except cut n) r ≡ true → (r ≡ r0 → ⊥)
     → piece tree (except cut n) r ≡ piece tree cut r
 unfolding piece first_number_of
 other_piece tree cut n r r0 top r_in root ne =

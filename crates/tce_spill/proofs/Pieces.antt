@@ -1,16 +1,12 @@
 -- Where more nodes are cut, a piece is a part of the piece that there was.
-use Rattle.std.proofs.Common.{◌≡◌, ℕ, ◌+◌, ◌-◌, ◌<◌, ◌≤◌, true, false, not, ◌&&◌, eqb, eqb-true, ltb, lt-ltb, refl, sym, ap, ap₂, ◌∙◌, subst, inl, inr, arith}
+use Rattle.std.proofs.Common.{◌≡◌, ℕ, ◌+◌, ◌-◌, ◌<◌, ◌≤◌, true, false, not, ◌&&◌, eqb, eqb-true, refl, sym, ap, ◌∙◌, subst, inl, inr, arith}
 use Rattle.std.specs.Prelude.{IsTrue}
 use Rattle.std.proofs.lemmas.Bool.{cases_Bool, cases_eq, cases_lt, eq-eqb, or_left, or_right, or_cases, and_parts, and_from, false≢true, true≢false, both_ways}
-use Rattle.tce_space.specs.IndexSet.{IsIndexSet, has, set_of, members, minus, union}
+use Rattle.tce_space.specs.IndexSet.{set_of, members}
 use Rattle.tce_space.specs.Space.{IndexSpace}
-use Rattle.tce_space.proofs.IndexSetLaws.{set_of_lt, has_below, same_set}
 use Rattle.tce_tree.specs.ContractionTree.{ContractionTree, leaf, constant, binary, sum, dims, operations, node, in_subtree}
 use Rattle.tce_tree.specs.FlatTree.{first_number_of}
-use Rattle.tce_tree.specs.WellFormed.{among}
-use Rattle.tce_tree.proofs.Lists.{all-among, same_truth}
 use Rattle.tce_tree.proofs.Members.{dims_lt}
-use Rattle.tce_tree.proofs.NamedIndexes.{has-set_of_list}
 use Rattle.tce_tree.proofs.Nodes.{size, size_bounds, size_nested, node-root}
 use Rattle.tce_tree.proofs.Operands.{Stands, stands-node, stands-left, stands-right, stands-operand}
 use Rattle.tce_tree.proofs.Parents.{subtree_is, subtree_from, find-range_some, find-range_finds}

@@ -24,7 +24,7 @@ use Rattle.tce_spill.proofs.Limits.{except_other, take_back, more_meet, same_tur
 -- ---- the root over a node
 
 -- a node has one root over it
-root_same : (tree : ContractionTree) (cut : Cuts) (v r q : ℕ) → IsRootOver tree cut v r → IsRootOver tree cut v q → r ≡ q
+pub root_same : (tree : ContractionTree) (cut : Cuts) (v r q : ℕ) → IsRootOver tree cut v r → IsRootOver tree cut v q → r ≡ q
 root_same tree cut v r q one other =
     elim (cases_lt r q) [
       | inl x ↦ absurd (false≢true (sym (other.least r x one.over) ∙ one.root))

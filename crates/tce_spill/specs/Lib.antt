@@ -3,3 +3,4 @@ pub mod CutsFor
 pub mod InTurn
 pub mod Laws
 pub mod Refusals
+pub mod Planned

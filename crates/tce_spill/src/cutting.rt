@@ -4,17 +4,20 @@ ghost use Rattle.tce_space.specs.IndexSet.{has};
 ghost use Rattle.tce_tree.specs.ContractionTree.{operations};
 ghost use Rattle.tce_tree.specs.Measure.{IsMeasured};
 ghost use Rattle.tce_declarations.specs.Declarations.{HaveNames};
-ghost use Rattle.tce_pieces.specs.Pieces.{is_root as is_root_of, IsRootOver, piece as piece_at};
+ghost use Rattle.tce_pieces.specs.Pieces.{is_root as is_root_of, IsRootOver};
 ghost use Rattle.tce_spec.specs.PieceSpecification.{CanCut};
 ghost use Rattle.tce_spill.specs.CutsFor.{AreCutsFor, MeetLimit};
-ghost use Rattle.tce_spill.specs.InTurn.{AllAreCut, AreDecided, FitBefore};
-ghost use Rattle.tce_spill.specs.Refusals.{HasLeastMemory, IsCutFault, IsFree, IsRefusedAs};
+ghost use Rattle.tce_spill.specs.InTurn.{AllAreCut, FitBefore};
+ghost use Rattle.tce_spill.specs.Planned.{ArePlanned, HavePlans, IsPlanned, IsPlanOfPiece};
+ghost use Rattle.tce_spill.specs.Refusals.{IsCutFault, IsFree, IsRefusedAs};
 ghost use Rattle.tce_spill.specs.declared.fault.SpillFault.{SpillFault as Fault};
 
 use crate::fault::SpillFault;
 use crate::node_set::{has_node, with_node, without_node};
+use crate::planned::{PlannedCuts, put_joined, without_rows};
 use crate::storage::storable;
 use std::alloc::{AllocError, Global};
+use tce_nesting::Plan;
 use tce_search::search;
 use tce_space::Space;
 use tce_spec::{Spec, piece};
@@ -25,10 +28,7 @@ const MAX_TENSORS: u8 = 31;
 
 /// The nodes that are cut so that each piece has a fusion within the limit, in elements: bit `v` stands for node `v`.
 ///
-/// At first all nodes are cut that may be. Then, in order, the cut of a node is taken back where the piece that joins
-/// both sides has a fusion within the limit. So at each node the least memory of at most two pieces is sought, and of no
-/// piece twice. It is refused with `TooManyTensors`, with `LimitTooSmall` for the first piece that is above the limit
-/// where all nodes are cut that may be, with its least memory, or with `Memory`.
+/// They are those of [`planned_cuts`], and there are none for the same causes.
 pub fn cuts(alloc: Global, spec: &Spec, limit: u64) -> Result<u32, SpillFault>
     requires { HaveNames spec.now.declarations.tensors }
     ensures cuts { IfOk result (λ kept. AreCutsFor spec.now.declarations.space spec.now.tree limit (has kept)) }
@@ -37,13 +37,36 @@ pub fn cuts(alloc: Global, spec: &Spec, limit: u64) -> Result<u32, SpillFault>
     ensures refused { IfErr result (IsCutFault spec.now limit) }
     ensures exactly { (due : Fault) → (IsFree due → ⊥) → IsCutFault spec.now limit due → IsRefusedAs due result }
 {
+    match planned_cuts(alloc, spec, limit) {
+        Ok(planned) => Ok(planned.nodes),
+        Err(fault) => Err(fault),
+    }
+}
+
+/// The nodes that are cut so that each piece has a fusion within the limit, in elements, with a plan of each piece.
+///
+/// At first all nodes are cut that may be. Then, in order, the cut of a node is taken back where the piece that joins
+/// both sides has a fusion within the limit. So for each node at most two pieces are searched, and no piece twice: a
+/// joined piece that stays keeps the plan that was found of it. It is refused with `TooManyTensors`, with `LimitTooSmall`
+/// for the first piece that is above the limit where all nodes are cut that may be, with its least memory, or with
+/// `Memory`.
+pub fn planned_cuts(alloc: Global, spec: &Spec, limit: u64) -> Result<PlannedCuts, SpillFault>
+    requires { HaveNames spec.now.declarations.tensors }
+    ensures cuts { IfOk result (λ planned. AreCutsFor spec.now.declarations.space spec.now.tree limit (has planned.nodes)) }
+    ensures meet { IfOk result (λ planned. MeetLimit spec.now.declarations.space spec.now.tree (has planned.nodes) limit) }
+    ensures nodes { IfOk result (λ planned. (v : ℕ) → operations spec.now.tree ≤ v → has planned.nodes v ≡ false) }
+    ensures plans { IfOk result (λ planned. HavePlans spec.now (has planned.nodes) planned.plans.items) }
+    ensures refused { IfErr result (IsCutFault spec.now limit) }
+    ensures exactly { (due : Fault) → (IsFree due → ⊥) → IsCutFault spec.now limit due → IsRefusedAs due result }
+{
     if spec.tensor_count() > MAX_TENSORS {
         return Err(SpillFault::TooManyTensors);
     }
-    let all = storable_nodes(spec.space(), spec.tree());
-    test_pieces(alloc, spec, all, limit)?;
-    match take_back(alloc, spec, all, limit) {
-        Ok(kept) => Ok(kept),
+    let nodes = storable_nodes(spec.space(), spec.tree());
+    let plans = plan_pieces(alloc, spec, nodes, limit)?;
+    let mut planned = PlannedCuts { nodes, plans };
+    match take_back(alloc, spec, &mut planned, limit) {
+        Ok(()) => Ok(planned),
         Err(_) => Err(SpillFault::Memory),
     }
 }
@@ -62,88 +85,117 @@ fn storable_nodes(space: &Space, tree: &Tree) -> u32
     nodes
 }
 
-// Tests that each piece has a fusion within the limit.
-fn test_pieces(alloc: Global, spec: &Spec, cuts: u32, limit: u64) -> Result<(), SpillFault>
+// The plans of the pieces, each of which has to be within the limit.
+fn plan_pieces(
+    alloc: Global,
+    spec: &Spec,
+    cuts: u32,
+    limit: u64,
+) -> Result<Vec<Option<Plan>>, SpillFault>
     requires names { HaveNames spec.now.declarations.tensors }
     requires few { length spec.now.declarations.tensors ≤ 31 }
     requires all { AllAreCut spec.now.declarations.space spec.now.tree (has cuts) }
     ensures meet { OnOk result (MeetLimit spec.now.declarations.space spec.now.tree (has cuts) limit) }
+    ensures count { IfOk result (λ plans. length plans.items ≡ operations spec.now.tree) }
+    ensures plans { IfOk result (λ plans. HavePlans spec.now (has cuts) plans.items) }
     ensures refused { IfErr result (IsCutFault spec.now limit) }
 {
+    let mut plans = Vec::new(alloc);
     for root in 0..spec.tree().count() {
-        test_piece(alloc, spec, cuts, root, limit)?;
+        let plan = test_piece(alloc, spec, cuts, root, limit)?;
+        let Ok(()) = plans.push(plan) else {
+            return Err(SpillFault::Memory);
+        };
     }
-    Ok(())
+    Ok(plans)
 }
 
-// Tests the piece of a node, if it is the root of one.
-fn test_piece(alloc: Global, spec: &Spec, cuts: u32, root: u8, limit: u64) -> Result<(), SpillFault>
+// The plan of the piece of a node, if it is the root of one.
+fn test_piece(
+    alloc: Global,
+    spec: &Spec,
+    cuts: u32,
+    root: u8,
+    limit: u64,
+) -> Result<Option<Plan>, SpillFault>
     requires names { HaveNames spec.now.declarations.tensors }
     requires few { length spec.now.declarations.tensors ≤ 31 }
     requires all { AllAreCut spec.now.declarations.space spec.now.tree (has cuts) }
     requires inside { root < operations spec.now.tree }
     requires earlier { FitBefore spec.now.declarations.space spec.now.tree (has cuts) limit root }
     ensures fit { OnOk result (FitBefore spec.now.declarations.space spec.now.tree (has cuts) limit (root + 1)) }
+    ensures plan { IfOk result (IsPlanned spec.now (has cuts) root) }
     ensures refused { IfErr result (IsCutFault spec.now limit) }
 {
     if !is_root(spec, cuts, root) {
-        return Ok(());
+        return Ok(None);
     }
-    let Ok(least) = least_of_piece(alloc, spec, root, cuts) else {
+    let Ok(plan) = plan_of_piece(alloc, spec, root, cuts) else {
         return Err(SpillFault::Memory);
     };
-    if least > limit as u128 {
-        return Err(SpillFault::LimitTooSmall(root, least));
+    if plan.memory > limit as u128 {
+        return Err(SpillFault::LimitTooSmall(root, plan.memory));
+    }
+    Ok(Some(plan))
+}
+
+// Takes cuts back in order, as far as the limit allows.
+fn take_back(
+    alloc: Global,
+    spec: &Spec,
+    planned: &mut PlannedCuts,
+    limit: u64,
+) -> Result<(), AllocError>
+    requires names { HaveNames spec.now.declarations.tensors }
+    requires few { length spec.now.declarations.tensors ≤ 31 }
+    requires planned { ArePlanned spec.now limit planned.old 0 }
+    ensures { OnOk result (ArePlanned spec.now limit planned.new (operations spec.now.tree)) }
+{
+    for v in 0..spec.tree().count() {
+        decide(alloc, spec, planned, v, limit)?;
     }
     Ok(())
 }
 
-// Takes cuts back in order, as far as the limit allows.
-fn take_back(alloc: Global, spec: &Spec, all: u32, limit: u64) -> Result<u32, AllocError>
-    requires names { HaveNames spec.now.declarations.tensors }
-    requires few { length spec.now.declarations.tensors ≤ 31 }
-    requires decided { AreDecided spec.now.declarations.space spec.now.tree limit (has all) 0 }
-    ensures { IfOk result
-        (λ kept. AreDecided spec.now.declarations.space spec.now.tree limit (has kept) (operations spec.now.tree)) }
-{
-    let mut kept = all;
-    for v in 0..spec.tree().count() {
-        kept = decide(alloc, spec, kept, v, limit)?;
-    }
-    Ok(kept)
-}
-
 // Takes the cut of a node back, if it is cut and the joined piece is within the limit.
-fn decide(alloc: Global, spec: &Spec, cuts: u32, v: u8, limit: u64) -> Result<u32, AllocError>
+fn decide(
+    alloc: Global,
+    spec: &Spec,
+    planned: &mut PlannedCuts,
+    v: u8,
+    limit: u64,
+) -> Result<(), AllocError>
     requires names { HaveNames spec.now.declarations.tensors }
     requires few { length spec.now.declarations.tensors ≤ 31 }
     requires inside { v < operations spec.now.tree }
-    requires decided { AreDecided spec.now.declarations.space spec.now.tree limit (has cuts) v }
-    ensures { IfOk result (λ kept. AreDecided spec.now.declarations.space spec.now.tree limit (has kept) (v + 1)) }
+    requires planned { ArePlanned spec.now limit planned.old v }
+    ensures { OnOk result (ArePlanned spec.now limit planned.new (v + 1)) }
 {
     let _count = spec.tree().count();
-    if !has_node(cuts, v) {
-        return Ok(cuts);
+    if !has_node(planned.nodes, v) {
+        return Ok(());
     }
-    let fewer = without_node(cuts, v);
+    let fewer = without_node(planned.nodes, v);
     let root = root_over(spec, fewer, v);
-    let joined = least_of_piece(alloc, spec, root, fewer)?;
-    if joined > limit as u128 {
-        return Ok(cuts);
+    let joined = plan_of_piece(alloc, spec, root, fewer)?;
+    if joined.memory > limit as u128 {
+        return Ok(());
     }
-    Ok(fewer)
+    put_joined(&mut planned.plans, v, root, joined);
+    planned.nodes = fewer;
+    Ok(())
 }
 
-// The least memory of the piece of a root, in elements.
-fn least_of_piece(alloc: Global, spec: &Spec, root: u8, cuts: u32) -> Result<u128, AllocError>
+// A plan of a least fusion of the piece of a root, without rows.
+fn plan_of_piece(alloc: Global, spec: &Spec, root: u8, cuts: u32) -> Result<Plan, AllocError>
     requires names { HaveNames spec.now.declarations.tensors }
     requires few { length spec.now.declarations.tensors ≤ 31 }
     requires cuts { CanCut spec.now (has cuts) root }
-    ensures { IfOk result (HasLeastMemory spec.now.declarations.space (piece_at spec.now.tree (has cuts) root)) }
+    ensures { IfOk result (IsPlanOfPiece spec.now (has cuts) root) }
 {
     let piece = piece(alloc, spec, root, cuts)?;
     let plan = search(alloc, piece.space(), piece.tree())?;
-    Ok(plan.memory)
+    without_rows(alloc, plan)
 }
 
 // Whether a node is the root of a piece.

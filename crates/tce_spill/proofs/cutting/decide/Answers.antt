@@ -1,24 +1,36 @@
-use Rattle.std.proofs.Common.{sym, ◌∙◌}
+use Rattle.std.proofs.Common.{length, sym, ap, subst, ◌∙◌}
 use Rattle.tce_space.specs.IndexSet.{has}
-use Rattle.tce_spill.proofs.Turns.{goes_on, may_cut, stays_at, goes_at}
+use Rattle.tce_spill.specs.Planned.{HavePlans}
+use Rattle.tce_spill.proofs.Turns.{may_cut}
+use Rattle.tce_spill.proofs.PiecePlans.{planned_on, planned_stays, goes_decided, goes_planned, joined_count}
 use Rattle.tce_spill.proofs.cutting.decide.Goals as goal
 
 pub returns-then-not-has_node : goal.returns-then-not-has_node
 returns-then-not-has_node c =
-    let s = c.args.spec.now in
-    goes_on s.declarations.space s.tree c.args.limit (has c.args.cuts) c.args.v c.requires.decided (sym c.has_node.ensures ∙ c.if-not-has_node.true)
+    planned_on c.args.spec.now c.args.limit c.args.planned.now c.args.v c.requires.planned (sym c.has_node.ensures ∙ c.if-not-has_node.true)
 
-pub least_of_piece-requires-clause-cuts : goal.least_of_piece-requires-clause-cuts
-least_of_piece-requires-clause-cuts c =
-    may_cut c.args.spec.now c.args.limit (has c.args.cuts) (has c.without_node-fewer.result) c.args.v c.root_over-root.result c.requires.decided
+pub plan_of_piece-requires-clause-cuts : goal.plan_of_piece-requires-clause-cuts
+plan_of_piece-requires-clause-cuts c =
+    may_cut c.args.spec.now c.args.limit (has c.args.planned.now.nodes) (has c.without_node-fewer.result) c.args.v c.root_over-root.result c.requires.planned.decided
     c.without_node-fewer.ensures c.root_over-root.ensures
 
 pub returns-then-joined-limit : goal.returns-then-joined-limit
 returns-then-joined-limit c =
-    stays_at c.args.spec.now c.args.limit (has c.args.cuts) (has c.without_node-fewer.result) c.args.v c.root_over-root.result c.requires.decided
-    c.without_node-fewer.ensures c.root_over-root.ensures c.in_ok-joined.joined c.in_ok-joined.ensures c.if-joined-limit.true
+    planned_stays c.args.spec.now c.args.limit c.args.planned.now c.args.v c.requires.planned (has c.without_node-fewer.result) c.root_over-root.result c.in_ok-joined.joined
+    c.without_node-fewer.ensures c.root_over-root.ensures c.in_ok-joined.ensures c.if-joined-limit.true
 
 pub returns : goal.returns
 returns c =
-    goes_at c.args.spec.now c.args.limit (has c.args.cuts) (has c.without_node-fewer.result) c.args.v c.root_over-root.result c.requires.decided
-    c.without_node-fewer.ensures c.root_over-root.ensures c.in_ok-joined.joined c.in_ok-joined.ensures c.requires.inside c.if-joined-limit.false
+    let s = c.args.spec.now in
+    let planned = c.args.planned.now in
+    let fewer = has c.without_node-fewer.result in
+    let r = c.root_over-root.result in
+    let joined = c.in_ok-joined.joined in
+    record {
+      decided = goes_decided s c.args.limit planned c.args.v c.requires.planned fewer r joined c.without_node-fewer.ensures c.root_over-root.ensures c.in_ok-joined.ensures
+          c.requires.inside c.if-joined-limit.false;
+      count = ap length c.put_joined.ensures ∙ joined_count s (has planned.nodes) planned.plans.items c.args.v r joined c.requires.planned.count;
+      plans =
+          subst (HavePlans s fewer) (sym c.put_joined.ensures)
+          (goes_planned s c.args.limit planned c.args.v c.requires.planned fewer r joined c.without_node-fewer.ensures c.root_over-root.ensures c.in_ok-joined.ensures c.requires.inside);
+    }
