@@ -8,7 +8,7 @@ use Rattle.std.proofs.lemmas.Fmt.{decimal_injective, decimal_digit}
 use Rattle.tce_array.specs.declared.form.Form.{Form}
 use Rattle.tce_array.specs.declared.form.Form.TheVariants.{One, Narrow, Wide}
 use Rattle.tce_array.specs.Forms.{width}
-use Rattle.tce_command.specs.Command.{Command, run, batch, plan, cert, check, pack, unpack, convert, expand, einsum, demo, IsBetween, IsCommand, IsHeld, IsNoCommand, NamesSpec, NamesCertificate, NamesTensor, NamesFlat, verb_of, arguments_of}
+use Rattle.tce_command.specs.Command.{Command, run, batch, spill, plan, cert, check, pack, unpack, convert, expand, einsum, demo, IsBetween, IsCommand, IsHeld, IsNoCommand, NamesSpec, NamesCertificate, NamesTensor, NamesFlat, verb_of, arguments_of}
 
 -- the words of a list, where it has two, three or four
 pub two_words : (ws : List (String Global)) (a b : String Global) → 2 ≤ length ws → length ws < 3 → a ≡ get_or ws 0 a → b ≡ get_or ws 1 b
@@ -39,6 +39,7 @@ four_words (x ∷ y ∷ z ∷ w ∷ v ∷ ws) a b c d l u ea eb ec ed = absurd (
 pub command_length : (words : List (List ℕ)) (command : Command) → IsCommand words command → (2 ≤ length words) × (length words ≤ 4)
 command_length words (run spec budget) h = let e : length words ≡ 3 = ap length h.words_are in (omega arith, omega arith)
 command_length words (batch spec budget) h = let e : length words ≡ 3 = ap length h.words_are in (omega arith, omega arith)
+command_length words (spill spec budget limit) h = let e : length words ≡ 4 = ap length h.words_are in (omega arith, omega arith)
 command_length words (plan spec) h = let e : length words ≡ 2 = ap length h.words_are in (omega arith, omega arith)
 command_length words (cert spec file) h = let e : length words ≡ 3 = ap length h.words_are in (omega arith, omega arith)
 command_length words (check spec file) h = let e : length words ≡ 3 = ap length h.words_are in (omega arith, omega arith)
@@ -72,6 +73,7 @@ word_at k xs ys e = ap (λ ws. get_or ws k []) e
 pub none_of_two : (verb spec : List ℕ) → (verb ≡ codes "plan" → NamesSpec spec → ⊥) → IsNoCommand (verb ∷ spec ∷ [])
 none_of_two verb spec refused (run s b) h = let e : 2 ≡ 3 = ap length h.words_are in absurd (omega (arith, e))
 none_of_two verb spec refused (batch s b) h = let e : 2 ≡ 3 = ap length h.words_are in absurd (omega (arith, e))
+none_of_two verb spec refused (spill s b l) h = let e : 2 ≡ 4 = ap length h.words_are in absurd (omega (arith, e))
 none_of_two verb spec refused (plan s) h = refused (word_at 0 _ _ h.words_are) (subst NamesSpec (sym (word_at 1 _ _ h.words_are)) h.rules)
 none_of_two verb spec refused (cert s f) h = let e : 2 ≡ 3 = ap length h.words_are in absurd (omega (arith, e))
 none_of_two verb spec refused (check s f) h = let e : 2 ≡ 3 = ap length h.words_are in absurd (omega (arith, e))
@@ -102,6 +104,7 @@ none_of_three verb spec last refused (check s f) h =
 none_of_three verb spec last refused (expand s t) h =
     refused.expand (word_at 0 _ _ h.words_are) (subst NamesSpec (sym (word_at 1 _ _ h.words_are)) h.rules.0) (subst NamesTensor (sym (word_at 2 _ _ h.words_are)) h.rules.1)
 none_of_three verb spec last refused (plan s) h = let e : 3 ≡ 2 = ap length h.words_are in absurd (omega (arith, e))
+none_of_three verb spec last refused (spill s b l) h = let e : 3 ≡ 4 = ap length h.words_are in absurd (omega (arith, e))
 none_of_three verb spec last refused (pack s t f) h = let e : 3 ≡ 4 = ap length h.words_are in absurd (omega (arith, e))
 none_of_three verb spec last refused (unpack s t f) h = let e : 3 ≡ 4 = ap length h.words_are in absurd (omega (arith, e))
 none_of_three verb spec last refused (convert s t f) h = let e : 3 ≡ 4 = ap length h.words_are in absurd (omega (arith, e))
@@ -114,6 +117,7 @@ pub record NoneOfFour (verb spec tensor last : List ℕ) : Type 0 where
   pub unpack : verb ≡ codes "unpack" → NamesSpec spec → NamesTensor tensor → NamesFlat last → ⊥
   pub convert : verb ≡ codes "convert" → NamesSpec spec → NamesTensor tensor → (form : Form) → form ≢ One → last ≡ decimal (width form) → ⊥
   pub einsum : verb ≡ codes "einsum" → IsHeld spec → IsHeld tensor → NamesSpec last → ⊥
+  pub spill : verb ≡ codes "spill" → NamesSpec spec → (n m : ℕ) → n ≤ 2 ^ 40 → m ≤ 2 ^ 40 → tensor ≡ decimal n → last ≡ decimal m → ⊥
   pub demo : verb ≡ codes "demo" → (seed v o : ℕ) → IsBetween 1 2147483646 seed → IsBetween 1 32 v → IsBetween 1 32 o → spec ≡ decimal seed → tensor ≡ decimal v → last ≡ decimal o → ⊥
 
 pub none_of_four : (verb spec tensor last : List ℕ) → NoneOfFour verb spec tensor last → IsNoCommand (verb ∷ spec ∷ tensor ∷ last ∷ [])
@@ -135,6 +139,8 @@ none_of_four verb spec tensor last refused (convert s t f) h =
 none_of_four verb spec tensor last refused (einsum t p s) h =
     refused.einsum (word_at 0 _ _ h.words_are) (subst IsHeld (sym (word_at 1 _ _ h.words_are)) h.rules.0)
     (subst IsHeld (sym (word_at 2 _ _ h.words_are)) h.rules.1) (subst NamesSpec (sym (word_at 3 _ _ h.words_are)) h.rules.2)
+none_of_four verb spec tensor last refused (spill s b l) h =
+    refused.spill (word_at 0 _ _ h.words_are) (subst NamesSpec (sym (word_at 1 _ _ h.words_are)) h.rules.0) b l h.rules.1 h.rules.2 (word_at 2 _ _ h.words_are) (word_at 3 _ _ h.words_are)
 none_of_four verb spec tensor last refused (demo seed v o) h =
     refused.demo (word_at 0 _ _ h.words_are) seed v o h.rules.0 h.rules.1 h.rules.2 (word_at 1 _ _ h.words_are) (word_at 2 _ _ h.words_are) (word_at 3 _ _ h.words_are)
 
@@ -147,6 +153,7 @@ no_demo seed v o refused = none_of_four (codes "demo") seed v o (record {
   unpack = λ e. let k : 100 ≡ 117 = ap (λ w. get_or w 0 0) e in absurd (omega (arith, k));
   convert = λ e. let k : 100 ≡ 99 = ap (λ w. get_or w 0 0) e in absurd (omega (arith, k));
   einsum = λ e. let k : 100 ≡ 101 = ap (λ w. get_or w 0 0) e in absurd (omega (arith, k));
+  spill = λ e. let k : 100 ≡ 115 = ap (λ w. get_or w 0 0) e in absurd (omega (arith, k));
   demo = λ e. refused;
 })
 
@@ -157,7 +164,20 @@ no_einsum text path spec refused = none_of_four (codes "einsum") text path spec 
   unpack = λ e. let k : 101 ≡ 117 = ap (λ w. get_or w 0 0) e in absurd (omega (arith, k));
   convert = λ e. let k : 101 ≡ 99 = ap (λ w. get_or w 0 0) e in absurd (omega (arith, k));
   einsum = λ e held path. refused;
+  spill = λ e. let k : 101 ≡ 115 = ap (λ w. get_or w 0 0) e in absurd (omega (arith, k));
   demo = λ e. let k : 101 ≡ 100 = ap (λ w. get_or w 0 0) e in absurd (omega (arith, k));
+})
+
+-- the words of a run in pieces, where its specification has no name or one of its numbers is out of bounds
+pub no_spill : (spec budget limit : List ℕ) → (NamesSpec spec → (n m : ℕ) → n ≤ 2 ^ 40 → m ≤ 2 ^ 40 → budget ≡ decimal n → limit ≡ decimal m → ⊥)
+    → IsNoCommand (codes "spill" ∷ spec ∷ budget ∷ limit ∷ [])
+no_spill spec budget limit refused = none_of_four (codes "spill") spec budget limit (record {
+  pack = λ e. let k : 115 ≡ 112 = ap (λ w. get_or w 0 0) e in absurd (omega (arith, k));
+  unpack = λ e. let k : 115 ≡ 117 = ap (λ w. get_or w 0 0) e in absurd (omega (arith, k));
+  convert = λ e. let k : 115 ≡ 99 = ap (λ w. get_or w 0 0) e in absurd (omega (arith, k));
+  einsum = λ e. let k : 115 ≡ 101 = ap (λ w. get_or w 0 0) e in absurd (omega (arith, k));
+  spill = λ e. refused;
+  demo = λ e. let k : 115 ≡ 100 = ap (λ w. get_or w 0 0) e in absurd (omega (arith, k));
 })
 
 -- the words of an expansion, where its tensor has no name
@@ -201,6 +221,12 @@ one_command words (batch s b) (batch t c) h k =
     let e = sym h.words_are ∙ k.words_are in
     let specs : s ≡ t = word_at 1 _ _ e in
     let budgets : b ≡ c = same_budget b c h.rules.1 k.rules.1 (word_at 2 _ _ e) in
+    cc
+one_command words (spill s b l) (spill t c m) h k =
+    let e = sym h.words_are ∙ k.words_are in
+    let specs : s ≡ t = word_at 1 _ _ e in
+    let budgets : b ≡ c = same_budget b c h.rules.1 k.rules.1 (word_at 2 _ _ e) in
+    let limits : l ≡ m = same_budget l m h.rules.2 k.rules.2 (word_at 3 _ _ e) in
     cc
 one_command words (plan s) (plan t) h k = let specs : s ≡ t = word_at 1 _ _ (sym h.words_are ∙ k.words_are) in cc
 one_command words (cert s f) (cert u g) h k =
@@ -288,6 +314,16 @@ one_command words (einsum a b d) (convert u v g) h k = let e : 101 ≡ 99 = verb
 one_command words (convert s t f) (einsum a b d) h k = let e : 99 ≡ 101 = verb_byte 0 _ _ (sym h.words_are ∙ k.words_are) in absurd (omega (arith, e))
 one_command words (einsum a b d) (demo x v o) h k = let e : 101 ≡ 100 = verb_byte 0 _ _ (sym h.words_are ∙ k.words_are) in absurd (omega (arith, e))
 one_command words (demo x v o) (einsum a b d) h k = let e : 100 ≡ 101 = verb_byte 0 _ _ (sym h.words_are ∙ k.words_are) in absurd (omega (arith, e))
+one_command words (spill s b l) (pack u v g) h k = let e : 115 ≡ 112 = verb_byte 0 _ _ (sym h.words_are ∙ k.words_are) in absurd (omega (arith, e))
+one_command words (pack u v g) (spill s b l) h k = let e : 112 ≡ 115 = verb_byte 0 _ _ (sym h.words_are ∙ k.words_are) in absurd (omega (arith, e))
+one_command words (spill s b l) (unpack u v g) h k = let e : 115 ≡ 117 = verb_byte 0 _ _ (sym h.words_are ∙ k.words_are) in absurd (omega (arith, e))
+one_command words (unpack u v g) (spill s b l) h k = let e : 117 ≡ 115 = verb_byte 0 _ _ (sym h.words_are ∙ k.words_are) in absurd (omega (arith, e))
+one_command words (spill s b l) (convert u v g) h k = let e : 115 ≡ 99 = verb_byte 0 _ _ (sym h.words_are ∙ k.words_are) in absurd (omega (arith, e))
+one_command words (convert u v g) (spill s b l) h k = let e : 99 ≡ 115 = verb_byte 0 _ _ (sym h.words_are ∙ k.words_are) in absurd (omega (arith, e))
+one_command words (spill s b l) (einsum u v g) h k = let e : 115 ≡ 101 = verb_byte 0 _ _ (sym h.words_are ∙ k.words_are) in absurd (omega (arith, e))
+one_command words (einsum u v g) (spill s b l) h k = let e : 101 ≡ 115 = verb_byte 0 _ _ (sym h.words_are ∙ k.words_are) in absurd (omega (arith, e))
+one_command words (spill s b l) (demo x v o) h k = let e : 115 ≡ 100 = verb_byte 0 _ _ (sym h.words_are ∙ k.words_are) in absurd (omega (arith, e))
+one_command words (demo x v o) (spill s b l) h k = let e : 100 ≡ 115 = verb_byte 0 _ _ (sym h.words_are ∙ k.words_are) in absurd (omega (arith, e))
 one_command words a b h k =
     let e : length (verb_of a ∷ arguments_of a) ≡ length (verb_of b ∷ arguments_of b) = ap length (sym h.words_are ∙ k.words_are) in absurd (omega (arith, e))
 

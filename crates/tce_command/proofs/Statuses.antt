@@ -18,7 +18,7 @@ use Rattle.tce_command.specs.declared.refusal.Refusal.TheVariants as refusals
 use Rattle.tce_command.specs.declared.command_refusal.CommandRefusal.{CommandRefusal}
 use Rattle.tce_command.specs.declared.command_refusal.CommandRefusal.TheVariants.{Common, Certificate}
 use Rattle.tce_command.specs.declared.status.Status.{Status}
-use Rattle.tce_command.specs.declared.status.Status.TheVariants.{Done, BadWords, SpecRefused, NoFile, ArrayRefused, BudgetTooSmall, IntermediatesTooLarge, CertRefused, DiskFault, SinkFault, WantOfMemory, FlatRefused, UnknownTensor, DoesNotFit, EinsumRefused, SymRefused}
+use Rattle.tce_command.specs.declared.status.Status.TheVariants.{Done, BadWords, SpecRefused, NoFile, ArrayRefused, BudgetTooSmall, IntermediatesTooLarge, CertRefused, DiskFault, SinkFault, WantOfMemory, FlatRefused, UnknownTensor, DoesNotFit, EinsumRefused, SpillRefused, SymRefused}
 
 -- what a refusal's status has
 pub record IsPlain (status : Status) : Type 0 where
@@ -49,6 +49,7 @@ is_plain (refusals.Flat len) = record { line = tt; plain = tt }
 is_plain (refusals.Tensor name) = record { line = tt; plain = tt }
 is_plain (refusals.Misfit place) = record { line = tt; plain = tt }
 is_plain (refusals.Einsum trouble) = of_einsum trouble
+is_plain (refusals.Spill trouble) = record { line = tt; plain = tt }
 is_plain (refusals.Symmetry tensor trouble) = record { line = tt; plain = tt }
 is_plain refusals.Disk = record { line = tt; plain = tt }
 is_plain refusals.Memory = record { line = tt; plain = tt }
@@ -103,6 +104,7 @@ over names (FlatRefused len) plain = refl
 over names (UnknownTensor name) plain = refl
 over names (DoesNotFit place) plain = refl
 over names (EinsumRefused trouble) plain = refl
+over names (SpillRefused trouble) plain = refl
 over names (SymRefused trouble) plain = absurd plain
 
 -- what the line of a status names beside it: nothing, an index, or a tensor that is stored in pairs
@@ -122,6 +124,7 @@ kind_of (FlatRefused len) plain = inl tt
 kind_of (UnknownTensor name) plain = inl tt
 kind_of (DoesNotFit place) plain = inl tt
 kind_of (EinsumRefused trouble) plain = inl tt
+kind_of (SpillRefused trouble) plain = inl tt
 kind_of (SymRefused trouble) plain = inr (trouble, refl)
 
 -- another exit status than that of stored pairs
@@ -141,6 +144,7 @@ other_code (FlatRefused len) nothing e = let n : 11 ≡ 16 = e in absurd (omega 
 other_code (UnknownTensor name) nothing e = let n : 12 ≡ 16 = e in absurd (omega (arith, n))
 other_code (DoesNotFit place) nothing e = let n : 13 ≡ 16 = e in absurd (omega (arith, n))
 other_code (EinsumRefused trouble) nothing e = let n : 14 ≡ 16 = e in absurd (omega (arith, n))
+other_code (SpillRefused trouble) nothing e = let n : 15 ≡ 16 = e in absurd (omega (arith, n))
 other_code (SymRefused trouble) nothing e = nothing
 
 with_trouble : (names : LineNames) (s t : Status) (x y : SymTrouble) → s ≡ SymRefused x → t ≡ SymRefused y → error_text s ≡ error_text t → line_over names s ≡ line_over names t
@@ -192,6 +196,7 @@ written names (refusals.Flat len) is = refl
 written names (refusals.Tensor name) is = refl
 written names (refusals.Misfit place) is = refl
 written names (refusals.Einsum trouble) is = by_trouble names trouble
+written names (refusals.Spill trouble) is = refl
 written names (refusals.Symmetry tensor trouble) is = ap (λ bytes. sym_line bytes trouble) is
 written names refusals.Disk is = refl
 written names refusals.Memory is = refl

@@ -8,10 +8,11 @@ use Rattle.tce_array.specs.declared.form.Form.{Form}
 use Rattle.tce_array.specs.declared.form.Form.TheVariants.{One}
 use Rattle.tce_array.specs.Forms.{width}
 
--- names of files and tensors, a budget in words, and a form of array files; the first name is that of the specification's file. An einsum has its text and its path, and then the name of the specification's file. A demonstration has the number from which its elements come, and the extents of its two ranges
+-- names of files and tensors, a budget in words, a limit in elements, and a form of array files; the first name is that of the specification's file. An einsum has its text and its path, and then the name of the specification's file. A demonstration has the number from which its elements come, and the extents of its two ranges
 pub data Command : Type 0 where
   run : List ℕ → ℕ → Command
   batch : List ℕ → ℕ → Command
+  spill : List ℕ → ℕ → ℕ → Command
   plan : List ℕ → Command
   cert : List ℕ → List ℕ → Command
   check : List ℕ → List ℕ → Command
@@ -26,6 +27,7 @@ pub data Command : Type 0 where
 abbrev pub verb_of : Command → List ℕ
 verb_of (run spec budget) = codes "run"
 verb_of (batch spec budget) = codes "batch"
+verb_of (spill spec budget limit) = codes "spill"
 verb_of (plan spec) = codes "plan"
 verb_of (cert spec file) = codes "cert"
 verb_of (check spec file) = codes "check"
@@ -39,6 +41,7 @@ verb_of (demo seed v o) = codes "demo"
 abbrev pub arguments_of : Command → List (List ℕ)
 arguments_of (run spec budget) = spec ∷ decimal budget ∷ []
 arguments_of (batch spec budget) = spec ∷ decimal budget ∷ []
+arguments_of (spill spec budget limit) = spec ∷ decimal budget ∷ decimal limit ∷ []
 arguments_of (plan spec) = spec ∷ []
 arguments_of (cert spec file) = spec ∷ file ∷ []
 arguments_of (check spec file) = spec ∷ file ∷ []
@@ -79,10 +82,11 @@ IsHeld word = length word < 2 ^ 63
 abbrev pub IsBetween : ℕ → ℕ → ℕ → Type 0
 IsBetween least most n = (least ≤ n) × (n ≤ most)
 
--- what the words of a command keep: a budget is at most 2^40, files are converted to the second version of their format alone, the text and the path of an einsum are any words, and a demonstration has a number below 2^31 - 1 and extents of at most 32
+-- what the words of a command keep: a budget is at most 2^40, as is a limit, files are converted to the second version of their format alone, the text and the path of an einsum are any words, and a demonstration has a number below 2^31 - 1 and extents of at most 32
 abbrev pub KeepsRules : Command → Type 0
 KeepsRules (run spec budget) = NamesSpec spec × (budget ≤ 2 ^ 40)
 KeepsRules (batch spec budget) = NamesSpec spec × (budget ≤ 2 ^ 40)
+KeepsRules (spill spec budget limit) = NamesSpec spec × (budget ≤ 2 ^ 40) × (limit ≤ 2 ^ 40)
 KeepsRules (plan spec) = NamesSpec spec
 KeepsRules (cert spec file) = NamesSpec spec × NamesCertificate file
 KeepsRules (check spec file) = NamesSpec spec × NamesCertificate file

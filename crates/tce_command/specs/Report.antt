@@ -18,7 +18,7 @@ use Rattle.tce_declarations.specs.declared.fault.SpecFault.TheVariants.{TooLong,
 use Rattle.tce_array.specs.declared.fault.ArrayFault.{ArrayFault}
 use Rattle.tce_array.specs.declared.fault.ArrayFault.TheVariants as arrays
 use Rattle.tce_command.specs.declared.status.Status.{Status}
-use Rattle.tce_command.specs.declared.status.Status.TheVariants.{Done, BadWords, SpecRefused, NoFile, ArrayRefused, BudgetTooSmall, IntermediatesTooLarge, CertRefused, DiskFault, SinkFault, WantOfMemory, FlatRefused, UnknownTensor, DoesNotFit, EinsumRefused, SymRefused}
+use Rattle.tce_command.specs.declared.status.Status.TheVariants.{Done, BadWords, SpecRefused, NoFile, ArrayRefused, BudgetTooSmall, IntermediatesTooLarge, CertRefused, DiskFault, SinkFault, WantOfMemory, FlatRefused, UnknownTensor, DoesNotFit, EinsumRefused, SpillRefused, SymRefused}
 use Rattle.tce_command.specs.declared.trouble.ArrayTrouble.{ArrayTrouble}
 use Rattle.tce_command.specs.declared.trouble.ArrayTrouble.TheVariants as contents
 use Rattle.tce_command.specs.declared.trouble.CertTrouble.{CertTrouble}
@@ -27,6 +27,8 @@ use Rattle.tce_command.specs.declared.trouble.CertFlaw.{CertFlaw}
 use Rattle.tce_command.specs.declared.trouble.CertFlaw.TheVariants as flaws
 use Rattle.tce_command.specs.declared.trouble.EinsumTrouble.{EinsumTrouble}
 use Rattle.tce_command.specs.declared.trouble.EinsumTrouble.TheVariants as einsums
+use Rattle.tce_command.specs.declared.trouble.SpillTrouble.{SpillTrouble}
+use Rattle.tce_command.specs.declared.trouble.SpillTrouble.TheVariants as spills
 use Rattle.tce_command.specs.declared.trouble.SymTrouble.{SymTrouble}
 use Rattle.tce_command.specs.declared.trouble.SymTrouble.TheVariants as pairs
 use Rattle.tce_command.specs.declared.refusal.Refusal.{Refusal}
@@ -51,6 +53,7 @@ code_of (FlatRefused len) = 11
 code_of (UnknownTensor name) = 12
 code_of (DoesNotFit place) = 13
 code_of (EinsumRefused trouble) = 14
+code_of (SpillRefused trouble) = 15
 code_of (SymRefused trouble) = 16
 
 -- the line of the specification at which the fault stands
@@ -122,6 +125,11 @@ einsum_text (einsums.BadSize label) = label_text label
 einsum_text (einsums.BadPath item) = codes "path item " ++ decimal item ++ []
 einsum_text (einsums.Spec fault) = place_text fault ++ fault_text fault
 
+-- why a tree is not cut for a limit: too many tensors, or a piece, by its root, that takes more elements
+abbrev pub spill_text : SpillTrouble → List ℕ
+spill_text spills.TooManyTensors = codes "32 tensors"
+spill_text (spills.LimitTooSmall root least) = codes "piece " ++ decimal root ++ codes " needs " ++ decimal least
+
 -- what is wrong with a file of elements that are stored once for each pair, and the line that names its tensor
 abbrev pub sym_text : SymTrouble → List ℕ
 sym_text (pairs.BadLength len) = codes "length " ++ decimal len ++ []
@@ -147,6 +155,7 @@ error_text (FlatRefused len) = codes "error 11: flat length " ++ decimal len ++ 
 error_text (UnknownTensor name) = codes "error 12: no tensor " ++ name.bytes ++ codes "\n"
 error_text (DoesNotFit place) = codes "error 13: element " ++ decimal place ++ codes " does not fit\n"
 error_text (EinsumRefused trouble) = codes "error 14: " ++ einsum_text trouble ++ codes "\n"
+error_text (SpillRefused trouble) = codes "error 15: " ++ spill_text trouble ++ codes "\n"
 error_text (SymRefused trouble) = sym_text trouble
 
 -- what is wrong with the text of a certificate; want of memory has a line of its own
@@ -277,6 +286,7 @@ status_of (refusals.Flat len) = FlatRefused len
 status_of (refusals.Tensor name) = UnknownTensor name
 status_of (refusals.Misfit place) = DoesNotFit place
 status_of (refusals.Einsum trouble) = einsum_status trouble
+status_of (refusals.Spill trouble) = SpillRefused trouble
 status_of (refusals.Symmetry tensor trouble) = SymRefused trouble
 status_of refusals.Disk = DiskFault
 status_of refusals.Memory = WantOfMemory

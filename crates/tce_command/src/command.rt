@@ -14,6 +14,13 @@ pub enum Command<'a> {
         spec: &'a str,
         budget: u64,
     },
+    /// Runs a specification in pieces, each with at most `budget` words of tiles at once and a fusion of at most `limit`
+    /// elements.
+    Spill {
+        spec: &'a str,
+        budget: u64,
+        limit: u64,
+    },
     /// Reports a fusion of a specification with the least memory.
     Plan {
         spec: &'a str,

@@ -24,5 +24,5 @@ pub use reading::read_command;
 pub use refusal::Refusal;
 pub use report::{finish, refuse, refuse_words};
 pub use status::Status;
-pub use trouble::{ArrayTrouble, CertFlaw, CertTrouble, EinsumTrouble, SymTrouble};
+pub use trouble::{ArrayTrouble, CertFlaw, CertTrouble, EinsumTrouble, SpillTrouble, SymTrouble};
 pub use trouble_line::TroubleLine;

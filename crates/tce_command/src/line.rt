@@ -4,7 +4,7 @@ ghost use Rattle.std.specs.Fmt.{decimal};
 ghost use Rattle.tce_command.specs.Report as reports;
 
 use crate::refusal::wants_memory;
-use crate::{ArrayTrouble, EinsumTrouble, Refusal, Status, SymTrouble};
+use crate::{ArrayTrouble, EinsumTrouble, Refusal, SpillTrouble, Status, SymTrouble};
 use arrayvec::ArrayString;
 use tce_declarations::{Limit, SpecFault};
 use tce_fields::decimal_text;
@@ -36,6 +36,7 @@ pub(crate) fn refusal_line(refusal: &Refusal) -> Line
         Refusal::Misfit(place) => numbered("error 13: element ", *place as u128, " does not fit\n"),
         Refusal::Einsum(EinsumTrouble::Spec(fault)) if wants_memory(fault) => memory_line(),
         Refusal::Einsum(trouble) => einsum_line(trouble),
+        Refusal::Spill(trouble) => spill_line(*trouble),
         Refusal::Symmetry(tensor, trouble) => symmetry_line(tensor, *trouble),
         Refusal::Disk => fixed("error 8: disk fault\n"),
         Refusal::Memory => memory_line(),
@@ -225,6 +226,30 @@ fn label_text(label: u8) -> Line
         line.push(label as char);
     }
     line
+}
+
+// The line of a tree that is not cut for a limit.
+fn spill_line(trouble: SpillTrouble) -> Line
+    ensures { result.bytes ≡ reports.error_text (Status.SpillRefused trouble) }
+{
+    let mut line = fixed("error 15: ");
+    line.push_str(spill_text(trouble).as_str());
+    line.push_str("\n");
+    line
+}
+
+fn spill_text(trouble: SpillTrouble) -> Line
+    ensures text { result.bytes ≡ reports.spill_text trouble }
+    ensures len { length result.bytes ≤ 120 }
+{
+    match trouble {
+        SpillTrouble::TooManyTensors => fixed("32 tensors"),
+        SpillTrouble::LimitTooSmall(root, least) => {
+            let mut line = numbered("piece ", root as u128, " needs ");
+            line.push_str(decimal_text(least).as_str());
+            line
+        }
+    }
 }
 
 // The line of a file in which a tensor is stored once for each pair.

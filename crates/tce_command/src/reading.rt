@@ -13,6 +13,7 @@ use crate::number::read_number;
 use tce_array::Form;
 use tce_space::is_name;
 
+// The most of a budget, and of a limit of memory.
 const MAX_BUDGET: u64 = 1 << 40;
 
 // The largest number that a demonstration comes from, and its largest extent.
@@ -111,6 +112,8 @@ fn read_with_three<'a>(
         read_demo(first.as_bytes(), second.as_bytes(), last.as_bytes())
     } else if verb == "einsum" {
         read_einsum(first, second, last)
+    } else if verb == "spill" {
+        read_spill(first, second.as_bytes(), last.as_bytes())
     } else {
         read_on_tensor(verb, first, second, last)
     }
@@ -134,6 +137,21 @@ fn read_einsum<'a>(text: &'a str, path: &'a str, spec: &'a str) -> Option<Comman
     Some(Command::Einsum { text, path, spec })
 }
 
+fn read_spill<'a>(spec: &'a str, budget: &[u8], limit: &[u8]) -> Option<Command<'a>>
+    ensures { MatchOption result (IsNoCommand (codes "spill" ∷ spec.now ∷ budget.now ∷ limit.now ∷ [])) (λ command. IsCommand (codes "spill" ∷ spec.now ∷ budget.now ∷ limit.now ∷ []) (command_of command)) }
+{
+    if !may_name_file(".tce", spec) {
+        return None;
+    }
+    let budget = read_between(budget, 0, MAX_BUDGET)?;
+    let limit = read_between(limit, 0, MAX_BUDGET)?;
+    Some(Command::Spill {
+        spec,
+        budget,
+        limit,
+    })
+}
+
 fn read_on_tensor<'a>(
     verb: &str,
     spec: &'a str,
@@ -142,6 +160,7 @@ fn read_on_tensor<'a>(
 ) -> Option<Command<'a>>
     requires demo { verb.now ≢ codes "demo" }
     requires einsum { verb.now ≢ codes "einsum" }
+    requires spill { verb.now ≢ codes "spill" }
     ensures { MatchOption result (IsNoCommand (verb.now ∷ spec.now ∷ tensor.now ∷ last.now ∷ [])) (λ command. IsCommand (verb.now ∷ spec.now ∷ tensor.now ∷ last.now ∷ []) (command_of command)) }
 {
     if !may_name_file(".tce", spec) || !is_name(tensor.as_bytes()) {

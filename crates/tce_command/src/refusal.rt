@@ -5,7 +5,7 @@ ghost use Rattle.tce_command.specs.Report.{IsWellFormed, einsum_status, refusal_
 
 use crate::Status;
 use crate::line::{Line, refusal_line};
-use crate::trouble::{ArrayTrouble, EinsumTrouble, SymTrouble};
+use crate::trouble::{ArrayTrouble, EinsumTrouble, SpillTrouble, SymTrouble};
 use tce_declarations::SpecFault;
 use tce_space::{FileName, Name};
 use tce_tree::TreeFault;
@@ -31,6 +31,8 @@ pub enum Refusal {
     Misfit(u64),
     /// The einsum text, its sizes or its path is refused.
     Einsum(EinsumTrouble),
+    /// The tree is not cut for the limit.
+    Spill(SpillTrouble),
     /// The file in which this tensor is stored once for each pair is refused.
     Symmetry(Name, SymTrouble),
     /// The disk failed.
@@ -86,6 +88,7 @@ impl Refusal {
             Refusal::Tensor(name) => Status::UnknownTensor(*name),
             Refusal::Misfit(place) => Status::DoesNotFit(*place),
             Refusal::Einsum(trouble) => einsum_status(trouble),
+            Refusal::Spill(trouble) => Status::SpillRefused(*trouble),
             Refusal::Symmetry(_, trouble) => Status::SymRefused(*trouble),
             Refusal::Disk => Status::DiskFault,
             Refusal::Memory => Status::WantOfMemory,

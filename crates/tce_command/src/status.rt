@@ -2,7 +2,7 @@
 ghost use Rattle.std.specs.Prelude.{◌≡◌};
 ghost use Rattle.tce_command.specs.Report.{code_of};
 
-use crate::trouble::{CertTrouble, EinsumTrouble, SymTrouble};
+use crate::trouble::{CertTrouble, EinsumTrouble, SpillTrouble, SymTrouble};
 use tce_array::ArrayFault;
 use tce_declarations::SpecFault;
 use tce_space::{FileName, Name};
@@ -40,6 +40,8 @@ pub enum Status {
     DoesNotFit(u64),
     /// The einsum text, its sizes or its path is refused.
     EinsumRefused(EinsumTrouble),
+    /// The tree is not cut for the limit.
+    SpillRefused(SpillTrouble),
     /// The file in which the tensor is stored once for each pair is refused.
     SymRefused(SymTrouble),
 }
@@ -65,6 +67,7 @@ impl Status {
             Status::UnknownTensor(_) => 12,
             Status::DoesNotFit(_) => 13,
             Status::EinsumRefused(_) => 14,
+            Status::SpillRefused(_) => 15,
             Status::SymRefused(_) => 16,
         }
     }

@@ -1,4 +1,4 @@
-// What is wrong with array files, certificates, einsum texts and files of stored pairs.
+// What is wrong with array files, certificates, einsum texts, trees that are cut and files of stored pairs.
 ghost use Rattle.std.specs.Prelude.{◌≡◌, MatchOption};
 ghost use Rattle.tce_command.specs.Report.{fault_of, trouble_of};
 
@@ -120,6 +120,15 @@ pub enum EinsumTrouble {
     BadPath(u64),
     /// The text that is written is no specification.
     Spec(SpecFault),
+}
+
+/// Why a tree is not cut for a limit.
+#[derive(Clone, Copy, Debug, PartialEq, Eq)]
+pub enum SpillTrouble {
+    /// Thirty-two tensors are declared, so that a piece may need more than there may be.
+    TooManyTensors,
+    /// With all nodes cut that may be, the piece of this root takes so many elements at least, more than the limit.
+    LimitTooSmall(u8, u128),
 }
 
 /// Why a file of elements that are stored once for each pair is refused.
