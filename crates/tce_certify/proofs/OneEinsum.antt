@@ -19,7 +19,7 @@ use Rattle.tce_command.specs.Report.{label_text}
 use Rattle.tce_command.specs.Refusals.{IsFree, SameRefusal}
 use Rattle.tce_command.specs.declared.trouble.EinsumTrouble.TheVariants.{BadText, BadSize, BadPath, Spec}
 use Rattle.tce_command.specs.declared.refusal.Refusal.{Refusal}
-use Rattle.tce_command.specs.declared.refusal.Refusal.TheVariants.{Specification, Missing, Array, Budget, Intermediates, Flat, Tensor, Misfit, Einsum, Symmetry, Disk, Memory}
+use Rattle.tce_command.specs.declared.refusal.Refusal.TheVariants.{Specification, Missing, Array, Budget, Intermediates, Flat, Tensor, Misfit, Einsum, Spill, Symmetry, Disk, Memory}
 use Rattle.tce_certify.specs.EinsumRefusals.{CanWriteEinsum, IsEinsumRefusal}
 use Rattle.tce_certify.proofs.EinsumFaults.{told}
 use Rattle.tce_certify.proofs.OnePath.{few_operands, sized_or_bad, one_label, same_items, one_bad_item, bad_or_read}
@@ -79,6 +79,7 @@ granted text path (Intermediates n) held can p = absurd p
 granted text path (Flat n) held can p = absurd p
 granted text path (Tensor x) held can p = absurd p
 granted text path (Misfit n) held can p = absurd p
+granted text path (Spill x) held can p = absurd p
 granted text path (Symmetry x trouble) held can p = absurd p
 
 pub alone : (text path : List ℕ) (a b : Refusal) → IsHeld text → IsEinsumRefusal text path a → IsEinsumRefusal text path b → (IsFree b → ⊥) → IsFree a ⊎ SameRefusal a b
@@ -92,6 +93,7 @@ alone text path (Intermediates x) b held p q free = absurd p
 alone text path (Flat x) b held p q free = absurd p
 alone text path (Tensor x) b held p q free = absurd p
 alone text path (Misfit x) b held p q free = absurd p
+alone text path (Spill x) b held p q free = absurd p
 alone text path (Symmetry x u) b held p q free = absurd p
 alone text path a Disk held p q free = absurd (free tt)
 alone text path a Memory held p q free = absurd (free tt)
@@ -103,6 +105,7 @@ alone text path a (Intermediates y) held p q free = absurd q
 alone text path a (Flat y) held p q free = absurd q
 alone text path a (Tensor y) held p q free = absurd q
 alone text path a (Misfit y) held p q free = absurd q
+alone text path a (Spill y) held p q free = absurd q
 alone text path a (Symmetry y v) held p q free = absurd q
 alone text path (Einsum BadText) (Einsum BadText) held p q free = inr (refl, refl)
 alone text path (Einsum BadText) (Einsum (BadSize m)) held p q free = absurd (p q.einsum q.of_text)

@@ -19,7 +19,7 @@ use Rattle.tce_command.specs.declared.trouble.ArrayTrouble.{ArrayTrouble}
 use Rattle.tce_command.specs.declared.trouble.ArrayTrouble.TheVariants as contents
 use Rattle.tce_command.specs.Refusals.{SameRefusal}
 use Rattle.tce_command.specs.declared.refusal.Refusal.{Refusal}
-use Rattle.tce_command.specs.declared.refusal.Refusal.TheVariants.{Specification, Missing, Array, Budget, Intermediates, Flat, Tensor, Misfit, Einsum, Symmetry, Disk, Memory}
+use Rattle.tce_command.specs.declared.refusal.Refusal.TheVariants.{Specification, Missing, Array, Budget, Intermediates, Flat, Tensor, Misfit, Einsum, Spill, Symmetry, Disk, Memory}
 use Rattle.tce_flat.specs.Tensors.{array_file}
 use Rattle.tce_flat.specs.Refusals.{IsFlatRefusal, IsArrayRefusal, IsFormRefusal}
 use Rattle.tce_flat.proofs.Lines.{Says, say_alike, say_same}
@@ -51,6 +51,7 @@ flat_cases files flat shape (Intermediates x) p = absurd p
 flat_cases files flat shape (Tensor x) p = absurd p
 flat_cases files flat shape (Misfit x) p = absurd p
 flat_cases files flat shape (Einsum x) p = absurd p
+flat_cases files flat shape (Spill x) p = absurd p
 flat_cases files flat shape (Symmetry x u) p = absurd p
 flat_cases files flat shape Disk p = absurd p
 flat_cases files flat shape Memory p = absurd p
@@ -107,6 +108,7 @@ array_cases files tensor shape (Intermediates x) p = absurd p
 array_cases files tensor shape (Tensor x) p = absurd p
 array_cases files tensor shape (Misfit x) p = absurd p
 array_cases files tensor shape (Einsum x) p = absurd p
+array_cases files tensor shape (Spill x) p = absurd p
 array_cases files tensor shape (Symmetry x u) p = absurd p
 array_cases files tensor shape Disk p = absurd p
 array_cases files tensor shape Memory p = absurd p
@@ -183,6 +185,7 @@ form_cases files tensor form shape (Budget x) p = inl p
 form_cases files tensor form shape (Intermediates x) p = inl p
 form_cases files tensor form shape (Tensor x) p = inl p
 form_cases files tensor form shape (Einsum x) p = inl p
+form_cases files tensor form shape (Spill x) p = inl p
 form_cases files tensor form shape (Symmetry x u) p = inl p
 form_cases files tensor form shape Disk p = inl p
 form_cases files tensor form shape Memory p = inl p

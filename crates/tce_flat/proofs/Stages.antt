@@ -8,7 +8,7 @@ use Rattle.tce_spec.specs.Operands.{shape_of}
 use Rattle.tce_source.proofs.Outcomes.{one, one_refusal, not_both}
 use Rattle.tce_command.specs.Refusals.{IsFree, SameRefusal}
 use Rattle.tce_command.specs.declared.refusal.Refusal.{Refusal}
-use Rattle.tce_command.specs.declared.refusal.Refusal.TheVariants.{Specification, Missing, Array, Budget, Intermediates, Flat, Tensor, Misfit, Einsum, Symmetry, Disk, Memory}
+use Rattle.tce_command.specs.declared.refusal.Refusal.TheVariants.{Specification, Missing, Array, Budget, Intermediates, Flat, Tensor, Misfit, Einsum, Spill, Symmetry, Disk, Memory}
 use Rattle.tce_flat.specs.Tensors.{HasTensor, LacksTensor}
 use Rattle.tce_flat.proofs.Lines.{Says, say_alike}
 use Rattle.tce_flat.specs.Refusals.{NamesTensor, Need, Refuses, IsTensorRefusal, IsReadyFor, IsRefusedFor}
@@ -49,6 +49,7 @@ undeclared tensor (Intermediates x) e = absurd e
 undeclared tensor (Flat x) e = absurd e
 undeclared tensor (Misfit x) e = absurd e
 undeclared tensor (Einsum x) e = absurd e
+undeclared tensor (Spill x) e = absurd e
 undeclared tensor (Symmetry x u) e = absurd e
 undeclared tensor Disk e = absurd e
 undeclared tensor Memory e = absurd e

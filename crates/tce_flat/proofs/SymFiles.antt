@@ -11,7 +11,7 @@ use Rattle.tce_sym.specs.declared.fault.SymFault.TheVariants as sym_fault
 use Rattle.tce_sym.specs.Faults as sym_faults
 use Rattle.tce_command.specs.declared.trouble.SymTrouble.TheVariants as trouble
 use Rattle.tce_command.specs.declared.refusal.Refusal.{Refusal}
-use Rattle.tce_command.specs.declared.refusal.Refusal.TheVariants.{Specification, Missing, Array, Budget, Intermediates, Flat, Tensor, Misfit, Einsum, Symmetry, Disk, Memory}
+use Rattle.tce_command.specs.declared.refusal.Refusal.TheVariants.{Specification, Missing, Array, Budget, Intermediates, Flat, Tensor, Misfit, Einsum, Spill, Symmetry, Disk, Memory}
 use Rattle.tce_command.specs.Refusals.{IsFree, NamesFile}
 use Rattle.tce_flat.specs.Tensors.{HasTensor, array_file, sym_file}
 use Rattle.tce_flat.specs.Refusals.{IsSymRefusal}
@@ -33,6 +33,7 @@ gone files tensor shape (Flat x) p none = absurd p
 gone files tensor shape (Tensor x) p none = absurd p
 gone files tensor shape (Misfit x) p none = absurd p
 gone files tensor shape (Einsum x) p none = absurd p
+gone files tensor shape (Spill x) p none = absurd p
 gone files tensor shape (Symmetry x u) p none = absurd p
 gone files tensor shape Disk p none = absurd p
 gone files tensor shape Memory p none = absurd p
@@ -51,6 +52,7 @@ wrong_length files tensor shape n (Flat x) p wrong = absurd p
 wrong_length files tensor shape n (Tensor x) p wrong = absurd p
 wrong_length files tensor shape n (Misfit x) p wrong = absurd p
 wrong_length files tensor shape n (Einsum x) p wrong = absurd p
+wrong_length files tensor shape n (Spill x) p wrong = absurd p
 wrong_length files tensor shape n Disk p wrong = absurd p
 wrong_length files tensor shape n Memory p wrong = absurd p
 
@@ -68,6 +70,7 @@ wrong_head files tensor shape n (Flat x) p wrong = absurd p
 wrong_head files tensor shape n (Tensor x) p wrong = absurd p
 wrong_head files tensor shape n (Misfit x) p wrong = absurd p
 wrong_head files tensor shape n (Einsum x) p wrong = absurd p
+wrong_head files tensor shape n (Spill x) p wrong = absurd p
 wrong_head files tensor shape n Disk p wrong = absurd p
 wrong_head files tensor shape n Memory p wrong = absurd p
 

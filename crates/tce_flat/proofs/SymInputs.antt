@@ -12,7 +12,7 @@ use Rattle.tce_command.specs.Refusals.{SameRefusal}
 use Rattle.tce_command.specs.declared.trouble.SymTrouble.{SymTrouble}
 use Rattle.tce_command.specs.declared.trouble.SymTrouble.TheVariants as trouble
 use Rattle.tce_command.specs.declared.refusal.Refusal.{Refusal}
-use Rattle.tce_command.specs.declared.refusal.Refusal.TheVariants.{Specification, Missing, Array, Budget, Intermediates, Flat, Tensor, Misfit, Einsum, Symmetry, Disk, Memory}
+use Rattle.tce_command.specs.declared.refusal.Refusal.TheVariants.{Specification, Missing, Array, Budget, Intermediates, Flat, Tensor, Misfit, Einsum, Spill, Symmetry, Disk, Memory}
 use Rattle.tce_flat.specs.Tensors.{sym_file}
 use Rattle.tce_flat.specs.Refusals.{HasPairs, IsSymRefusal}
 use Rattle.tce_flat.proofs.Lines.{Says, say_alike, say_same}
@@ -42,6 +42,7 @@ sym_cases files tensor shape (Flat x) p = absurd p
 sym_cases files tensor shape (Tensor x) p = absurd p
 sym_cases files tensor shape (Misfit x) p = absurd p
 sym_cases files tensor shape (Einsum x) p = absurd p
+sym_cases files tensor shape (Spill x) p = absurd p
 sym_cases files tensor shape Disk p = absurd p
 sym_cases files tensor shape Memory p = absurd p
 

@@ -13,7 +13,7 @@ use Rattle.tce_tools.specs.Answers.{IsPackAnswer, IsUnpackAnswer, IsConvertAnswe
 use Rattle.tce_tools.specs.declared.fault.ToolFault.{ToolFault}
 use Rattle.tce_tools.specs.declared.fault.ToolFault.TheVariants as tool
 use Rattle.tce_command.specs.declared.refusal.Refusal.{Refusal}
-use Rattle.tce_command.specs.declared.refusal.Refusal.TheVariants.{Specification, Missing, Array, Budget, Intermediates, Flat, Tensor, Misfit, Einsum, Symmetry, Disk, Memory}
+use Rattle.tce_command.specs.declared.refusal.Refusal.TheVariants.{Specification, Missing, Array, Budget, Intermediates, Flat, Tensor, Misfit, Einsum, Spill, Symmetry, Disk, Memory}
 use Rattle.tce_command.specs.Report.{fault_of}
 use Rattle.tce_command.specs.Refusals.{IsFree, NamesFile}
 use Rattle.tce_flat.specs.Tensors.{HasTensor, array_file}
@@ -31,6 +31,7 @@ gone_flat files flat shape (Flat x) p gone = absurd p
 gone_flat files flat shape (Tensor x) p gone = absurd p
 gone_flat files flat shape (Misfit x) p gone = absurd p
 gone_flat files flat shape (Einsum x) p gone = absurd p
+gone_flat files flat shape (Spill x) p gone = absurd p
 gone_flat files flat shape (Symmetry x u) p gone = absurd p
 gone_flat files flat shape Disk p gone = absurd p
 gone_flat files flat shape Memory p gone = absurd p
@@ -45,6 +46,7 @@ gone_array files tensor shape (Flat x) p gone = absurd p
 gone_array files tensor shape (Tensor x) p gone = absurd p
 gone_array files tensor shape (Misfit x) p gone = absurd p
 gone_array files tensor shape (Einsum x) p gone = absurd p
+gone_array files tensor shape (Spill x) p gone = absurd p
 gone_array files tensor shape (Symmetry x u) p gone = absurd p
 gone_array files tensor shape Disk p gone = absurd p
 gone_array files tensor shape Memory p gone = absurd p
@@ -63,6 +65,7 @@ kept_array files tensor shape fault (Flat x) p wrong = absurd p
 kept_array files tensor shape fault (Tensor x) p wrong = absurd p
 kept_array files tensor shape fault (Misfit x) p wrong = absurd p
 kept_array files tensor shape fault (Einsum x) p wrong = absurd p
+kept_array files tensor shape fault (Spill x) p wrong = absurd p
 kept_array files tensor shape fault (Symmetry x u) p wrong = absurd p
 kept_array files tensor shape fault Disk p wrong = absurd p
 kept_array files tensor shape fault Memory p wrong = absurd p
@@ -110,6 +113,7 @@ form_refusal files tensor form shape (Intermediates x) p = absurd p
 form_refusal files tensor form shape (Tensor x) p = absurd p
 form_refusal files tensor form shape (Misfit x) p = absurd p
 form_refusal files tensor form shape (Einsum x) p = absurd p
+form_refusal files tensor form shape (Spill x) p = absurd p
 form_refusal files tensor form shape (Symmetry x u) p = absurd p
 form_refusal files tensor form shape Disk p = absurd p
 form_refusal files tensor form shape Memory p = absurd p
@@ -137,6 +141,7 @@ found_refusal refuses files spec tensor shape (Intermediates x) there (inl p) = 
 found_refusal refuses files spec tensor shape (Tensor x) there (inl p) = absurd p
 found_refusal refuses files spec tensor shape (Misfit x) there (inl p) = absurd p
 found_refusal refuses files spec tensor shape (Einsum x) there (inl p) = absurd p
+found_refusal refuses files spec tensor shape (Spill x) there (inl p) = absurd p
 found_refusal refuses files spec tensor shape (Symmetry x u) there (inl p) = absurd p
 
 -- what holds of an answer holds of it otherwise

@@ -8,7 +8,7 @@ use Rattle.tce_declarations.specs.FaultCode.{Shows}
 use Rattle.tce_declarations.specs.declared.fault.SpecFault.{SpecFault}
 use Rattle.tce_command.specs.Refusals.{IsFree, SameRefusal}
 use Rattle.tce_command.specs.declared.refusal.Refusal.{Refusal}
-use Rattle.tce_command.specs.declared.refusal.Refusal.TheVariants.{Specification, Missing, Array, Budget, Intermediates, Flat, Tensor, Misfit, Einsum, Symmetry, Disk, Memory}
+use Rattle.tce_command.specs.declared.refusal.Refusal.TheVariants.{Specification, Missing, Array, Budget, Intermediates, Flat, Tensor, Misfit, Einsum, Spill, Symmetry, Disk, Memory}
 use Rattle.tce_batch.specs.Outcome.{IsBatchOutcome}
 use Rattle.tce_batch.proofs.Computed.{batch_only}
 use Rattle.tce_source.specs.Source.{Specifies, HasFault, HasSpecification, IsSourceRefusal, IsTextRefusal}
@@ -62,6 +62,7 @@ text_refusal Has name found (Flat x) b alike p q free = absurd p
 text_refusal Has name found (Tensor x) b alike p q free = absurd p
 text_refusal Has name found (Misfit x) b alike p q free = absurd p
 text_refusal Has name found (Einsum x) b alike p q free = absurd p
+text_refusal Has name found (Spill x) b alike p q free = absurd p
 text_refusal Has name found (Symmetry x u) b alike p q free = absurd p
 text_refusal Has name found a (Array y v) alike p q free = absurd q
 text_refusal Has name found a (Budget y) alike p q free = absurd q
@@ -70,6 +71,7 @@ text_refusal Has name found a (Flat y) alike p q free = absurd q
 text_refusal Has name found a (Tensor y) alike p q free = absurd q
 text_refusal Has name found a (Misfit y) alike p q free = absurd q
 text_refusal Has name found a (Einsum y) alike p q free = absurd q
+text_refusal Has name found a (Spill y) alike p q free = absurd q
 text_refusal Has name found a (Symmetry y v) alike p q free = absurd q
 text_refusal Has name found a Disk alike p q free = absurd (free tt)
 text_refusal Has name found a Memory alike p q free = absurd (free tt)
@@ -108,6 +110,7 @@ not_refused Has Is name found (Flat n) apart p q = absurd q
 not_refused Has Is name found (Tensor x) apart p q = absurd q
 not_refused Has Is name found (Misfit n) apart p q = absurd q
 not_refused Has Is name found (Einsum trouble) apart p q = absurd q
+not_refused Has Is name found (Spill trouble) apart p q = absurd q
 not_refused Has Is name found (Symmetry x trouble) apart p q = absurd q
 
 pub not_both : (files : Files) (spec : List ℕ) (s : Specified) (a : Refusal) → HasSpecification files spec s → IsSourceRefusal spec (file files spec) a → IsFree a
