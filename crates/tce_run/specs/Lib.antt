@@ -2,5 +2,3 @@ pub mod Refusals
 pub mod Done
 pub mod Laws
 pub mod Told
-pub mod BatchDone
-pub mod BatchRefusals

@@ -1,9 +1,9 @@
 -- How a fault of a run is told to a user.
-use Rattle.std.specs.Prelude.{◌≡◌, ◌≢◌, ⊤, ℕ, List}
+use Rattle.std.specs.Prelude.{◌≡◌, ◌≢◌, ⊤, ℕ, List, ◌++◌, codes}
 use Rattle.tce_array.specs.declared.fault.ArrayFault.{ArrayFault}
 use Rattle.tce_array.specs.declared.fault.ArrayFault.TheVariants as array_fault
 use Rattle.tce_spec.specs.Specification.{Specification}
-use Rattle.tce_tensors.specs.TensorFiles.{name_of, file_of}
+use Rattle.tce_tensors.specs.TensorFiles.{name_of}
 use Rattle.tce_job.specs.declared.fault.JobFault.{JobFault}
 use Rattle.tce_job.specs.declared.fault.JobFault.TheVariants as faults
 use Rattle.tce_command.specs.Refusals.{NamesFile}
@@ -16,10 +16,14 @@ abbrev pub NamesTensor : List ℕ → ArrayFault → Refusal → Type 0
 NamesTensor name fault (Array tensor told) = (tensor.bytes ≡ name) × (fault_of told ≡ fault)
 NamesTensor name fault refusal = ⊥
 
--- an operand that is not there is told by its file, one that is no array of its shape by its name
+-- an array that is not there is told by its file, one that is not of its shape by the name of its tensor
+abbrev pub TellsArray : List ℕ → ArrayFault → Refusal → Type 0
+TellsArray name array_fault.NoFile refusal = NamesFile (name ++ codes ".tca") refusal
+TellsArray name fault refusal = NamesTensor name fault refusal
+
+-- an operand is told as its array
 abbrev pub TellsOperand : Specification → ℕ → ArrayFault → Refusal → Type 0
-TellsOperand s t array_fault.NoFile refusal = NamesFile (file_of s t) refusal
-TellsOperand s t fault refusal = NamesTensor (name_of s t) fault refusal
+TellsOperand s t fault refusal = TellsArray (name_of s t) fault refusal
 
 -- an operand that the fault names is refused for its file, and not for a failure of the disk
 abbrev pub IsOfFiles : JobFault → Type 0

@@ -1,30 +1,33 @@
 // Refusals for the faults of a run.
-ghost use Rattle.std.specs.Prelude.{◌≡◌, ◌≢◌, ◌<◌, length};
+ghost use Rattle.std.specs.Prelude.{◌≡◌, ◌≢◌, ◌++◌, codes};
 ghost use Rattle.tce_job.specs.Refusals.{NamesDeclared};
-ghost use Rattle.tce_run.specs.Told.{IsOfFiles, IsToldAs, TellsOperand};
+ghost use Rattle.tce_run.specs.Told.{IsOfFiles, IsToldAs, TellsArray};
 
 use tce_array::ArrayFault;
 use tce_command::{ArrayTrouble, Refusal};
 use tce_job::JobFault;
+use tce_space::{FileName, Name};
 use tce_spec::Spec;
-use tce_tensors::file_of;
 
-// The refusal of an operand, by the number of its tensor: by its file where that is not there, else by its name.
-fn operand_refusal(spec: &Spec, t: u8, fault: ArrayFault) -> Refusal
-    requires declared { t < length spec.now.declarations.tensors }
-    requires of_files { fault ≢ ArrayFault.Disk }
-    ensures { TellsOperand spec.now t fault result }
+// The name of the file of an array.
+fn array_file(name: Name) -> FileName
+    ensures { result.bytes ≡ name.bytes ++ codes ".tca" }
+{
+    let mut file = FileName::new();
+    file.push_str(name.as_str());
+    file.push_str(".tca");
+    file
+}
+
+/// The refusal of an array by the name of its tensor: by its file where that is not there, else by its name.
+pub fn array_refusal(name: Name, fault: ArrayFault) -> Refusal
+    requires { fault ≢ ArrayFault.Disk }
+    ensures { TellsArray name.bytes fault result }
 {
     match fault {
-        ArrayFault::NoFile => Refusal::missing(file_of(spec, t).as_str()),
-        ArrayFault::BadLength(len) => Refusal::Array(
-            spec.tensor(t).name,
-            ArrayTrouble::BadLength(len),
-        ),
-        ArrayFault::BadHeader(at) => Refusal::Array(
-            spec.tensor(t).name,
-            ArrayTrouble::BadHeader(at),
-        ),
+        ArrayFault::NoFile => Refusal::Missing(array_file(name)),
+        ArrayFault::BadLength(len) => Refusal::Array(name, ArrayTrouble::BadLength(len)),
+        ArrayFault::BadHeader(at) => Refusal::Array(name, ArrayTrouble::BadHeader(at)),
         ArrayFault::Disk => unreachable!(),
     }
 }
@@ -38,7 +41,7 @@ pub fn refusal_of(spec: &Spec, fault: JobFault) -> Refusal
     match fault {
         JobFault::BudgetTooSmall(least) => Refusal::Budget(least),
         JobFault::IntermediatesTooLarge(memory) => Refusal::Intermediates(memory),
-        JobFault::Array(t, fault) => operand_refusal(spec, t, fault),
+        JobFault::Array(t, fault) => array_refusal(spec.tensor(t).name, fault),
         JobFault::Disk => Refusal::Disk,
         JobFault::Memory => Refusal::Memory,
     }

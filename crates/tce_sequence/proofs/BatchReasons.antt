@@ -1,54 +1,29 @@
 -- The command that runs several formulas has one answer.
-use Rattle.std.proofs.Common.{◌≡◌, ℕ, ◌⊎◌, ◌+◌, List, ◌++◌, length, Option, Some, inl, inr, refl, sym, ap, ◌∙◌, subst, codes, arith}
+use Rattle.std.proofs.Common.{◌≡◌, ℕ, ◌⊎◌, ◌+◌, List, length, Option, Some, inl, inr, refl, sym, ap, ◌∙◌, subst, arith}
 use Rattle.std.specs.Prelude.{slice_get}
 use Rattle.std.specs.Option.{ForSome}
 use Rattle.tce_outside.specs.Files.{Files, file}
-use Rattle.tce_array.specs.declared.fault.ArrayFault.{ArrayFault}
-use Rattle.tce_array.specs.declared.fault.ArrayFault.TheVariants as array_fault
 use Rattle.tce_spec.specs.Specification.{Specification}
-use Rattle.tce_tensors.specs.TensorFiles.{name_of, file_of}
+use Rattle.tce_tensors.specs.TensorFiles.{name_of}
 use Rattle.tce_job.specs.declared.fault.JobFault.{JobFault}
 use Rattle.tce_job.specs.declared.fault.JobFault.TheVariants as faults
 use Rattle.tce_job.specs.Refusals.{IsFree as IsFreeFault}
 use Rattle.tce_batch_job.specs.Refusals.{IsAt, IsCauseAt, IsKnown, SourcesBelow}
 use Rattle.tce_batch_job.proofs.Causes.{one_cause, no_cause}
-use Rattle.tce_command.specs.Report.{status_of, code_of, error_text, array_text, fault_of}
-use Rattle.tce_command.specs.Refusals.{IsFree, SameRefusal, NamesFile}
+use Rattle.tce_command.specs.Refusals.{IsFree, SameRefusal}
 use Rattle.tce_command.specs.declared.refusal.Refusal.{Refusal}
-use Rattle.tce_command.specs.declared.refusal.Refusal.TheVariants.{Missing, Array, Disk, Memory}
+use Rattle.tce_command.specs.declared.refusal.Refusal.TheVariants.{Disk, Memory}
 use Rattle.tce_source.proofs.Outcomes.{one_batch, one_batch_refusal, not_both_batch}
-use Rattle.tce_run.specs.Told.{IsToldAs, NamesTensor, TellsOperand}
-use Rattle.tce_run.specs.BatchDone.{CanRunFormulas, IsBatchRun}
-use Rattle.tce_run.specs.BatchRefusals.{CanRunBatch, IsFormulaRefusal, IsBatchRefusal}
+use Rattle.tce_run.specs.Told.{IsToldAs}
+use Rattle.tce_sequence.specs.BatchDone.{CanRunFormulas, IsBatchRun}
+use Rattle.tce_sequence.specs.BatchRefusals.{CanRunBatch, IsFormulaRefusal, IsBatchRefusal}
+use Rattle.tce_sequence.proofs.Alike.{arrays_alike, same_alike}
 
 -- two refusals that tell one fault are told alike
-files_alike : (name : List ℕ) (a b : Refusal) → NamesFile name a → NamesFile name b → SameRefusal a b
-files_alike name (Missing x) (Missing y) p q = (refl, ap (λ n. codes "error 3: no file " ++ n ++ codes "\n") (p ∙ sym q))
-files_alike name (Missing x) b p q = absurd q
-files_alike name a b p q = absurd p
-
-names_alike : (name : List ℕ) (u : ArrayFault) (a b : Refusal) → NamesTensor name u a → NamesTensor name u b → SameRefusal a b
-names_alike name u (Array x f) (Array y g) p q = (
-  refl,
-  ap (λ n. codes "error 4: " ++ n ++ codes ".tca: " ++ array_text (fault_of f) ++ codes "\n") (p.0 ∙ sym q.0)
-      ∙ ap (λ h. codes "error 4: " ++ y.bytes ++ codes ".tca: " ++ array_text h ++ codes "\n") (p.1 ∙ sym q.1),
-)
-names_alike name u (Array x f) b p q = absurd q
-names_alike name u a b p q = absurd p
-
-operands_alike : (s : Specification) (t : ℕ) (u : ArrayFault) (a b : Refusal) → TellsOperand s t u a → TellsOperand s t u b → SameRefusal a b
-operands_alike s t array_fault.NoFile a b p q = files_alike (file_of s t) a b p q
-operands_alike s t (array_fault.BadLength n) a b p q = names_alike (name_of s t) (array_fault.BadLength n) a b p q
-operands_alike s t (array_fault.BadHeader n) a b p q = names_alike (name_of s t) (array_fault.BadHeader n) a b p q
-operands_alike s t array_fault.Disk a b p q = names_alike (name_of s t) array_fault.Disk a b p q
-
-same_alike : (a b : Refusal) → a ≡ b → SameRefusal a b
-same_alike a b e = (ap (λ r. code_of (status_of r)) e, ap (λ r. error_text (status_of r)) e)
-
 told_alike : (s : Specification) (f : JobFault) (a b : Refusal) → IsToldAs s f a → IsToldAs s f b → SameRefusal a b
 told_alike s (faults.BudgetTooSmall n) a b p q = same_alike a b (p ∙ sym q)
 told_alike s (faults.IntermediatesTooLarge n) a b p q = same_alike a b (p ∙ sym q)
-told_alike s (faults.Array t u) a b p q = operands_alike s t u a b p q
+told_alike s (faults.Array t u) a b p q = arrays_alike (name_of s t) u a b p q
 told_alike s faults.Disk a b p q = same_alike a b (p ∙ sym q)
 told_alike s faults.Memory a b p q = same_alike a b (p ∙ sym q)
 

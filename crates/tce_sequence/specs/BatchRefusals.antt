@@ -10,7 +10,7 @@ use Rattle.tce_command.specs.Refusals.{IsFree}
 use Rattle.tce_command.specs.declared.refusal.Refusal.{Refusal}
 use Rattle.tce_command.specs.declared.refusal.Refusal.TheVariants.{Disk, Memory}
 use Rattle.tce_source.specs.BatchSource.{HasBatch, IsBatchSourceRefusal}
-use Rattle.tce_run.specs.BatchDone.{CanRunFormulas}
+use Rattle.tce_sequence.specs.BatchDone.{CanRunFormulas}
 use Rattle.tce_run.specs.Told.{IsToldAs}
 
 -- the file holds formulas that can be run under this budget

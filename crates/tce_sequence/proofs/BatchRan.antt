@@ -19,11 +19,11 @@ use Rattle.tce_command.specs.declared.refusal.Refusal.{Refusal}
 use Rattle.tce_command.specs.declared.refusal.Refusal.TheVariants.{Disk, Memory}
 use Rattle.tce_source.specs.BatchSource.{HasBatch}
 use Rattle.tce_run.specs.Told.{IsOfFiles, IsToldAs}
-use Rattle.tce_run.specs.BatchDone.{IsBatchLeft, IsBatchRoomLeft, IsBatchRun, IsBatchTaking, OnlyBatchDiffers}
-use Rattle.tce_run.specs.BatchRefusals.{IsBatchRefusal, IsToldAt, IsToldWithout}
+use Rattle.tce_sequence.specs.BatchDone.{IsBatchLeft, IsBatchRoomLeft, IsBatchRun, IsBatchTaking, OnlyBatchDiffers}
+use Rattle.tce_sequence.specs.BatchRefusals.{IsBatchRefusal, IsToldAt, IsToldWithout}
 use Rattle.tce_run.proofs.Ran.{within}
 use Rattle.tce_run.proofs.Told.{told_disk, disk_told}
-use Rattle.tce_run.proofs.BatchReasons.{told_free}
+use Rattle.tce_sequence.proofs.BatchReasons.{told_free}
 
 -- A fault names a formula.
 

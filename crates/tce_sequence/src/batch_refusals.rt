@@ -3,15 +3,15 @@ ghost use Rattle.std.specs.Prelude.{◌≡◌, ◌-◌, slice_get, Some};
 ghost use Rattle.tce_spec.specs.Specification.{Specification};
 ghost use Rattle.tce_job.specs.Refusals.{NamesDeclared};
 ghost use Rattle.tce_batch_job.specs.Refusals.{IsOneOf};
-ghost use Rattle.tce_run.specs.BatchRefusals.{IsToldAt, IsToldWithout};
+ghost use Rattle.tce_sequence.specs.BatchRefusals.{IsToldAt, IsToldWithout};
 ghost use Rattle.tce_run.specs.Told.{IsOfFiles};
 
-use crate::refusals::refusal_of;
 use std::alloc::Global;
 use tce_batch::Batch;
 use tce_batch_job::BatchFault;
 use tce_command::Refusal;
 use tce_job::JobFault;
+use tce_run::refusal_of;
 
 // The refusal that tells a fault where memory is wanting for the specification of its formula.
 fn refusal_without(fault: JobFault) -> Refusal

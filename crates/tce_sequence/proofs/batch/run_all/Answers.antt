@@ -1,10 +1,10 @@
 use Rattle.std.proofs.Common.{List, ℕ, Err, refl, sym, subst, ap, ◌∙◌, rules}
 use Rattle.std.proofs.lemmas.Result.{err_from_is_err_and}
-use Rattle.tce_run.specs.BatchDone.{IsBatchRun}
+use Rattle.tce_sequence.specs.BatchDone.{IsBatchRun}
 use Rattle.tce_run.proofs.Told.{refusal_in, answered}
 use Rattle.tce_run.proofs.Ran.{both_causes}
-use Rattle.tce_run.proofs.BatchRan.{names_one, names_tensor, of_files_at, failed_told, disk_told_at, batch_refused, unchanged_left, batch_left, batch_room, same_room, batch_others, batch_ran}
-use Rattle.tce_run.proofs.batch.run_all.Goals as goal
+use Rattle.tce_sequence.proofs.BatchRan.{names_one, names_tensor, of_files_at, failed_told, disk_told_at, batch_refused, unchanged_left, batch_left, batch_room, same_room, batch_others, batch_ran}
+use Rattle.tce_sequence.proofs.batch.run_all.Goals as goal
 
 pub returns-in_err-batch-clause-left : goal.returns-in_err-batch-clause-left
 returns-in_err-batch-clause-left g c =

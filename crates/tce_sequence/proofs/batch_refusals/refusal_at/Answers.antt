@@ -1,5 +1,5 @@
 use Rattle.std.proofs.Common.{◌-◌, inr, arith}
-use Rattle.tce_run.proofs.batch_refusals.refusal_at.Goals as goal
+use Rattle.tce_sequence.proofs.batch_refusals.refusal_at.Goals as goal
 
 pub refusal_of-requires-clause-declared : goal.refusal_of-requires-clause-declared
 refusal_of-requires-clause-declared c = c.requires.declared c.in-Ok.spec c.in-Ok.ensures

@@ -3,8 +3,8 @@ ghost use Rattle.std.specs.Prelude.{◌≡◌, ◌≤◌, ◌^◌, Err, IfOk, If
 ghost use Rattle.std.specs.Option.{ForSome};
 ghost use Rattle.tce_outside.specs.Fault.{HasCause, TellsFaults};
 ghost use Rattle.tce_command.specs.Command.{NamesSpec};
-ghost use Rattle.tce_run.specs.BatchDone.{IsBatchLeft, IsBatchRoomLeft, IsBatchRun, OnlyBatchDiffers};
-ghost use Rattle.tce_run.specs.BatchRefusals.{IsBatchRefusal};
+ghost use Rattle.tce_sequence.specs.BatchDone.{IsBatchLeft, IsBatchRoomLeft, IsBatchRun, OnlyBatchDiffers};
+ghost use Rattle.tce_sequence.specs.BatchRefusals.{IsBatchRefusal};
 
 use crate::batch_refusals::refusal_at;
 use std::alloc::Global;

@@ -1,0 +1,5 @@
+pub mod BatchDone
+pub mod BatchRefusals
+pub mod SpillDone
+pub mod SpillRefusals
+pub mod Laws

@@ -1,0 +1,13 @@
+//! Laws of the definitions. These functions do nothing: their contracts are the laws.
+
+ghost use Rattle.tce_sequence.specs.Laws.{BatchesHaveOneAnswer, SpillsHaveOneAnswer};
+
+/// Formulas that can be run are not refused, those that are refused have one reason, and those that are run could be run.
+pub fn batches_have_one_answer()
+    ensures { BatchesHaveOneAnswer }
+{}
+
+/// A tree that can be run in pieces is not refused, one that is refused has one reason, and one that is run could be run.
+pub fn spills_have_one_answer()
+    ensures { SpillsHaveOneAnswer }
+{}
