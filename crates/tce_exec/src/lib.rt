@@ -4,7 +4,9 @@
 //! are touched, at most three, and then the loops of the block run over their words, which stay where they are meanwhile.
 //! `specs/Windows.antt` says where these words stand, and `specs/Blocks.antt` what the blocks of a tail are.
 //!
-//! In a block the loops' indexes run from first numbers on ([`set_numbers`]). The words of a node's slot are found by
+//! In a block the loops' indexes run from first numbers on. A run keeps these with the tiles in which they lie
+//! (`specs/Positions.antt`), so that a tile's number is found without a division, and for each tail a plan: how its loops
+//! are cut, in which sequence they run, and the steps of its windows (`specs/Plans.antt`). The words of a node's slot are found by
 //! the slot's steps ([`slot_window`]), those of a tile that a frame holds by the edges behind each of its dimensions
 //! ([`tile_window`], [`tile_steps`]): a block crosses no edge of a tile, so that all its turns fall into one tile.
 //! `specs/OperandWindows.antt` says what these windows are, `specs/TilesOfBlocks.antt` where the turns of a block stay,
@@ -15,7 +17,6 @@
 
 mod block;
 mod cuts;
-mod first;
 mod plan;
 mod position;
 mod run;
@@ -28,7 +29,6 @@ mod turns;
 mod window_laws;
 mod windows;
 
-pub use first::set_numbers;
 pub use run::run_code;
 pub use slot::slot_window;
 pub use tile::{tile_steps, tile_window};

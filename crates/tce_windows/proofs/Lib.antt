@@ -7,3 +7,4 @@ pub mod Calls
 pub mod Leaving
 pub mod Stills
 pub mod Kept
+pub mod Putting

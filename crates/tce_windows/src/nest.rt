@@ -1,5 +1,5 @@
 // The sequence in which loops run.
-ghost use Rattle.std.specs.Prelude.{◌≡◌, ℕ, ◌<◌, ◌≤◌, List, length, map, take};
+ghost use Rattle.std.specs.Prelude.{◌≡◌, ℕ, ◌<◌, ◌≤◌, List, length, map, take, slice_set};
 ghost use Rattle.std.specs.List.{All};
 ghost use Rattle.tce_windows.specs.Loops.{AreLoops};
 ghost use Rattle.tce_windows.specs.Nests.{ArePlaced, IsPlaced, indexes_of, with_len, pair_loop, sum_loop};
@@ -77,6 +77,39 @@ pub(crate) fn set_lens(axes: &mut [Axis], _loops: &[u8], lens: &[u64])
     }
 }
 
+// Puts a loop into its place, where another one stands there: from block to block most stay.
+#[inline]
+fn put_sum_loop(loops: &mut [SumLoop; 10], d: usize, next: SumLoop)
+    requires { d < 10 }
+    ensures { loops.new ≡ slice_set loops.old d next }
+{
+    let SumLoop { len, out, operand } = next;
+    if loops[d].len != len || loops[d].out != out || loops[d].operand != operand {
+        loops[d] = next;
+    }
+}
+
+/// The same for a loop over two operands.
+#[inline]
+pub(crate) fn put_pair_loop(loops: &mut [Loop; 10], d: usize, next: Loop)
+    requires { d < 10 }
+    ensures { loops.new ≡ slice_set loops.old d next }
+{
+    let Loop {
+        len,
+        out,
+        left,
+        right,
+    } = next;
+    if loops[d].len != len
+        || loops[d].out != out
+        || loops[d].left != left
+        || loops[d].right != right
+    {
+        loops[d] = next;
+    }
+}
+
 /// Puts the loops over a result and one operand at the front of a list.
 pub(crate) fn fill_sum_loops(
     axes: &[Axis],
@@ -90,11 +123,12 @@ pub(crate) fn fill_sum_loops(
 {
     for d in 0..axes.len() {
         let i = axes[d].index as usize;
-        loops[d] = SumLoop {
+        let next = SumLoop {
             len: axes[d].len,
             out: out.steps[i],
             operand: operand.steps[i],
         };
+        put_sum_loop(loops, d, next);
     }
 }
 
@@ -112,11 +146,12 @@ pub(crate) fn fill_pair_loops(
 {
     for d in 0..axes.len() {
         let i = axes[d].index as usize;
-        loops[d] = Loop {
+        let next = Loop {
             len: axes[d].len,
             out: out.steps[i],
             left: left.steps[i],
             right: right.steps[i],
         };
+        put_pair_loop(loops, d, next);
     }
 }

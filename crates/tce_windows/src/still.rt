@@ -3,7 +3,7 @@ ghost use Rattle.std.specs.Prelude.{◌≡◌, ℕ, ◌+◌, ◌<◌, ◌≤◌,
 ghost use Rattle.std.specs.List.{All, filter};
 ghost use Rattle.tce_windows.specs.Nests.{advanced, moves, pair_loop};
 
-use crate::nest::Axis;
+use crate::nest::{Axis, put_pair_loop};
 use crate::window::Window;
 use tce_strides::Loop;
 
@@ -24,12 +24,13 @@ pub(crate) fn fill_moving_loops(
     for axis in axes {
         let i = axis.index as usize;
         if out.steps[i] != 0 {
-            loops[count] = Loop {
+            let next = Loop {
                 len: axis.len,
                 out: out.steps[i],
                 left: left.steps[i],
                 right: right.steps[i],
             };
+            put_pair_loop(loops, count, next);
             count += 1;
         }
     }

@@ -7,9 +7,9 @@ use arrayvec::ArrayVec;
 use std::alloc::Global;
 use std::process::Abort;
 use tce_exec::{
-    blocks_stay_in_tiles, changes_keep_cells, set_numbers, slot_window, slots_show_nodes,
-    slots_show_words, tile_window, tiles_show_nodes, tiles_show_words, touched_tiles_stay,
-    turns_stay_in_one_tile, windows_are_apart,
+    blocks_stay_in_tiles, changes_keep_cells, slot_window, slots_show_nodes, slots_show_words,
+    tile_window, tiles_show_nodes, tiles_show_words, touched_tiles_stay, turns_stay_in_one_tile,
+    windows_are_apart,
 };
 use tce_layout::Slot;
 use tce_operands::coordinates_of;
@@ -79,17 +79,6 @@ fn laws_of_windows() {
     windows_are_apart();
     changes_keep_cells();
     touched_tiles_stay();
-}
-
-// The loop over index 1 begins at 7; without loops all numbers stay.
-#[test]
-fn loops_begin_at_their_first_numbers(rt: HostRuntime) {
-    let mut numbers = two(5, 2);
-    set_numbers(&mut numbers, &[1], &[7]);
-    assert!(rt; numbers[0] == 5);
-    assert!(rt; numbers[1] == 7);
-    set_numbers(&mut numbers, &[], &[]);
-    assert!(rt; numbers[1] == 7);
 }
 
 // The slot from word 100 on of a node with 6 numbers of index 1 behind those of index 0: 100 + 5 * 6 + 2.
