@@ -9,3 +9,4 @@ pub mod Causes
 pub mod Turns
 pub mod Others
 pub mod Ready
+pub mod PlannedRuns

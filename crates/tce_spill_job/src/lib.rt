@@ -7,6 +7,7 @@
 #![tactic(auto)]
 
 mod opening;
+mod plans;
 mod report;
 mod run;
 mod spilling;

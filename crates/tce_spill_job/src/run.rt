@@ -15,6 +15,7 @@ ghost use Rattle.tce_tensors.specs.ResultBytes.{with_result};
 ghost use Rattle.tce_job.specs.Refusals.{IsAffordable};
 ghost use Rattle.tce_job.specs.Prepared.{HasTaken};
 ghost use Rattle.tce_job.specs.Run.{IsReported as IsRunReported};
+ghost use Rattle.tce_spill.specs.Planned.{IsLeastButRows, IsPlanOfPiece, HavePlans};
 ghost use Rattle.tce_spill.specs.Refusals.{IsFree};
 ghost use Rattle.tce_spill.specs.declared.fault.SpillFault.{SpillFault as Fault};
 ghost use Rattle.tce_pieces.specs.Storable.{storable};
@@ -25,26 +26,29 @@ ghost use Rattle.tce_spill_job.specs.Refusals.{CanSpill, IsRunFault, IsLateFault
 ghost use Rattle.tce_spill_job.specs.Left.{files_at, HasSpilled, IsLeftBy, IsLeft, HasTakenTo, IsRoomLeft, OnlyPiecesDiffer};
 
 use crate::opening::open_all;
+use crate::plans::{Turn, take_plan};
 use crate::report::{SpillReport, first_line, push_piece, push_wrote};
 use crate::spilling::{Spilling, largest_tile};
 use std::alloc::Global;
 use tce_job::{Bytes, JobFault, RunReport, run_by};
+use tce_nesting::Plan;
 use tce_outside::Disk;
-use tce_search::search;
 use tce_spec::{Spec, piece};
-use tce_spill::{SpillFault, cuts};
+use tce_spill::{SpillFault, planned_cuts};
 use tce_words::Room;
 
-// Runs a piece by a plan of a least fusion.
+// Runs a piece by a plan of a least fusion, without rows.
 fn run_one<D: Disk, R: Room>(
     alloc: Global,
     spec: &Spec,
     budget: u64,
+    plan: Plan,
     disk: &mut D,
     room: &mut R,
 ) -> Result<RunReport, SpillFault>
     requires affordable { IsAffordable spec.now budget }
     requires budget { budget ≤ 2 ^ 40 }
+    requires plan { IsLeastButRows spec.now.declarations.space spec.now.tree plan }
     requires operands { ForSome (D.files disk.old) (λ files. HasOperands files spec.now (operand_count spec.now)) }
     ensures told { OnOk result (D.files disk.new ≡ option_map (with_result spec.now) (D.files disk.old)) }
     ensures reported { IfOk result (IsRunReported spec.now budget (R.takings room.old) (R.takings room.new)) }
@@ -56,9 +60,6 @@ fn run_one<D: Disk, R: Room>(
     ensures cause { HasCause (D.faults disk.old) (D.faults disk.new) (result ≡ Err Fault.Disk) }
     ensures quiet { TellsFaults (D.faults disk.old) (D.faults disk.new) (result ≡ Err Fault.Disk) }
 {
-    let Ok(plan) = search(alloc, spec.space(), spec.tree()) else {
-        return Err(SpillFault::Memory);
-    };
     let forms = open_all(spec, disk)?;
     match run_by(alloc, spec, budget, &forms, plan, disk, room) {
         Ok(report) => Ok(report),
@@ -67,47 +68,50 @@ fn run_one<D: Disk, R: Room>(
     }
 }
 
-// Runs the piece of a root.
+// Runs the piece of a root by its plan.
 fn run_piece<D: Disk, R: Room>(
     alloc: Global,
     spec: &Spec,
     spilling: Spilling,
-    root: u8,
+    turn: Turn,
     disk: &mut D,
     room: &mut R,
 ) -> Result<RunReport, SpillFault>
     requires can { CanSpill spec.now (has spilling.cuts) spilling.budget }
-    requires inside { root < operations spec.now.tree }
-    requires root { IsTrue (is_root spec.now.tree (has spilling.cuts) root) }
-    requires operands { ForSome (D.files disk.old) (λ files. HasOperands files (piece_of spec.now (has spilling.cuts) root) (operand_count (piece_of spec.now (has spilling.cuts) root))) }
-    ensures told { OnOk result (D.files disk.new ≡ option_map (with_result (piece_of spec.now (has spilling.cuts) root)) (D.files disk.old)) }
-    ensures reported { IfOk result (IsRunReported (piece_of spec.now (has spilling.cuts) root) spilling.budget (R.takings room.old) (R.takings room.new)) }
-    ensures refused { IfErr result (IsRunFault (D.files disk.old) (piece_of spec.now (has spilling.cuts) root)) }
+    requires inside { turn.root < operations spec.now.tree }
+    requires root { IsTrue (is_root spec.now.tree (has spilling.cuts) turn.root) }
+    requires plan { IsPlanOfPiece spec.now (has spilling.cuts) turn.root turn.plan }
+    requires operands { ForSome (D.files disk.old) (λ files. HasOperands files (piece_of spec.now (has spilling.cuts) turn.root) (operand_count (piece_of spec.now (has spilling.cuts) turn.root))) }
+    ensures told { OnOk result (D.files disk.new ≡ option_map (with_result (piece_of spec.now (has spilling.cuts) turn.root)) (D.files disk.old)) }
+    ensures reported { IfOk result (IsRunReported (piece_of spec.now (has spilling.cuts) turn.root) spilling.budget (R.takings room.old) (R.takings room.new)) }
+    ensures refused { IfErr result (IsRunFault (D.files disk.old) (piece_of spec.now (has spilling.cuts) turn.root)) }
     ensures unchanged { IfErr result (λ fault. (fault ≡ Fault.Disk) ⊎ (D.files disk.new ≡ D.files disk.old)) }
-    ensures takings { IfErr result (λ _. (R.takings room.new ≡ R.takings room.old) ⊎ HasTaken (piece_of spec.now (has spilling.cuts) root) spilling.budget (R.takings room.old) (R.takings room.new)) }
-    ensures no_half { LeavesNoHalfResult (piece_of spec.now (has spilling.cuts) root) (D.files disk.old) (D.files disk.new) }
-    ensures others { others (file_of (piece_of spec.now (has spilling.cuts) root) (piece_of spec.now (has spilling.cuts) root).result) (D.files disk.new)
-        ≡ others (file_of (piece_of spec.now (has spilling.cuts) root) (piece_of spec.now (has spilling.cuts) root).result) (D.files disk.old) }
+    ensures takings { IfErr result (λ _. (R.takings room.new ≡ R.takings room.old) ⊎ HasTaken (piece_of spec.now (has spilling.cuts) turn.root) spilling.budget (R.takings room.old) (R.takings room.new)) }
+    ensures no_half { LeavesNoHalfResult (piece_of spec.now (has spilling.cuts) turn.root) (D.files disk.old) (D.files disk.new) }
+    ensures others { others (file_of (piece_of spec.now (has spilling.cuts) turn.root) (piece_of spec.now (has spilling.cuts) turn.root).result) (D.files disk.new)
+        ≡ others (file_of (piece_of spec.now (has spilling.cuts) turn.root) (piece_of spec.now (has spilling.cuts) turn.root).result) (D.files disk.old) }
     ensures cause { HasCause (D.faults disk.old) (D.faults disk.new) (result ≡ Err Fault.Disk) }
     ensures quiet { TellsFaults (D.faults disk.old) (D.faults disk.new) (result ≡ Err Fault.Disk) }
 {
     // Specifications keep their rules.
     let _tree = spec.tree();
-    let Ok(piece) = piece(alloc, spec, root, spilling.cuts) else {
+    let Ok(piece) = piece(alloc, spec, turn.root, spilling.cuts) else {
         return Err(SpillFault::Memory);
     };
-    run_one(alloc, &piece, spilling.budget, disk, room)
+    run_one(alloc, &piece, spilling.budget, turn.plan, disk, room)
 }
 
-// Runs all pieces in turn.
+// Runs all pieces in turn, each by its plan.
 fn run_all<D: Disk, R: Room>(
     alloc: Global,
     spec: &Spec,
     spilling: Spilling,
+    mut plans: Vec<Option<Plan>>,
     disk: &mut D,
     room: &mut R,
 ) -> Result<Vec<u8>, SpillFault>
     requires can { CanSpill spec.now (has spilling.cuts) spilling.budget }
+    requires plans { HavePlans spec.now (has spilling.cuts) plans.items }
     requires operands { ForSome (D.files disk.old) (λ files. HasOperands files spec.now (operand_count spec.now)) }
     ensures told { OnOk result (D.files disk.new ≡ files_at (D.files disk.old) spec.now (has spilling.cuts) (operations spec.now.tree)) }
     ensures spilled { OnOk result (ForSome (D.files disk.old) (λ start. ForSome (D.files disk.new) (λ after. IsSpilled start after spec.now (has spilling.cuts)))) }
@@ -124,7 +128,8 @@ fn run_all<D: Disk, R: Room>(
     };
     for root in 0..count {
         if spilling.has_root(spec, root) {
-            match run_piece(alloc, spec, spilling, root, disk, room) {
+            let plan = take_plan(&mut plans, root);
+            match run_piece(alloc, spec, spilling, Turn { root, plan }, disk, room) {
                 Ok(report) => {
                     let Ok(()) = push_piece(alloc, &mut text, root, &report) else {
                         return Err(SpillFault::Memory);
@@ -169,7 +174,7 @@ fn test_budget<D: Disk>(
 }
 
 /// Runs a specification in pieces, each of which has a least fusion within a limit of memory, in elements: the values of
-/// the cut nodes go to files `spill-V.tca`, which stay.
+/// the cut nodes go to files `spill-V.tca`, which stay. Each piece is run by the plan that was found with the cuts.
 ///
 /// The budget, in words, is for the tiles of each piece's run. Budget and limit are at most 2^40. The pieces are those of
 /// [`tce_spill::cuts`], in the order of their roots. Before any file is touched, it is refused for the first cause in this
@@ -198,10 +203,13 @@ pub fn run_spill<D: Disk, R: Room>(
     ensures cause { HasCause (D.faults disk.old) (D.faults disk.new) (result ≡ Err Fault.Disk) }
     ensures quiet { TellsFaults (D.faults disk.old) (D.faults disk.new) (result ≡ Err Fault.Disk) }
 {
-    let cuts = cuts(alloc, spec, limit)?;
-    let spilling = Spilling { cuts, budget };
+    let planned = planned_cuts(alloc, spec, limit)?;
+    let spilling = Spilling {
+        cuts: planned.nodes,
+        budget,
+    };
     test_budget(alloc, spec, spilling, disk)?;
-    let text = run_all(alloc, spec, spilling, disk, room)?;
+    let text = run_all(alloc, spec, spilling, planned.plans, disk, room)?;
     Ok(SpillReport {
         text: Bytes::of(text),
     })

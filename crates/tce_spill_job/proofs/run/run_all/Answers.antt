@@ -1,13 +1,33 @@
 use Rattle.std.proofs.Common.{ℕ, ◌+◌, List, sym, subst, ap, ◌∙◌, arith, rules}
 use Rattle.tce_space.specs.IndexSet.{has}
 use Rattle.tce_tree.specs.ContractionTree.{operations}
+use Rattle.tce_spill.specs.Planned.{HavePlansFrom}
 use Rattle.tce_spill_job.specs.Reports.{HasRun}
 use Rattle.tce_spill_job.proofs.Roots.{told_more, told_same}
 use Rattle.tce_spill_job.proofs.Reports.{taken_more, run_taken, run_more, run_same}
 use Rattle.tce_spill_job.proofs.Ended.{late_fault, failed_left, failed_takings}
+use Rattle.tce_spill_job.proofs.PlannedRuns.{plan_place, some_plan, taken_plan, plans_on, plans_after}
 use Rattle.tce_spill_job.proofs.Turns.{operands_there, held_more, held_same}
 use Rattle.tce_spill_job.proofs.run.run_all.Goals as goal
 use Rattle.tce_spill_job.proofs.run.run_all.Goals.{then-has_root+in-Ok-run_piece+in-Ok-push_piece, else-has_root}
+
+pub take_plan-plan-requires-clause-place : goal.take_plan-plan-requires-clause-place
+take_plan-plan-requires-clause-place g c =
+    let size = c.count-count.ensures.value ∙ ap operations c.tree.ensures.tree in
+    plan_place c.args.spec.now (has c.args.spilling.cuts) c.loop-root.plans.items c.loop-root.root c.loop-root.invariant.plans
+    (omega (arith, c.loop-root-test.true, size)) (sym c.has_root.ensures ∙ c.if-has_root.true)
+
+pub take_plan-plan-requires-clause-some : goal.take_plan-plan-requires-clause-some
+take_plan-plan-requires-clause-some g c =
+    let size = c.count-count.ensures.value ∙ ap operations c.tree.ensures.tree in
+    some_plan c.args.spec.now (has c.args.spilling.cuts) c.loop-root.plans.items c.loop-root.root c.loop-root.invariant.plans
+    (omega (arith, c.loop-root-test.true, size)) (sym c.has_root.ensures ∙ c.if-has_root.true)
+
+pub run_piece-requires-clause-plan : goal.run_piece-requires-clause-plan
+run_piece-requires-clause-plan g c =
+    let size = c.count-count.ensures.value ∙ ap operations c.tree.ensures.tree in
+    taken_plan c.args.spec.now (has c.args.spilling.cuts) c.loop-root.plans.items c.loop-root.root c.loop-root.invariant.plans
+    (omega (arith, c.loop-root-test.true, size)) (sym c.has_root.ensures ∙ c.if-has_root.true) c.take_plan-plan.result c.take_plan-plan.ensures.plan
 
 pub run_piece-requires-clause-operands : goal.run_piece-requires-clause-operands
 run_piece-requires-clause-operands g c =
@@ -80,6 +100,9 @@ loop-root-preserved g c =
           run_more s cut n budget before then after c.loop-root.text.items w.push_piece.new.text.items w.in-Ok-run_piece.report root c.loop-root.invariant.run w.in-Ok-run_piece.ensures.reported w.in-Ok-push_piece.ensures in record {
             told = ap (λ d. g.D.Disk.files d) w.disk-is ∙ told_more start now (g.D.Disk.files w.run_piece.new.disk) s cut n root c.loop-root.invariant.told w.in-Ok-run_piece.ensures.told;
             held = held_more start s cut budget n c.tree.ensures.rules c.requires.can (omega (arith, c.loop-root-test.true, size)) root c.loop-root.invariant.held;
+            plans =
+                plans_after s cut c.loop-root.plans.items n c.loop-root.invariant.plans c.if-has_root.plans.items
+                (ap (λ p. p.items) w.plans-is ∙ w.take_plan-plan.ensures.left);
             run =
                 subst (λ (x : List (ℕ × ℕ)). HasRun s cut (n + 1) budget before x c.if-has_root.text.items) (sym (ap (λ r. g.R.Room.takings r) w.room-is))
                 (subst (λ (t : List ℕ). HasRun s cut (n + 1) budget before after t) (sym (ap (λ t. t.items) w.text-is)) more);
@@ -90,6 +113,9 @@ loop-root-preserved g c =
           let same = run_same s cut n budget before then c.loop-root.text.items root c.loop-root.invariant.run in record {
             told = ap (λ d. g.D.Disk.files d) w.disk-is ∙ told_same start now s cut n root c.loop-root.invariant.told;
             held = held_same start s cut budget n c.tree.ensures.rules c.requires.can (omega (arith, c.loop-root-test.true, size)) root c.loop-root.invariant.held;
+            plans =
+                subst (λ p. HavePlansFrom s cut p.items (n + 1)) (sym w.plans-is)
+                (plans_on s cut c.loop-root.plans.items n c.loop-root.invariant.plans);
             run =
                 subst (λ (x : List (ℕ × ℕ)). HasRun s cut (n + 1) budget before x c.if-has_root.text.items) (sym (ap (λ r. g.R.Room.takings r) w.room-is))
                 (subst (λ (t : List ℕ). HasRun s cut (n + 1) budget before then t) (sym (ap (λ t. t.items) w.text-is)) same);

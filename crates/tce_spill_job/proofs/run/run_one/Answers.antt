@@ -1,13 +1,8 @@
-use Rattle.tce_job.proofs.Causes.{least_memory}
-use Rattle.tce_spill_job.proofs.Reports.{least_of}
+use Rattle.tce_spill_job.proofs.PlannedRuns.{can_run, is_small}
 use Rattle.tce_spill_job.proofs.run.run_one.Goals as goal
 
 pub run_by-requires-clause-plan : goal.run_by-requires-clause-plan
-run_by-requires-clause-plan g c =
-    let l = least_of c.args.spec.now c.space.result.now c.tree.result.now c.in-Ok.plan c.space.ensures.space c.tree.ensures.tree c.in-Ok.ensures in
-    record { fits = l.fits; carried = l.carried; memory_is = l.memory_is }
+run_by-requires-clause-plan g c = can_run c.args.spec.now c.args.budget c.args.plan c.requires.affordable c.requires.plan
 
 pub run_by-requires-clause-small : goal.run_by-requires-clause-small
-run_by-requires-clause-small g c =
-    let l = least_of c.args.spec.now c.space.result.now c.tree.result.now c.in-Ok.plan c.space.ensures.space c.tree.ensures.tree c.in-Ok.ensures in
-    c.requires.affordable.small c.in-Ok.plan.memory (least_memory c.args.spec.now c.in-Ok.plan l)
+run_by-requires-clause-small g c = is_small c.args.spec.now c.args.budget c.args.plan c.requires.affordable c.requires.plan

@@ -7,6 +7,7 @@ use Rattle.tce_tensors.specs.Laws.{LeavesNoHalfResult}
 use Rattle.tce_tensors.specs.ResultBytes.{with_result}
 use Rattle.tce_job.specs.Refusals.{IsAffordable}
 use Rattle.tce_job.specs.Prepared.{HasTaken}
+use Rattle.tce_spill.specs.Planned.{IsLeastButRows}
 use Rattle.tce_spill_job.specs.Refusals.{IsRunFault}
 use Rattle.tce_spill_job.proofs.Afforded.{affordable_at}
 use Rattle.tce_spill_job.proofs.run.run_piece.Goals as goal
@@ -14,7 +15,11 @@ use Rattle.tce_spill_job.proofs.run.run_piece.Goals as goal
 pub run_one-requires-clause-affordable : goal.run_one-requires-clause-affordable
 run_one-requires-clause-affordable g c =
     subst (λ (p : Specification). IsAffordable p c.args.spilling.budget) (sym c.in-Ok.ensures)
-    (affordable_at c.args.spec.now (has c.args.spilling.cuts) c.args.spilling.budget c.args.root c.tree-tree.ensures.rules c.requires.can c.requires.inside c.requires.root)
+    (affordable_at c.args.spec.now (has c.args.spilling.cuts) c.args.spilling.budget c.args.turn.root c.tree-tree.ensures.rules c.requires.can c.requires.inside c.requires.root)
+
+pub run_one-requires-clause-plan : goal.run_one-requires-clause-plan
+run_one-requires-clause-plan g c =
+    subst (λ (p : Specification). IsLeastButRows p.declarations.space p.tree c.args.turn.plan) (sym c.in-Ok.ensures) c.requires.plan
 
 pub returns-clause-told : goal.returns-clause-told
 returns-clause-told g c =

@@ -11,60 +11,60 @@ use Rattle.tce_spill_job.proofs.Ready.{few_of, are_cut, can_spill, has_spilled, 
 use Rattle.tce_spill_job.proofs.run.run_spill.Goals as goal
 
 pub test_budget-requires-clause-few : goal.test_budget-requires-clause-few
-test_budget-requires-clause-few g c = few_of c.args.spec.now c.args.limit c.in_ok-cuts.ensures.exactly
+test_budget-requires-clause-few g c = few_of c.args.spec.now c.args.limit c.in_ok-planned.ensures.exactly
 
 pub returns-in_err-test_budget-clause-refused : goal.returns-in_err-test_budget-clause-refused
 returns-in_err-test_budget-clause-refused g c =
-    let cut = has c.in_ok-cuts.cuts in
-    let are = are_cut c.args.spec.now c.args.limit cut c.in_ok-cuts.ensures.exactly c.in_ok-cuts.ensures.cuts in
+    let cut = has c.in_ok-planned.planned.nodes in
+    let are = are_cut c.args.spec.now c.args.limit cut c.in_ok-planned.ensures.exactly c.in_ok-planned.ensures.cuts in
     let p = err_from_is_err_and c.from_residual-in_err-test_budget.result c.from_residual-in_err-test_budget.ensures.1 in
-    rw (p.1, p.2) (test_cause (g.D.Disk.files c.args.disk.now) c.args.spec.now c.args.budget c.args.limit cut (few_of c.args.spec.now c.args.limit c.in_ok-cuts.ensures.exactly) are
+    rw (p.1, p.2) (test_cause (g.D.Disk.files c.args.disk.now) c.args.spec.now c.args.budget c.args.limit cut (few_of c.args.spec.now c.args.limit c.in_ok-planned.ensures.exactly) are
     c.in_err-test_budget.field-0.0 c.in_err-test_budget.ensures.refused)
 
 pub returns-in_err-test_budget-clause-exactly : goal.returns-in_err-test_budget-clause-exactly
 returns-in_err-test_budget-clause-exactly g c due free cause known =
-    let cut = has c.in_ok-cuts.cuts in
-    let are = are_cut c.args.spec.now c.args.limit cut c.in_ok-cuts.ensures.exactly c.in_ok-cuts.ensures.cuts in
+    let cut = has c.in_ok-planned.planned.nodes in
+    let are = are_cut c.args.spec.now c.args.limit cut c.in_ok-planned.ensures.exactly c.in_ok-planned.ensures.cuts in
     let p = err_from_is_err_and c.from_residual-in_err-test_budget.result c.from_residual-in_err-test_budget.ensures.1 in
-    rw (p.1, p.2) (test_exact (g.D.Disk.files c.args.disk.now) c.args.spec.now c.args.budget c.args.limit cut (few_of c.args.spec.now c.args.limit c.in_ok-cuts.ensures.exactly) are
+    rw (p.1, p.2) (test_exact (g.D.Disk.files c.args.disk.now) c.args.spec.now c.args.budget c.args.limit cut (few_of c.args.spec.now c.args.limit c.in_ok-planned.ensures.exactly) are
     c.in_err-test_budget.field-0.0 due c.in_err-test_budget.ensures.refused free cause known)
 
 pub run_all-requires-clause-can : goal.run_all-requires-clause-can
 run_all-requires-clause-can g c =
-    can_spill c.args.spec.now (has c.in_ok-cuts.cuts) c.args.budget c.args.limit c.requires.names c.requires.budget c.requires.limit c.in_ok-cuts.ensures.exactly c.in_ok-cuts.ensures.cuts c.in_ok-cuts.ensures.meet
-    c.in_ok-cuts.ensures.nodes c.in_ok-test_budget.ensures.enough
+    can_spill c.args.spec.now (has c.in_ok-planned.planned.nodes) c.args.budget c.args.limit c.requires.names c.requires.budget c.requires.limit c.in_ok-planned.ensures.exactly c.in_ok-planned.ensures.cuts c.in_ok-planned.ensures.meet
+    c.in_ok-planned.ensures.nodes c.in_ok-test_budget.ensures.enough
 
 pub returns-in_err-text-clause-refused : goal.returns-in_err-text-clause-refused
 returns-in_err-text-clause-refused g c =
-    let cut = has c.in_ok-cuts.cuts in
-    let are = are_cut c.args.spec.now c.args.limit cut c.in_ok-cuts.ensures.exactly c.in_ok-cuts.ensures.cuts in
+    let cut = has c.in_ok-planned.planned.nodes in
+    let are = are_cut c.args.spec.now c.args.limit cut c.in_ok-planned.ensures.exactly c.in_ok-planned.ensures.cuts in
     let why = subst (λ (told : Option Files). IsLateFault told c.args.spec.now cut c.in_err-text.field-0.0) c.in_ok-test_budget.ensures.same c.in_err-text.ensures.refused in
     let p = err_from_is_err_and c.from_residual-in_err-text.result c.from_residual-in_err-text.ensures.1 in
-    rw (p.1, p.2) (late_cause (g.D.Disk.files c.args.disk.now) c.args.spec.now c.args.budget c.args.limit cut (few_of c.args.spec.now c.args.limit c.in_ok-cuts.ensures.exactly) are
+    rw (p.1, p.2) (late_cause (g.D.Disk.files c.args.disk.now) c.args.spec.now c.args.budget c.args.limit cut (few_of c.args.spec.now c.args.limit c.in_ok-planned.ensures.exactly) are
     c.in_ok-test_budget.ensures.enough c.in_ok-test_budget.ensures.opened c.in_err-text.field-0.0 why)
 
 pub returns-in_err-text-clause-exactly : goal.returns-in_err-text-clause-exactly
 returns-in_err-text-clause-exactly g c due free cause known =
-    let cut = has c.in_ok-cuts.cuts in
-    let are = are_cut c.args.spec.now c.args.limit cut c.in_ok-cuts.ensures.exactly c.in_ok-cuts.ensures.cuts in
+    let cut = has c.in_ok-planned.planned.nodes in
+    let are = are_cut c.args.spec.now c.args.limit cut c.in_ok-planned.ensures.exactly c.in_ok-planned.ensures.cuts in
     let why = subst (λ (told : Option Files). IsLateFault told c.args.spec.now cut c.in_err-text.field-0.0) c.in_ok-test_budget.ensures.same c.in_err-text.ensures.refused in
     let p = err_from_is_err_and c.from_residual-in_err-text.result c.from_residual-in_err-text.ensures.1 in
-    rw (p.1, p.2) (late_exact (g.D.Disk.files c.args.disk.now) c.args.spec.now c.args.budget c.args.limit cut (few_of c.args.spec.now c.args.limit c.in_ok-cuts.ensures.exactly) are
+    rw (p.1, p.2) (late_exact (g.D.Disk.files c.args.disk.now) c.args.spec.now c.args.budget c.args.limit cut (few_of c.args.spec.now c.args.limit c.in_ok-planned.ensures.exactly) are
     c.in_ok-test_budget.ensures.enough c.in_ok-test_budget.ensures.opened c.in_err-text.field-0.0 due why free cause known)
 
 pub returns-in_err-text-clause-tested : goal.returns-in_err-text-clause-tested
 returns-in_err-text-clause-tested g c =
-    let cut = has c.in_ok-cuts.cuts in
+    let cut = has c.in_ok-planned.planned.nodes in
     let why = subst (λ (told : Option Files). IsLateFault told c.args.spec.now cut c.in_err-text.field-0.0) c.in_ok-test_budget.ensures.same c.in_err-text.ensures.refused in
     let p = err_from_is_err_and c.from_residual-in_err-text.result c.from_residual-in_err-text.ensures.1 in
     rw (p.1, p.2) (λ files eq free. absurd (late_free (g.D.Disk.files c.args.disk.now) c.args.spec.now cut c.in_err-text.field-0.0 why files eq free))
 
 pub returns-in_err-text-clause-others : goal.returns-in_err-text-clause-others
 returns-in_err-text-clause-others g c =
-    let cut = has c.in_ok-cuts.cuts in
+    let cut = has c.in_ok-planned.planned.nodes in
     inr (record {
       cut = cut;
-      are_cut = are_cut c.args.spec.now c.args.limit cut c.in_ok-cuts.ensures.exactly c.in_ok-cuts.ensures.cuts;
+      are_cut = are_cut c.args.spec.now c.args.limit cut c.in_ok-planned.ensures.exactly c.in_ok-planned.ensures.cuts;
       here =
           subst (λ (told : Option Files). OnlyResultsDiffer (pieces_of c.args.spec.now cut) told (g.D.Disk.files c.run_all.new.disk)) c.in_ok-test_budget.ensures.same
           (left_others (g.D.Disk.files c.test_budget.new.disk) (g.D.Disk.files c.run_all.new.disk) c.args.spec.now cut c.in_err-text.field-0.0 c.in_err-text.ensures.left);
@@ -72,23 +72,23 @@ returns-in_err-text-clause-others g c =
 
 pub returns-clause-told : goal.returns-clause-told
 returns-clause-told g c =
-    let cut = has c.in_ok-cuts.cuts in
+    let cut = has c.in_ok-planned.planned.nodes in
     has_spilled (g.D.Disk.files c.args.disk.now) (g.D.Disk.files c.test_budget.new.disk) (g.D.Disk.files c.run_all.new.disk) c.args.spec.now c.args.limit cut
-    (are_cut c.args.spec.now c.args.limit cut c.in_ok-cuts.ensures.exactly c.in_ok-cuts.ensures.cuts) c.in_ok-test_budget.ensures.same c.in_ok-text.ensures.told c.in_ok-text.ensures.spilled
+    (are_cut c.args.spec.now c.args.limit cut c.in_ok-planned.ensures.exactly c.in_ok-planned.ensures.cuts) c.in_ok-test_budget.ensures.same c.in_ok-text.ensures.told c.in_ok-text.ensures.spilled
 
 pub returns-clause-reported : goal.returns-clause-reported
 returns-clause-reported g c =
-    reported_for c.args.spec.now (has c.in_ok-cuts.cuts) c.args.budget c.args.limit (g.R.Room.takings c.args.room.now) (g.R.Room.takings c.run_all.new.room) c.in_ok-text.text.items _
-    c.in_ok-cuts.ensures.cuts c.in_ok-cuts.ensures.meet c.in_ok-text.ensures.reported c.of.ensures
+    reported_for c.args.spec.now (has c.in_ok-planned.planned.nodes) c.args.budget c.args.limit (g.R.Room.takings c.args.room.now) (g.R.Room.takings c.run_all.new.room) c.in_ok-text.text.items _
+    c.in_ok-planned.ensures.cuts c.in_ok-planned.ensures.meet c.in_ok-text.ensures.reported c.of.ensures
 
 pub returns-clause-exactly : goal.returns-clause-exactly
 returns-clause-exactly g c due free cause known =
-    let cut = has c.in_ok-cuts.cuts in
-    no_cause (g.D.Disk.files c.args.disk.now) c.args.spec.now c.args.budget c.args.limit cut (few_of c.args.spec.now c.args.limit c.in_ok-cuts.ensures.exactly)
-    (are_cut c.args.spec.now c.args.limit cut c.in_ok-cuts.ensures.exactly c.in_ok-cuts.ensures.cuts) c.in_ok-test_budget.ensures.enough c.in_ok-test_budget.ensures.opened due free cause known
+    let cut = has c.in_ok-planned.planned.nodes in
+    no_cause (g.D.Disk.files c.args.disk.now) c.args.spec.now c.args.budget c.args.limit cut (few_of c.args.spec.now c.args.limit c.in_ok-planned.ensures.exactly)
+    (are_cut c.args.spec.now c.args.limit cut c.in_ok-planned.ensures.exactly c.in_ok-planned.ensures.cuts) c.in_ok-test_budget.ensures.enough c.in_ok-test_budget.ensures.opened due free cause known
 
 pub returns-clause-others : goal.returns-clause-others
 returns-clause-others g c =
-    let cut = has c.in_ok-cuts.cuts in
+    let cut = has c.in_ok-planned.planned.nodes in
     only_pieces (g.D.Disk.files c.args.disk.now) (g.D.Disk.files c.test_budget.new.disk) (g.D.Disk.files c.run_all.new.disk) c.args.spec.now c.args.limit cut
-    (are_cut c.args.spec.now c.args.limit cut c.in_ok-cuts.ensures.exactly c.in_ok-cuts.ensures.cuts) c.in_ok-test_budget.ensures.same c.in_ok-text.ensures.told
+    (are_cut c.args.spec.now c.args.limit cut c.in_ok-planned.ensures.exactly c.in_ok-planned.ensures.cuts) c.in_ok-test_budget.ensures.same c.in_ok-text.ensures.told
