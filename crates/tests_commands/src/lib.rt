@@ -1,19 +1,7 @@
-//! Tests of the commands, each by itself.
+//! Tests of the words of commands, and of the lines of what is refused.
 #![tactic(auto)]
 
 #[cfg(test)]
-mod certify;
-#[cfg(test)]
 mod command;
 #[cfg(test)]
-mod demo;
-#[cfg(test)]
-mod flat;
-#[cfg(test)]
 mod given;
-#[cfg(test)]
-mod plan;
-#[cfg(test)]
-mod run;
-#[cfg(test)]
-mod verify;

@@ -1,12 +1,9 @@
-//! Whole runs: rows that were worked by hand, refusals, and formulas that are drawn and evaluated apart.
+//! Whole runs of formulas that are drawn and evaluated apart, by least fusions and by drawn ones, and how often runs touch tiles.
 
-mod devices;
 mod draws;
 mod formulas;
 mod fusions;
 mod given;
-mod refusals;
-mod rows;
 mod terms;
 mod tiled;
 mod touches;

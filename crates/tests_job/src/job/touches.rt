@@ -1,23 +1,32 @@
 //! How often runs touch tiles.
 use crate::job::fusions::touches_unfused;
-use crate::job::given::{check, disk_with, must, number_at, part, spec_of};
-use crate::job::rows::{PADDED, PADDED_LISTS};
+use crate::job::given::{check, must, spec_of};
 use std::alloc::Global;
 use std::process::Abort;
+use tce_outside::MemDisk;
 
-// A run of this row touches tiles at most so often.
-fn check_touches(rt: &impl Abort, alloc: Global, text: &str, row: &str, most: u128) {
-    let spec = must(rt, spec_of(alloc, text.as_bytes()));
-    let budget = number_at(rt, row, 1);
-    let mut disk = disk_with(rt, alloc, part(row, 0));
-    let touches = must(rt, touches_unfused(alloc, &spec, budget, &mut disk));
-    check(rt, touches.is_some(), "no run");
-    check(rt, touches.unwrap_or(0) <= most, "more touches");
+// A product element by element, in three tiles of each tensor.
+const PADDED: &[u8] =
+    b"range N 5 tile 2\nindex N i\ntensor A[N]\ntensor B[N]\ntensor C[N]\nC[i] = A[i] * B[i]\n";
+
+// The array of 1 to 5.
+const OPERAND: &[u8] =
+    b"TCARRAY1\x01\0\0\0\0\0\0\0\x05\0\0\0\0\0\0\0\x02\0\0\0\0\0\0\0\x01\0\0\0\0\0\0\0\x02\0\0\0\0\0\0\0\x03\0\0\0\0\0\0\0\x04\0\0\0\0\0\0\0\x05\0\0\0\0\0\0\0\0\0\0\0\0\0\0\0";
+
+fn disk_with_operands(rt: &impl Abort, alloc: Global) -> MemDisk {
+    let mut disk = MemDisk::new(alloc);
+    must(rt, disk.put_file("A.tca", OPERAND));
+    must(rt, disk.put_file("B.tca", OPERAND));
+    disk
 }
 
 // Three blocks, each of which touches one tile of each operand and of the result. One assignment at a time, there would be
 // fifteen touches.
 #[test]
 fn each_block_touches_its_tiles_once(rt: HostRuntime) {
-    check_touches(&rt, rt.alloc(), PADDED, PADDED_LISTS, 9);
+    let spec = must(&rt, spec_of(rt.alloc(), PADDED));
+    let mut disk = disk_with_operands(&rt, rt.alloc());
+    let touches = must(&rt, touches_unfused(rt.alloc(), &spec, 6, &mut disk));
+    check(&rt, touches.is_some(), "no run");
+    check(&rt, touches.unwrap_or(0) <= 9, "more touches");
 }
