@@ -4,14 +4,14 @@ use Rattle.std.proofs.Math.Seq.{take-length}
 use Rattle.std.specs.Option.{ForSome}
 use Rattle.tce_outside.specs.Files.{Files, file}
 use Rattle.tce_declarations.specs.declared.fault.SpecFault.{SpecFault}
-use Rattle.tce_command.specs.Command.{Command, run, batch, plan, cert, check, pack, unpack, convert, expand, einsum, demo, KeepsRules}
+use Rattle.tce_command.specs.Command.{Command, run, batch, spill, plan, cert, check, pack, unpack, convert, expand, einsum, demo, KeepsRules}
 use Rattle.tce_command.specs.Report.{status_of, ending_of, code_of, line_over, wants_memory}
 use Rattle.tce_command.specs.Refusals.{IsFree, SameRefusal}
 use Rattle.tce_command.specs.CommandRefusals.{EndsAlike, MayReplace, OnCommon}
 use Rattle.tce_command.proofs.Statuses.{or_alike}
 use Rattle.tce_command.specs.Outcome.{Answers, IsFault}
 use Rattle.tce_command.specs.declared.refusal.Refusal.{Refusal}
-use Rattle.tce_command.specs.declared.refusal.Refusal.TheVariants.{Specification, Missing, Array, Budget, Intermediates, Flat, Tensor, Misfit, Einsum, Symmetry, Disk, Memory}
+use Rattle.tce_command.specs.declared.refusal.Refusal.TheVariants.{Specification, Missing, Array, Budget, Intermediates, Flat, Tensor, Misfit, Einsum, Spill, Symmetry, Disk, Memory}
 use Rattle.tce_command.specs.declared.command_refusal.CommandRefusal.{CommandRefusal}
 use Rattle.tce_command.specs.declared.command_refusal.CommandRefusal.TheVariants.{Common, Certificate}
 use Rattle.tce_command.specs.declared.trouble.EinsumTrouble.TheVariants as einsums
@@ -19,9 +19,12 @@ use Rattle.tce_command.specs.declared.status.Status.{Status}
 use Rattle.tce_command.specs.declared.status.Status.TheVariants.{Done, SpecRefused, EinsumRefused, DiskFault, SinkFault, WantOfMemory}
 use Rattle.tce_spec.specs.Specification.{Specification as Specified}
 use Rattle.tce_batch_job.specs.Reports.{HasRun, HasTaken}
+use Rattle.tce_tree.specs.ContractionTree.{operations}
+use Rattle.tce_sequence.specs.SpillDone.{IsSpillRun, IsSpillTaking}
 use Rattle.tce_source.proofs.Outcomes.{not_both, one_refusal as one_source_refusal}
 use Rattle.tce_run.proofs.Reasons as runs
-use Rattle.tce_run.proofs.BatchReasons as batches
+use Rattle.tce_sequence.proofs.BatchReasons as batches
+use Rattle.tce_sequence.proofs.SpillReasons as spills
 use Rattle.tce_certify.proofs.OneEinsum as einsum_answers
 use Rattle.tce_verify.proofs.OneAnswer as verifications
 use Rattle.tce_tools.specs.Answers.{HasFlat, HasArray, HasFitting}
@@ -48,6 +51,7 @@ common_free P free (Certificate trouble line) p = absurd p
 one_refusal : (files : Files) (command : Command) (a b : CommandRefusal) → KeepsRules command → IsCommandRefusal files command a → IsCommandRefusal files command b → (MayReplace b → ⊥) → MayReplace a ⊎ EndsAlike a b
 one_refusal files (run spec budget) a b rules p q free = common_alone _ (runs.alone files spec budget) a b p q free
 one_refusal files (batch spec budget) a b rules p q free = common_alone _ (batches.alone_batch files spec budget) a b p q free
+one_refusal files (spill spec budget limit) a b rules p q free = common_alone _ (spills.alone_spill files spec budget limit) a b p q free
 one_refusal files (plan spec) a b rules p q free = common_alone _ (one_source_refusal spec (file files spec)) a b p q free
 one_refusal files (cert spec name) a b rules p q free = common_alone _ (one_source_refusal spec (file files spec)) a b p q free
 one_refusal files (check spec name) a b rules p q free = verifications.alone files spec name a b p q free
@@ -65,6 +69,7 @@ one_refusal files (demo seed v o) a b rules p q free = inl (common_free IsFree (
 can_free : (files : Files) (command : Command) (a : CommandRefusal) → KeepsRules command → CanDo files command → IsCommandRefusal files command a → MayReplace a
 can_free files (run spec budget) a rules can p = common_free _ (λ x. runs.granted files spec budget x can) a p
 can_free files (batch spec budget) a rules can p = common_free _ (λ x. batches.granted_batch files spec budget x can) a p
+can_free files (spill spec budget limit) a rules can p = common_free _ (λ x. spills.granted_spill files spec budget limit x can) a p
 can_free files (plan spec) a rules can p = common_free _ (λ x. not_both files spec can.0 x can.1) a p
 can_free files (cert spec name) a rules can p = common_free _ (λ x. not_both files spec can.0 x can.1) a p
 can_free files (check spec name) a rules can p = verifications.granted files spec name a can p
@@ -85,6 +90,7 @@ pub done_can : (command : Command) (before after : Option Files) (taken taken_af
     → ForSome before (λ files. CanDo files command)
 done_can (run spec budget) before after taken taken_after report done = λ files told. (done.specification, done.specified files told, done.able files told)
 done_can (batch spec budget) before after taken taken_after report done = λ files told. (done.formulas, done.specified files told, done.able files told)
+done_can (spill spec budget limit) before after taken taken_after report done = λ files told. (done.specification, done.specified files told, done.able files told)
 done_can (plan spec) before after taken taken_after report done = λ files told. let planned = done.0 files told in (planned.specification, planned.specified)
 done_can (cert spec name) before after taken taken_after report done = λ files told. (done.0.specification, done.0.specified files told)
 done_can (check spec name) before after taken taken_after report done = λ files told. let verified = done.0 files told in verified.can
@@ -101,12 +107,30 @@ all_taken : (formulas : List Specified) (budget : ℕ) (taken taken_after : List
 all_taken formulas budget taken taken_after report h =
     subst (λ (ss : List Specified). HasTaken ss budget taken taken_after) (sym (take-length formulas)) (record { plans = h.plans; least = h.least; taken = h.taken })
 
+-- and so did all pieces
+all_pieces_taken : (before after : Option Files) (taken taken_after : List (ℕ × ℕ)) (spec : List ℕ) (budget limit : ℕ) (report : List ℕ) → IsSpillRun before after taken taken_after spec budget limit report
+    → IsSpillTaking before taken taken_after spec budget limit
+all_pieces_taken before after taken taken_after spec budget limit report done = record {
+  specification = done.specification;
+  specified = done.specified;
+  taking = record {
+    cut = done.run.cut;
+    are_cut = record { none = done.spilled.are_cut.none; cuts = done.run.are_cut };
+    here = record {
+      end = operations done.specification.tree;
+      inside = omega arith;
+      taken = record { plans = done.run.reported.plans; least = done.run.reported.least; taken = done.run.reported.taken };
+    };
+  };
+}
+
 pub done_takes : (command : Command) (before after : Option Files) (taken taken_after : List (ℕ × ℕ)) (report : List ℕ) → IsDone command before after taken taken_after report
     → MayTake command before taken taken_after
 done_takes (run spec budget) before after taken taken_after report done =
     inr (record { specification = done.specification; specified = done.specified; able = done.able; plan = done.plan; least = done.least; taking = done.taking })
 done_takes (batch spec budget) before after taken taken_after report done =
     inr (record { formulas = done.formulas; specified = done.specified; count = length done.formulas; within = omega arith; taking = all_taken done.formulas budget taken taken_after report done.run })
+done_takes (spill spec budget limit) before after taken taken_after report done = inr (all_pieces_taken before after taken taken_after spec budget limit report done)
 done_takes (plan spec) before after taken taken_after report done = done.2
 done_takes (cert spec name) before after taken taken_after report done = done.1
 done_takes (check spec name) before after taken taken_after report done = done.2
@@ -132,6 +156,7 @@ free_of (Flat len) f = absurd f
 free_of (Tensor name) f = absurd f
 free_of (Misfit place) f = absurd f
 free_of (Einsum trouble) f = absurd f
+free_of (Spill trouble) f = absurd f
 free_of (Symmetry tensor trouble) f = absurd f
 
 pub free_fault : (r : CommandRefusal) → MayReplace r → IsFault (ending_of r)
@@ -164,6 +189,7 @@ cause_of files command (Common (Einsum (einsums.Spec fault))) p = einsum_by file
 cause_of files command (Common (Einsum einsums.BadText)) p = record { refusal = Common (Einsum einsums.BadText); cause = p; same = refl }
 cause_of files command (Common (Einsum (einsums.BadSize label))) p = record { refusal = Common (Einsum (einsums.BadSize label)); cause = p; same = refl }
 cause_of files command (Common (Einsum (einsums.BadPath item))) p = record { refusal = Common (Einsum (einsums.BadPath item)); cause = p; same = refl }
+cause_of files command (Common (Spill trouble)) p = record { refusal = Common (Spill trouble); cause = p; same = refl }
 cause_of files command (Common (Symmetry tensor trouble)) p = record { refusal = Common (Symmetry tensor trouble); cause = p; same = refl }
 cause_of files command (Common Disk) p = tt
 cause_of files command (Common Memory) p = tt

@@ -7,7 +7,7 @@ use Rattle.tce_array.proofs.MadeFiles.{file-with_file}
 use Rattle.tce_space.specs.Space.{IndexSpace}
 use Rattle.tce_spec.specs.Canonical.{canonical_of}
 use Rattle.tce_source.specs.Source.{Specifies}
-use Rattle.tce_command.specs.Command.{Command, run, batch, plan, cert, check, pack, unpack, convert, expand, einsum, demo, IsCommand}
+use Rattle.tce_command.specs.Command.{Command, run, batch, spill, plan, cert, check, pack, unpack, convert, expand, einsum, demo, IsCommand}
 use Rattle.tce_command.specs.Report.{LineNames, NamesNoIndex, NamesNothing, cert_line, ending_of, line_over, trouble_of}
 use Rattle.tce_command.specs.CommandRefusals.{HasNames, MayReplace}
 use Rattle.tce_command.proofs.Statuses.{is_plain, over}
@@ -17,15 +17,17 @@ use Rattle.tce_command.specs.declared.trouble.CertFlaw.{CertFlaw}
 use Rattle.tce_command.specs.declared.trouble.SymTrouble.{SymTrouble}
 use Rattle.tce_command.specs.declared.trouble_line.TroubleLine.{TroubleLine}
 use Rattle.arrayvec.specs.ArrayString.{ArrayString}
-use Rattle.tce_command.specs.declared.refusal.Refusal.TheVariants.{Specification, Missing, Array, Budget, Intermediates, Flat, Tensor, Misfit, Einsum, Symmetry, Disk, Memory}
+use Rattle.tce_command.specs.declared.refusal.Refusal.TheVariants.{Specification, Missing, Array, Budget, Intermediates, Flat, Tensor, Misfit, Einsum, Spill, Symmetry, Disk, Memory}
 use Rattle.tce_command.specs.declared.command_refusal.CommandRefusal.{CommandRefusal}
 use Rattle.tce_command.specs.declared.command_refusal.CommandRefusal.TheVariants.{Common, Certificate}
 use Rattle.tce_command.specs.declared.status.Status.{Status}
-use Rattle.tce_command.specs.declared.status.Status.TheVariants.{Done, BadWords, SpecRefused, NoFile, ArrayRefused, BudgetTooSmall, IntermediatesTooLarge, CertRefused, DiskFault, SinkFault, WantOfMemory, FlatRefused, UnknownTensor, DoesNotFit, EinsumRefused, SymRefused}
-use Rattle.tce_top.specs.Performed.{HasIndexes, IsCommandRefusal, IsDone, KeepsRoom, LeavesFormulas, MayLeaveOther, NamesItsIndexes}
+use Rattle.tce_command.specs.declared.status.Status.TheVariants.{Done, BadWords, SpecRefused, NoFile, ArrayRefused, BudgetTooSmall, IntermediatesTooLarge, CertRefused, DiskFault, SinkFault, WantOfMemory, FlatRefused, UnknownTensor, DoesNotFit, EinsumRefused, SpillRefused, SymRefused}
+use Rattle.tce_top.specs.Performed.{HasIndexes, IsCommandRefusal, IsDone, KeepsRoom, LeavesCutOff, LeavesInTurn, MayLeaveOther, NamesItsIndexes}
 use Rattle.tce_command.proofs.Commands.{one_command}
-use Rattle.tce_top.specs.Outcome.{AreNamed, IsDemonstration, IsPartOfBatch, IsTensorOf, IsWholeBatch, IsWholeEinsum, IsWholeRun}
-use Rattle.tce_run.specs.BatchDone.{IsCutOff}
+use Rattle.tce_top.specs.Outcome.{AreNamed, IsDemonstration, IsPartOfBatch, IsPartOfSpill, IsTensorOf, IsWholeBatch, IsWholeEinsum, IsWholeRun, IsWholeSpill}
+use Rattle.tce_batch_job.specs.Files.{files_after}
+use Rattle.tce_tree.specs.ContractionTree.{operations}
+use Rattle.tce_spill_job.specs.Pieces.{pieces_below}
 use Rattle.tce_top.proofs.Joined.{Kept, Put, free_fault}
 use Rattle.tce_top.proofs.Expansions.{words_tensor}
 
@@ -48,6 +50,7 @@ no_refusal (FlatRefused x) f r = f
 no_refusal (UnknownTensor x) f r = f
 no_refusal (DoesNotFit x) f r = f
 no_refusal (EinsumRefused x) f r = f
+no_refusal (SpillRefused x) f r = f
 no_refusal (SymRefused x) f r = f
 
 -- a refusal that may come in the place of others does not end with a refusal's status
@@ -59,6 +62,7 @@ not_free r status (inr memory) refused free = no_refusal WantOfMemory tt (subst 
 leaves : (command : Command) (r : CommandRefusal) → MayLeaveOther command r → MayReplace r
 leaves (run spec budget) r e = subst MayReplace (sym e) tt
 leaves (batch spec budget) r free = free
+leaves (spill spec budget limit) r free = free
 leaves (plan spec) r e = subst MayReplace (sym e) tt
 leaves (cert spec file) r e = subst MayReplace (sym e) tt
 leaves (check spec file) r e = subst MayReplace (sym e) tt
@@ -95,21 +99,38 @@ no_failure answer r status is kept none failed =
 
 -- several formulas without memory: the first of them are run, or no file changed
 batch_memory : (words : List (List ℕ)) (spec : List ℕ) (budget : ℕ) (r : CommandRefusal) (status : Status) (before after : Option Files) → IsCommand words (batch spec budget) → Kept r status → status ≡ WantOfMemory
-    → LeavesFormulas (batch spec budget) r before after → (after ≡ before) ⊎ IsPartOfBatch words before after
+    → LeavesInTurn (batch spec budget) r before after → (after ≡ before) ⊎ IsPartOfBatch words before after
 batch_memory words spec budget (Certificate trouble line) status before after is kept memory left = absurd left
 batch_memory words spec budget (Common Disk) status before after is kept memory left = absurd (no_disk (Common Disk) status kept memory refl)
 batch_memory words spec budget (Common Memory) status before after is kept memory (inl same) = inl same
 batch_memory words spec budget (Common Memory) status before after is kept memory (inr first) = inr (spec, budget, is, first)
 batch_memory words spec budget (Common r) status before after is kept memory left = inl left
 
+-- and so of the pieces of a tree
+spill_memory : (words : List (List ℕ)) (spec : List ℕ) (budget limit : ℕ) (r : CommandRefusal) (status : Status) (before after : Option Files) → IsCommand words (spill spec budget limit) → Kept r status
+    → status ≡ WantOfMemory → LeavesInTurn (spill spec budget limit) r before after → (after ≡ before) ⊎ IsPartOfSpill words before after
+spill_memory words spec budget limit (Certificate trouble line) status before after is kept memory left = absurd left
+spill_memory words spec budget limit (Common Disk) status before after is kept memory left = absurd (no_disk (Common Disk) status kept memory refl)
+spill_memory words spec budget limit (Common Memory) status before after is kept memory (inl same) = inl same
+spill_memory words spec budget limit (Common Memory) status before after is kept memory (inr first) = inr (spec, budget, limit, is, first)
+spill_memory words spec budget limit (Common r) status before after is kept memory left = inl left
+
+or_first : (A B C : Type 0) → A ⊎ B → A ⊎ (B ⊎ C)
+or_first A B C (inl a) = inl a
+or_first A B C (inr b) = inr (inl b)
+
 pub or_part : (A B C : Type 0) → A ⊎ C → A ⊎ (B ⊎ C)
 or_part A B C (inl a) = inl a
 or_part A B C (inr c) = inr (inr c)
 
 pub without_memory : (words : List (List ℕ)) (command : Command) (r : CommandRefusal) (status : Status) (before after : Option Files) → IsCommand words command → Kept r status → status ≡ WantOfMemory
-    → LeavesFormulas command r before after → MayLeaveOther command r ⊎ (after ≡ before) → (after ≡ before) ⊎ (IsDemonstration words ⊎ IsPartOfBatch words before after)
+    → LeavesInTurn command r before after → MayLeaveOther command r ⊎ (after ≡ before)
+    → (after ≡ before) ⊎ (IsDemonstration words ⊎ (IsPartOfBatch words before after ⊎ IsPartOfSpill words before after))
 without_memory words command r status before after is kept memory left (inr same) = inl same
-without_memory words (batch spec budget) r status before after is kept memory left (inl free) = or_part _ _ _ (batch_memory words spec budget r status before after is kept memory left)
+without_memory words (batch spec budget) r status before after is kept memory left (inl free) =
+    or_part _ _ _ (or_first _ _ _ (batch_memory words spec budget r status before after is kept memory left))
+without_memory words (spill spec budget limit) r status before after is kept memory left (inl free) =
+    or_part _ _ _ (or_part _ _ _ (spill_memory words spec budget limit r status before after is kept memory left))
 without_memory words (run spec budget) r status before after is kept memory left (inl disk) = absurd (no_disk r status kept memory disk)
 without_memory words (plan spec) r status before after is kept memory left (inl disk) = absurd (no_disk r status kept memory disk)
 without_memory words (cert spec file) r status before after is kept memory left (inl disk) = absurd (no_disk r status kept memory disk)
@@ -121,14 +142,30 @@ without_memory words (expand spec tensor) r status before after is kept memory l
 without_memory words (einsum text path spec) r status before after is kept memory left (inl disk) = absurd (no_disk r status kept memory disk)
 without_memory words (demo seed v o) r status before after is kept memory left (inl free) = inr (inl (seed, v, o, is))
 
--- what several formulas leave where the disk fails
-pub cut_off : (spec : List ℕ) (budget : ℕ) (r : CommandRefusal) (status : Status) (before after : Option Files) → Kept r status → status ≡ DiskFault → LeavesFormulas (batch spec budget) r before after
-    → (after ≡ before) ⊎ IsCutOff before after spec
-cut_off spec budget (Certificate trouble line) status before after kept failed left = absurd left
-cut_off spec budget (Common Disk) status before after kept failed left = left
-cut_off spec budget (Common Memory) status before after (inl kept) failed left = let e : WantOfMemory ≡ DiskFault = sym kept ∙ failed in absurd (cc)
-cut_off spec budget (Common Memory) status before after (inr memory) failed left = let e : WantOfMemory ≡ DiskFault = sym memory.0 ∙ failed in absurd (cc)
-cut_off spec budget (Common r) status before after kept failed left = inl left
+-- a refusal for want of memory does not end as a failure of the disk
+no_memory_cut : (status : Status) (A : Type 0) → Kept (Common Memory) status → status ≡ DiskFault → A
+no_memory_cut status A (inl kept) failed = let e : WantOfMemory ≡ DiskFault = sym kept ∙ failed in absurd (cc)
+no_memory_cut status A (inr memory) failed = let e : WantOfMemory ≡ DiskFault = sym memory.0 ∙ failed in absurd (cc)
+
+batch_cut : (spec : List ℕ) (budget : ℕ) (r : CommandRefusal) (status : Status) (before after : Option Files) → Kept r status → status ≡ DiskFault → LeavesInTurn (batch spec budget) r before after
+    → LeavesCutOff (batch spec budget) before after
+batch_cut spec budget (Certificate trouble line) status before after kept failed left = absurd left
+batch_cut spec budget (Common Disk) status before after kept failed left = left
+batch_cut spec budget (Common Memory) status before after kept failed left = no_memory_cut status _ kept failed
+batch_cut spec budget (Common r) status before after kept failed left = inl left
+
+spill_cut : (spec : List ℕ) (budget limit : ℕ) (r : CommandRefusal) (status : Status) (before after : Option Files) → Kept r status → status ≡ DiskFault → LeavesInTurn (spill spec budget limit) r before after
+    → LeavesCutOff (spill spec budget limit) before after
+spill_cut spec budget limit (Certificate trouble line) status before after kept failed left = absurd left
+spill_cut spec budget limit (Common Disk) status before after kept failed left = left
+spill_cut spec budget limit (Common Memory) status before after kept failed left = no_memory_cut status _ kept failed
+spill_cut spec budget limit (Common r) status before after kept failed left = inl left
+
+-- what several formulas or pieces leave where the disk fails
+pub cut_off : (command : Command) (r : CommandRefusal) (status : Status) (before after : Option Files) → Kept r status → status ≡ DiskFault → LeavesInTurn command r before after → LeavesCutOff command before after
+cut_off (batch spec budget) r status before after kept failed left = batch_cut spec budget r status before after kept failed left
+cut_off (spill spec budget limit) r status before after kept failed left = spill_cut spec budget limit r status before after kept failed left
+cut_off command r status before after kept failed left = tt
 
 -- a report that was put is no failure of the disk
 pub not_cut_off : (status : Status) (A : Type 0) → Put status → status ≡ DiskFault → A
@@ -139,6 +176,7 @@ not_cut_off status A (inr (inr memory)) failed = let e : WantOfMemory ≡ DiskFa
 -- takings that are as they were are kept
 pub keeps_same : (command : Command) (told : Option Files) (taken taken_after : List (ℕ × ℕ)) → taken_after ≡ taken → KeepsRoom command told taken taken_after
 keeps_same (batch spec budget) told taken taken_after same = λ files is. same
+keeps_same (spill spec budget limit) told taken taken_after same = λ files is. same
 keeps_same (run spec budget) told taken taken_after same = same
 keeps_same (plan spec) told taken taken_after same = same
 keeps_same (cert spec file) told taken taken_after same = same
@@ -207,6 +245,7 @@ plain_line words command told (Common (Intermediates n)) status before after fau
 plain_line words command told (Common (Flat n)) status before after faults faults_after is refused own line plain kept names of = line names tt
 plain_line words command told (Common (Tensor name)) status before after faults faults_after is refused own line plain kept names of = line names tt
 plain_line words command told (Common (Misfit n)) status before after faults faults_after is refused own line plain kept names of = line names tt
+plain_line words command told (Common (Spill trouble)) status before after faults faults_after is refused own line plain kept names of = line names tt
 plain_line words command told (Common (Einsum trouble)) status before after faults faults_after is refused own line plain kept names of = line names tt
 plain_line words command told (Common Disk) status before after faults faults_after is refused own line plain kept names of = line names tt
 plain_line words command told (Common Memory) status before after faults faults_after is refused own line plain kept names of = line names tt
@@ -278,6 +317,31 @@ whole_batch spec budget files put before after taken taken_after report out out_
     within = done.within;
   },
 )
+
+-- A tree in pieces, whole.
+
+pub whole_spill : (spec : List ℕ) (budget limit : ℕ) (files : Files) (put : List ℕ) (before after : Option Files) (taken taken_after : List (ℕ × ℕ)) (report : List ℕ) (out out_after : Option (List ℕ))
+    → IsDone (spill spec budget limit) before after taken taken_after report → Grew report out out_after → before ≡ Some files → out ≡ Some put
+    → (left : Files) × (put_after : List ℕ) × (after ≡ Some left) × (out_after ≡ Some put_after) × IsWholeSpill spec budget limit files left taken taken_after put put_after
+whole_spill spec budget limit files put before after taken taken_after report out out_after done grew told sink =
+    let left : Files = files_after (pieces_below done.specification done.spilled.cut (operations done.specification.tree)) files in
+    let at : after ≡ Some left = done.spilled.files ∙ ap (option_map _) told in (
+      left,
+      put ++ report,
+      at,
+      grew ∙ ap (option_map (λ bytes. bytes ++ report)) sink,
+      record {
+        specification = done.specification;
+        specified = done.specified files told;
+        cut = done.spilled.cut;
+        are_cut = done.spilled.are_cut.cuts;
+        values = done.spilled.values files told left at;
+        report = report;
+        run_are = done.run;
+        reported = refl;
+        within = done.within;
+      },
+    )
 
 -- An einsum, whole.
 

@@ -3,3 +3,4 @@ pub mod Demonstrations
 pub mod Left
 pub mod Expansions
 pub mod Batches
+pub mod Spills

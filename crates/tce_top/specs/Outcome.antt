@@ -19,10 +19,16 @@ use Rattle.tce_tensors.specs.ResultBytes.{result_bytes}
 use Rattle.tce_tensors.specs.Takings.{tile_take}
 use Rattle.tce_batch_job.specs.Files.{files_after}
 use Rattle.tce_batch_job.specs.Reports.{HasRun}
+use Rattle.tce_pieces.specs.Pieces.{Cuts}
+use Rattle.tce_spill.specs.CutsFor.{AreCutsFor}
+use Rattle.tce_spill_job.specs.Pieces.{pieces_of}
+use Rattle.tce_spill_job.specs.Values.{IsSpilled}
+use Rattle.tce_spill_job.specs.Reports.{IsReportedFor}
 use Rattle.tce_source.specs.Source.{HasSpecification}
 use Rattle.tce_source.specs.BatchSource.{HasBatch}
-use Rattle.tce_run.specs.BatchDone.{AreFirstRun}
-use Rattle.tce_command.specs.Command.{Command, batch, demo, expand, IsCommand}
+use Rattle.tce_sequence.specs.BatchDone.{AreFirstRun}
+use Rattle.tce_sequence.specs.SpillDone.{AreFirstPieces}
+use Rattle.tce_command.specs.Command.{Command, batch, demo, expand, spill, IsCommand}
 use Rattle.tce_command.specs.declared.status.Status.{Status}
 use Rattle.tce_command.specs.declared.status.Status.TheVariants.{SymRefused}
 use Rattle.tce_top.specs.Performed.{IsDone, HasIndexes}
@@ -56,6 +62,18 @@ pub record IsWholeBatch (spec : List ℕ) (budget : ℕ) (files after : Files) (
   pub reported : put_after ≡ put ++ report
   pub within : All (λ (s : Specification). tile_take s budget ≤ budget) formulas
 
+-- a tree that is run in pieces over a disk and a sink that tell: the file specifies it; over the files before, the result's file has the bytes of the whole formula and each node that is cut for the limit the array of its values, and no other file differs; the sink grew by the report, which has a line for each piece; and the room gave for each piece in turn, the memory of a least plan, which is within the limit, and the words for tiles, which are within the budget
+pub record IsWholeSpill (spec : List ℕ) (budget limit : ℕ) (files after : Files) (taken taken_after : List (ℕ × ℕ)) (put put_after : List ℕ) : Type 0 where
+  pub specification : Specification
+  pub specified : HasSpecification files spec specification
+  pub cut : Cuts
+  pub are_cut : AreCutsFor specification.declarations.space specification.tree limit cut
+  pub values : IsSpilled files after specification cut
+  pub report : List ℕ
+  pub run_are : IsReportedFor specification budget limit taken taken_after report
+  pub reported : put_after ≡ put ++ report
+  pub within : All (λ (p : Specification). tile_take p budget ≤ budget) (pieces_of specification run_are.cut)
+
 -- an einsum whose disk tells: its file holds the canonical text of the specification that the text and the path produce, and specifies it; all other files are the old ones; and the value of the specification, at each assignment of the output's labels, is the sum over all assignments of the other labels of the product of the operands
 pub record IsWholeEinsum (text path spec : List ℕ) (files after : Files) : Type 0 where
   pub specification : Specification
@@ -76,6 +94,10 @@ IsDemonstration words = (seed : ℕ) × (v : ℕ) × (o : ℕ) × IsCommand word
 -- the words are those of several formulas, of which the first are run
 abbrev pub IsPartOfBatch : List (List ℕ) → Option Files → Option Files → Type 0
 IsPartOfBatch words before after = (spec : List ℕ) × (budget : ℕ) × IsCommand words (batch spec budget) × AreFirstRun before after spec
+
+-- the words are those of a tree that is run in pieces, of which the first are run
+abbrev pub IsPartOfSpill : List (List ℕ) → Option Files → Option Files → Type 0
+IsPartOfSpill words before after = (spec : List ℕ) × (budget : ℕ) × (limit : ℕ) × IsCommand words (spill spec budget limit) × AreFirstPieces before after spec limit
 
 -- the indexes are those of the specification that the words name, where the disk tells its files
 abbrev pub AreNamed : List (List ℕ) → Option Files → IndexSpace → Type 0

@@ -5,7 +5,7 @@ use Rattle.tce_outside.specs.Files.{Files, others}
 use Rattle.tce_space.specs.Space.{IndexSpace}
 use Rattle.tce_spec.specs.Specification.{Specification}
 use Rattle.tce_source.specs.Source.{HasSpecification}
-use Rattle.tce_command.specs.Command.{Command, run, batch, plan, cert, check, pack, unpack, convert, expand, einsum, demo}
+use Rattle.tce_command.specs.Command.{Command, run, batch, spill, plan, cert, check, pack, unpack, convert, expand, einsum, demo}
 use Rattle.tce_command.specs.Report.{cert_line, trouble_of}
 use Rattle.tce_command.specs.Refusals.{IsFree}
 use Rattle.tce_command.specs.CommandRefusals.{MayReplace, OnCommon}
@@ -14,8 +14,10 @@ use Rattle.tce_command.specs.declared.command_refusal.CommandRefusal.{CommandRef
 use Rattle.tce_command.specs.declared.command_refusal.CommandRefusal.TheVariants.{Common, Certificate}
 use Rattle.tce_run.specs.Done.{IsRun, IsTaking, OnlyResultDiffers}
 use Rattle.tce_run.specs.Refusals.{CanRunFile, IsRunRefusal}
-use Rattle.tce_run.specs.BatchDone.{IsBatchLeft, IsBatchRun, IsBatchTaking, OnlyBatchDiffers}
-use Rattle.tce_run.specs.BatchRefusals.{CanRunBatch, IsBatchRefusal}
+use Rattle.tce_sequence.specs.BatchDone.{IsBatchLeft, IsBatchRun, IsBatchTaking, IsCutOff, OnlyBatchDiffers}
+use Rattle.tce_sequence.specs.BatchRefusals.{CanRunBatch, IsBatchRefusal}
+use Rattle.tce_sequence.specs.SpillDone.{IsCutOffInPiece, IsSpillLeft, IsSpillRun, IsSpillTaking, OnlyPiecesDiffer}
+use Rattle.tce_sequence.specs.SpillRefusals.{CanSpill, IsSpillRefusal}
 use Rattle.tce_plan.specs.Done.{IsPlanned}
 use Rattle.tce_plan.specs.Refusals.{CanPlan, IsPlanRefusal}
 use Rattle.tce_certify.specs.Done.{IsCertified}
@@ -35,6 +37,7 @@ use Rattle.tce_demo.specs.Done.{IsDemonstrated, IsDemoTaking, LeavesDemonstratio
 abbrev pub CanDo : Files → Command → Type 0
 CanDo files (run spec budget) = CanRunFile files spec budget
 CanDo files (batch spec budget) = CanRunBatch files spec budget
+CanDo files (spill spec budget limit) = CanSpill files spec budget limit
 CanDo files (plan spec) = CanPlan files spec
 CanDo files (cert spec file) = CanCertify files spec
 CanDo files (check spec file) = CanVerify files spec file
@@ -49,6 +52,7 @@ CanDo files (demo seed v o) = ⊤
 abbrev pub IsCommandRefusal : Files → Command → CommandRefusal → Type 0
 IsCommandRefusal files (run spec budget) refusal = OnCommon (IsRunRefusal files spec budget) refusal
 IsCommandRefusal files (batch spec budget) refusal = OnCommon (IsBatchRefusal files spec budget) refusal
+IsCommandRefusal files (spill spec budget limit) refusal = OnCommon (IsSpillRefusal files spec budget limit) refusal
 IsCommandRefusal files (plan spec) refusal = OnCommon (IsPlanRefusal files spec) refusal
 IsCommandRefusal files (cert spec file) refusal = OnCommon (IsCertifyRefusal files spec) refusal
 IsCommandRefusal files (check spec file) refusal = IsVerifyRefusal files spec file refusal
@@ -63,6 +67,7 @@ IsCommandRefusal files (demo seed v o) refusal = OnCommon IsFree refusal
 abbrev pub IsDone : Command → Option Files → Option Files → List (ℕ × ℕ) → List (ℕ × ℕ) → List ℕ → Type 0
 IsDone (run spec budget) before after taken taken_after report = IsRun before after taken taken_after spec budget report
 IsDone (batch spec budget) before after taken taken_after report = IsBatchRun before after taken taken_after spec budget report
+IsDone (spill spec budget limit) before after taken taken_after report = IsSpillRun before after taken taken_after spec budget limit report
 IsDone (plan spec) before after taken taken_after report = ForSome before (λ files. IsPlanned files spec report) × (after ≡ before) × (taken_after ≡ taken)
 IsDone (cert spec file) before after taken taken_after report = IsCertified before after spec file report × (taken_after ≡ taken)
 IsDone (check spec file) before after taken taken_after report = ForSome before (λ files. IsVerified files spec file report) × (after ≡ before) × (taken_after ≡ taken)
@@ -81,6 +86,7 @@ StayBut name before after = others name after ≡ others name before
 abbrev pub OthersStay : Command → Option Files → Option Files → Type 0
 OthersStay (run spec budget) before after = OnlyResultDiffers spec before after
 OthersStay (batch spec budget) before after = OnlyBatchDiffers spec before after
+OthersStay (spill spec budget limit) before after = OnlyPiecesDiffer spec limit before after
 OthersStay (plan spec) before after = after ≡ before
 OthersStay (cert spec file) before after = StayBut file before after
 OthersStay (check spec file) before after = after ≡ before
@@ -101,28 +107,38 @@ LeavesNoHalf (expand spec tensor) before after = LeavesFor (LeavesExpanding tens
 LeavesNoHalf (demo seed v o) before after = LeavesDemonstration seed v o before after
 LeavesNoHalf command before after = ⊤
 
--- the takings are as they were, or a run or a demonstration took once, or the first of several formulas did in turn
+-- the takings are as they were, or a run or a demonstration took once, or the first of several formulas or pieces did in turn
 abbrev pub MayTake : Command → Option Files → List (ℕ × ℕ) → List (ℕ × ℕ) → Type 0
 MayTake (run spec budget) before taken taken_after = (taken_after ≡ taken) ⊎ IsTaking before taken taken_after spec budget
 MayTake (batch spec budget) before taken taken_after = (taken_after ≡ taken) ⊎ IsBatchTaking before taken taken_after spec budget
+MayTake (spill spec budget limit) before taken taken_after = (taken_after ≡ taken) ⊎ IsSpillTaking before taken taken_after spec budget limit
 MayTake (demo seed v o) before taken taken_after = (taken_after ≡ taken) ⊎ IsDemoTaking v o taken taken_after
 MayTake command before taken taken_after = taken_after ≡ taken
 
--- a refused command leaves the takings as they were; so do several formulas where the disk tells its files
+-- a refused command leaves the takings as they were; so do several formulas and pieces where the disk tells its files
 abbrev pub KeepsRoom : Command → Option Files → List (ℕ × ℕ) → List (ℕ × ℕ) → Type 0
 KeepsRoom (batch spec budget) told taken taken_after = ForSome told (λ _. taken_after ≡ taken)
+KeepsRoom (spill spec budget limit) told taken taken_after = ForSome told (λ _. taken_after ≡ taken)
 KeepsRoom command told taken taken_after = taken_after ≡ taken
 
--- the refusal may leave other files than there were: the disk failed, or memory was wanting in a demonstration or behind the first of several formulas
+-- the refusal may leave other files than there were: the disk failed, or memory was wanting in a demonstration or behind the first of several formulas or pieces
 abbrev pub MayLeaveOther : Command → CommandRefusal → Type 0
 MayLeaveOther (batch spec budget) refusal = MayReplace refusal
+MayLeaveOther (spill spec budget limit) refusal = MayReplace refusal
 MayLeaveOther (demo seed v o) refusal = MayReplace refusal
 MayLeaveOther command refusal = refusal ≡ Common Disk
 
--- and what several formulas then leave
-abbrev pub LeavesFormulas : Command → CommandRefusal → Option Files → Option Files → Type 0
-LeavesFormulas (batch spec budget) refusal before after = OnCommon (λ r. IsBatchLeft r before after spec) refusal
-LeavesFormulas command refusal before after = ⊤
+-- and what several formulas, or the pieces of a tree, then leave
+abbrev pub LeavesInTurn : Command → CommandRefusal → Option Files → Option Files → Type 0
+LeavesInTurn (batch spec budget) refusal before after = OnCommon (λ r. IsBatchLeft r before after spec) refusal
+LeavesInTurn (spill spec budget limit) refusal before after = OnCommon (λ r. IsSpillLeft r before after spec limit) refusal
+LeavesInTurn command refusal before after = ⊤
+
+-- after a failure of the disk those in front of one are complete, and in the place of its result is no half of one
+abbrev pub LeavesCutOff : Command → Option Files → Option Files → Type 0
+LeavesCutOff (batch spec budget) before after = (after ≡ before) ⊎ IsCutOff before after spec
+LeavesCutOff (spill spec budget limit) before after = (after ≡ before) ⊎ IsCutOffInPiece before after spec limit
+LeavesCutOff command before after = ⊤
 
 -- the indexes of the specification that the command checks a certificate against
 abbrev pub HasIndexes : Files → Command → IndexSpace → Type 0

@@ -11,7 +11,7 @@ mod top;
 pub use tce_array::ArrayFault;
 pub use tce_cert::CertFault;
 pub use tce_check::Verdict;
-pub use tce_command::{CertTrouble, EinsumTrouble, Status, SymTrouble};
+pub use tce_command::{CertTrouble, EinsumTrouble, SpillTrouble, Status, SymTrouble};
 pub use tce_declarations::{Limit, SpecFault};
 pub use tce_nesting::Nesting;
 pub use tce_space::{FileName, IndexSet, Name};

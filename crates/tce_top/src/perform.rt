@@ -5,7 +5,7 @@ ghost use Rattle.tce_outside.specs.Fault.{HasCause, TellsFaults};
 ghost use Rattle.tce_command.specs.Command.{KeepsRules};
 ghost use Rattle.tce_command.specs.CommandCode.{command_of};
 ghost use Rattle.tce_command.specs.CommandRefusals.{MayReplace};
-ghost use Rattle.tce_top.specs.Performed.{IsCommandRefusal, IsDone, KeepsRoom, LeavesFormulas, LeavesNoHalf, MayLeaveOther, MayTake, NamesItsIndexes, OthersStay};
+ghost use Rattle.tce_top.specs.Performed.{IsCommandRefusal, IsDone, KeepsRoom, LeavesInTurn, LeavesNoHalf, MayLeaveOther, MayTake, NamesItsIndexes, OthersStay};
 
 use std::alloc::Global;
 use tce_certify::{certify, write_einsum};
@@ -14,7 +14,8 @@ use tce_demo::demo;
 use tce_flat::{convert, expand, pack, unpack};
 use tce_outside::Disk;
 use tce_plan::plan;
-use tce_run::{run, run_all};
+use tce_run::run;
+use tce_sequence::{run_all, spill};
 use tce_verify::verify;
 use tce_words::Room;
 
@@ -30,7 +31,7 @@ pub fn perform<D: Disk, R: Room>(
     ensures refused { IfErr result (λ refusal. ForSome (D.files disk.old) (λ files. IsCommandRefusal files (command_of command.entry) refusal)) }
     ensures line { IfErr result (NamesItsIndexes (command_of command.entry) (D.files disk.old)) }
     ensures unchanged { IfErr result (λ refusal. MayLeaveOther (command_of command.entry) refusal ⊎ (D.files disk.new ≡ D.files disk.old)) }
-    ensures left { IfErr result (λ refusal. LeavesFormulas (command_of command.entry) refusal (D.files disk.old) (D.files disk.new)) }
+    ensures left { IfErr result (λ refusal. LeavesInTurn (command_of command.entry) refusal (D.files disk.old) (D.files disk.new)) }
     ensures takings { IfErr result (λ refusal. MayTake (command_of command.entry) (D.files disk.old) (R.takings room.old) (R.takings room.new)) }
     ensures untaken { IfErr result (λ refusal. MayReplace refusal ⊎ KeepsRoom (command_of command.entry) (D.files disk.old) (R.takings room.old) (R.takings room.new)) }
     ensures no_half { LeavesNoHalf (command_of command.entry) (D.files disk.old) (D.files disk.new) }
@@ -41,6 +42,11 @@ pub fn perform<D: Disk, R: Room>(
     match command {
         Command::Run { spec, budget } => Ok(run(alloc, spec, budget, disk, room)?),
         Command::Batch { spec, budget } => Ok(run_all(alloc, spec, budget, disk, room)?),
+        Command::Spill {
+            spec,
+            budget,
+            limit,
+        } => Ok(spill(alloc, spec, budget, limit, disk, room)?),
         Command::Plan { spec } => Ok(plan(alloc, spec, disk)?),
         Command::Cert { spec, cert } => Ok(certify(alloc, spec, cert, disk)?.into_bytes()),
         Command::Check { spec, cert } => Ok(verify(alloc, spec, cert, disk)?.into_bytes()),

@@ -3,14 +3,13 @@ ghost use Rattle.std.specs.Prelude.{◌≡◌, ◌⊎◌, ℕ, List, Some, map};
 ghost use Rattle.std.specs.String.{string_bytes};
 ghost use Rattle.tce_outside.specs.Fault.{HasCause, TellsFaults};
 ghost use Rattle.tce_outside.specs.Files.{Files};
-ghost use Rattle.tce_command.specs.Command.{batch, einsum, run, IsCommand, IsNoCommand};
+ghost use Rattle.tce_command.specs.Command.{batch, einsum, run, spill, IsCommand, IsNoCommand};
 ghost use Rattle.tce_command.specs.Report.{IsWellFormed, LineNames, NamesNoIndex};
 ghost use Rattle.tce_command.specs.declared.trouble.CertTrouble.{CertTrouble};
 ghost use Rattle.tce_command.specs.Outcome.{Answers, Grew, GrewWithin, HasErrorLine, HasLine, IsFault, IsRefusal};
-ghost use Rattle.tce_top.specs.Performed.{KeepsRoom, LeavesNoHalf, MayTake, OthersStay};
+ghost use Rattle.tce_top.specs.Performed.{KeepsRoom, LeavesCutOff, LeavesNoHalf, MayTake, OthersStay};
 ghost use Rattle.tce_top.specs.Cause.{IsCause, OfCommand, Told};
-ghost use Rattle.tce_top.specs.Outcome.{AreNamed, IsDemonstration, IsFinished, IsPartOfBatch, IsTensorOf, IsWholeBatch, IsWholeEinsum, IsWholeRun};
-ghost use Rattle.tce_run.specs.BatchDone.{IsCutOff};
+ghost use Rattle.tce_top.specs.Outcome.{AreNamed, IsDemonstration, IsFinished, IsPartOfBatch, IsPartOfSpill, IsTensorOf, IsWholeBatch, IsWholeEinsum, IsWholeRun, IsWholeSpill};
 
 use crate::perform::perform;
 use std::alloc::Global;
@@ -44,6 +43,12 @@ pub fn tce<D: Disk, K: Sink, R: Room>(
         → (after : Files) × (put_after : List ℕ) × (D.files disk.new ≡ Some after) × (K.bytes out.new ≡ Some put_after)
         × IsWholeBatch spec budget files after (R.takings room.old) (R.takings room.new) put put_after }
 
+    // A tree that is run in pieces, where the disk and the sink tell.
+    ensures spill { result ≡ Status.Done → (spec : List ℕ) (budget limit : ℕ) → IsCommand (map string_bytes words.now) (spill spec budget limit)
+        → (files : Files) (put : List ℕ) → D.files disk.old ≡ Some files → K.bytes out.old ≡ Some put
+        → (after : Files) × (put_after : List ℕ) × (D.files disk.new ≡ Some after) × (K.bytes out.new ≡ Some put_after)
+        × IsWholeSpill spec budget limit files after (R.takings room.old) (R.takings room.new) put put_after }
+
     // An einsum that is done, where the disk tells.
     ensures einsum { result ≡ Status.Done → (text path spec : List ℕ) → IsCommand (map string_bytes words.now) (einsum text path spec)
         → (files : Files) → D.files disk.old ≡ Some files
@@ -75,9 +80,9 @@ pub fn tce<D: Disk, K: Sink, R: Room>(
     ensures no_memory { result ≡ Status.WantOfMemory → (D.files disk.new ≡ D.files disk.old)
         ⊎ ((report : List ℕ) × IsFinished (map string_bytes words.now) (D.files disk.old) (D.files disk.new) (R.takings room.old) (R.takings room.new) report)
         ⊎ IsDemonstration (map string_bytes words.now)
-        ⊎ IsPartOfBatch (map string_bytes words.now) (D.files disk.old) (D.files disk.new) }
-    ensures cut_off { result ≡ Status.DiskFault → (spec : List ℕ) (budget : ℕ) → IsCommand (map string_bytes words.now) (batch spec budget)
-        → (D.files disk.new ≡ D.files disk.old) ⊎ IsCutOff (D.files disk.old) (D.files disk.new) spec }
+        ⊎ IsPartOfBatch (map string_bytes words.now) (D.files disk.old) (D.files disk.new)
+        ⊎ IsPartOfSpill (map string_bytes words.now) (D.files disk.old) (D.files disk.new) }
+    ensures cut_off { result ≡ Status.DiskFault → OfCommand (map string_bytes words.now) (λ command. LeavesCutOff command (D.files disk.old) (D.files disk.new)) }
     ensures no_half { OfCommand (map string_bytes words.now) (λ command. LeavesNoHalf command (D.files disk.old) (D.files disk.new)) }
     ensures takings { OfCommand (map string_bytes words.now) (λ command. MayTake command (D.files disk.old) (R.takings room.old) (R.takings room.new)) }
     ensures others { OfCommand (map string_bytes words.now) (λ command. OthersStay command (D.files disk.old) (D.files disk.new)) }

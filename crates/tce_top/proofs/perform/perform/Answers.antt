@@ -4,6 +4,7 @@ use Rattle.tce_command.specs.CommandCode.{command_of}
 use Rattle.tce_top.specs.Performed.{LeavesNoHalf}
 use Rattle.tce_top.proofs.Demonstrations.{demo_leaves}
 use Rattle.tce_top.proofs.Batches.{batch_unchanged, batch_leaves, batch_untaken}
+use Rattle.tce_top.proofs.Spills.{spill_unchanged, spill_leaves, spill_untaken}
 use Rattle.tce_top.proofs.perform.perform.Goals as goal
 
 pub returns-in_err-demo-in-Demo-clause-unchanged : goal.returns-in_err-demo-in-Demo-clause-unchanged
@@ -25,6 +26,21 @@ pub returns-in_err-run_all-in-Batch-clause-untaken : goal.returns-in_err-run_all
 returns-in_err-run_all-in-Batch-clause-untaken g c =
     batch_untaken c.from_residual-in_err-run_all-in-Batch.result _ _ _ c.in_err-run_all-in-Batch.field-0.0 (command_of c.args.command) _ _ (ap command_of c.in-Batch.is)
     c.from_residual-in_err-run_all-in-Batch.ensures.1 c.in_err-run_all-in-Batch.ensures.takings
+
+pub returns-in_err-spill-in-Spill-clause-unchanged : goal.returns-in_err-spill-in-Spill-clause-unchanged
+returns-in_err-spill-in-Spill-clause-unchanged g c =
+    spill_unchanged c.from_residual-in_err-spill-in-Spill.result _ _ c.in_err-spill-in-Spill.field-0.0 (command_of c.args.command) _ _ _ (ap command_of c.in-Spill.is)
+    c.from_residual-in_err-spill-in-Spill.ensures.1 c.in_err-spill-in-Spill.ensures.left
+
+pub returns-in_err-spill-in-Spill-clause-left : goal.returns-in_err-spill-in-Spill-clause-left
+returns-in_err-spill-in-Spill-clause-left g c =
+    spill_leaves c.from_residual-in_err-spill-in-Spill.result _ _ c.in_err-spill-in-Spill.field-0.0 (command_of c.args.command) _ _ _ (ap command_of c.in-Spill.is)
+    c.from_residual-in_err-spill-in-Spill.ensures.1 c.in_err-spill-in-Spill.ensures.left
+
+pub returns-in_err-spill-in-Spill-clause-untaken : goal.returns-in_err-spill-in-Spill-clause-untaken
+returns-in_err-spill-in-Spill-clause-untaken g c =
+    spill_untaken c.from_residual-in_err-spill-in-Spill.result _ _ _ c.in_err-spill-in-Spill.field-0.0 (command_of c.args.command) _ _ _ (ap command_of c.in-Spill.is)
+    c.from_residual-in_err-spill-in-Spill.ensures.1 c.in_err-spill-in-Spill.ensures.takings
 
 pub returns-in_ok-pack-in-Pack-clause-no_half : goal.returns-in_ok-pack-in-Pack-clause-no_half
 returns-in_ok-pack-in-Pack-clause-no_half g c =

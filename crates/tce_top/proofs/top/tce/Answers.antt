@@ -1,8 +1,8 @@
 use Rattle.std.proofs.Common.{refl, inl, sym, subst, rules}
-use Rattle.tce_command.specs.Command.{batch, einsum, run}
+use Rattle.tce_command.specs.Command.{batch, einsum, run, spill}
 use Rattle.tce_command.specs.Outcome.{Grew}
 use Rattle.tce_command.proofs.Commands.{one_command}
-use Rattle.tce_top.specs.Performed.{CanDo, IsCommandRefusal, IsDone, KeepsRoom, LeavesFormulas, LeavesNoHalf, MayTake, OthersStay}
+use Rattle.tce_top.specs.Performed.{CanDo, IsCommandRefusal, IsDone, KeepsRoom, LeavesInTurn, LeavesNoHalf, MayTake, OthersStay}
 use Rattle.tce_top.proofs.Joined.{done_can, done_takes, done_cause, done_answers, refused_cause, refused_answers}
 use Rattle.tce_top.proofs.Left as left
 use Rattle.tce_top.proofs.top.tce.Goals as goal
@@ -12,9 +12,6 @@ returns-in_default-clause-line g c = λ has plain names of. c.refuse_words.ensur
 
 pub returns-in_default-clause-unchanged : goal.returns-in_default-clause-unchanged
 returns-in_default-clause-unchanged g c = λ refused. (refl, λ command is. left.keeps_same command _ _ _ refl)
-
-pub returns-in_default-clause-cut_off : goal.returns-in_default-clause-cut_off
-returns-in_default-clause-cut_off g c = λ failed spec budget is. inl refl
 
 pub returns-in-Ok-clause-cut_off : goal.returns-in-Ok-clause-cut_off
 returns-in-Ok-clause-cut_off g c = λ failed. left.not_cut_off c.finish.result _ c.finish.ensures.cases failed
@@ -34,6 +31,16 @@ returns-in-Ok-clause-batch g c = λ done spec budget is files put told sink.
     let same = one_command _ _ (batch spec budget) c.in-Some.ensures is in
     let grew : Grew c.in-Ok.report.items (g.K.Sink.bytes c.args.out.now) (g.K.Sink.bytes c.finish.new.out) = search (rules, c.finish.ensures.done done) in
     left.whole_batch spec budget files put _ _ _ _ _ _ _
+    (subst
+    (λ k. IsDone k (g.D.Disk.files c.args.disk.now) (g.D.Disk.files c.perform.new.disk) (g.R.Room.takings c.args.room.now) (g.R.Room.takings c.perform.new.room) c.in-Ok.report.items)
+    (sym same) c.in-Ok.ensures.done)
+    grew told sink
+
+pub returns-in-Ok-clause-spill : goal.returns-in-Ok-clause-spill
+returns-in-Ok-clause-spill g c = λ done spec budget limit is files put told sink.
+    let same = one_command _ _ (spill spec budget limit) c.in-Some.ensures is in
+    let grew : Grew c.in-Ok.report.items (g.K.Sink.bytes c.args.out.now) (g.K.Sink.bytes c.finish.new.out) = search (rules, c.finish.ensures.done done) in
+    left.whole_spill spec budget limit files put _ _ _ _ _ _ _
     (subst
     (λ k. IsDone k (g.D.Disk.files c.args.disk.now) (g.D.Disk.files c.perform.new.disk) (g.R.Room.takings c.args.room.now) (g.R.Room.takings c.perform.new.room) c.in-Ok.report.items)
     (sym same) c.in-Ok.ensures.done)
@@ -90,10 +97,10 @@ returns-in-Err-clause-unchanged g c = λ refused. (
 )
 
 pub returns-in-Err-clause-cut_off : goal.returns-in-Err-clause-cut_off
-returns-in-Err-clause-cut_off g c = λ failed spec budget is.
-    let same = one_command _ _ (batch spec budget) c.in-Some.ensures is in
-    left.cut_off spec budget c.in-Err.refusal c.refuse.result (g.D.Disk.files c.args.disk.now) (g.D.Disk.files c.perform.new.disk) c.refuse.ensures.kept failed
-    (subst (λ k. LeavesFormulas k c.in-Err.refusal (g.D.Disk.files c.args.disk.now) (g.D.Disk.files c.perform.new.disk)) (sym same) c.in-Err.ensures.left)
+returns-in-Err-clause-cut_off g c = λ failed command is.
+    let same = one_command _ _ command c.in-Some.ensures is in
+    left.cut_off command c.in-Err.refusal c.refuse.result (g.D.Disk.files c.args.disk.now) (g.D.Disk.files c.perform.new.disk) c.refuse.ensures.kept failed
+    (subst (λ k. LeavesInTurn k c.in-Err.refusal (g.D.Disk.files c.args.disk.now) (g.D.Disk.files c.perform.new.disk)) (sym same) c.in-Err.ensures.left)
 
 pub returns-in-Err-clause-no_memory : goal.returns-in-Err-clause-no_memory
 returns-in-Err-clause-no_memory g c = λ memory.
