@@ -16,6 +16,7 @@ FORMULA = rb"formula [1-9][0-9]*\n" + RUN
 REPORTS = {
     b"run": RUN + WROTE,
     b"batch": rb"(?:" + FORMULA + rb"wrote [A-Za-z0-9_]+\.tca " + NUMBER + rb"\n)*" + FORMULA + WROTE,
+    b"spill": rb"(?:piece [0-9]+ memory " + NUMBER + rb" tiles " + NUMBER + rb"\n)+" + WROTE,
     b"plan": NODES,
     b"cert": rb"memory " + NUMBER + rb"\n" + WROTE,
     b"check": rb"accepted memory " + NUMBER + rb"\n",
@@ -63,7 +64,9 @@ def of_text(command, outcome, piped):
 
 
 def results_of(command, before):
-    """The files of the results in the text of several formulas."""
+    """The files of the results in the text of several formulas, or of the pieces of a tree."""
+    if command.words[0] == b"spill":
+        return {f"spill-{v}.tca" for v in range(32)}
     if command.words[0] != b"batch":
         return set()
     text = before.get(command.reads[0], (None, None))[1] or b""

@@ -41,6 +41,7 @@ def cases(command):
     if command.output:
         yield from bad_outputs(command)
         yield from bad_output_paths(command)
+    yield from bad_earlier(command)
     yield from bad_words(command)
 
 
@@ -184,6 +185,14 @@ def bad_outputs(command):
     yield Case("an output that leads to itself", {8}, link(name, name), leaves="unchanged")
     yield Case("a full device as the output", {8}, link(name, "/dev/full"), leaves="unchanged")
     yield Case("an output that was there", {0}, put(name, b"what was there before" * 1000), leaves="complete")
+
+
+def bad_earlier(command):
+    for name, _ in command.earlier:
+        there = in_turn(put(name, b"what was there before"), with_mode(name, 0o444))
+        yield Case(f"a folder as {name}", {8}, folder_at(name), leaves="unchanged")
+        yield Case(f"a read-only {name}", {8}, there, leaves="unchanged")
+        yield Case(f"a full device as {name}", {8}, link(name, "/dev/full"), leaves="unchanged")
 
 
 # Paths.

@@ -58,6 +58,7 @@ LINES = {
     12: rb"no tensor " + NAME,
     13: rb"element " + NUMBER + rb" does not fit",
     14: rb"bad text|size of [a-z]|path item " + NUMBER + rb"|too long|line [1-9][0-9]*: (?:" + SPEC_FAULT + rb")",
+    15: rb"32 tensors|piece [0-9]+ needs " + NUMBER,
     16: NAME + rb"\.sym: (?:length|head byte) " + NUMBER,
 }
 

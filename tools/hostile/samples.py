@@ -122,6 +122,15 @@ COMMANDS = [
         array([2, 2], [1, 1], [85, 126, 193, 286]),
         earlier=(("U.tca", array([2, 2], [1, 1], [19, 22, 43, 50])),),
     ),
+    Command(
+        "spill",
+        (b"spill", b"sum.tce", b"3", b"0"),
+        ("sum.tce", "F.tca", "G.tca"),
+        b"tce spill 1\npiece 0 memory 0 tiles 3\npiece 1 memory 0 tiles 3\nwrote H.tca 80\n",
+        "H.tca",
+        array([2, 2], [1, 1], [19, 22, 43, 50]),
+        earlier=(("spill-0.tca", array([2, 2, 2], [1, 1, 1], [5, 14, 6, 16, 15, 28, 18, 32])),),
+    ),
     Command("plan", (b"plan", b"four.tce"), ("four.tce",), FOUR_REPORT),
     Command(
         "cert",
