@@ -4,7 +4,9 @@ use Rattle.std.proofs.Math.Nat.{mul-le-mul_left}
 use Rattle.std.proofs.lemmas.Bool.{cases_lt}
 use Rattle.std.proofs.lemmas.List.{get_or-set_other, get_or-take, get_or-drop, length-take-le, length-drop}
 use Rattle.std.proofs.lemmas.Grind.{get_or-set_at}
+use borrow.Rule.Slice.PartMut.{put_mid}
 use Rattle.tce_base.specs.Word.{word_of_bytes}
+use Rattle.tce_tools.proofs.Shuffles.{copied, kept}
 use Rattle.tce_array.specs.declared.form.Form.TheVariants.{One}
 use Rattle.tce_array.specs.Forms.{width, word_in}
 use Rattle.tce_sym.specs.declared.lines.Grid.{Grid}
@@ -39,7 +41,7 @@ below g room slot k is h i l e =
     omega (arith, row, is.apart, e)
 
 -- words of different slots, or different words of one
-apart : (p a b s t : ℕ) → s < p → t < p → a < b → a * p + s ≢ b * p + t
+pub apart : (p a b s t : ℕ) → s < p → t < p → a < b → a * p + s ≢ b * p + t
 apart p a b s t h l less e =
     let row : p * (a + 1) ≤ p * b = mul-le-mul_left p (omega arith) in
     omega (arith, row, e, h)
@@ -156,3 +158,15 @@ part_read bytes ws start from n room read k l =
     let size = length-take-le n (drop from ws) (omega (arith, behind)) in
     let at : start + (from + k) ≡ start + from + k = omega arith in
     get_or-take n (drop from ws) k 0 (omega (arith, size)) ∙ get_or-drop from ws k 0 ∙ read (from + k) (omega (arith, size)) ∙ ap (stored_word bytes) at
+
+-- words put behind the first ones
+pub words_more : (bytes : List ℕ) (done len : ℕ) (old ws : List ℕ) → length ws ≡ len → done + len ≤ length old → ((k : ℕ) → k < length ws → slice_index ws k ≡ stored_word bytes (done + k))
+    → ((k : ℕ) → k < done → slice_index old k ≡ stored_word bytes k) → (k : ℕ) → k < done + len → slice_index (put_mid done (done + len - done) old ws) k ≡ stored_word bytes k
+words_more bytes done len old ws size room read before k l =
+    elim (cases_lt k done) [
+      | inl low ↦ kept done (done + len - done) old ws k (omega (arith, size)) (omega (arith, size)) (inl low) ∙ before k low
+      | inr high ↦ (let at : k ≡ done + (k - done) = omega arith in
+          ap (slice_index (put_mid done (done + len - done) old ws)) at
+          ∙ copied done (done + len - done) old ws (k - done) (omega (arith, size)) (omega (arith, size)) (omega (arith, size))
+          ∙ read (k - done) (omega (arith, size)) ∙ ap (stored_word bytes) (sym at))
+    ]

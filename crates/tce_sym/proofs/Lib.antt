@@ -10,3 +10,4 @@ pub mod Moved
 pub mod WordCoords
 pub mod Pieces
 pub mod Walked
+pub mod Across

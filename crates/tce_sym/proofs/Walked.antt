@@ -106,3 +106,7 @@ mirrored_is t bytes p h = cell_above t.negated p.first p.second (stored_word byt
 
 pub between_is : (t : Triangles) (bytes : List ℕ) (p : Pair) → p.first ≤ p.second → p.second ≤ p.first → t.negated ≡ true → 0 ≡ cell_of t bytes p
 between_is t bytes p h k e = cell_between t.negated p.first p.second (stored_word bytes (pair_place t p)) (stored_word bytes (pair_place t (mirror p))) h k e
+
+-- the place so many steps on, where all steps are equal
+pub step_place : (walk : Walk) (k : ℕ) → walk.grows ≡ false → walk_place walk k ≡ walk.place + walk.step * k
+step_place walk k e = ap (λ b. walk.place + walk.step * k + (if b then pairs true k else 0)) e ∙ omega arith

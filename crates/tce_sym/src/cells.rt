@@ -1,10 +1,10 @@
 // Elements of the whole array, from the stored words.
 ghost use Rattle.std.specs.Prelude.{◌≡◌, ◌≤◌};
 ghost use Rattle.tce_sym.specs.Storage.{AreRight, stored_count};
-ghost use Rattle.tce_sym.specs.Lines.{IsGrid};
+ghost use Rattle.tce_sym.specs.Lines.{HasRoom};
 ghost use Rattle.tce_sym.specs.Cells.{AreTriangles, AreOf};
 
-use crate::slots::{Slots, slots_of};
+use crate::slots::{Slots, grid_within, slots_of};
 use crate::symmetry::{Symmetry, pairs, stored_count};
 use tce_space::Shape;
 
@@ -43,16 +43,21 @@ pub fn triangles_of(shape: &Shape, s: &Symmetry, room: usize) -> Triangles
     ensures triangles { AreTriangles result }
     ensures same { AreOf shape.now.extents s.now result }
     ensures count { result.count ≡ stored_count shape.now.extents s.now }
-    ensures grid { IsGrid result.slots.grid room }
+    ensures room { HasRoom result.slots.grid.layout result.slots.grid room }
 {
     let extent = shape.extents()[s.first as usize];
     let count = stored_count(shape, s);
+    let pairs = pairs(s.negated, extent);
+    let others = shape.elements() / (extent * extent);
+    let is_last = s.second as usize + 1 == shape.extents().len();
+    let mut slots = slots_of(shape, s, count, room);
+    slots.grid = grid_within(slots.grid, others, pairs, is_last, room);
     Triangles {
         negated: s.negated,
         extent,
-        pairs: pairs(s.negated, extent),
-        others: shape.elements() / (extent * extent),
+        pairs,
+        others,
         count,
-        slots: slots_of(shape, s, count, room),
+        slots,
     }
 }

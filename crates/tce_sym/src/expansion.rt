@@ -1,5 +1,5 @@
 // Whole arrays from stored elements.
-ghost use Rattle.std.specs.Prelude.{◌≡◌, ◌≢◌, ◌+◌, ◌<◌, ◌≤◌, ◌^◌, length, replicate, OnOk, IsErr, IsErrOf};
+ghost use Rattle.std.specs.Prelude.{◌≡◌, ◌≢◌, ◌+◌, ◌*◌, ◌<◌, ◌≤◌, ◌^◌, length, replicate, OnOk, IsErr, IsErrOf};
 ghost use Rattle.std.specs.Option.{ForSome, IsSomeAnd};
 ghost use Rattle.tce_space.specs.Tiling.{padded_words};
 ghost use Rattle.tce_outside.specs.Files.{file, others};
@@ -9,14 +9,16 @@ ghost use Rattle.tce_tools.specs.Flat.{contents};
 ghost use Rattle.tce_tools.specs.Storage.{bare_bytes, holding_by};
 ghost use Rattle.tce_tools.specs.NoHalf.{LeavesNoHalfOf};
 ghost use Rattle.tce_sym.specs.Storage.{AreRight, IsStored, full_cell, stored_count};
-ghost use Rattle.tce_sym.specs.Lines.{IsGrid, AreLines};
+ghost use Rattle.tce_sym.specs.Lines.{HasRoom, AreHeld};
 ghost use Rattle.tce_sym.specs.Cells.{AreTriangles, AreOf};
 ghost use Rattle.tce_sym.specs.TileRows.{AreWords};
 
 use crate::cells::{Triangles, triangles_of};
+use crate::lines::{Grid, Layout};
 use crate::rows::{read_row, row_of};
 use crate::symmetry::Symmetry;
 use crate::tile_rows::tile_row_at;
+use crate::whole::{read_across, read_whole};
 use tce_array::{Form, form_len};
 use tce_outside::{Disk, Failed, OutFault};
 use tce_space::Shape;
@@ -28,14 +30,37 @@ const LONGEST_PIECE: usize = 2048;
 // The words for lines that stand on the stack.
 const SHORT_LINES: usize = 2048;
 
-/// The words for lines that [`expand_through`] makes the most of: 37.5 MiB.
-pub const MOST_LINE_WORDS: usize = 75 << 16;
+/// The words that [`expand_through`] makes the most of: 68 MiB, in which the stored words of some 2^24 elements stand.
+pub const MOST_LINE_WORDS: usize = 136 << 16;
 
 // Makes each word 0.
 fn clear(words: &mut [u64])
     ensures { words.new ≡ replicate (length words.old) 0 }
 {
     words.fill(0);
+}
+
+// Reads all stored words where there is room for them; else no slot holds a line yet.
+fn hold_words<D: Disk>(
+    disk: &mut D,
+    packed: &str,
+    grid: &Grid,
+    lines: &mut [u64],
+) -> Result<(), Failed>
+    requires room { HasRoom grid.now.layout grid.now (length lines.old) }
+    requires count { grid.now.count ≤ 2 ^ 48 }
+    requires file { ForSome (D.files disk.old) (λ fs. IsSomeAnd (file fs packed.now) (λ bytes. length bytes ≡ 32 + 8 * grid.now.count)) }
+    ensures held { OnOk result (ForSome (D.files disk.old) (λ fs. AreHeld grid.now.layout grid.now (contents fs packed.now) lines.new)) }
+    ensures same { D.files disk.new ≡ D.files disk.old }
+    ensures cause { HasCause (D.faults disk.old) (D.faults disk.new) (IsErr result) }
+    ensures told { TellsFaults (D.faults disk.old) (D.faults disk.new) (IsErr result) }
+{
+    match grid.layout {
+        Layout::Lines => clear(lines),
+        Layout::Whole => read_whole(disk, packed, grid, lines)?,
+        Layout::Across => read_across(disk, packed, grid, lines)?,
+    }
+    Ok(())
 }
 
 // A whole tensor, and the file of which it is.
@@ -63,10 +88,10 @@ fn read_piece<D: Disk>(
     requires triangles { AreTriangles source.now.triangles.now }
     requires of { AreOf source.now.shape.now.extents source.now.s.now source.now.triangles.now }
     requires count { source.now.triangles.now.count ≡ stored_count source.now.shape.now.extents source.now.s.now }
-    requires grid { IsGrid source.now.triangles.now.slots.grid (length lines.old) }
-    requires lines { ForSome (D.files disk.old) (λ fs. AreLines source.now.triangles.now.slots.grid (contents fs source.now.packed.now) lines.old) }
+    requires room { HasRoom source.now.triangles.now.slots.grid.layout source.now.triangles.now.slots.grid (length lines.old) }
+    requires lines { ForSome (D.files disk.old) (λ fs. AreHeld source.now.triangles.now.slots.grid.layout source.now.triangles.now.slots.grid (contents fs source.now.packed.now) lines.old) }
     ensures read { OnOk result (ForSome (D.files disk.old) (λ fs. AreWords source.now.shape.now (full_cell source.now.shape.now.extents source.now.s.now (contents fs source.now.packed.now)) start (length words.old) words.new)) }
-    ensures lines { OnOk result (ForSome (D.files disk.old) (λ fs. AreLines source.now.triangles.now.slots.grid (contents fs source.now.packed.now) lines.new)) }
+    ensures lines { OnOk result (ForSome (D.files disk.old) (λ fs. AreHeld source.now.triangles.now.slots.grid.layout source.now.triangles.now.slots.grid (contents fs source.now.packed.now) lines.new)) }
     ensures len { length words.new ≡ length words.old }
     ensures same { D.files disk.new ≡ D.files disk.old }
     ensures cause { HasCause (D.faults disk.old) (D.faults disk.new) (IsErr result) }
@@ -88,7 +113,7 @@ fn read_piece<D: Disk>(
 }
 
 // Makes the file of all elements, with zeros in the place of its head.
-#[tactic(auto, using(tce_tools::proofs::NoHalf::unmade_left))]
+#[tactic(auto, using(tce_tools::proofs::NoHalf::unmade_left, tce_tools::proofs::NoHalf::same_left))]
 fn expand_elements<D: Disk>(
     disk: &mut D,
     shape: &Shape,
@@ -108,9 +133,11 @@ fn expand_elements<D: Disk>(
     ensures cause { HasCause (D.faults disk.old) (D.faults disk.new) (IsErrOf result OutFault.Failed) }
     ensures told { TellsFaults (D.faults disk.old) (D.faults disk.new) (IsErrOf result OutFault.Failed) }
 {
-    disk.make(array, form_len(Form::One, shape))?;
-    clear(lines);
     let triangles = triangles_of(shape, s, lines.len());
+    let Ok(()) = hold_words(disk, packed, &triangles.slots.grid, lines) else {
+        return Err(OutFault::Failed);
+    };
+    disk.make(array, form_len(Form::One, shape))?;
     let source = Source {
         shape,
         s,
@@ -139,9 +166,10 @@ fn expand_elements<D: Disk>(
 /// Makes the array file, in the first form, of the whole tensor of which `packed` stores one element for each pair.
 ///
 /// For want of memory (`Memory`) no file changes. Where the disk fails (`Failed`), the array file is as it was, is absent,
-/// begins with zeros as no array does, or is whole but for its head, which is written last. All other files stay in every case. The stored words are read in lines, and the array is written in pieces, tile
-/// by tile, so that the call needs no memory of its own, however large the files are. [`expand_through`] does the same with
-/// more lines, and faster.
+/// begins with zeros as no array does, or is whole but for its head, which is written last. All other files stay in every
+/// case. The stored words are read in lines, or at once where they are few, and the array is written in pieces, tile by tile,
+/// so that the call needs no memory of its own, however large the files are. [`expand_through`] does the same with more
+/// room for stored words, and faster.
 pub fn expand<D: Disk>(
     disk: &mut D,
     shape: &Shape,
@@ -163,8 +191,9 @@ pub fn expand<D: Disk>(
     expand_through(disk, shape, s, packed, array, &mut lines)
 }
 
-/// What [`expand`] does, with words for the lines that the caller lends, whatever they hold, up to [`MOST_LINE_WORDS`]. What
-/// they hold afterwards is free.
+/// What [`expand`] does, in words that the caller lends, whatever they hold, of use up to [`MOST_LINE_WORDS`]: where there is
+/// room for all stored words they are read once, and else in lines, some more than once. What the words hold afterwards is
+/// free.
 pub fn expand_through<D: Disk>(
     disk: &mut D,
     shape: &Shape,

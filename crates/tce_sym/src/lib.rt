@@ -21,6 +21,7 @@ mod slots;
 mod symmetry;
 mod tile_rows;
 mod walks;
+mod whole;
 
 pub use expansion::{MOST_LINE_WORDS, expand, expand_through};
 pub use fault::SymFault;

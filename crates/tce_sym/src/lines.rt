@@ -18,18 +18,35 @@ pub const LONGEST_LINE: usize = 256;
 /// The most words that are read at once, of which several lines are made.
 pub const WINDOW: usize = 2048;
 
-/// How lines stand in memory: a row of marks, one for each slot, and below it a row for each word of a line. A mark is one
-/// more than the place of its line's first word, or 0 where the slot has none.
+/// How the stored words stand in memory.
+#[derive(Clone, Copy)]
+pub enum Layout {
+    /// Some of them, in lines.
+    Lines,
+    /// All of them, one after the other.
+    Whole,
+    /// All of them, those of one pair side by side.
+    Across,
+}
+
+/// The room for stored words. Lines stand below a row of marks, one for each slot: a row for each word of a line. A mark is
+/// one more than the place of its line's first word, or 0 where the slot has none.
 #[derive(Clone, Copy)]
 pub struct Grid {
+    /// How the words stand.
+    pub layout: Layout,
     /// The last slot.
     pub last: usize,
-    /// The words from a row to the next.
+    /// The words from a row to the next, or from a pair to the next where those of a pair stand side by side.
     pub pitch: usize,
     /// The words of a line.
     pub line: usize,
     /// How many words are stored.
     pub count: u64,
+    /// How many words there are of a pair.
+    pub others: u64,
+    /// How many pairs there are.
+    pub pairs: u64,
 }
 
 /// A stored word that is wanted, and the words that are read for it, of which lines are made.

@@ -6,7 +6,7 @@ ghost use Rattle.tce_outside.specs.Files.{file};
 ghost use Rattle.tce_outside.specs.Fault.{HasCause, TellsFaults};
 ghost use Rattle.tce_tools.specs.Flat.{contents};
 ghost use Rattle.tce_sym.specs.Storage.{AreRight, IsPair, stored_word, turned};
-ghost use Rattle.tce_sym.specs.Lines.{IsGrid, AreLines};
+ghost use Rattle.tce_sym.specs.Lines.{HasRoom, AreHeld};
 ghost use Rattle.tce_sym.specs.Cells.{AreTriangles, IsAmong, IsPairOf, IsWalkOf, IsMirroredWalkOf, cell_of, mirror, moved_pair, pair_place};
 
 use crate::cells::{Pair, Triangles};
@@ -202,10 +202,10 @@ fn read_stored<D: Disk>(
     requires stored { (k : ℕ) → k < length words.old → IsPair triangles.now.negated (moved_pair row.now k).first (moved_pair row.now k).second }
     requires few { length words.old ≤ 2048 }
     requires file { ForSome (D.files disk.old) (λ fs. IsSomeAnd (file fs packed.now) (λ bytes. length bytes ≡ 32 + 8 * triangles.now.count)) }
-    requires grid { IsGrid triangles.now.slots.grid (length lines.old) }
-    requires lines { ForSome (D.files disk.old) (λ fs. AreLines triangles.now.slots.grid (contents fs packed.now) lines.old) }
+    requires room { HasRoom triangles.now.slots.grid.layout triangles.now.slots.grid (length lines.old) }
+    requires lines { ForSome (D.files disk.old) (λ fs. AreHeld triangles.now.slots.grid.layout triangles.now.slots.grid (contents fs packed.now) lines.old) }
     ensures read { OnOk result (ForSome (D.files disk.old) (λ fs. (k : ℕ) → k < length words.new → slice_index words.new k ≡ stored_word (contents fs packed.now) (pair_place triangles.now (moved_pair row.now k)))) }
-    ensures lines { OnOk result (ForSome (D.files disk.old) (λ fs. AreLines triangles.now.slots.grid (contents fs packed.now) lines.new)) }
+    ensures lines { OnOk result (ForSome (D.files disk.old) (λ fs. AreHeld triangles.now.slots.grid.layout triangles.now.slots.grid (contents fs packed.now) lines.new)) }
     ensures same { D.files disk.new ≡ D.files disk.old }
     ensures cause { HasCause (D.faults disk.old) (D.faults disk.new) (IsErr result) }
     ensures told { TellsFaults (D.faults disk.old) (D.faults disk.new) (IsErr result) }
@@ -232,10 +232,10 @@ fn read_mirrored<D: Disk>(
     requires mirrored { (k : ℕ) → k < length words.old → (moved_pair row.now k).second < (moved_pair row.now k).first }
     requires few { length words.old ≤ 2048 }
     requires file { ForSome (D.files disk.old) (λ fs. IsSomeAnd (file fs packed.now) (λ bytes. length bytes ≡ 32 + 8 * triangles.now.count)) }
-    requires grid { IsGrid triangles.now.slots.grid (length lines.old) }
-    requires lines { ForSome (D.files disk.old) (λ fs. AreLines triangles.now.slots.grid (contents fs packed.now) lines.old) }
+    requires room { HasRoom triangles.now.slots.grid.layout triangles.now.slots.grid (length lines.old) }
+    requires lines { ForSome (D.files disk.old) (λ fs. AreHeld triangles.now.slots.grid.layout triangles.now.slots.grid (contents fs packed.now) lines.old) }
     ensures read { OnOk result (ForSome (D.files disk.old) (λ fs. (k : ℕ) → k < length words.new → slice_index words.new k ≡ turned triangles.now.negated (stored_word (contents fs packed.now) (pair_place triangles.now (mirror (moved_pair row.now k)))))) }
-    ensures lines { OnOk result (ForSome (D.files disk.old) (λ fs. AreLines triangles.now.slots.grid (contents fs packed.now) lines.new)) }
+    ensures lines { OnOk result (ForSome (D.files disk.old) (λ fs. AreHeld triangles.now.slots.grid.layout triangles.now.slots.grid (contents fs packed.now) lines.new)) }
     ensures same { D.files disk.new ≡ D.files disk.old }
     ensures cause { HasCause (D.faults disk.old) (D.faults disk.new) (IsErr result) }
     ensures told { TellsFaults (D.faults disk.old) (D.faults disk.new) (IsErr result) }
@@ -263,10 +263,10 @@ fn read_others<D: Disk>(
     requires others { (k : ℕ) → k < length words.old → (moved_pair row.now k).first ≤ (moved_pair row.now k).second }
     requires few { length words.old ≤ 2048 }
     requires file { ForSome (D.files disk.old) (λ fs. IsSomeAnd (file fs packed.now) (λ bytes. length bytes ≡ 32 + 8 * triangles.now.count)) }
-    requires grid { IsGrid triangles.now.slots.grid (length lines.old) }
-    requires lines { ForSome (D.files disk.old) (λ fs. AreLines triangles.now.slots.grid (contents fs packed.now) lines.old) }
+    requires room { HasRoom triangles.now.slots.grid.layout triangles.now.slots.grid (length lines.old) }
+    requires lines { ForSome (D.files disk.old) (λ fs. AreHeld triangles.now.slots.grid.layout triangles.now.slots.grid (contents fs packed.now) lines.old) }
     ensures read { OnOk result (ForSome (D.files disk.old) (λ fs. (k : ℕ) → k < length words.new → slice_index words.new k ≡ cell_of triangles.now (contents fs packed.now) (moved_pair row.now k))) }
-    ensures lines { OnOk result (ForSome (D.files disk.old) (λ fs. AreLines triangles.now.slots.grid (contents fs packed.now) lines.new)) }
+    ensures lines { OnOk result (ForSome (D.files disk.old) (λ fs. AreHeld triangles.now.slots.grid.layout triangles.now.slots.grid (contents fs packed.now) lines.new)) }
     ensures same { D.files disk.new ≡ D.files disk.old }
     ensures cause { HasCause (D.faults disk.old) (D.faults disk.new) (IsErr result) }
     ensures told { TellsFaults (D.faults disk.old) (D.faults disk.new) (IsErr result) }
@@ -295,10 +295,10 @@ pub fn read_row<D: Disk>(
     requires among { (k : ℕ) → k < length words.old → IsAmong triangles.now (moved_pair row.now k) }
     requires few { length words.old ≤ 2048 }
     requires file { ForSome (D.files disk.old) (λ fs. IsSomeAnd (file fs packed.now) (λ bytes. length bytes ≡ 32 + 8 * triangles.now.count)) }
-    requires grid { IsGrid triangles.now.slots.grid (length lines.old) }
-    requires lines { ForSome (D.files disk.old) (λ fs. AreLines triangles.now.slots.grid (contents fs packed.now) lines.old) }
+    requires room { HasRoom triangles.now.slots.grid.layout triangles.now.slots.grid (length lines.old) }
+    requires lines { ForSome (D.files disk.old) (λ fs. AreHeld triangles.now.slots.grid.layout triangles.now.slots.grid (contents fs packed.now) lines.old) }
     ensures read { OnOk result (ForSome (D.files disk.old) (λ fs. (k : ℕ) → k < length words.new → slice_index words.new k ≡ cell_of triangles.now (contents fs packed.now) (moved_pair row.now k))) }
-    ensures lines { OnOk result (ForSome (D.files disk.old) (λ fs. AreLines triangles.now.slots.grid (contents fs packed.now) lines.new)) }
+    ensures lines { OnOk result (ForSome (D.files disk.old) (λ fs. AreHeld triangles.now.slots.grid.layout triangles.now.slots.grid (contents fs packed.now) lines.new)) }
     ensures same { D.files disk.new ≡ D.files disk.old }
     ensures cause { HasCause (D.faults disk.old) (D.faults disk.new) (IsErr result) }
     ensures told { TellsFaults (D.faults disk.old) (D.faults disk.new) (IsErr result) }

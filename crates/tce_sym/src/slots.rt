@@ -1,9 +1,9 @@
 // Which slots are for which lines: those of columns, the pairs with one second coordinate, and those of pieces of triangles.
-ghost use Rattle.std.specs.Prelude.{◌≡◌, ◌+◌, ◌*◌, ◌<◌, ◌≤◌, length};
+ghost use Rattle.std.specs.Prelude.{◌≡◌, ◌+◌, ◌*◌, ◌<◌, ◌≤◌, ◌^◌, length};
 ghost use Rattle.tce_sym.specs.Storage.{AreRight};
-ghost use Rattle.tce_sym.specs.Lines.{IsGrid};
+ghost use Rattle.tce_sym.specs.Lines.{IsGrid, HasRoom};
 
-use crate::lines::{Grid, LONGEST_LINE, WINDOW};
+use crate::lines::{Grid, LONGEST_LINE, Layout, WINDOW};
 use crate::symmetry::Symmetry;
 use crate::walks::Region;
 use tce_space::Shape;
@@ -76,10 +76,13 @@ fn grid_of(slots: usize, wanted: u64, count: u64, room: usize) -> Grid
     let fitting = (room / pitch).max(2) - 1;
     let line = power_within(wanted.min(LONGEST_LINE as u64), fitting as u64);
     Grid {
+        layout: Layout::Lines,
         last: slots - 1,
         pitch,
         line: (line as usize).min(LONGEST_LINE),
         count,
+        others: 0,
+        pairs: 0,
     }
 }
 
@@ -131,6 +134,30 @@ fn pieces_behind(grid: &Grid, columns: u64, pieces: u64, others: u64) -> Region
         next: groups as usize,
         growth: 0,
     }
+}
+
+/// The grid for all words, where there is room for them, or else that for lines. Where the last dimension is none of the two
+/// the words of one pair stand side by side, since they are wanted one after the other.
+pub fn grid_within(grid: Grid, others: u64, pairs: u64, is_last: bool, room: usize) -> Grid
+    requires lines { IsGrid grid room }
+    requires count { grid.count ≡ others * pairs }
+    requires few { others ≤ 2 ^ 48 }
+    ensures room { HasRoom result.layout result room }
+    ensures count { result.count ≡ grid.count }
+{
+    let mut grid = grid;
+    grid.layout = Layout::Lines;
+    if !is_last && pairs > 0 && others + 8 <= room as u64 / pairs {
+        grid.layout = Layout::Across;
+        grid.pitch = (others + 8) as usize;
+        grid.others = others;
+        grid.pairs = pairs;
+        return grid;
+    }
+    if grid.count <= room as u64 {
+        grid.layout = Layout::Whole;
+    }
+    grid
 }
 
 /// The slots for the lines of a tensor of which so many words are stored.

@@ -5,9 +5,10 @@ ghost use Rattle.tce_outside.specs.Files.{file};
 ghost use Rattle.tce_outside.specs.Fault.{HasCause, TellsFaults};
 ghost use Rattle.tce_tools.specs.Flat.{contents};
 ghost use Rattle.tce_sym.specs.Storage.{stored_word};
-ghost use Rattle.tce_sym.specs.Lines.{IsGrid, IsWanted, AreLines, walk_place};
+ghost use Rattle.tce_sym.specs.Lines.{IsGrid, IsWanted, AreLines, HasRoom, AreHeld, walk_place};
 
-use crate::lines::{Grid, WINDOW, Wanted, held_word, read_word};
+use crate::lines::{Grid, Layout, WINDOW, Wanted, held_word, read_word};
+use crate::whole::{gather, gather_across};
 use tce_outside::{Disk, Failed};
 
 // Lines that are no farther apart are read together.
@@ -53,8 +54,8 @@ pub struct Walk {
     pub region: Region,
 }
 
-// The place of a word.
-fn place_at(walk: &Walk, k: u64) -> u64
+/// The place of a word.
+pub fn place_at(walk: &Walk, k: u64) -> u64
     requires small { walk_place walk.now k < 2 ^ 64 }
     requires few { k < 2 ^ 32 }
     ensures { result ≡ walk_place walk.now k }
@@ -140,8 +141,8 @@ fn held(grid: &Grid, lines: &[u64], walk: &Walk, words: &mut [u64], from: usize)
     done
 }
 
-/// The words of a walk. Those that no slot holds are read, and their lines.
-pub fn read_walk<D: Disk>(
+// The words of a walk, through lines. Those that no slot holds are read, and their lines.
+fn read_lines<D: Disk>(
     disk: &mut D,
     packed: &str,
     grid: &Grid,
@@ -167,6 +168,35 @@ pub fn read_walk<D: Disk>(
         let wanted = wanted_at(grid, walk, done as u64, place);
         words[done] = read_word(disk, packed, grid, lines, wanted)?;
         done = held(grid, lines, walk, words, done + 1);
+    }
+    Ok(())
+}
+
+/// The words of a walk.
+pub fn read_walk<D: Disk>(
+    disk: &mut D,
+    packed: &str,
+    grid: &Grid,
+    lines: &mut [u64],
+    walk: &Walk,
+    words: &mut [u64],
+) -> Result<(), Failed>
+    requires room { HasRoom grid.now.layout grid.now (length lines.old) }
+    requires count { grid.now.count ≤ 2 ^ 48 }
+    requires places { (k : ℕ) → k < length words.old → walk_place walk.now k < grid.now.count }
+    requires few { length words.old ≤ 2048 }
+    requires file { ForSome (D.files disk.old) (λ fs. IsSomeAnd (file fs packed.now) (λ bytes. length bytes ≡ 32 + 8 * grid.now.count)) }
+    requires lines { ForSome (D.files disk.old) (λ fs. AreHeld grid.now.layout grid.now (contents fs packed.now) lines.old) }
+    ensures read { OnOk result (ForSome (D.files disk.old) (λ fs. (k : ℕ) → k < length words.new → slice_index words.new k ≡ stored_word (contents fs packed.now) (walk_place walk.now k))) }
+    ensures lines { OnOk result (ForSome (D.files disk.old) (λ fs. AreHeld grid.now.layout grid.now (contents fs packed.now) lines.new)) }
+    ensures same { D.files disk.new ≡ D.files disk.old }
+    ensures cause { HasCause (D.faults disk.old) (D.faults disk.new) (IsErr result) }
+    ensures told { TellsFaults (D.faults disk.old) (D.faults disk.new) (IsErr result) }
+{
+    match grid.layout {
+        Layout::Lines => read_lines(disk, packed, grid, lines, walk, words)?,
+        Layout::Whole => gather(grid, lines, walk, words),
+        Layout::Across => gather_across(grid, lines, walk, words),
     }
     Ok(())
 }

@@ -3,34 +3,39 @@ use Rattle.std.specs.Option.{IsSomeAnd}
 use Rattle.tce_space.specs.Tiling.{Tiling, padded_words}
 use Rattle.std.specs.List.{flat_map}
 use Rattle.tce_base.specs.Word.{word_bytes}
-use Rattle.tce_outside.specs.Files.{Files, others, overwritten, bytes_before}
+use Rattle.tce_outside.specs.Files.{Files, others, holding, overwritten, bytes_before}
 use Rattle.tce_array.specs.Forms.{width, head_len, array_bytes}
 use Rattle.tce_array.specs.declared.form.Form.TheVariants.{One}
 use Rattle.tce_tools.specs.declared.storage.Storage.TheVariants.{Array}
 use Rattle.tce_tools.specs.Flat.{contents}
 use Rattle.tce_tools.specs.Storage.{bare_bytes, HasWords}
-use Rattle.tce_tools.proofs.NoHalf.{first_left, bare_left, shorter_before}
+use Rattle.tce_tools.proofs.NoHalf.{left_since, unmade_left, first_left, bare_left, shorter_before}
 use Rattle.tce_tools.proofs.PieceWrites.{bare_changed}
 use Rattle.tce_tools.proofs.Stored.{length-bare}
 use Rattle.tce_tools.proofs.Zeros.{zero_form}
 use Rattle.tce_tools.proofs.Told.{held, held_same, held_beside, held_written}
 use Rattle.tce_sym.specs.Storage.{IsStored, full_cell}
-use Rattle.tce_sym.specs.Lines.{AreLines}
+use Rattle.tce_sym.specs.Lines.{AreHeld}
 use Rattle.tce_sym.specs.TileRows.{AreWords}
-use Rattle.tce_sym.proofs.HeldLines.{none_held}
 use Rattle.tce_sym.proofs.Pieces.{first_words, no_words, all_words, piece_change}
 use Rattle.tce_sym.proofs.expansion.expand_elements.Goals as goal
 
 pub loop-done-init : goal.loop-done-init
 loop-done-init g c = record {
   done = omega arith;
-  files = held_same (g.D.Disk.files c.args.disk.now) _ c.args.array.now (λ fs. replicate c.form_len.result 0) _ c.in_ok-make.ensures.made
+  files = held_same (g.D.Disk.files c.args.disk.now) _ c.args.array.now (λ fs. replicate c.form_len.result 0) _
+      (c.in_ok-make.ensures.made ∙ ap (holding c.args.array.now (replicate c.form_len.result 0)) c.in-Ok.ensures.same)
       (λ fs. ap (λ n. replicate n 0) c.form_len.ensures.bytes ∙ zero_form One c.args.shape.now ∙ no_words c.args.shape.now c.padded_words-padded.ensures.limits (full_cell c.args.shape.now.extents c.args.s.now (contents fs c.args.packed.now)));
-  lines = λ x told. none_held (length c.args.lines.now) c.clear.new.words c.clear.ensures c.triangles_of-triangles.result.slots.grid (contents x c.args.packed.now);
-  others = c.in_ok-make.ensures.others;
-  later = c.in_ok-make.ensures.cause.later;
-  counted = c.in_ok-make.ensures.told (search rules);
+  lines = c.in-Ok.ensures.held;
+  others = c.in_ok-make.ensures.others ∙ ap (others c.args.array.now) c.in-Ok.ensures.same;
+  later = omega (arith, c.in_ok-make.ensures.cause.later, c.in-Ok.ensures.cause.later);
+  counted = c.in_ok-make.ensures.told (search rules) ∙ c.in-Ok.ensures.told (search rules);
 }
+
+pub returns-in_err-make-clause-no_half : goal.returns-in_err-make-clause-no_half
+returns-in_err-make-clause-no_half g c =
+    left_since c.args.array.now (head_len One c.args.shape.now) (λ fs. array_bytes c.args.shape.now (full_cell c.args.shape.now.extents c.args.s.now (contents fs c.args.packed.now)))
+    (g.D.Disk.files c.args.disk.now) (g.D.Disk.files c.hold_words.new.disk) _ c.in-Ok.ensures.same (unmade_left _ _ _ _ _ c.make.ensures.zeros)
 
 pub read_piece-requires-clause-file : goal.read_piece-requires-clause-file
 read_piece-requires-clause-file g c x told =
@@ -41,14 +46,14 @@ pub read_piece-requires-clause-lines : goal.read_piece-requires-clause-lines
 read_piece-requires-clause-lines g c x told =
     let h = held (g.D.Disk.files c.args.disk.now) _ c.args.array.now _ c.loop-done.invariant.files x told in
     let same : contents x c.args.packed.now ≡ contents h.files c.args.packed.now = ap (λ found. unwrap_or found []) (h.beside c.args.packed.now c.requires.names) in
-    subst (λ (b : List ℕ). AreLines c.triangles_of-triangles.result.slots.grid b c.loop-done.lines) (sym same) (c.loop-done.invariant.lines h.files h.was)
+    subst (λ (b : List ℕ). AreHeld c.triangles_of-triangles.result.slots.grid.layout c.triangles_of-triangles.result.slots.grid b c.loop-done.lines) (sym same) (c.loop-done.invariant.lines h.files h.was)
 
 pub write_words-requires-clause-file : goal.write_words-requires-clause-file
 write_words-requires-clause-file g c x told =
     let s : Tiling = c.args.shape.now in
-    let h = held (g.D.Disk.files c.args.disk.now) _ c.args.array.now _ (c.in-Ok.ensures.same ∙ c.loop-done.invariant.files) x told in
+    let h = held (g.D.Disk.files c.args.disk.now) _ c.args.array.now _ (c.in-Ok-read_piece.ensures.same ∙ c.loop-done.invariant.files) x told in
     let take_is : length (take c.min-len.result c.loop-done.buffer) ≡ c.min-len.result = search rules in
-    let size : length c.read_piece.new.words ≡ c.min-len.result = c.in-Ok.ensures.len ∙ take_is in
+    let size : length c.read_piece.new.words ≡ c.min-len.result = c.in-Ok-read_piece.ensures.len ∙ take_is in
     let whole : length (bare_bytes (Array One) s (first_words s (full_cell s.extents c.args.s.now (contents h.files c.args.packed.now)) c.loop-done.done)) ≡ head_len One s + 8 * padded_words s =
     length-bare (Array One) s c.padded_words-padded.ensures.limits (first_words s (full_cell s.extents c.args.s.now (contents h.files c.args.packed.now)) c.loop-done.done) in
     subst (HasWords One (c.head_len-head.result + 8 * c.loop-done.done) (length c.read_piece.new.words)) (sym h.here)
@@ -63,25 +68,25 @@ loop-done-preserved g c =
     let stored : ℕ → Files → List ℕ = λ n fs. bare_bytes (Array One) s (first_words s (element fs) n) in
     let vs : List ℕ = c.read_piece.new.words in
     let take_is : length (take c.min-len.result c.loop-done.buffer) ≡ c.min-len.result = search rules in
-    let size : length c.read_piece.new.words ≡ c.min-len.result = c.in-Ok.ensures.len ∙ take_is in
+    let size : length c.read_piece.new.words ≡ c.min-len.result = c.in-Ok-read_piece.ensures.len ∙ take_is in
     let values : (fs : Files) → before ≡ Some fs → AreWords s (element fs) c.loop-done.done c.min-len.result vs =
     held_beside before (g.D.Disk.files c.loop-done.disk) c.args.array.now (stored c.loop-done.done) c.args.packed.now (λ b. AreWords s (full_cell c.args.shape.now.extents c.args.s.now b) c.loop-done.done c.min-len.result vs)
     c.loop-done.invariant.files c.requires.names
-    (λ x told. subst (λ n. AreWords s (full_cell c.args.shape.now.extents c.args.s.now (contents x c.args.packed.now)) c.loop-done.done n vs) take_is (c.in-Ok.ensures.read x told)) in
+    (λ x told. subst (λ n. AreWords s (full_cell c.args.shape.now.extents c.args.s.now (contents x c.args.packed.now)) c.loop-done.done n vs) take_is (c.in-Ok-read_piece.ensures.read x told)) in
     let room : c.loop-done.done + c.min-len.result ≤ padded_words s = omega (arith, c.min-len.ensures, c.padded_words-padded.ensures.words, c.loop-done-test.true) in
     let at : c.head_len-head.result + 8 * c.loop-done.done ≡ head_len One s + 8 * c.loop-done.done = ap (λ n. n + 8 * c.loop-done.done) c.head_len-head.ensures in
     record {
       done = omega (arith, c.min-len.ensures, c.loop-done-test.true);
       files = held_written before (g.D.Disk.files c.read_piece.new.disk) (g.D.Disk.files c.write_words.new.disk) c.args.array.now (stored c.loop-done.done) (stored (c.loop-done.done + c.min-len.result))
-          (c.head_len-head.result + 8 * c.loop-done.done) (flat_map (word_bytes (width One)) vs) (c.in-Ok.ensures.same ∙ c.loop-done.invariant.files) c.in-Ok-write_words.ensures.written
+          (c.head_len-head.result + 8 * c.loop-done.done) (flat_map (word_bytes (width One)) vs) (c.in-Ok-read_piece.ensures.same ∙ c.loop-done.invariant.files) c.in-Ok-write_words.ensures.written
           (λ fs was. ap (λ n. overwritten (stored c.loop-done.done fs) n (flat_map (word_bytes (width One)) vs)) at
           ∙ bare_changed (Array One) s (first_words s (element fs) c.loop-done.done) (first_words s (element fs) (c.loop-done.done + c.min-len.result)) c.loop-done.done vs
           (piece_change s (element fs) vs c.loop-done.done c.min-len.result c.padded_words-padded.ensures.limits size room (values fs was)));
-      lines = held_beside before (g.D.Disk.files c.loop-done.disk) c.args.array.now (stored c.loop-done.done) c.args.packed.now (λ b. AreLines c.triangles_of-triangles.result.slots.grid b c.read_piece.new.lines)
-          c.loop-done.invariant.files c.requires.names c.in-Ok.ensures.lines;
-      others = c.in-Ok-write_words.ensures.others ∙ ap (others c.args.array.now) c.in-Ok.ensures.same ∙ c.loop-done.invariant.others;
-      later = omega (arith, c.in-Ok.ensures.cause.later, c.in-Ok-write_words.ensures.cause.later, c.loop-done.invariant.later);
-      counted = c.in-Ok-write_words.ensures.told (search rules) ∙ c.in-Ok.ensures.told (search rules) ∙ c.loop-done.invariant.counted;
+      lines = held_beside before (g.D.Disk.files c.loop-done.disk) c.args.array.now (stored c.loop-done.done) c.args.packed.now (λ b. AreHeld c.triangles_of-triangles.result.slots.grid.layout c.triangles_of-triangles.result.slots.grid b c.read_piece.new.lines)
+          c.loop-done.invariant.files c.requires.names c.in-Ok-read_piece.ensures.lines;
+      others = c.in-Ok-write_words.ensures.others ∙ ap (others c.args.array.now) c.in-Ok-read_piece.ensures.same ∙ c.loop-done.invariant.others;
+      later = omega (arith, c.in-Ok-read_piece.ensures.cause.later, c.in-Ok-write_words.ensures.cause.later, c.loop-done.invariant.later);
+      counted = c.in-Ok-write_words.ensures.told (search rules) ∙ c.in-Ok-read_piece.ensures.told (search rules) ∙ c.loop-done.invariant.counted;
     }
 
 pub returns-clause-made : goal.returns-clause-made
@@ -92,8 +97,8 @@ returns-clause-made g c =
 pub returns-clause-told : goal.returns-clause-told
 returns-clause-told g c = λ _. c.loop-done.invariant.counted
 
-pub returns-in_default-clause-no_half : goal.returns-in_default-clause-no_half
-returns-in_default-clause-no_half g c =
+pub returns-in_default-read_piece-clause-no_half : goal.returns-in_default-read_piece-clause-no_half
+returns-in_default-read_piece-clause-no_half g c =
     first_left One c.args.shape.now c.padded_words-padded.ensures.limits c.args.array.now (λ fs. first_words c.args.shape.now (full_cell c.args.shape.now.extents c.args.s.now (contents fs c.args.packed.now)) c.loop-done.done) 0
     (g.D.Disk.files c.args.disk.now) (g.D.Disk.files c.loop-done.disk) _ c.loop-done.invariant.files (ap (bytes_before c.args.array.now (head_len One c.args.shape.now)) c.read_piece.ensures.same)
     (λ fs. array_bytes c.args.shape.now (full_cell c.args.shape.now.extents c.args.s.now (contents fs c.args.packed.now)))

@@ -3,7 +3,7 @@ use Rattle.std.specs.Option.{ForSome}
 use Rattle.tce_tools.specs.Flat.{contents}
 use Rattle.tce_sym.specs.Storage.{stored_word}
 use Rattle.tce_sym.specs.Lines.{AreLines, walk_place}
-use Rattle.tce_sym.proofs.walks.read_walk.Given as goal
+use Rattle.tce_sym.proofs.walks.read_lines.Given as goal
 
 abbrev pub invariant-loop-done : goal.invariant-loop-done
 invariant-loop-done g l = record {

@@ -1,0 +1,46 @@
+use Rattle.std.proofs.Common.{◌≡◌, ◌∙◌, ℕ, ◌+◌, ◌-◌, ◌*◌, ◌<◌, length, slice_index, sym, ap, arith}
+use Rattle.std.proofs.Math.Nat.{div-le_self}
+use Rattle.tce_sym.specs.Lines.{walk_place}
+use Rattle.tce_sym.proofs.Walked.{more, step_place}
+use Rattle.tce_sym.proofs.Across.{across, across_within, across_step}
+use Rattle.tce_sym.proofs.whole.gather_across.Goals as goal
+
+some : (c : goal.Then-not-is_empty) → 0 < length c.args.words.now
+some c = grind (arith, c.if-not-is_empty.true, c.is_empty.ensures)
+
+first : (c : goal.Then-not-is_empty) → c.args.walk.now.place < c.args.grid.now.count
+first c = omega (arith, step_place c.args.walk.now 0 c.if-not-walk.true, c.requires.places 0 (some c))
+
+pub across_at-requires-clause-place : goal.across_at-requires-clause-place
+across_at-requires-clause-place c = omega (arith, first c, c.requires.count)
+
+pub across_at-requires-clause-outer : goal.across_at-requires-clause-outer
+across_at-requires-clause-outer c = omega (arith, div-le_self c.args.walk.now.place c.args.grid.now.pairs, first c, c.requires.count)
+
+pub copy_words-requires : goal.copy_words-requires
+copy_words-requires c =
+    let some : 0 < length c.args.words.now = grind (arith, c.if-not-is_empty.true, c.is_empty.ensures) in
+    let last : ℕ = length c.args.words.now - 1 in
+    let place : walk_place c.args.walk.now last ≡ c.args.walk.now.place + c.args.grid.now.pairs * last = step_place c.args.walk.now last c.if-not-walk.true ∙ ap (λ n. c.args.walk.now.place + n * last) c.if-walk-grid.true in
+    let within = across_within c.args.grid.now (length c.args.lines.now) (walk_place c.args.walk.now last) c.requires.room (c.requires.places last (omega (arith, some))) in
+    omega (arith, some, within, ap (across c.args.grid.now) place, across_step c.args.grid.now (length c.args.lines.now) c.args.walk.now.place last c.requires.room, c.across_at.ensures)
+
+pub returns-then-not-is_empty : goal.returns-then-not-is_empty
+returns-then-not-is_empty c = λ k l.
+    let place : walk_place c.args.walk.now k ≡ c.args.walk.now.place + c.args.grid.now.pairs * k = step_place c.args.walk.now k c.if-not-walk.true ∙ ap (λ n. c.args.walk.now.place + n * k) c.if-walk-grid.true in
+    c.copy_words.ensures k l
+    ∙ ap (slice_index c.args.lines.now) (ap (λ n. n + k) c.across_at.ensures ∙ sym (across_step c.args.grid.now (length c.args.lines.now) c.args.walk.now.place k c.requires.room) ∙ ap (across c.args.grid.now) (sym place))
+
+pub bounds-lines-across_at : goal.bounds-lines-across_at
+bounds-lines-across_at c = omega (
+  arith,
+  c.across_at-in-loop-k.ensures,
+  ap (across c.args.grid.now) c.place_at.ensures,
+  across_within c.args.grid.now (length c.args.lines.now) (walk_place c.args.walk.now c.loop-k.k) c.requires.room (c.requires.places c.loop-k.k (omega (arith, c.loop-k-test.true, c.loop-k.auto.k-end, c.loop-k.auto.words))),
+)
+
+pub loop-k-preserved : goal.loop-k-preserved
+loop-k-preserved c = record {
+  done = more (λ j. slice_index c.args.lines.now (across c.args.grid.now (walk_place c.args.walk.now j))) c.loop-k.words c.loop-k.k _ (omega (arith, c.loop-k-test.true, c.loop-k.auto.k-end, c.loop-k.auto.words))
+      (ap (slice_index c.args.lines.now) (c.across_at-in-loop-k.ensures ∙ ap (across c.args.grid.now) c.place_at.ensures)) c.loop-k.invariant.done;
+}
