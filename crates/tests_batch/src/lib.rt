@@ -1,7 +1,7 @@
-//! Tests of several formulas in order.
+//! Tests of pieces that run one after the other.
 #![tactic(auto)]
 
 #[cfg(test)]
-mod formulas;
+mod given;
 #[cfg(test)]
 mod pieces;

@@ -2,133 +2,79 @@
 
 ghost use Rattle.std.specs.Prelude.{◌≤◌, ◌^◌};
 
+use crate::given::{check, check_files, disk_with, failing};
 use std::alloc::Global;
 use std::process::Abort;
-use std::test::Fail;
-use tce_job::Bytes;
-use tce_outside::{FaultyDisk, MemDisk};
+use tce_outside::{Disk, FaultyDisk};
 use tce_spec::read_spec;
 use tce_spill_job::{SpillFault, run_spill};
 use tce_words::HeapRoom;
 
-const TEXT: &str =
-    "range I 5\nrange J 7\nrange K 2\nindex I i\nindex J j\nindex K k l\ntensor A[I,K]\ntensor B[J,K]\ntensor C[I,J]\nC[i,j] = sum{k}(A[i,k]) * sum{l}(B[j,l])\n";
+const TEXT: &[u8] =
+    b"range I 5\nrange J 7\nrange K 2\nindex I i\nindex J j\nindex K k l\ntensor A[I,K]\ntensor B[J,K]\ntensor C[I,J]\nC[i,j] = sum{k}(A[i,k]) * sum{l}(B[j,l])\n";
 
-// An array file of equal words over tiles of one element.
-fn array_of(alloc: Global, extents: &[u64], count: u64, word: u64) -> Result<Vec<u8>, Fail> {
-    let mut bytes = Vec::new(alloc);
-    bytes.extend_from_slice(b"TCARRAY1")?;
-    bytes.extend_from_slice(&(extents.len() as u64).to_le_bytes())?;
-    for extent in extents {
-        bytes.extend_from_slice(&extent.to_le_bytes())?;
-    }
-    for _ in extents {
-        bytes.extend_from_slice(&1u64.to_le_bytes())?;
-    }
-    for _ in 0..count {
-        bytes.extend_from_slice(&word.to_le_bytes())?;
-    }
-    Ok(bytes)
-}
+const OPERANDS: &str = "A 2 5 2 1 1 1*10;B 2 7 2 1 1 1*14";
 
-fn operands(alloc: Global) -> Result<MemDisk, Fail> {
-    let mut disk = MemDisk::new(alloc);
-    disk.put_file("A.tca", &array_of(alloc, &[5, 2], 10, 1)?)?;
-    disk.put_file("B.tca", &array_of(alloc, &[7, 2], 14, 1)?)?;
-    Ok(disk)
-}
+const CUT: &[u8] =
+    b"tce spill 1\npiece 1 memory 0 tiles 21\npiece 2 memory 1 tiles 52\nwrote C.tca 328\n";
 
-// The report of the pieces for a limit, where all is in order.
-fn report_of(rt: &impl Abort, alloc: Global, limit: u64, disk: &mut MemDisk) -> Bytes
+const WHOLE: &[u8] = b"tce spill 1\npiece 2 memory 6 tiles 59\nwrote C.tca 328\n";
+
+const SECOND_SUM: &str = "spill-1 1 7 1 2*7";
+
+const RESULT: &str = "C 2 5 7 1 1 4*35";
+
+// Whether the pieces for a limit are run and reported so: none where they are refused for the disk.
+fn are_run<D: Disk>(alloc: Global, limit: u64, disk: &mut D, report: &[u8]) -> Option<bool>
     requires { limit ≤ 2 ^ 40 }
 {
-    let Ok(spec) = read_spec(alloc, TEXT.as_bytes()) else {
-        panic!(rt; "the text is in order");
+    let Ok(spec) = read_spec(alloc, TEXT) else {
+        return Some(false);
     };
     let mut room = HeapRoom::new(alloc);
-    let Ok(made) = run_spill(alloc, &spec, 100, limit, disk, &mut room) else {
-        panic!(rt; "all is in order");
-    };
-    made.text
-}
-
-// Whether the pieces run for a limit of 5. Else the disk failed.
-fn are_run(rt: &impl Abort, alloc: Global, disk: &mut FaultyDisk) -> bool {
-    let Ok(spec) = read_spec(alloc, TEXT.as_bytes()) else {
-        panic!(rt; "the text is in order");
-    };
-    let mut room = HeapRoom::new(alloc);
-    match run_spill(alloc, &spec, 100, 5, disk, &mut room) {
-        Ok(_) => true,
-        Err(SpillFault::Disk) => false,
-        Err(_) => panic!(rt; "the disk failed"),
+    match run_spill(alloc, &spec, 100, limit, disk, &mut room) {
+        Ok(made) => Some(made.text.as_slice() == report),
+        Err(SpillFault::Disk) => None,
+        Err(_) => Some(false),
     }
 }
 
-fn check_array(rt: &impl Abort, disk: &MemDisk, name: &str, bytes: &Vec<u8>) {
-    assert_eq!(rt; disk.file(name), Some(bytes.as_slice()), "{name}");
-}
-
-// Runs the pieces for a limit, and compares the report and the result.
-fn check_run(rt: &impl Abort, alloc: Global, limit: u64, report: &str) -> Result<MemDisk, Fail>
+// The pieces for a limit are run and reported so, and leave these files.
+fn check_run(rt: &impl Abort, alloc: Global, limit: u64, report: &[u8], files: &str)
     requires { limit ≤ 2 ^ 40 }
 {
-    let mut disk = operands(alloc)?;
-    let made = report_of(rt, alloc, limit, &mut disk);
-    assert!(rt; made.as_slice() == report.as_bytes());
-    check_array(rt, &disk, "C.tca", &array_of(alloc, &[5, 7], 35, 4)?);
-    Ok(disk)
+    let mut disk = disk_with(rt, alloc, OPERANDS);
+    let ended = are_run(alloc, limit, &mut disk, report);
+    check(rt, ended == Some(true), files);
+    check_files(rt, alloc, &disk, RESULT);
+    check_files(rt, alloc, &disk, files);
 }
 
 #[test]
-fn a_tree_is_cut_where_the_limit_asks_for_it(rt: HostRuntime) -> Result<(), Fail> {
-    let alloc = rt.alloc();
-    let disk = check_run(
-        &rt,
-        alloc,
-        5,
-        "tce spill 1\npiece 1 memory 0 tiles 21\npiece 2 memory 1 tiles 52\nwrote C.tca 328\n",
-    )?;
-    check_array(&rt, &disk, "spill-1.tca", &array_of(alloc, &[7], 7, 2)?);
-    let whole = check_run(
-        &rt,
-        alloc,
-        6,
-        "tce spill 1\npiece 2 memory 6 tiles 59\nwrote C.tca 328\n",
-    )?;
-    assert_eq!(rt; whole.file("spill-1.tca"), None);
-    Ok(())
+fn a_tree_is_cut_where_the_limit_asks_for_it(rt: HostRuntime) {
+    check_run(&rt, rt.alloc(), 5, CUT, SECOND_SUM);
+    check_run(&rt, rt.alloc(), 6, WHOLE, "-spill-1");
 }
 
 // Whether the pieces run where this call of the disk fails. The array of the first is whole once the second has begun.
-fn is_done(rt: &impl Abort, alloc: Global, call: u64) -> Result<bool, Fail> {
-    let mut failing = Vec::new(alloc);
-    failing.push(call)?;
-    let mut disk = FaultyDisk::new(operands(alloc)?, failing);
-    if are_run(rt, alloc, &mut disk) {
-        return Ok(true);
-    }
+fn is_done(rt: &impl Abort, alloc: Global, call: u64) -> bool {
+    let mut disk = FaultyDisk::new(disk_with(rt, alloc, OPERANDS), failing(rt, alloc, call));
+    let ended = are_run(alloc, 5, &mut disk, CUT);
+    check(rt, ended != Some(false), "the disk fails");
+    check_files(rt, alloc, disk.inner(), OPERANDS);
     if disk.inner().file("C.tca").is_some() {
-        check_array(
-            rt,
-            disk.inner(),
-            "spill-1.tca",
-            &array_of(alloc, &[7], 7, 2)?,
-        );
+        check_files(rt, alloc, disk.inner(), SECOND_SUM);
     }
-    check_array(rt, disk.inner(), "A.tca", &array_of(alloc, &[5, 2], 10, 1)?);
-    check_array(rt, disk.inner(), "B.tca", &array_of(alloc, &[7, 2], 14, 1)?);
-    Ok(false)
+    ended.is_some()
 }
 
 #[test]
-fn each_call_of_two_pieces_may_fail(rt: HostRuntime) -> Result<(), Fail> {
-    let alloc = rt.alloc();
+fn each_call_of_two_pieces_may_fail(rt: HostRuntime) {
     for call in 0..1000 {
-        if is_done(&rt, alloc, call)? {
-            assert!(rt; call > 20, "both pieces call their disk");
-            return Ok(());
+        if is_done(&rt, rt.alloc(), call) {
+            check(&rt, call > 20, "both pieces call their disk");
+            return;
         }
     }
-    panic!(rt; "so many calls are not made");
+    check(&rt, false, "so many calls are not made");
 }
