@@ -23,8 +23,8 @@ pub(crate) struct Position {
     pub counts: [u64; 24],
 }
 
-// A number divided by an edge, and what is left, where they are known of the number before. A tile further, or in the first
-// one, nothing is divided.
+// A number divided by an edge, and what is left, where they are known of the number before. Where that stays, a tile further,
+// and in the first tile nothing is divided.
 fn divided(number: u64, edge: u64, before: u64, tile: u64, rest: u64) -> (u64, u64)
     requires some { 0 < edge }
     requires tile { tile ≡ before / edge }
@@ -32,7 +32,9 @@ fn divided(number: u64, edge: u64, before: u64, tile: u64, rest: u64) -> (u64, u
     ensures tile { result.0 ≡ number / edge }
     ensures rest { result.1 ≡ number % edge }
 {
-    if before <= number && number - before == edge {
+    if number == before {
+        (tile, rest)
+    } else if before <= number && number - before == edge {
         (tile + 1, rest)
     } else if number < edge {
         (0, number)
