@@ -2,9 +2,8 @@
 ghost use Rattle.std.specs.Prelude.{◌<◌, All, IsTrue};
 
 use arrayvec::ArrayVec;
-use std::alloc::{AllocError, Global};
+use std::alloc::Global;
 use std::process::Abort;
-use std::test::Fail;
 use tce_space::{Name, Shape, Space, is_name};
 
 const LETTERS: [&str; 8] = ["a", "b", "c", "d", "e", "f", "g", "h"];
@@ -21,19 +20,22 @@ fn number_of(rt: &impl Abort, word: &str) -> u64 {
     number
 }
 
-// The numbers of a text, apart by blanks.
-pub(crate) fn numbers_of(
-    rt: &impl Abort,
-    alloc: Global,
-    text: &str,
-) -> Result<Vec<u64>, AllocError> {
-    let mut numbers = Vec::new(alloc);
-    for word in text.split(' ') {
-        if !word.is_empty() {
-            numbers.push(number_of(rt, word))?;
-        }
+/// Ends the test where this does not hold, with what it is about.
+pub(crate) fn check(rt: &impl Abort, holds: bool, what: &str) {
+    assert!(rt; holds, "{what}");
+}
+
+/// What was made. The test ends where it could not be made.
+pub(crate) fn must<T, E>(rt: &impl Abort, made: Result<T, E>) -> T {
+    match made {
+        Ok(made) => made,
+        Err(_) => panic!(rt; "this cannot be made"),
     }
-    Ok(numbers)
+}
+
+/// The part of a row with this number, where bars part it; nothing where there is none.
+pub(crate) fn bar(row: &str, number: usize) -> &str {
+    part(row, '|', number)
 }
 
 // Whether all these ranges are declared.
@@ -78,18 +80,19 @@ pub(crate) fn shape_of(rt: &impl Abort, alloc: Global, text: &str) -> Shape {
     shape
 }
 
-// A file with these numbers, a word each, behind its first eight bytes, and these bytes behind them.
+// A file that begins with a mark, behind which these numbers stand, a word each, and bytes behind them.
 pub(crate) fn file_of(
     rt: &impl Abort,
     alloc: Global,
-    magic: &str,
+    mark: &str,
     words: &str,
-    rest: &[u8],
-) -> Result<Vec<u8>, AllocError> {
-    let mut bytes = magic.as_bytes().to_vec(alloc)?;
-    for word in &numbers_of(rt, alloc, words)? {
-        bytes.extend_from_slice(&word.to_le_bytes())?;
+    rest: &str,
+) -> Vec<u8> {
+    let mut bytes = must(rt, mark.as_bytes().to_vec(alloc));
+    for word in words.split(' ') {
+        let number = number_of(rt, word);
+        must(rt, bytes.extend_from_slice(&number.to_le_bytes()));
     }
-    bytes.extend_from_slice(rest)?;
-    Ok(bytes)
+    must(rt, bytes.extend_from_slice(rest.as_bytes()));
+    bytes
 }
