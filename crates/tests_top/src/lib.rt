@@ -2,4 +2,6 @@
 #![tactic(auto)]
 
 #[cfg(test)]
+mod spill;
+#[cfg(test)]
 mod top;
