@@ -4,7 +4,7 @@ ghost use Rattle.tce_sym.specs.Storage.{AreRight, stored_count};
 ghost use Rattle.tce_sym.specs.Lines.{HasRoom};
 ghost use Rattle.tce_sym.specs.Cells.{AreTriangles, AreOf};
 
-use crate::slots::{Slots, grid_within, slots_of};
+use crate::slots::{Slots, are_across, grid_within, slots_of};
 use crate::symmetry::{Symmetry, pairs, stored_count};
 use tce_space::Shape;
 
@@ -49,9 +49,8 @@ pub fn triangles_of(shape: &Shape, s: &Symmetry, room: usize) -> Triangles
     let count = stored_count(shape, s);
     let pairs = pairs(s.negated, extent);
     let others = shape.elements() / (extent * extent);
-    let is_last = s.second as usize + 1 == shape.extents().len();
     let mut slots = slots_of(shape, s, count, room);
-    slots.grid = grid_within(slots.grid, others, pairs, is_last, room);
+    slots.grid = grid_within(slots.grid, others, pairs, are_across(shape, s), room);
     Triangles {
         negated: s.negated,
         extent,

@@ -25,7 +25,7 @@ use tce_space::Shape;
 use tce_tools::{Storage, write_start, write_words};
 
 // The most words that are written at once.
-const LONGEST_PIECE: usize = 2048;
+const LONGEST_PIECE: usize = 8192;
 
 // The words for lines that stand on the stack.
 const SHORT_LINES: usize = 2048;
@@ -82,7 +82,7 @@ fn read_piece<D: Disk>(
 ) -> Result<(), Failed>
     requires right { AreRight source.now.shape.now.extents source.now.s.now }
     requires inside { start + length words.old ≤ padded_words source.now.shape.now }
-    requires few { length words.old ≤ 2048 }
+    requires few { length words.old ≤ 8192 }
     requires fits { start + length words.old < 2 ^ 64 }
     requires file { ForSome (D.files disk.old) (λ fs. IsSomeAnd (file fs source.now.packed.now) (λ bytes. IsStored source.now.shape.now.extents source.now.s.now bytes)) }
     requires triangles { AreTriangles source.now.triangles.now }

@@ -200,7 +200,7 @@ fn read_stored<D: Disk>(
     requires triangles { AreTriangles triangles.now }
     requires among { (k : ℕ) → k < length words.old → IsAmong triangles.now (moved_pair row.now k) }
     requires stored { (k : ℕ) → k < length words.old → IsPair triangles.now.negated (moved_pair row.now k).first (moved_pair row.now k).second }
-    requires few { length words.old ≤ 2048 }
+    requires few { length words.old ≤ 8192 }
     requires file { ForSome (D.files disk.old) (λ fs. IsSomeAnd (file fs packed.now) (λ bytes. length bytes ≡ 32 + 8 * triangles.now.count)) }
     requires room { HasRoom triangles.now.slots.grid.layout triangles.now.slots.grid (length lines.old) }
     requires lines { ForSome (D.files disk.old) (λ fs. AreHeld triangles.now.slots.grid.layout triangles.now.slots.grid (contents fs packed.now) lines.old) }
@@ -230,7 +230,7 @@ fn read_mirrored<D: Disk>(
     requires triangles { AreTriangles triangles.now }
     requires among { (k : ℕ) → k < length words.old → IsAmong triangles.now (moved_pair row.now k) }
     requires mirrored { (k : ℕ) → k < length words.old → (moved_pair row.now k).second < (moved_pair row.now k).first }
-    requires few { length words.old ≤ 2048 }
+    requires few { length words.old ≤ 8192 }
     requires file { ForSome (D.files disk.old) (λ fs. IsSomeAnd (file fs packed.now) (λ bytes. length bytes ≡ 32 + 8 * triangles.now.count)) }
     requires room { HasRoom triangles.now.slots.grid.layout triangles.now.slots.grid (length lines.old) }
     requires lines { ForSome (D.files disk.old) (λ fs. AreHeld triangles.now.slots.grid.layout triangles.now.slots.grid (contents fs packed.now) lines.old) }
@@ -261,7 +261,7 @@ fn read_others<D: Disk>(
     requires triangles { AreTriangles triangles.now }
     requires among { (k : ℕ) → k < length words.old → IsAmong triangles.now (moved_pair row.now k) }
     requires others { (k : ℕ) → k < length words.old → (moved_pair row.now k).first ≤ (moved_pair row.now k).second }
-    requires few { length words.old ≤ 2048 }
+    requires few { length words.old ≤ 8192 }
     requires file { ForSome (D.files disk.old) (λ fs. IsSomeAnd (file fs packed.now) (λ bytes. length bytes ≡ 32 + 8 * triangles.now.count)) }
     requires room { HasRoom triangles.now.slots.grid.layout triangles.now.slots.grid (length lines.old) }
     requires lines { ForSome (D.files disk.old) (λ fs. AreHeld triangles.now.slots.grid.layout triangles.now.slots.grid (contents fs packed.now) lines.old) }
@@ -293,7 +293,7 @@ pub fn read_row<D: Disk>(
 ) -> Result<(), Failed>
     requires triangles { AreTriangles triangles.now }
     requires among { (k : ℕ) → k < length words.old → IsAmong triangles.now (moved_pair row.now k) }
-    requires few { length words.old ≤ 2048 }
+    requires few { length words.old ≤ 8192 }
     requires file { ForSome (D.files disk.old) (λ fs. IsSomeAnd (file fs packed.now) (λ bytes. length bytes ≡ 32 + 8 * triangles.now.count)) }
     requires room { HasRoom triangles.now.slots.grid.layout triangles.now.slots.grid (length lines.old) }
     requires lines { ForSome (D.files disk.old) (λ fs. AreHeld triangles.now.slots.grid.layout triangles.now.slots.grid (contents fs packed.now) lines.old) }

@@ -136,9 +136,27 @@ fn pieces_behind(grid: &Grid, columns: u64, pieces: u64, others: u64) -> Region
     }
 }
 
-/// The grid for all words, where there is room for them, or else that for lines. Where the last dimension is none of the two
-/// the words of one pair stand side by side, since they are wanted one after the other.
-pub fn grid_within(grid: Grid, others: u64, pairs: u64, is_last: bool, room: usize) -> Grid
+// Rows of elements of one pair that are no longer are read as fast from all words one after the other.
+const SHORT_ROW: u64 = 64;
+
+/// Whether rows of elements are long, and their last dimension is none of the two: then those of a row are those of one
+/// pair, and it is faster to have them side by side.
+pub fn are_across(shape: &Shape, s: &Symmetry) -> bool
+    requires right { AreRight shape.now.extents s.now }
+{
+    let extents = shape.extents();
+    let last = extents.len() - 1;
+    let row = if is_row_major(shape) {
+        extents[last]
+    } else {
+        shape.edges()[last]
+    };
+    (s.second as usize) < last && row > SHORT_ROW
+}
+
+/// The grid for all words, where there is room for them, or else that for lines. Words of one pair stand side by side if they
+/// are to be so.
+pub fn grid_within(grid: Grid, others: u64, pairs: u64, across: bool, room: usize) -> Grid
     requires lines { IsGrid grid room }
     requires count { grid.count ≡ others * pairs }
     requires few { others ≤ 2 ^ 48 }
@@ -147,7 +165,7 @@ pub fn grid_within(grid: Grid, others: u64, pairs: u64, is_last: bool, room: usi
 {
     let mut grid = grid;
     grid.layout = Layout::Lines;
-    if !is_last && pairs > 0 && others + 8 <= room as u64 / pairs {
+    if across && pairs > 0 && others + 8 <= room as u64 / pairs {
         grid.layout = Layout::Across;
         grid.pitch = (others + 8) as usize;
         grid.others = others;

@@ -121,7 +121,7 @@ fn held(grid: &Grid, lines: &[u64], walk: &Walk, words: &mut [u64], from: usize)
     requires grid { IsGrid grid.now (length lines.now) }
     requires count { grid.now.count ≤ 2 ^ 48 }
     requires places { (k : ℕ) → k < length words.old → walk_place walk.now k < grid.now.count }
-    requires few { length words.old ≤ 2048 }
+    requires few { length words.old ≤ 8192 }
     requires from { from ≤ length words.old }
     ensures within { (from ≤ result) × (result ≤ length words.new) }
     ensures held { (bytes : List ℕ) → AreLines grid.now bytes lines.now
@@ -153,7 +153,7 @@ fn read_lines<D: Disk>(
     requires grid { IsGrid grid.now (length lines.old) }
     requires count { grid.now.count ≤ 2 ^ 48 }
     requires places { (k : ℕ) → k < length words.old → walk_place walk.now k < grid.now.count }
-    requires few { length words.old ≤ 2048 }
+    requires few { length words.old ≤ 8192 }
     requires file { ForSome (D.files disk.old) (λ fs. IsSomeAnd (file fs packed.now) (λ bytes. length bytes ≡ 32 + 8 * grid.now.count)) }
     requires lines { ForSome (D.files disk.old) (λ fs. AreLines grid.now (contents fs packed.now) lines.old) }
     ensures read { OnOk result (ForSome (D.files disk.old) (λ fs. (k : ℕ) → k < length words.new → slice_index words.new k ≡ stored_word (contents fs packed.now) (walk_place walk.now k))) }
@@ -184,7 +184,7 @@ pub fn read_walk<D: Disk>(
     requires room { HasRoom grid.now.layout grid.now (length lines.old) }
     requires count { grid.now.count ≤ 2 ^ 48 }
     requires places { (k : ℕ) → k < length words.old → walk_place walk.now k < grid.now.count }
-    requires few { length words.old ≤ 2048 }
+    requires few { length words.old ≤ 8192 }
     requires file { ForSome (D.files disk.old) (λ fs. IsSomeAnd (file fs packed.now) (λ bytes. length bytes ≡ 32 + 8 * grid.now.count)) }
     requires lines { ForSome (D.files disk.old) (λ fs. AreHeld grid.now.layout grid.now (contents fs packed.now) lines.old) }
     ensures read { OnOk result (ForSome (D.files disk.old) (λ fs. (k : ℕ) → k < length words.new → slice_index words.new k ≡ stored_word (contents fs packed.now) (walk_place walk.now k))) }

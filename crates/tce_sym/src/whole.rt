@@ -126,7 +126,7 @@ pub fn gather(grid: &Grid, lines: &[u64], walk: &Walk, words: &mut [u64])
     requires room { grid.now.count ≤ length lines.now }
     requires count { grid.now.count ≤ 2 ^ 48 }
     requires places { (k : ℕ) → k < length words.old → walk_place walk.now k < grid.now.count }
-    requires few { length words.old ≤ 2048 }
+    requires few { length words.old ≤ 8192 }
     ensures { (k : ℕ) → k < length words.new → slice_index words.new k ≡ slice_index lines.now (walk_place walk.now k) }
 {
     if walk.step == 1 && !walk.grows && !words.is_empty() {
@@ -154,7 +154,7 @@ pub fn gather_across(grid: &Grid, lines: &[u64], walk: &Walk, words: &mut [u64])
     requires room { IsAcross grid.now (length lines.now) }
     requires count { grid.now.count ≤ 2 ^ 48 }
     requires places { (k : ℕ) → k < length words.old → walk_place walk.now k < grid.now.count }
-    requires few { length words.old ≤ 2048 }
+    requires few { length words.old ≤ 8192 }
     ensures { (k : ℕ) → k < length words.new → let place = walk_place walk.now k in slice_index words.new k ≡ slice_index lines.now (place % grid.now.pairs * grid.now.pitch + place / grid.now.pairs) }
 {
     if walk.step == grid.pairs && !walk.grows && !words.is_empty() {
