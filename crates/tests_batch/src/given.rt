@@ -1,5 +1,5 @@
-//! Array files by texts. `A 1 2 1 7 8` is the file `A.tca`, with the rank, the extents, the edges and the words of its tiles, or so many
-//! of a word, as `1*36`. Files stand between semicolons, and `-A` is no such file.
+//! Array files by texts. `A 1 2 1 7 8` is the file `A.tca`, with the rank, the extents, the edges and the words of
+//! its tiles, or so many of a word, as `1*36`. Files stand between semicolons, and `-A` is no such file.
 use std::alloc::Global;
 use std::process::Abort;
 use tce_outside::MemDisk;

@@ -1,4 +1,5 @@
-//! Whole runs of formulas that are drawn and evaluated apart, by least fusions and by drawn ones, and how often runs touch tiles.
+//! Whole runs of formulas that are drawn and evaluated apart, by least fusions and by drawn ones, and how often runs
+//! touch tiles.
 
 mod draws;
 mod formulas;

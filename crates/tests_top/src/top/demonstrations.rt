@@ -25,8 +25,8 @@ fn check_twice(rt: &impl Abort, alloc: Global, line: &str) {
     check(rt, first.bytes() == second.bytes(), line);
 }
 
-// All on one disk, over one another. The square of the lesser extent is kept whole, and four elements more. Edges of tiles are at most 4,
-// and each tile has a frame as large as the largest, as far as the budget goes.
+// All on one disk, over one another. The square of the lesser extent is kept whole, and four elements more. Edges of
+// tiles are at most 4, and each tile has a frame as large as the largest, as far as the budget goes.
 const SUMS: &str = "\
 demo 1 5 1|other.tce:another specification|0|tce demo 1/memory 5/tiles 1792/sum 6955242/|5 1792|
 demo 7 2 3||0|tce demo 1/memory 8/tiles 180/sum 2330062/|8 180|

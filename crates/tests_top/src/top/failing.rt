@@ -1,7 +1,7 @@
 //! Disks that fail at one call, each in turn, sinks that fail, and rooms that refuse.
 //!
-//! The lines are those of `given`. Behind their six parts stands what is there where a command is cut off: with no taking, with one,
-//! and so on.
+//! The lines are those of `given`. Behind their six parts stands what is there where a command is cut off: with no
+//! taking, with one, and so on.
 
 use super::given::{
     LINE, check, check_code, check_files, check_line, check_report, check_takings, filled, must,
@@ -166,7 +166,8 @@ fn a_failing_sink_keeps_each_refusal(rt: HostRuntime) {
     }
 }
 
-/// A room that refuses one call: the command is cut off there. Where that was the first, doing it again gives what the line says.
+/// A room that refuses one call: the command is cut off there. Where that was the first, doing it again gives what
+/// the line says.
 pub fn check_want(rt: &impl Abort, alloc: Global, line: &str, call: u64) {
     let mut disk = disk_before(rt, alloc, line);
     let mut out = MemSink::new(alloc);

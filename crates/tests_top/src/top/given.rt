@@ -5,12 +5,13 @@
 //! An underscore is a space within a word. A report that begins or ends with two dots is given by its end or its beginning,
 //! and takings of two dots may be any.
 //!
-//! Files stand between semicolons. `A 1 2 1 7 8` is the file `A.tca` in the first version of the format, with the rank, the
-//! extents, the edges and the words of its tiles, `+A 1 4 2 1 ~7 ~8` one in the second version, with how many bytes a word takes
-//! behind the rank, `=a.flat 7 8` a file of these words alone, and `s.tce:range N 2/` a file of this text. A word is a number in
-//! eight bytes, in four behind a tilde, or in one behind a dot, or so many of it, as `1*36`. `!` before a file puts it there and asks
-//! nothing of it afterwards. `-A` is no such file, `?A` none or one that begins with zeros, as no array does, and `*s.cert:row 1`
-//! a file that has this text in it. A slash in a report or in the text of a file is a line feed.
+//! Files stand between semicolons. `A 1 2 1 7 8` is the file `A.tca` in the first version of the format, with the
+//! rank, the extents, the edges and the words of its tiles, `+A 1 4 2 1 ~7 ~8` one in the second version, with how
+//! many bytes a word takes behind the rank, `=a.flat 7 8` a file of these words alone, and `s.tce:range N 2/` a file
+//! of this text. A word is a number in eight bytes, in four behind a tilde, or in one behind a dot, or so many of it,
+//! as `1*36`. `!` before a file puts it there and asks nothing of it afterwards. `-A` is no such file, `?A` none or
+//! one that begins with zeros, as no array does, and `*s.cert:row 1` a file that has this text in it. A slash in a
+//! report or in the text of a file is a line feed.
 
 use std::alloc::{AllocError, Global};
 use std::process::Abort;
@@ -319,7 +320,8 @@ fn check_lines(rt: &impl Abort, alloc: Global, lines: &str) {
     }
 }
 
-/// The lines of the form for each row, which has the parts that the form leaves open. Each row begins with a disk without files.
+/// The lines of the form for each row, which has the parts that the form leaves open. Each row begins with a disk
+/// without files.
 pub fn check_rows(rt: &impl Abort, alloc: Global, form: &str, rows: &str) {
     for row in rows.split('\n') {
         let lines = filled(rt, alloc, form, row);

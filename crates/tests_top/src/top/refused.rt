@@ -152,8 +152,9 @@ fn texts_that_are_too_long_or_too_deep_are_refused(rt: HostRuntime) {
     check_rows(&rt, rt.alloc(), TEXT, TEXTS);
 }
 
-// Operands come by their first use, which is not the order of their declarations. The third tensor is not used: no file of it is looked at,
-// and its tiles do not count. A row is the budget, the files, the exit status and the line. What stands in the place of the result stays.
+// Operands come by their first use, which is not the order of their declarations. The third tensor is not used: no
+// file of it is looked at, and its tiles do not count. A row is the budget, the files, the exit status and the line.
+// What stands in the place of the result stays.
 const UNUSED: &str =
     "run s.tce %|s.tce:range N 2/range M 1000 tile 1000/index N i j/tensor B[N]/tensor A[N]/tensor Z[M,M]/tensor C[N,N]/C[i,j] = A[i] * B[j]/;C.tca:not an array;%|%|%/||";
 

@@ -2,8 +2,8 @@
 
 use super::given::check_rows;
 
-// A row is the words, the specification, the operands, the report, the one taking, the result, and what is run. Sevens stand in the place of
-// the result before, in as many bytes as four elements take.
+// A row is the words, the specification, the operands, the report, the one taking, the result, and what is run.
+// Sevens stand in the place of the result before, in as many bytes as four elements take.
 const RUN: &str = "%|s.tce:%;!=C.tca .7*80;%|0|%|%|%";
 
 const BUDGETS: &str = "\

@@ -2,8 +2,8 @@
 
 use super::given::{LINE, check_rows};
 
-// A row is the tensor, a file of stored pairs, the exit status and the text. The first number of a file is the mark of its format, as
-// eight letters.
+// A row is the tensor, a file of stored pairs, the exit status and the text. The first number of a file is the mark
+// of its format, as eight letters.
 const REFUSAL: &str =
     "expand s.tce %|s.tce:range N 3/range M 2/index N i j k/tensor A[N,N]/tensor B[N,M]/tensor C[N,N]/C[i,k] = sum{j}(A[i,j] * A[j,k])/;%|%|%/||-A";
 
