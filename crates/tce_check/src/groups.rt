@@ -10,16 +10,15 @@ use tce_space::IndexSet;
 const GROUPS: usize = 1021;
 
 // How many rows have an entry. Those behind them are asked where no other row stands for a state.
-const GROUPED: usize = 131_072;
+const GROUPED: usize = 524_288;
 
 // The greatest prime for which all remainders are bits of a number.
 const MARKS: u32 = 31;
 
-// A row in its group: its place, its cost where that is less than 2^32, and the marks of its upper parts.
+// A row in its group: its place, and the marks of its upper parts.
 #[derive(Clone, Copy)]
 struct Entry {
     place: u32,
-    cost: u32,
     marks: u32,
 }
 
@@ -69,11 +68,6 @@ fn group_of(part: IndexSet) -> usize
     part.bits() as usize % GROUPS
 }
 
-// The cost of a row where it is less than 2^32.
-fn low_cost(row: &Row) -> u32 {
-    row.cost.min(u32::MAX as u128) as u32
-}
-
 // Where the entries of each group begin.
 fn starts_of(rows: &[Row], outer: IndexSet) -> [u32; GROUPS] {
     let mut starts = [0; GROUPS];
@@ -95,11 +89,7 @@ impl Groups {
     pub(crate) fn new() -> Groups {
         Groups {
             ends: [0; GROUPS],
-            entries: [Entry {
-                place: 0,
-                cost: 0,
-                marks: 0,
-            }; GROUPED],
+            entries: [Entry { place: 0, marks: 0 }; GROUPED],
         }
     }
 
@@ -118,7 +108,6 @@ impl Groups {
         if place < GROUPED && at < GROUPED {
             self.entries[at] = Entry {
                 place: place as u32,
-                cost: low_cost(row),
                 marks: marks_of(&row.classes, outer),
             };
             self.ends[group] = at as u32 + 1;
@@ -152,9 +141,8 @@ impl Groups {
     ) -> bool
         ensures { IsTrue result → Any (StandsFor outer (above state.now.classes) state.now.cost) rows.now }
     {
-        let cost = low_cost(state);
         for entry in self.entries_of(part) {
-            if entry.cost <= cost && entry.marks & !marks == 0 {
+            if entry.marks & !marks == 0 {
                 if let Some(row) = rows.get(entry.place as usize) {
                     if stands_for(row, state, outer) {
                         return true;
