@@ -1,8 +1,11 @@
-"""Drawn specifications, for the scripts that time plans and that compare their memory with a plain search.
+"""Drawn specifications, for the scripts that time plans and that compare their memory with a plain search, and for a test.
 
 python3 drawn_trees.py wide FOLDER COUNT    trees of 32 operations over 6 to 24 indexes, every fourth dense, one for each seed
 python3 drawn_trees.py small FOLDER COUNT   trees of up to 7 operations, each with a file of its least memory, which is
                                             found by trying all fusions
+python3 drawn_trees.py cuts COUNT           the rows of crates/tests_batch/src/drawn.rt: formulas of a few operations, each
+                                            with a limit of memory, and the pieces that it is cut into, which are found by
+                                            trying all fusions of each piece and all sets of cuts
 
 A drawn text has the same tree for the same seed on every machine.
 """
@@ -169,7 +172,116 @@ def sizes(draw, dims):
             yield size, frozenset(chosen)
 
 
+class Formula:
+    """A formula over these tensors that computes a matrix over the first two indexes."""
+
+    indexes = "ijkl"
+    ranges = [0, 1, 2, 3]
+    tensors = {"A": "ik", "B": "jl", "D": "kl", "F": "ij", "G": "jk", "P": "k", "Q": "l"}
+
+    def __init__(self, rng):
+        self.rng = rng
+        while True:
+            self.nodes, self.reads = [], []
+            self.text, dims, _ = self.draw(rng.randint(2, 5))
+            if dims == {0, 1}:
+                break
+
+    def draw(self, operations):
+        if operations == 0:
+            name = self.rng.choice(sorted(self.tensors))
+            of = self.tensors[name]
+            return f"{name}[{','.join(of)}]", {self.indexes.index(it) for it in of}, name
+        if self.rng.random() < 0.5:
+            text, dims, operand = self.draw(operations - 1)
+            summed = sorted(i for i in dims if i >= 2 and self.rng.random() < 0.8)
+            if summed:
+                inner = text if isinstance(operand, str) else text[1:-1]
+                return self.node(f"(sum{{{','.join(self.indexes[i] for i in summed)}}}({inner}))", dims, dims - set(summed), [operand])
+            operations -= 1
+        else:
+            count = self.rng.randint(0, operations - 1)
+            text, dims, operand = self.draw(count)
+            operations -= 1 + count
+        other_text, other_dims, other = self.draw(max(operations, 0))
+        both = dims | other_dims
+        return self.node(f"({text} {self.rng.choice('**+-')} {other_text})", both, both, [operand, other])
+
+    def node(self, text, loops, dims, operands):
+        self.nodes.append((frozenset(loops), frozenset(dims), [None if isinstance(it, str) else it for it in operands]))
+        self.reads.append([it for it in operands if isinstance(it, str)])
+        return text, dims, len(self.nodes) - 1
+
+    def piece(self, root, cut):
+        """The nodes of a piece, and the cut nodes below it."""
+        inside, edge, waiting = [root], [], [root]
+        while waiting:
+            for operand in self.nodes[waiting.pop()][2]:
+                if operand is not None:
+                    (edge if operand in cut else inside).append(operand)
+                    if operand not in cut:
+                        waiting.append(operand)
+        return sorted(inside), sorted(edge)
+
+    def roots(self, cut):
+        return [v for v in range(len(self.nodes)) if v in cut or v + 1 == len(self.nodes)]
+
+    def least(self, root, cut, known):
+        inside, _ = self.piece(root, cut - {root})
+        if tuple(inside) not in known:
+            part = type("Part", (), {})()
+            part.ranges = self.ranges
+            number = {v: k for k, v in enumerate(inside)}
+            part.nodes = [(loops, dims, [number.get(it) for it in operands]) for loops, dims, operands in (self.nodes[v] for v in inside)]
+            known[tuple(inside)] = least_memory(part)
+        return known[tuple(inside)]
+
+    def elements(self, dims):
+        size = 1
+        for index in dims:
+            size *= EXTENTS[self.ranges[index]]
+        return size
+
+    def tiles(self, root, cut):
+        """The elements of all arrays of a piece, over tiles of one element."""
+        inside, edge = self.piece(root, cut - {root})
+        read = {name for v in inside for name in self.reads[v]}
+        arrays = [{self.indexes.index(it) for it in self.tensors[name]} for name in read] + [self.nodes[v][1] for v in [*edge, root]]
+        return sum(self.elements(dims) for dims in arrays)
+
+    def cuts(self, limit, known):
+        """The cuts for a limit; of all sets of cuts some meet it only where these do, and none of these is idle."""
+        meets = lambda cut: all(self.least(r, cut, known) <= limit for r in self.roots(cut))
+        last = len(self.nodes) - 1
+        cut = frozenset(range(last))
+        for v in range(last):
+            if v in cut:
+                root = next(r for r in self.roots(cut - {v}) if v in self.piece(r, cut - {v, r})[0])
+                if self.least(root, cut - {v}, known) <= limit:
+                    cut = cut - {v}
+        sets = [frozenset(it) for n in range(last + 1) for it in itertools.combinations(range(last), n)]
+        assert meets(cut) == any(meets(it) for it in sets) and not any(meets(cut - {v}) for v in cut)
+        return cut
+
+
+def cut_rows(count):
+    for seed in range(count):
+        rng = random.Random(seed)
+        while True:
+            formula, known = Formula(rng), {}
+            whole = formula.least(len(formula.nodes) - 1, frozenset(), known)
+            if whole > 0 or seed % 10 == 0:
+                break
+        limit = rng.randint(0, whole)
+        cut = formula.cuts(limit, known)
+        pieces = [f"piece {v} memory {formula.least(v, cut, known)} tiles {formula.tiles(v, cut)}" for v in formula.roots(cut)]
+        print(f"R[i,j] = {formula.text[1:-1]};{limit};{'/'.join(pieces)}")
+
+
 def main():
+    if sys.argv[1] == "cuts":
+        cut_rows(int(sys.argv[2]))
+        return
     kind, folder, count = sys.argv[1], sys.argv[2], int(sys.argv[3])
     os.makedirs(folder, exist_ok=True)
     for seed in range(count):

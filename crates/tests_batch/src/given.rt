@@ -2,6 +2,7 @@
 //! its tiles, or so many of a word, as `1*36`. Files stand between semicolons, and `-A` is no such file.
 use std::alloc::Global;
 use std::process::Abort;
+use std::test::Fail;
 use tce_outside::MemDisk;
 
 /// Ends the test where this does not hold, with what it is about.
@@ -77,4 +78,29 @@ pub fn check_files(rt: &impl Abort, alloc: Global, disk: &MemDisk, files: &str) 
 /// The number of the one call that fails.
 pub fn failing(rt: &impl Abort, alloc: Global, call: u64) -> Vec<u64> {
     must(rt, vec![in alloc; call])
+}
+
+/// The array file over tiles of one element of so many words, each of which is the one before it times a factor.
+pub fn array_of(
+    alloc: Global,
+    extents: &[u64],
+    count: u64,
+    first: u64,
+    factor: u64,
+) -> Result<Vec<u8>, Fail> {
+    let mut bytes = Vec::new(alloc);
+    bytes.extend_from_slice(b"TCARRAY1")?;
+    bytes.extend_from_slice(&(extents.len() as u64).to_le_bytes())?;
+    for extent in extents {
+        bytes.extend_from_slice(&extent.to_le_bytes())?;
+    }
+    for _ in extents {
+        bytes.extend_from_slice(&1u64.to_le_bytes())?;
+    }
+    let mut word = first;
+    for _ in 0..count {
+        bytes.extend_from_slice(&word.to_le_bytes())?;
+        word = word.wrapping_mul(factor);
+    }
+    Ok(bytes)
 }
