@@ -10,7 +10,7 @@ use tce_space::IndexSet;
 const GROUPS: usize = 1021;
 
 // How many rows have an entry. Those behind them are asked where no other row stands for a state.
-const GROUPED: usize = 524_288;
+const GROUPED: usize = 131_072;
 
 // The greatest prime for which all remainders are bits of a number.
 const MARKS: u32 = 31;
