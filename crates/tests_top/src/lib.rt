@@ -2,6 +2,7 @@
 #![tactic(auto)]
 
 #[cfg(test)]
-mod spill;
-#[cfg(test)]
 mod top;
+
+#[cfg(test)]
+mod spill;
