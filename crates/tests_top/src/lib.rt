@@ -2,7 +2,6 @@
 #![tactic(auto)]
 
 #[cfg(test)]
-mod top;
-
-#[cfg(test)]
 mod spill;
+#[cfg(test)]
+mod top;
