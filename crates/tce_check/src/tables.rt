@@ -52,6 +52,9 @@ fn first_uncovered_at(
 }
 
 // The least node whose rows do not cover the steps at it, with the first of these.
+//
+// The groups take a mebibyte of stack, which is not to stand in the frame of what calls this.
+#[inline(never)]
 pub(crate) fn first_uncovered_node(
     space: &Space,
     tree: &Tree,
