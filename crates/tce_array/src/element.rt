@@ -1,5 +1,6 @@
 // Where an element stands.
-ghost use Rattle.std.specs.Prelude.{◌≡◌, ℕ, ◌*◌, ◌<◌, ◌^◌, length};
+ghost use Rattle.std.specs.Prelude.{◌≡◌, ℕ, ◌*◌, ◌<◌, length};
+ghost use Rattle.tce_space.specs.Limits.{max_array_words};
 ghost use Rattle.tce_space.specs.Box.{IsInside};
 ghost use Rattle.tce_space.specs.Tiling.{IsTiling, word_number};
 ghost use Rattle.tce_array.specs.Forms.{address};
@@ -11,7 +12,7 @@ use tce_space::Shape;
 fn word_number(shape: &Shape, coords: &[u64]) -> u64
     requires { IsInside shape.now.extents coords.now }
     ensures number { result ≡ word_number shape.now coords.now }
-    ensures small { result < 2 ^ 48 }
+    ensures small { result < max_array_words }
     ensures limits { IsTiling shape.now }
 {
     let extents = shape.extents();

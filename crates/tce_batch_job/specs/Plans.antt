@@ -1,5 +1,6 @@
 -- The plans that are kept of formulas until they are run.
-use Rattle.std.specs.Prelude.{◌≡◌, ℕ, ◌≤◌, ◌^◌, List, [], ◌∷◌, ◌++◌, length, replicate, Some, slice_get}
+use Rattle.std.specs.Prelude.{◌≡◌, ℕ, ◌≤◌, List, [], ◌∷◌, ◌++◌, length, replicate, Some, slice_get}
+use Rattle.tce_space.specs.Limits.{max_memory}
 use Rattle.tce_nesting.specs.declared.plan.Plan.{Plan}
 use Rattle.tce_search.specs.LeastPlan.{IsLeastPlan}
 use Rattle.tce_spec.specs.Specification.{Specification}
@@ -21,7 +22,7 @@ pub record IsPlanOf (kept : KeptPlan) (plan : Plan) : Type 0 where
 pub record IsKeptFor (s : Specification) (kept : KeptPlan) : Type 0 where
   pub plan : Plan
   pub least : IsLeastPlan s.declarations.space s.tree plan
-  pub small : plan.memory ≤ 2 ^ 40
+  pub small : plan.memory ≤ max_memory
   pub kept_is : IsKeptOf plan kept
 
 -- the same of the formula with its number

@@ -1,5 +1,5 @@
 // The plan of every formula, found before any formula is run.
-ghost use Rattle.std.specs.Prelude.{◌≡◌, ◌≢◌, ◌<◌, ◌≤◌, ◌^◌, IfOk, IfErr, OnOk, Some, length, slice_get};
+ghost use Rattle.std.specs.Prelude.{◌≡◌, ◌≢◌, ◌<◌, ◌≤◌, IfOk, IfErr, OnOk, Some, length, slice_get};
 ghost use Rattle.tce_job.specs.Refusals.{IsAffordable, IsCause};
 ghost use Rattle.tce_job.specs.declared.fault.JobFault.{JobFault as Fault};
 ghost use Rattle.tce_spec.specs.Specification.{Specification};
@@ -12,6 +12,7 @@ use std::alloc::{AllocError, Global};
 use tce_batch::Batch;
 use tce_job::{JobFault, affordable_plan};
 use tce_nesting::{Plan, Tables};
+use tce_space::MAX_NODES;
 use tce_tree::{Fusion, Orders};
 
 /// The plan of a formula until it is run, without the rows that show it to be least: they may take far more memory than
@@ -22,7 +23,7 @@ pub(crate) struct KeptPlan {
     pub(crate) number: usize,
     fusion: Fusion,
     orders: Orders,
-    sizes: ArrayVec<u128, 32>,
+    sizes: ArrayVec<u128, MAX_NODES>,
     memory: u128,
 }
 

@@ -1,5 +1,5 @@
 // The formulas in turn.
-ghost use Rattle.std.specs.Prelude.{◌≡◌, ◌<◌, ◌≤◌, ◌^◌, IfOk, IfErr, OnOk, IsErrAnd, Err, Some, length, slice_get, ◌⊎◌};
+ghost use Rattle.std.specs.Prelude.{◌≡◌, ◌<◌, ◌≤◌, IfOk, IfErr, OnOk, IsErrAnd, Err, Some, length, slice_get, ◌⊎◌};
 ghost use Rattle.tce_spec.specs.Specification.{Specification};
 ghost use Rattle.tce_outside.specs.Files.{others};
 ghost use Rattle.tce_tensors.specs.TensorFiles.{file_of};
@@ -9,6 +9,7 @@ ghost use Rattle.tce_job.specs.Refusals.{IsAffordable, IsCause, IsFree, MayBeRef
 ghost use Rattle.tce_job.specs.Run.{IsReported};
 ghost use Rattle.tce_job.specs.Prepared.{IsRoomLeft as IsRoomLeftByOne};
 ghost use Rattle.std.specs.Option.{ForSome, option_map};
+ghost use Rattle.tce_space.specs.Limits.{max_memory};
 ghost use Rattle.tce_outside.specs.Fault.{HasCause, TellsFaults};
 ghost use Rattle.tce_job.specs.declared.fault.JobFault.{JobFault as Fault};
 ghost use Rattle.tce_batch_job.specs.Files.{files_after};
@@ -39,7 +40,7 @@ fn run_kept<D: Disk, R: Room>(
 ) -> Result<RunReport, JobFault>
     requires kept { IsKeptFor spec.now kept.now }
     requires affordable { IsAffordable spec.now budget }
-    requires budget { budget ≤ 2 ^ 40 }
+    requires budget { budget ≤ max_memory }
     ensures told { OnOk result (D.files disk.new ≡ option_map (with_result spec.now) (D.files disk.old)) }
     ensures reported { IfOk result (IsReported spec.now budget (R.takings room.old) (R.takings room.new)) }
     ensures refused { IfErr result (IsCause (MayBeRefused (D.files disk.old) spec.now) spec.now budget) }
@@ -72,7 +73,7 @@ fn run_formula<D: Disk, R: Room>(
     requires number { kept.now.number < length batch.now }
     requires kept { IsKeptIn batch.now kept.now }
     requires affordable { AffordableBelow batch.now budget (length batch.now) }
-    requires budget { budget ≤ 2 ^ 40 }
+    requires budget { budget ≤ max_memory }
     ensures told { OnOk result ((s : Specification) → slice_get batch.now kept.now.number ≡ Some s → D.files disk.new ≡ option_map (with_result s) (D.files disk.old)) }
     ensures reported { IfOk result (λ report. (s : Specification) → slice_get batch.now kept.now.number ≡ Some s → IsReported s budget (R.takings room.old) (R.takings room.new) report) }
     ensures refused { IfErr result (λ fault. (s : Specification) → slice_get batch.now kept.now.number ≡ Some s → IsCause (MayBeRefused (D.files disk.old) s) s budget fault) }
@@ -98,7 +99,7 @@ fn run_all<D: Disk, R: Room>(
     disk: &mut D,
     room: &mut R,
 ) -> Result<Vec<u8>, BatchFault>
-    requires budget { budget ≤ 2 ^ 40 }
+    requires budget { budget ≤ max_memory }
     requires kept { AreKept batch.now (length batch.now) plans.now }
     requires affordable { AffordableBelow batch.now budget (length batch.now) }
     requires sources { ForSome (D.files disk.old) (λ files. SourcesBelow files batch.now (length batch.now)) }
@@ -151,7 +152,7 @@ pub fn run_batch<D: Disk, R: Room>(
     disk: &mut D,
     room: &mut R,
 ) -> Result<BatchReport, BatchFault>
-    requires { budget ≤ 2 ^ 40 }
+    requires { budget ≤ max_memory }
     ensures told { OnOk result (D.files disk.new ≡ option_map (files_after batch.now) (D.files disk.old)) }
     ensures reported { IfOk result (λ report. HasRun batch.now budget (R.takings room.old) (R.takings room.new) report.text) }
     ensures affordable { OnOk result (AffordableBelow batch.now budget (length batch.now)) }

@@ -1,5 +1,6 @@
 -- Limits of extents and edges.
 use Rattle.std.specs.Prelude.{ℕ, ◌^◌, ◌<◌, ◌≤◌, List, [], ◌∷◌, length}
+use Rattle.tce_space.specs.Limits.{max_loops}
 use Rattle.tce_space.specs.Box.{IsInside}
 use Rattle.tce_space.specs.Tiling.{counts_along}
 
@@ -14,4 +15,4 @@ AreWithin (n ∷ ns) (e ∷ es) = (n < 2 ^ 32) × (0 < e) × (e ≤ n) × AreWit
 pub record IsNumbered (extents edges numbers : List ℕ) : Type 0 where
   pub within : AreWithin extents edges
   pub inside : IsInside (counts_along extents edges) numbers
-  pub few : length extents ≤ 10
+  pub few : length extents ≤ max_loops

@@ -10,14 +10,15 @@ use crate::cut::{Block, Cut};
 use crate::numbers::advance;
 use arrayvec::ArrayVec;
 use std::marker::Model;
+use tce_space::MAX_LOOPS;
 
 /// The blocks of a box that are still to come. Contracts see them as the list of these blocks; no block is kept.
 #[derive(Drop)]
 pub struct Blocks {
-    extents: ArrayVec<u64, 10>,
-    edges: ArrayVec<u64, 10>,
-    counts: ArrayVec<u64, 10>,
-    numbers: ArrayVec<u64, 10>,
+    extents: ArrayVec<u64, MAX_LOOPS>,
+    edges: ArrayVec<u64, MAX_LOOPS>,
+    counts: ArrayVec<u64, MAX_LOOPS>,
+    numbers: ArrayVec<u64, MAX_LOOPS>,
     finished: bool,
 }
 
@@ -40,7 +41,7 @@ impl Blocks {
     /// In each dimension the block with the number `b`, counted from 0, begins at `b * edge` and ends before the
     /// lesser of `(b + 1) * edge` and the extent. Without cuts there is one block, which has no dimensions. The
     /// indexes of the cuts do not matter here.
-    pub fn new(cuts: &ArrayVec<Cut, 10>) -> Self
+    pub fn new(cuts: &ArrayVec<Cut, MAX_LOOPS>) -> Self
         requires { All IsCut cuts.now.items }
         ensures { result ≡ blocks (extents_of cuts.now.items) (edges_of cuts.now.items) }
     {

@@ -1,5 +1,6 @@
 // Loops that are cut, and the blocks that they are cut into.
 use arrayvec::ArrayVec;
+use tce_space::MAX_LOOPS;
 
 /// One loop of a box: its index, how many numbers it runs through, and the edge of the tiles at which it is cut.
 #[derive(Clone, Copy, Debug, Default, PartialEq, Eq)]
@@ -16,7 +17,7 @@ pub struct Cut {
 #[derive(Debug, Default, Drop, PartialEq, Eq)]
 pub struct Block {
     /// The first number in each dimension.
-    pub from: ArrayVec<u64, 10>,
+    pub from: ArrayVec<u64, MAX_LOOPS>,
     /// How many numbers the block has in each dimension, at least 1.
-    pub len: ArrayVec<u64, 10>,
+    pub len: ArrayVec<u64, MAX_LOOPS>,
 }

@@ -1,6 +1,7 @@
 -- A cache of the tiles of arrays: what it holds, and what the current words of its arrays are.
 use Rattle.std.specs.Prelude.{◌≡◌, ◌≢◌, ◌⊎◌, ℕ, ◌+◌, ◌*◌, ◌<◌, ◌≤◌, true, List, length, slice_get, slice_index, Option, is_some, Some, None}
 use Rattle.std.specs.Option.{IsSomeAnd, ForSome}
+use Rattle.tce_space.specs.Limits.{max_tensors}
 use Rattle.tce_outside.specs.Files.{Files, file, bytes_before}
 use Rattle.tce_space.specs.Tiling.{tile_words, tiles}
 use Rattle.tce_array.specs.declared.form.Form.TheVariants.{One}
@@ -31,7 +32,7 @@ IsWritable c array = IsArrayAt c.arrays array (λ a. a.writable ≡ true)
 
 -- what arrays a cache can have: few, in different files, with tiles that fit a frame, and at most one to be written, which is of the first form
 pub record AreArrays (arrays : List ArrayRef) (frame_words : ℕ) : Type 0 where
-  pub few : length arrays ≤ 32
+  pub few : length arrays ≤ max_tensors
   pub different : (i j : ℕ) (a b : ArrayRef) → slice_get arrays i ≡ Some a → slice_get arrays j ≡ Some b → a.file.bytes ≡ b.file.bytes → i ≡ j
   pub fit : (i : ℕ) (a : ArrayRef) → slice_get arrays i ≡ Some a → tile_words a.shape ≤ frame_words
   pub writable : (i j : ℕ) (a b : ArrayRef) → slice_get arrays i ≡ Some a → slice_get arrays j ≡ Some b → a.writable ≡ true → b.writable ≡ true → i ≡ j

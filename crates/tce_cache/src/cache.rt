@@ -11,6 +11,7 @@ use std::alloc::{AllocError, Global};
 use std::marker::Model;
 use tce_frames::Table;
 use tce_outside::{Disk, Failed};
+use tce_space::MAX_MEMORY;
 use tce_words::Words;
 
 /// Holds tiles of arrays in frames, which stand among the words of a run.
@@ -82,7 +83,7 @@ impl Cache {
         ensures { IfOk result (λ c. c ≡ record { arrays = arrays.now; at = at; frames = frames; frame_words = frame_words; held = []; touches = 0 }) }
     {
         // No memory has room for more.
-        if frames > 1 << 40 {
+        if frames > MAX_MEMORY {
             return Err(AllocError);
         }
         let kept = copied(alloc, arrays)?;

@@ -1,6 +1,7 @@
 -- Candidates of a node, and which steps from those of its operands they cover.
-use Rattle.std.specs.Prelude.{◌≡◌, ℕ, ◌+◌, ◌<◌, ◌^◌, List, [], ◌∷◌, ◌++◌, length}
+use Rattle.std.specs.Prelude.{◌≡◌, ℕ, ◌+◌, ◌<◌, List, [], ◌∷◌, ◌++◌, length}
 use Rattle.std.specs.List.{All, Any, Contains}
+use Rattle.tce_space.specs.Limits.{cost_limit, max_nodes}
 use Rattle.tce_states.specs.Relation.{Relation, above, HasNoConflict}
 use Rattle.tce_states.specs.Row.{Row, StandsFor, rows_joined}
 use Rattle.tce_nesting.specs.Classes.{AllowsSet, restricted}
@@ -70,15 +71,15 @@ limit_candidate limit = record { row = record { classes = []; cost = limit }; se
 
 -- the row's cost is within the limit of a plan's numbers
 abbrev pub IsLimited : Candidate → Type 0
-IsLimited candidate = candidate.row.cost < 2 ^ 96
+IsLimited candidate = candidate.row.cost < cost_limit
 
 -- so is the size of the choice
 abbrev pub IsSmall : Choice → Type 0
-IsSmall choice = choice.size < 2 ^ 96
+IsSmall choice = choice.size < cost_limit
 
 -- the sets of two candidates leave room for one more
 abbrev pub LeavesRoom : Candidate → Candidate → Type 0
-LeavesRoom left right = length left.sets.items + length right.sets.items < 32
+LeavesRoom left right = length left.sets.items + length right.sets.items < max_nodes
 
 -- so do those of each two candidates of the operands
 abbrev pub HaveRoom : List Candidate → List Candidate → Type 0

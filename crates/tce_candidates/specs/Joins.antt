@@ -1,6 +1,7 @@
 -- What two candidates of a node's operands are together, and which of it candidates stand for.
 use Rattle.std.specs.Prelude.{◌≡◌, ℕ, ◌+◌, ◌<◌, ◌^◌, List, [], ◌∷◌, ◌++◌, length}
 use Rattle.std.specs.List.{Any, Contains}
+use Rattle.tce_space.specs.Limits.{max_nodes}
 use Rattle.tce_states.specs.Relation.{above, HasNoConflict}
 use Rattle.tce_states.specs.Row.{rows_joined}
 use Rattle.tce_nesting.specs.Classes.{AllowsSet}
@@ -49,4 +50,4 @@ pub record IsSomeStepFrom (limit : ℕ) (choices : List Choice) (join candidate 
 
 -- the candidate's cost is within twice the limit of a plan's numbers, and its sets leave room for one more
 abbrev pub HasNext : Candidate → Type 0
-HasNext join = (join.row.cost < 2 ^ 97) × (length join.sets.items < 32)
+HasNext join = (join.row.cost < 2 ^ 97) × (length join.sets.items < max_nodes)

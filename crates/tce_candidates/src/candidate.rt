@@ -1,16 +1,17 @@
 // Candidates: states with the fusions that reach them.
 ghost use Rattle.std.specs.Prelude.{◌≡◌, ◌+◌, ◌<◌, [], ◌∷◌, ◌++◌, length};
+ghost use Rattle.tce_space.specs.Limits.{max_nodes};
 ghost use Rattle.tce_candidates.specs.Candidates.{limit_candidate};
 
 use arrayvec::ArrayVec;
 use tce_nesting::{Nesting, Row};
-use tce_space::IndexSet;
+use tce_space::{IndexSet, MAX_NODES};
 
 /// A state of a subtree, with the sets that are fused above its nodes, in their order.
 #[derive(Debug, Default, Drop, PartialEq, Eq)]
 pub struct Candidate {
     pub row: Row,
-    pub sets: ArrayVec<IndexSet, 32>,
+    pub sets: ArrayVec<IndexSet, MAX_NODES>,
 }
 
 // The candidate that stands for every state that costs at least the limit: no classes and no sets, at that cost.
@@ -27,11 +28,11 @@ pub(crate) fn at_limit(limit: u128) -> Candidate
 }
 
 // The sets of the left operand's nodes, then those of the right one's.
-pub(crate) fn both_sets(left: &[IndexSet], right: &[IndexSet]) -> ArrayVec<IndexSet, 32>
-    requires { length left.now + length right.now < 32 }
+pub(crate) fn both_sets(left: &[IndexSet], right: &[IndexSet]) -> ArrayVec<IndexSet, MAX_NODES>
+    requires { length left.now + length right.now < max_nodes }
     ensures { result.items ≡ left.now ++ right.now }
 {
-    let mut sets = ArrayVec::<IndexSet, 32>::new();
+    let mut sets = ArrayVec::<IndexSet, MAX_NODES>::new();
     for set in left {
         sets.push(*set);
     }
@@ -42,11 +43,11 @@ pub(crate) fn both_sets(left: &[IndexSet], right: &[IndexSet]) -> ArrayVec<Index
 }
 
 // The sets with one more.
-pub(crate) fn with_set(sets: &[IndexSet], own: IndexSet) -> ArrayVec<IndexSet, 32>
-    requires { length sets.now < 32 }
+pub(crate) fn with_set(sets: &[IndexSet], own: IndexSet) -> ArrayVec<IndexSet, MAX_NODES>
+    requires { length sets.now < max_nodes }
     ensures { result.items ≡ sets.now ++ own ∷ [] }
 {
-    let mut all = ArrayVec::<IndexSet, 32>::new();
+    let mut all = ArrayVec::<IndexSet, MAX_NODES>::new();
     for set in sets {
         all.push(*set);
     }
@@ -56,8 +57,12 @@ pub(crate) fn with_set(sets: &[IndexSet], own: IndexSet) -> ArrayVec<IndexSet, 3
 
 #[tactic(auto, using(std::proofs::lemmas::List::append_assoc))]
 /// The sets of the left operand's nodes, then those of the right one's, then the node's own. There are at most 32.
-pub fn joined_sets(left: &[IndexSet], right: &[IndexSet], own: IndexSet) -> ArrayVec<IndexSet, 32>
-    requires { length left.now + length right.now < 32 }
+pub fn joined_sets(
+    left: &[IndexSet],
+    right: &[IndexSet],
+    own: IndexSet,
+) -> ArrayVec<IndexSet, MAX_NODES>
+    requires { length left.now + length right.now < max_nodes }
     ensures { result.items ≡ left.now ++ (right.now ++ own ∷ []) }
 {
     with_set(both_sets(left, right).as_slice(), own)

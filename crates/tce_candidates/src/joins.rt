@@ -1,5 +1,6 @@
 // What the candidates of a node's operands are together, before a set is chosen for the node.
 ghost use Rattle.std.specs.Prelude.{◌≡◌, ◌⊎◌, ◌↔◌, ◌+◌, ◌<◌, ◌≤◌, IsTrue, IfOk, OnOk, All, AllPairs, Any, Contains};
+ghost use Rattle.tce_space.specs.Limits.{max_loops};
 ghost use Rattle.tce_space.specs.IndexSet.{count};
 ghost use Rattle.tce_candidates.specs.Candidates.{StandForAll, IsLimited, LeavesRoom, HaveRoom};
 ghost use Rattle.tce_candidates.specs.Ends.{AreEnds, HaveEnds};
@@ -30,7 +31,7 @@ fn add_join(
     right: &Candidate,
     limit: u128,
 ) -> Result<(), AllocError>
-    requires loops { count list.old.outer ≤ 10 }
+    requires loops { count list.old.outer ≤ max_loops }
     requires left { IsLimited left.now }
     requires right { IsLimited right.now }
     requires room { LeavesRoom left.now right.now }
@@ -63,7 +64,7 @@ fn add_likely_join(
     other: &Ends,
     limit: u128,
 ) -> Result<(), AllocError>
-    requires loops { count list.old.outer ≤ 10 }
+    requires loops { count list.old.outer ≤ max_loops }
     requires left { IsLimited left.now }
     requires right { IsLimited right.now }
     requires room { LeavesRoom left.now right.now }
@@ -89,7 +90,7 @@ fn add_joins(
     ends: &[Ends],
     limit: u128,
 ) -> Result<(), AllocError>
-    requires loops { count list.old.outer ≤ 10 }
+    requires loops { count list.old.outer ≤ max_loops }
     requires left { IsLimited left.now }
     requires rights { All IsLimited rights.now }
     requires room { All (LeavesRoom left.now) rights.now }
@@ -119,7 +120,7 @@ pub(crate) fn joins_of(
     loops: IndexSet,
     limit: u128,
 ) -> Result<Vec<Candidate>, AllocError>
-    requires loops { count loops ≤ 10 }
+    requires loops { count loops ≤ max_loops }
     requires lefts { All IsLimited lefts.now }
     requires rights { All IsLimited rights.now }
     requires room { HaveRoom lefts.now rights.now }

@@ -1,5 +1,6 @@
 // Steps from rows of the operands of a node.
 ghost use Rattle.std.specs.Prelude.{◌≡◌, ◌↔◌, ◌<◌, ◌≤◌, ◌^◌, IsTrue, IsSome, IfSome, Any};
+ghost use Rattle.tce_space.specs.Limits.{cost_limit, max_loops};
 ghost use Rattle.tce_space.specs.IndexSet.{count};
 ghost use Rattle.tce_states.specs.Relation.{above, HasNoConflict};
 ghost use Rattle.tce_states.specs.Row.{rows_joined, StandsFor};
@@ -11,9 +12,9 @@ use tce_space::IndexSet;
 
 /// The two rows of a node's operands together: their classes joined on the node's loops, at most ten, and the sum of their costs. `None` exactly where they conflict.
 pub fn join_rows(left: &Row, right: &Row, loops: IndexSet) -> Option<Row>
-    requires loops { count loops ≤ 10 }
-    requires left { left.now.cost < 2 ^ 96 }
-    requires right { right.now.cost < 2 ^ 96 }
+    requires loops { count loops ≤ max_loops }
+    requires left { left.now.cost < cost_limit }
+    requires right { right.now.cost < cost_limit }
     ensures joins { IfSome result (IsRowJoin loops left.now right.now) }
     ensures conflict { IsSome result ↔ HasNoConflict loops (rows_joined left.now right.now) }
 {
@@ -27,7 +28,7 @@ pub fn join_rows(left: &Row, right: &Row, loops: IndexSet) -> Option<Row>
 /// What is left of the joined rows of a node's operands where the choice's set is fused: its classes, and the cost with the elements that the node keeps. `None` exactly where the set is not allowed.
 pub fn step(joined: &Row, choice: &Choice) -> Option<Row>
     requires cost { joined.now.cost < 2 ^ 97 }
-    requires size { choice.now.size < 2 ^ 96 }
+    requires size { choice.now.size < cost_limit }
     ensures left { IfSome result (IsRestricted joined.now choice.now) }
     ensures allowed { IsSome result ↔ AllowsSet (above joined.now.classes) choice.now.fused }
 {

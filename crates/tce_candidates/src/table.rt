@@ -1,5 +1,6 @@
 // Tables of candidates of which none stands for another.
 ghost use Rattle.std.specs.Prelude.{◌≡◌, ◌⊎◌, ◌<◌, ◌≤◌, IfOk, OnOk, All, AllPairs, Any, Contains};
+ghost use Rattle.tce_space.specs.Limits.{max_loops};
 ghost use Rattle.tce_space.specs.IndexSet.{count};
 ghost use Rattle.tce_states.specs.Relation.{none};
 ghost use Rattle.tce_candidates.specs.Candidates.{Stands, StandForAll, AreApart, ChoiceCovered, PairCovered, IsReachedBelow, IsLimited, IsSmall, HaveRoom, limit_candidate};
@@ -101,7 +102,7 @@ pub fn candidates_of(
     outer: IndexSet,
     limit: u128,
 ) -> Result<Vec<Candidate>, AllocError>
-    requires loops { count loops ≤ 10 }
+    requires loops { count loops ≤ max_loops }
     requires lefts { All IsLimited lefts.now }
     requires rights { All IsLimited rights.now }
     requires room { HaveRoom lefts.now rights.now }

@@ -1,7 +1,8 @@
 -- The forms of the lines of certificates but those of nodes. Any name and any number below the limit may stand in them.
-use Rattle.std.specs.Prelude.{◌≡◌, ◌≢◌, ℕ, ◌<◌, ◌≤◌, ◌^◌, ◌⊎◌, List, [], ◌++◌, map, length, codes}
+use Rattle.std.specs.Prelude.{◌≡◌, ◌≢◌, ℕ, ◌<◌, ◌≤◌, ◌⊎◌, List, [], ◌++◌, map, length, codes}
 use Rattle.std.specs.Fmt.{decimal}
 use Rattle.std.specs.List.{All}
+use Rattle.tce_space.specs.Limits.{cost_limit, max_loops}
 use Rattle.tce_space.specs.IndexSet.{IsIndexSet, IsWithin}
 use Rattle.tce_space.specs.Space.{IndexSpace}
 use Rattle.tce_fields.specs.Fields.{AreParts, AreListed}
@@ -13,7 +14,7 @@ use Rattle.tce_cert.specs.Lines.{opening_line, memory_line, table_line, cost_lin
 
 -- the numbers of certificates are below this
 abbrev pub IsLimited : ℕ → Type 0
-IsLimited n = n < 2 ^ 96
+IsLimited n = n < cost_limit
 
 pub record StatesMemory (line : List ℕ) (memory : ℕ) : Type 0 where
   pub limit : IsLimited memory
@@ -81,7 +82,7 @@ pub record AreClasses (space : IndexSpace) (dims : ℕ) (texts : List (List ℕ)
 
 -- disjoint classes of these dims
 pub record StatesClasses (space : IndexSpace) (dims : ℕ) (text : List ℕ) (classes : List ℕ) : Type 0 where
-  pub few : length classes ≤ 10
+  pub few : length classes ≤ max_loops
   pub nesting : IsNesting classes
   pub within : All (LiesWithin dims) classes
   pub text_is : text ≡ classes_text space classes
@@ -89,6 +90,6 @@ pub record StatesClasses (space : IndexSpace) (dims : ℕ) (text : List ℕ) (cl
 -- a row of a node with these dims
 pub record StatesRow (space : IndexSpace) (dims : ℕ) (line : List ℕ) (row : Row) : Type 0 where
   pub fits : RowFits dims row
-  pub few : length row.classes ≤ 10
+  pub few : length row.classes ≤ max_loops
   pub nesting : IsNesting row.classes
   pub text_is : line ≡ row_line space row

@@ -1,6 +1,7 @@
 -- Laws of certificates and of their faults.
-use Rattle.std.specs.Prelude.{◌≡◌, ℕ, ◌<◌, ◌≤◌, ◌^◌, List, length}
+use Rattle.std.specs.Prelude.{◌≡◌, ℕ, ◌<◌, ◌≤◌, List, length}
 use Rattle.std.specs.List.{All}
+use Rattle.tce_space.specs.Limits.{cost_limit, max_loops}
 use Rattle.tce_space.specs.Space.{IndexSpace, IsSpace}
 use Rattle.tce_tree.specs.ContractionTree.{ContractionTree}
 use Rattle.tce_tree.specs.FlatTree.{IsTree}
@@ -16,12 +17,12 @@ use Rattle.tce_cert.specs.Faults.{IsFault}
 -- what a row is by its type: a nesting of at most ten classes
 pub record IsNestingRow (row : Row) : Type 0 where
   pub nesting : IsNesting row.classes
-  pub few : length row.classes ≤ 10
+  pub few : length row.classes ≤ max_loops
 
 -- such rows, and in each list fewer than the limit of all numbers in lines
 pub record AreNestingRows (rows : List Row) : Type 0 where
   pub each : All IsNestingRow rows
-  pub few : length rows < 2 ^ 96
+  pub few : length rows < cost_limit
 
 abbrev pub RowsAreNestings : List (List Row) → Type 0
 RowsAreNestings tables = (v : ℕ) → v < length tables → AreNestingRows (rows_at tables v)

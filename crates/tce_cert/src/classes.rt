@@ -3,6 +3,7 @@ ghost use Rattle.std.specs.Prelude.{◌≡◌, ◌↔◌, codes, IsTrue, All};
 ghost use Rattle.tce_cert.specs.Forms.{IsClassText, IsClassesText};
 
 use tce_fields::{read_names, split_parts};
+use tce_space::MAX_INDEXES;
 
 const NONE: &[u8] = b"-";
 
@@ -17,7 +18,7 @@ pub(crate) fn is_none(text: &[u8]) -> bool
 fn is_class(text: &[u8]) -> bool
     ensures { IsTrue result ↔ IsClassText text.now }
 {
-    match read_names::<24>(text) {
+    match read_names::<MAX_INDEXES>(text) {
         Some(names) => !names.is_empty(),
         None => false,
     }

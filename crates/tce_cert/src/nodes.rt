@@ -12,7 +12,7 @@ use crate::due::read_node;
 use crate::fault::CertFault;
 use arrayvec::ArrayVec;
 use tce_report::NodeLine;
-use tce_space::Space;
+use tce_space::{MAX_NODES, Space};
 use tce_tree::{Fusion, Orders, Tree};
 
 // What the lines of all nodes say, by the numbers of the nodes; the root has no size.
@@ -20,7 +20,7 @@ use tce_tree::{Fusion, Orders, Tree};
 pub(crate) struct Nodes {
     pub(crate) fusion: Fusion,
     pub(crate) orders: Orders,
-    pub(crate) sizes: ArrayVec<u128, 32>,
+    pub(crate) sizes: ArrayVec<u128, MAX_NODES>,
 }
 
 // Reads the lines of all nodes.

@@ -1,5 +1,6 @@
 // Rows and their classes.
 ghost use Rattle.std.specs.Prelude.{◌≡◌, ◌↔◌, ◌<◌, ◌≤◌, ℕ, false, All, IsTrue, length};
+ghost use Rattle.tce_space.specs.Limits.{max_loops};
 ghost use Rattle.tce_space.specs.IndexSet.{has};
 ghost use Rattle.tce_space.specs.Space.{IsDeclared};
 ghost use Rattle.tce_fields.specs.Reading.{GivesExactly, texts};
@@ -9,7 +10,7 @@ use crate::classes::is_none;
 use crate::forms::read_cost_line;
 use tce_fields::{read_names, set_named, split_parts};
 use tce_nesting::{Nesting, Row};
-use tce_space::{IndexSet, Space};
+use tce_space::{IndexSet, MAX_INDEXES, Space};
 
 /// The row of a node with these dims that a line states. `None` where the line is no row, or has an index that is not declared or not among the dims, indexes out of the order of declaration, or an index in two classes.
 pub fn read_row_line(space: &Space, dims: IndexSet, line: &[u8]) -> Option<Row>
@@ -37,7 +38,7 @@ fn read_classes(space: &Space, dims: IndexSet, text: &[u8]) -> Option<Nesting>
 // The disjoint classes of these texts.
 fn read_parts(space: &Space, dims: IndexSet, parts: &[&[u8]]) -> Option<Nesting>
     requires declared { IsDeclared space.now dims }
-    requires few { length parts.now ≤ 10 }
+    requires few { length parts.now ≤ max_loops }
     ensures { GivesExactly result (AreClasses space.now dims (texts parts.now)) }
 {
     let mut nesting = Nesting::none();
@@ -58,7 +59,7 @@ fn read_class(space: &Space, dims: IndexSet, text: &[u8]) -> Option<IndexSet>
     ensures { GivesExactly result (StatesClass space.now dims text.now) }
 {
     let _declared = space.index_count();
-    let names = read_names::<24>(text)?;
+    let names = read_names::<MAX_INDEXES>(text)?;
     let class = set_named(space, names.as_slice())?;
     if is_part(class, dims) {
         Some(class)

@@ -1,5 +1,6 @@
 // Whether rows of a node stand for all steps from rows of its operands, told without the order in which steps are looked for.
-ghost use Rattle.std.specs.Prelude.{◌≡◌, ◌^◌, ◌<◌, ◌≤◌, length, IsTrue, All};
+ghost use Rattle.std.specs.Prelude.{◌≡◌, ◌<◌, ◌≤◌, length, IsTrue, All};
+ghost use Rattle.tce_space.specs.Limits.{cost_limit, max_volume};
 ghost use Rattle.tce_tree.specs.ContractionTree.{operations, node_loops};
 ghost use Rattle.tce_states.specs.Cover.{StepsCovered};
 ghost use Rattle.tce_nesting.specs.Choices.{AreChoices};
@@ -16,10 +17,10 @@ impl<'a> Node<'a> {
     fn covers_pair(&self, left: &Row, own: &Ends, right: &Row, other: &Ends) -> bool
         requires inside { self.now.number < operations self.now.tree.now }
         requires choices { AreChoices self.now.space.now self.now.tree.now self.now.number self.now.choices.now }
-        requires sizes { All (λ choice. choice.size ≤ 2 ^ 90) self.now.choices.now }
+        requires sizes { All (λ choice. choice.size ≤ max_volume) self.now.choices.now }
         requires bound { IsBound self.now.outer self.now.rows.now self.now.bound }
-        requires left { left.now.cost < 2 ^ 96 }
-        requires right { right.now.cost < 2 ^ 96 }
+        requires left { left.now.cost < cost_limit }
+        requires right { right.now.cost < cost_limit }
         requires own { AreEnds (node_loops self.now.tree.now self.now.number) left.now own.now }
         requires other { AreEnds (node_loops self.now.tree.now self.now.number) right.now other.now }
         ensures { IsTrue result → WhereJoined self.now.tree.now self.now.number
@@ -35,10 +36,10 @@ impl<'a> Node<'a> {
     fn covers_with(&self, left: &Row, rights: &[Row], ends: &[Ends]) -> bool
         requires inside { self.now.number < operations self.now.tree.now }
         requires choices { AreChoices self.now.space.now self.now.tree.now self.now.number self.now.choices.now }
-        requires sizes { All (λ choice. choice.size ≤ 2 ^ 90) self.now.choices.now }
+        requires sizes { All (λ choice. choice.size ≤ max_volume) self.now.choices.now }
         requires bound { IsBound self.now.outer self.now.rows.now self.now.bound }
-        requires left { left.now.cost < 2 ^ 96 }
-        requires rights { All (λ row. row.cost < 2 ^ 96) rights.now }
+        requires left { left.now.cost < cost_limit }
+        requires rights { All (λ row. row.cost < cost_limit) rights.now }
         requires ends { HaveEnds (node_loops self.now.tree.now self.now.number) rights.now ends.now }
         ensures { IsTrue result → All (WhereJoined self.now.tree.now self.now.number
             (StepsCovered self.now.space.now self.now.tree.now self.now.outer self.now.number self.now.rows.now) left.now) rights.now }
@@ -59,10 +60,10 @@ impl<'a> Node<'a> {
         requires few { length rights.now ≤ 256 }
         requires inside { self.now.number < operations self.now.tree.now }
         requires choices { AreChoices self.now.space.now self.now.tree.now self.now.number self.now.choices.now }
-        requires sizes { All (λ choice. choice.size ≤ 2 ^ 90) self.now.choices.now }
+        requires sizes { All (λ choice. choice.size ≤ max_volume) self.now.choices.now }
         requires bound { IsBound self.now.outer self.now.rows.now self.now.bound }
-        requires lefts { All (λ row. row.cost < 2 ^ 96) lefts.now }
-        requires rights { All (λ row. row.cost < 2 ^ 96) rights.now }
+        requires lefts { All (λ row. row.cost < cost_limit) lefts.now }
+        requires rights { All (λ row. row.cost < cost_limit) rights.now }
         ensures { IsTrue result → All (λ left. All (WhereJoined self.now.tree.now self.now.number
             (StepsCovered self.now.space.now self.now.tree.now self.now.outer self.now.number self.now.rows.now) left) rights.now) lefts.now }
     {
@@ -79,10 +80,10 @@ impl<'a> Node<'a> {
     pub(crate) fn covers(&self, lefts: &[Row], rights: &[Row]) -> bool
         requires inside { self.now.number < operations self.now.tree.now }
         requires choices { AreChoices self.now.space.now self.now.tree.now self.now.number self.now.choices.now }
-        requires sizes { All (λ choice. choice.size ≤ 2 ^ 90) self.now.choices.now }
+        requires sizes { All (λ choice. choice.size ≤ max_volume) self.now.choices.now }
         requires bound { IsBound self.now.outer self.now.rows.now self.now.bound }
-        requires lefts { All (λ row. row.cost < 2 ^ 96) lefts.now }
-        requires rights { All (λ row. row.cost < 2 ^ 96) rights.now }
+        requires lefts { All (λ row. row.cost < cost_limit) lefts.now }
+        requires rights { All (λ row. row.cost < cost_limit) rights.now }
         ensures { IsTrue result → All (λ left. All (WhereJoined self.now.tree.now self.now.number
             (StepsCovered self.now.space.now self.now.tree.now self.now.outer self.now.number self.now.rows.now) left) rights.now) lefts.now }
     {

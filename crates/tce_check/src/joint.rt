@@ -1,5 +1,6 @@
 // Two rows of the operands of a node together.
-ghost use Rattle.std.specs.Prelude.{◌^◌, ◌<◌, ◌≤◌, ◌↔◌, IsSome, IfSome};
+ghost use Rattle.std.specs.Prelude.{◌<◌, ◌≤◌, ◌↔◌, IsSome, IfSome};
+ghost use Rattle.tce_space.specs.Limits.{cost_limit, max_loops};
 ghost use Rattle.tce_space.specs.IndexSet.{count};
 ghost use Rattle.tce_states.specs.Relation.{HasNoConflict};
 ghost use Rattle.tce_states.specs.Row.{rows_joined};
@@ -10,9 +11,9 @@ use tce_space::IndexSet;
 
 // All loops of the node as both rows put them above each other, with the sum of the costs; none where the rows have a conflict.
 pub(crate) fn joint(left: &Row, right: &Row, loops: IndexSet) -> Option<Row>
-    requires few { count loops ≤ 10 }
-    requires left { left.now.cost < 2 ^ 96 }
-    requires right { right.now.cost < 2 ^ 96 }
+    requires few { count loops ≤ max_loops }
+    requires left { left.now.cost < cost_limit }
+    requires right { right.now.cost < cost_limit }
     ensures joins { IfSome result (IsJointOf loops left.now right.now) }
     ensures quiet { IsSome result ↔ HasNoConflict loops (rows_joined left.now right.now) }
 {

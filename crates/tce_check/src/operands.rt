@@ -1,5 +1,6 @@
 // The rows of a node's operands.
-ghost use Rattle.std.specs.Prelude.{◌≡◌, ◌+◌, ◌<◌, ◌^◌, [], ◌∷◌, length, All};
+ghost use Rattle.std.specs.Prelude.{◌≡◌, ◌+◌, ◌<◌, [], ◌∷◌, length, All};
+ghost use Rattle.tce_space.specs.Limits.{cost_limit};
 ghost use Rattle.tce_tree.specs.ContractionTree.{operations};
 ghost use Rattle.tce_tree.specs.FlatTree.{IsBefore};
 ghost use Rattle.tce_nesting.specs.Plan.{RowsFit};
@@ -26,7 +27,7 @@ pub(crate) fn left_rows<'a>(tree: &Tree, tables: &'a Tables, v: u8, leaf: &'a [R
     requires rows { RowsFit tree.now tables.now }
     requires leaf { leaf.now ≡ states.leaf_row ∷ [] }
     ensures value { result.now ≡ cover.left_rows tree.now tables.now v }
-    ensures limit { All (λ row. row.cost < 2 ^ 96) result.now }
+    ensures limit { All (λ row. row.cost < cost_limit) result.now }
 {
     operand_rows(tree, tables, tree.left(v), leaf)
 }
@@ -38,7 +39,7 @@ pub(crate) fn right_rows<'a>(tree: &Tree, tables: &'a Tables, v: u8, leaf: &'a [
     requires rows { RowsFit tree.now tables.now }
     requires leaf { leaf.now ≡ states.leaf_row ∷ [] }
     ensures value { result.now ≡ cover.right_rows tree.now tables.now v }
-    ensures limit { All (λ row. row.cost < 2 ^ 96) result.now }
+    ensures limit { All (λ row. row.cost < cost_limit) result.now }
 {
     match tree.right(v) {
         Some(operand) => operand_rows(tree, tables, operand, leaf),
@@ -56,7 +57,7 @@ fn operand_rows<'a>(
     requires rows { RowsFit tree.now tables.now }
     requires leaf { leaf.now ≡ states.leaf_row ∷ [] }
     ensures value { result.now ≡ cover.operand_rows tables.now operand.now }
-    ensures limit { All (λ row. row.cost < 2 ^ 96) result.now }
+    ensures limit { All (λ row. row.cost < cost_limit) result.now }
 {
     match operand {
         Operand::Node(u) => tables.rows(*u),

@@ -1,5 +1,6 @@
 // Whether no sum at the root is below the total.
-ghost use Rattle.std.specs.Prelude.{◌≡◌, ℕ, ◌+◌, ◌-◌, ◌^◌, ◌<◌, ◌≤◌, MatchOption, All, length};
+ghost use Rattle.std.specs.Prelude.{◌≡◌, ℕ, ◌+◌, ◌-◌, ◌<◌, ◌≤◌, MatchOption, All, length};
+ghost use Rattle.tce_space.specs.Limits.{cost_limit};
 ghost use Rattle.tce_tree.specs.ContractionTree.{operations};
 ghost use Rattle.tce_states.specs.Cover.{RootBelow};
 ghost use Rattle.tce_nesting.specs.Plan.{RowsFit};
@@ -26,8 +27,8 @@ pub(crate) fn first_below(tree: &Tree, tables: &Tables, total: u128) -> Option<u
 
 fn first_below_of(tree: &Tree, root: u8, lefts: &[Row], rights: &[Row], total: u128) -> Option<u128>
     requires inside { root < operations tree.now }
-    requires lefts { All (λ row. row.cost < 2 ^ 96) lefts.now }
-    requires rights { All (λ row. row.cost < 2 ^ 96) rights.now }
+    requires lefts { All (λ row. row.cost < cost_limit) lefts.now }
+    requires rights { All (λ row. row.cost < cost_limit) rights.now }
     ensures { MatchOption result
         (All (λ left. All (WhereJoined tree.now root (λ l r. total ≤ l.cost + r.cost) left) rights.now) lefts.now)
         (λ sum. FirstPair (WhereJoined tree.now root (λ l r. total ≤ l.cost + r.cost)) (IsBelow tree.now root total sum) lefts.now rights.now) }
@@ -43,8 +44,8 @@ fn first_below_of(tree: &Tree, root: u8, lefts: &[Row], rights: &[Row], total: u
 // The first such sum with one left row, by the right row.
 fn first_below_with(tree: &Tree, root: u8, left: &Row, rights: &[Row], total: u128) -> Option<u128>
     requires inside { root < operations tree.now }
-    requires left { left.now.cost < 2 ^ 96 }
-    requires rights { All (λ row. row.cost < 2 ^ 96) rights.now }
+    requires left { left.now.cost < cost_limit }
+    requires rights { All (λ row. row.cost < cost_limit) rights.now }
     ensures { MatchOption result
         (All (WhereJoined tree.now root (λ l r. total ≤ l.cost + r.cost) left.now) rights.now)
         (λ sum. First (WhereJoined tree.now root (λ l r. total ≤ l.cost + r.cost) left.now) (IsBelow tree.now root total sum left.now) rights.now) }
@@ -60,8 +61,8 @@ fn first_below_with(tree: &Tree, root: u8, left: &Row, rights: &[Row], total: u1
 // The sum of two rows, where they have no conflict and it is below the total.
 fn sum_below(tree: &Tree, root: u8, left: &Row, right: &Row, total: u128) -> Option<u128>
     requires inside { root < operations tree.now }
-    requires left { left.now.cost < 2 ^ 96 }
-    requires right { right.now.cost < 2 ^ 96 }
+    requires left { left.now.cost < cost_limit }
+    requires right { right.now.cost < cost_limit }
     ensures { MatchOption result (WhereJoined tree.now root (λ l r. total ≤ l.cost + r.cost) left.now right.now)
         (λ sum. IsBelow tree.now root total sum left.now right.now) }
 {

@@ -1,5 +1,6 @@
 // The steps at a node from rows of its operands, and whether its rows stand for them.
 ghost use Rattle.std.specs.Prelude.{◌≡◌, ◌+◌, ◌^◌, ◌<◌, ◌≤◌, IsTrue, false, IfSome, MatchOption, All, Any};
+ghost use Rattle.tce_space.specs.Limits.{cost_limit, max_volume};
 ghost use Rattle.tce_tree.specs.ContractionTree.{operations};
 ghost use Rattle.tce_states.specs.Relation.{Relation};
 ghost use Rattle.tce_states.specs.Row.{StandsFor};
@@ -52,7 +53,7 @@ impl Step {
 // The state to which the joined states of the operands lead with a choice.
 fn state_of(joint: &Row, choice: &Choice) -> Row
     requires small { joint.now.cost < 2 ^ 97 }
-    requires size { choice.now.size ≤ 2 ^ 90 }
+    requires size { choice.now.size ≤ max_volume }
     ensures classes { result.classes ≡ restricted joint.now.classes choice.now.fused }
     ensures cost { result.cost ≡ joint.now.cost + choice.now.size }
     ensures nesting { IsNesting result.classes }
@@ -81,7 +82,7 @@ impl<'a> Node<'a> {
     fn is_covered(&self, joint: &Row, choice: &Choice) -> bool
         requires bound { IsBound self.now.outer self.now.rows.now self.now.bound }
         requires small { joint.now.cost < 2 ^ 97 }
-        requires size { choice.now.size ≤ 2 ^ 90 }
+        requires size { choice.now.size ≤ max_volume }
         ensures yes { IsTrue result → ChoiceCovered self.now.outer self.now.rows.now joint.now choice.now }
         ensures no { result ≡ false → ChoiceUncovered self.now.outer self.now.rows.now joint.now choice.now }
     {
@@ -96,12 +97,12 @@ impl<'a> Node<'a> {
 
     // The first choice for whose step no row stands.
     fn first_uncovered_choice(&self, joint: &Row) -> Option<Choice>
-        requires sizes { All (λ choice. choice.size ≤ 2 ^ 90) self.now.choices.now }
+        requires sizes { All (λ choice. choice.size ≤ max_volume) self.now.choices.now }
         requires bound { IsBound self.now.outer self.now.rows.now self.now.bound }
         requires small { joint.now.cost < 2 ^ 97 }
         ensures first { MatchOption result (All (ChoiceCovered self.now.outer self.now.rows.now joint.now) self.now.choices.now)
             (λ choice. IsFirstUncovered self.now.outer self.now.rows.now joint.now self.now.choices.now choice) }
-        ensures size { IfSome result (λ choice. choice.size ≤ 2 ^ 90) }
+        ensures size { IfSome result (λ choice. choice.size ≤ max_volume) }
     {
         for choice in self.choices {
             if !self.is_covered(joint, choice) {
@@ -115,10 +116,10 @@ impl<'a> Node<'a> {
     pub(crate) fn first_uncovered_step(&self, left: &Row, right: &Row) -> Option<Step>
         requires inside { self.now.number < operations self.now.tree.now }
         requires choices { AreChoices self.now.space.now self.now.tree.now self.now.number self.now.choices.now }
-        requires sizes { All (λ choice. choice.size ≤ 2 ^ 90) self.now.choices.now }
+        requires sizes { All (λ choice. choice.size ≤ max_volume) self.now.choices.now }
         requires bound { IsBound self.now.outer self.now.rows.now self.now.bound }
-        requires left { left.now.cost < 2 ^ 96 }
-        requires right { right.now.cost < 2 ^ 96 }
+        requires left { left.now.cost < cost_limit }
+        requires right { right.now.cost < cost_limit }
         ensures { MatchOption result
             (WhereJoined self.now.tree.now self.now.number (StepsCovered self.now.space.now self.now.tree.now self.now.outer self.now.number self.now.rows.now) left.now right.now)
             (λ found. IsLeastUncovered self.now.space.now self.now.tree.now self.now.outer self.now.number self.now.rows.now found.fused found.state left.now right.now) }
@@ -139,10 +140,10 @@ impl<'a> Node<'a> {
     fn first_uncovered_with(&self, left: &Row, rights: &[Row]) -> Option<Step>
         requires inside { self.now.number < operations self.now.tree.now }
         requires choices { AreChoices self.now.space.now self.now.tree.now self.now.number self.now.choices.now }
-        requires sizes { All (λ choice. choice.size ≤ 2 ^ 90) self.now.choices.now }
+        requires sizes { All (λ choice. choice.size ≤ max_volume) self.now.choices.now }
         requires bound { IsBound self.now.outer self.now.rows.now self.now.bound }
-        requires left { left.now.cost < 2 ^ 96 }
-        requires rights { All (λ row. row.cost < 2 ^ 96) rights.now }
+        requires left { left.now.cost < cost_limit }
+        requires rights { All (λ row. row.cost < cost_limit) rights.now }
         ensures { MatchOption result
             (All (WhereJoined self.now.tree.now self.now.number (StepsCovered self.now.space.now self.now.tree.now self.now.outer self.now.number self.now.rows.now) left.now) rights.now)
             (λ found. First (WhereJoined self.now.tree.now self.now.number (StepsCovered self.now.space.now self.now.tree.now self.now.outer self.now.number self.now.rows.now) left.now)
@@ -160,10 +161,10 @@ impl<'a> Node<'a> {
     pub(crate) fn first_uncovered(&self, lefts: &[Row], rights: &[Row]) -> Option<Step>
         requires inside { self.now.number < operations self.now.tree.now }
         requires choices { AreChoices self.now.space.now self.now.tree.now self.now.number self.now.choices.now }
-        requires sizes { All (λ choice. choice.size ≤ 2 ^ 90) self.now.choices.now }
+        requires sizes { All (λ choice. choice.size ≤ max_volume) self.now.choices.now }
         requires bound { IsBound self.now.outer self.now.rows.now self.now.bound }
-        requires lefts { All (λ row. row.cost < 2 ^ 96) lefts.now }
-        requires rights { All (λ row. row.cost < 2 ^ 96) rights.now }
+        requires lefts { All (λ row. row.cost < cost_limit) lefts.now }
+        requires rights { All (λ row. row.cost < cost_limit) rights.now }
         ensures { MatchOption result
             (All (λ left. All (WhereJoined self.now.tree.now self.now.number (StepsCovered self.now.space.now self.now.tree.now self.now.outer self.now.number self.now.rows.now) left) rights.now) lefts.now)
             (λ found. FirstPair (WhereJoined self.now.tree.now self.now.number (StepsCovered self.now.space.now self.now.tree.now self.now.outer self.now.number self.now.rows.now))

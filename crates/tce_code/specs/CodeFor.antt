@@ -1,5 +1,6 @@
 -- What makes a list of operations the code of a tree with a fusion and loop orders.
 use Rattle.std.specs.Prelude.{◌≡◌, ℕ, ◌-◌, ◌<◌, ◌≤◌, List, []}
+use Rattle.tce_space.specs.Limits.{max_loops}
 use Rattle.tce_tree.specs.ContractionTree.{ContractionTree, operations, dims}
 use Rattle.tce_tree.specs.Value.{Assignment, Elements, IsInExtents, value}
 use Rattle.tce_tree.specs.Fusion.{kept_dims}
@@ -23,6 +24,6 @@ pub record IsCodeFor (tree : ContractionTree) (plan : Plan) (ops : List Op) : Ty
   pub matched : spelled (program_of ops) ≡ ops
   pub shape : EachAction (ActionFits tree plan) (IsLoop tree) (program_of ops) []
   pub once : (v : ℕ) → v < operations tree → times_computed (program_of ops) v ≡ 1
-  pub few : most_open (program_of ops) ≤ 10
+  pub few : most_open (program_of ops) ≤ max_loops
   pub reads : (e : Elements) (state : State) (a : Assignment) → ReadsRight (setting_of tree e plan) (program_of ops) state a
   pub leaves : (e : Elements) (state : State) (a b : Assignment) → IsInExtents e (dims tree) b → LeavesValue tree plan ops e state a b

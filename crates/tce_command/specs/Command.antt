@@ -3,6 +3,7 @@ use Rattle.std.specs.Prelude.{◌≡◌, ◌≢◌, ℕ, ◌<◌, ◌≤◌, ◌
 use Rattle.std.specs.List.{list_all, ends_with}
 use Rattle.std.specs.Char.{is_ascii_alphanumeric}
 use Rattle.std.specs.Fmt.{decimal}
+use Rattle.tce_space.specs.Limits.{max_memory}
 use Rattle.tce_space.specs.Name.{is_name}
 use Rattle.tce_array.specs.declared.form.Form.{Form}
 use Rattle.tce_array.specs.declared.form.Form.TheVariants.{One}
@@ -84,9 +85,9 @@ IsBetween least most n = (least ≤ n) × (n ≤ most)
 
 -- what the words of a command keep: a budget is at most 2^40, as is a limit, files are converted to the second version of their format alone, the text and the path of an einsum are any words, and a demonstration has a number below 2^31 - 1 and extents of at most 32
 abbrev pub KeepsRules : Command → Type 0
-KeepsRules (run spec budget) = NamesSpec spec × (budget ≤ 2 ^ 40)
-KeepsRules (batch spec budget) = NamesSpec spec × (budget ≤ 2 ^ 40)
-KeepsRules (spill spec budget limit) = NamesSpec spec × (budget ≤ 2 ^ 40) × (limit ≤ 2 ^ 40)
+KeepsRules (run spec budget) = NamesSpec spec × (budget ≤ max_memory)
+KeepsRules (batch spec budget) = NamesSpec spec × (budget ≤ max_memory)
+KeepsRules (spill spec budget limit) = NamesSpec spec × (budget ≤ max_memory) × (limit ≤ max_memory)
 KeepsRules (plan spec) = NamesSpec spec
 KeepsRules (cert spec file) = NamesSpec spec × NamesCertificate file
 KeepsRules (check spec file) = NamesSpec spec × NamesCertificate file

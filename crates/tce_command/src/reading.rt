@@ -11,10 +11,7 @@ ghost use Rattle.tce_command.specs.CommandCode.{command_of};
 use crate::command::Command;
 use crate::number::read_number;
 use tce_array::Form;
-use tce_space::is_name;
-
-// The most of a budget, and of a limit of memory.
-const MAX_BUDGET: u64 = 1 << 40;
+use tce_space::{MAX_MEMORY, is_name};
 
 // The largest number that a demonstration comes from, and its largest extent.
 const MAX_SEED: u64 = 2_147_483_646;
@@ -56,11 +53,11 @@ fn read_with_one<'a>(verb: &str, spec: &'a str, last: &'a str) -> Option<Command
         return None;
     }
     if verb == "run" {
-        let budget = read_between(last.as_bytes(), 0, MAX_BUDGET)?;
+        let budget = read_between(last.as_bytes(), 0, MAX_MEMORY)?;
         return Some(Command::Run { spec, budget });
     }
     if verb == "batch" {
-        let budget = read_between(last.as_bytes(), 0, MAX_BUDGET)?;
+        let budget = read_between(last.as_bytes(), 0, MAX_MEMORY)?;
         return Some(Command::Batch { spec, budget });
     }
     if verb == "expand" {
@@ -143,8 +140,8 @@ fn read_spill<'a>(spec: &'a str, budget: &[u8], limit: &[u8]) -> Option<Command<
     if !may_name_file(".tce", spec) {
         return None;
     }
-    let budget = read_between(budget, 0, MAX_BUDGET)?;
-    let limit = read_between(limit, 0, MAX_BUDGET)?;
+    let budget = read_between(budget, 0, MAX_MEMORY)?;
+    let limit = read_between(limit, 0, MAX_MEMORY)?;
     Some(Command::Spill {
         spec,
         budget,

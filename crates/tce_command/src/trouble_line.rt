@@ -1,5 +1,6 @@
 // The lines of refused certificates. They take no memory.
 ghost use Rattle.std.specs.Prelude.{◌≡◌, ◌+◌, ◌*◌, ◌≤◌, ◌++◌, length, codes, All};
+ghost use Rattle.tce_space.specs.Limits.{max_loops};
 ghost use Rattle.tce_space.specs.Space.{IsDeclared};
 ghost use Rattle.tce_report.specs.NodeLine.{set_text};
 ghost use Rattle.tce_cert.specs.Lines.{classes_text};
@@ -89,7 +90,7 @@ fn push_step(
 // Appends the classes with `/` between them, or `-` where there are none.
 fn push_classes(line: &mut LongText, space: &Space, classes: &[IndexSet])
     requires declared { All (IsDeclared space.now) classes.now }
-    requires few { length classes.now ≤ 10 }
+    requires few { length classes.now ≤ max_loops }
     requires room { length line.old.bytes ≤ 480 }
     ensures text { line.new.bytes ≡ line.old.bytes ++ classes_text space.now classes.now }
     ensures length { length line.new.bytes ≤ length line.old.bytes + 4100 }

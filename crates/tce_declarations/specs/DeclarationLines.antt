@@ -1,9 +1,10 @@
 -- The lines that declare: the fault of each, and what it declares where it has none. A fault is the first of a list, which is
 -- the order in which they are tried.
-use Rattle.std.specs.Prelude.{⊤, IsTrue, ℕ, ◌+◌, ◌^◌, not, nat_lt, nat_le, List, [], ◌∷◌, ◌++◌, length, map, find, Option, option_map, is_none, is_some, unwrap_or, if◌then◌else◌}
+use Rattle.std.specs.Prelude.{⊤, IsTrue, ℕ, ◌+◌, not, nat_lt, nat_le, List, [], ◌∷◌, ◌++◌, length, map, find, Option, option_map, is_none, is_some, unwrap_or, if◌then◌else◌}
 use Rattle.std.specs.declared.option.Option.TheVariants.{Some, None}
 use Rattle.std.specs.List.{list_any}
 use Rattle.std.specs.Str.{bytes_eq}
+use Rattle.tce_space.specs.Limits.{max_array_words, max_tile_words}
 use Rattle.tce_space.specs.Name.{is_name}
 use Rattle.tce_space.specs.Space.{Index, IndexSpace, range_number, tiling_of}
 use Rattle.tce_space.specs.Tiling.{tile_words, padded_words}
@@ -61,8 +62,8 @@ tensor_fault line d name ranges = first (
     ∷ option_map (unknown_name line) (find (λ range. is_none (range_number d.space range)) ranges)
     ∷ fault_if (nat_le 32 (length d.tensors)) (limit_passed line tensor_count)
     ∷ fault_if (nat_lt 8 (length ranges)) (limit_passed line rank)
-    ∷ fault_if (nat_lt (2 ^ 20) (tile_words (tiling_of d.space (numbers_of_ranges d.space ranges)))) (limit_passed line words_of_tile)
-    ∷ fault_if (nat_lt (2 ^ 48) (padded_words (tiling_of d.space (numbers_of_ranges d.space ranges)))) (limit_passed line words_of_array)
+    ∷ fault_if (nat_lt max_tile_words (tile_words (tiling_of d.space (numbers_of_ranges d.space ranges)))) (limit_passed line words_of_tile)
+    ∷ fault_if (nat_lt max_array_words (padded_words (tiling_of d.space (numbers_of_ranges d.space ranges)))) (limit_passed line words_of_array)
     ∷ [])
 
 abbrev pub with_tensor : Declarations → List ℕ → List (List ℕ) → Declarations

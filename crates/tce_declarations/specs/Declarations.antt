@@ -1,7 +1,8 @@
 -- What the lines in front of the formula declare: an index space, and tensors over its ranges. Numbers are positions in order of declaration.
-use Rattle.std.specs.Prelude.{ℕ, ◌<◌, ◌≤◌, ◌^◌, IsTrue, List, [], length, map, slice_index_or, position, Option}
+use Rattle.std.specs.Prelude.{ℕ, ◌<◌, ◌≤◌, IsTrue, List, [], length, map, slice_index_or, position, Option}
 use Rattle.std.specs.Str.{bytes_eq}
 use Rattle.std.specs.List.{All, IsDistinct}
+use Rattle.tce_space.specs.Limits.{max_array_words, max_name_bytes, max_rank, max_tensors, max_tile_words}
 use Rattle.tce_space.specs.Name.{is_name}
 use Rattle.tce_space.specs.Space.{IndexSpace, IsSpace, no_declarations, tiling_of}
 use Rattle.tce_space.specs.Tiling.{tile_words, padded_words}
@@ -32,16 +33,16 @@ tensor_at d t = slice_index_or d.tensors t no_tensor
 
 -- a name of at most 16 bytes, at most eight dimensions over declared ranges, and a shape within the limits of size
 pub record IsTensor (space : IndexSpace) (t : Tensor) : Type 0 where
-  pub short : length t.name ≤ 16
-  pub rank : length t.ranges ≤ 8
+  pub short : length t.name ≤ max_name_bytes
+  pub rank : length t.ranges ≤ max_rank
   pub declared : All (λ r. r < length space.ranges) t.ranges
-  pub tile_room : tile_words (tiling_of space t.ranges) ≤ 2 ^ 20
-  pub room : padded_words (tiling_of space t.ranges) ≤ 2 ^ 48
+  pub tile_room : tile_words (tiling_of space t.ranges) ≤ max_tile_words
+  pub room : padded_words (tiling_of space t.ranges) ≤ max_array_words
 
 -- what all declarations keep
 pub record IsDeclarations (d : Declarations) : Type 0 where
   pub space : IsSpace d.space
-  pub tensor_limit : length d.tensors ≤ 32
+  pub tensor_limit : length d.tensors ≤ max_tensors
   pub tensors : All (IsTensor d.space) d.tensors
   pub tensor_names : IsDistinct bytes_eq (map (λ (t : Tensor). t.name) d.tensors)
 

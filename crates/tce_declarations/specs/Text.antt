@@ -1,7 +1,8 @@
 -- What the lines of a text declare up to its formula, or the first fault of the first faulty line.
-use Rattle.std.specs.Prelude.{◌≡◌, ℕ, ◌+◌, ◌^◌, List, [], ◌∷◌, length, Option, Result, nat_lt, if◌then◌else◌}
+use Rattle.std.specs.Prelude.{◌≡◌, ℕ, ◌+◌, List, [], ◌∷◌, length, Option, Result, nat_lt, if◌then◌else◌}
 use Rattle.std.specs.declared.option.Option.TheVariants.{Some, None}
 use Rattle.std.specs.declared.result.Result.TheVariants.{Ok, Err}
+use Rattle.tce_space.specs.Limits.{max_spec_bytes}
 use Rattle.tce_grammar.specs.Lines.{lines}
 use Rattle.tce_grammar.specs.Formula.{Formula}
 use Rattle.tce_grammar.specs.Grammar.{Line, skipped, bad, says, AreLines, formula}
@@ -42,7 +43,7 @@ closing_fault line (says statement ∷ rest) = Some (bad_text line)
 pub record IsHead (text : List ℕ) (result : Result Head Fault) : Type 0 where
   pub of_lines : List Line
   pub are_lines : AreLines (lines text) of_lines
-  pub same : result ≡ (if nat_lt (2 ^ 16) (length text) then Err too_long else head_of 1 nothing_declared of_lines)
+  pub same : result ≡ (if nat_lt max_spec_bytes (length text) then Err too_long else head_of 1 nothing_declared of_lines)
 
 -- the fault of the lines of a text that stands behind the formula
 pub record IsClosing (line : ℕ) (text : List ℕ) (fault : Option Fault) : Type 0 where

@@ -3,6 +3,7 @@
 ghost use Rattle.std.specs.Prelude.{◌≡◌, ◌<◌, ◌≤◌, ◌++◌, ◌∷◌, [], None, All, length, IfOk, IfErr, IfSome, OnOk, IsTrue};
 ghost use Rattle.std.specs.List.{IsDistinct};
 ghost use Rattle.std.specs.Str.{bytes_eq};
+ghost use Rattle.tce_space.specs.Limits.{max_name_bytes, max_tensors};
 ghost use Rattle.tce_space.specs.Name.{is_name};
 ghost use Rattle.tce_grammar.specs.Grammar.{AreNames};
 ghost use Rattle.tce_grammar.specs.Code.{names, statement, text_if_some};
@@ -21,17 +22,13 @@ use indexmap::IndexMap;
 use std::alloc::{AllocError, Global};
 use std::marker::Model;
 use tce_grammar::{Statement, name_of};
-use tce_space::{Name, Shape, ShapeFault, Space};
-
-const MAX_TENSORS: usize = 32;
-
-const MAX_RANK: usize = 8;
+use tce_space::{MAX_RANK, MAX_TENSORS, Name, Shape, ShapeFault, Space};
 
 /// A declared tensor: its name, the number of the range of each dimension, and the shape that these ranges give.
 #[derive(Drop)]
 pub struct Tensor {
     pub name: Name,
-    pub ranges: ArrayVec<u8, 8>,
+    pub ranges: ArrayVec<u8, MAX_RANK>,
     pub shape: Shape,
 }
 
@@ -69,8 +66,8 @@ fn keep(tensors: &mut IndexMap<Name, Tensor>, tensor: Tensor) -> Result<(), Allo
 
 /// The number of the tensor with this name. A text that is too long for a name is none of them.
 fn named(tensors: &IndexMap<Name, Tensor>, name: &str) -> Option<u8>
-    requires small { length tensors.now.entries ≤ 32 }
-    requires short { All (λ name. length name ≤ 16) (names_of tensors.now.entries) }
+    requires small { length tensors.now.entries ≤ max_tensors }
+    requires short { All (λ name. length name ≤ max_name_bytes) (names_of tensors.now.entries) }
     ensures { result ≡ entry_number tensors.now.entries name.now }
 {
     let Ok(name) = Name::from(name) else {
@@ -241,10 +238,10 @@ impl Declarations {
     pub fn with_tensor_over(
         mut self,
         name: Name,
-        ranges: ArrayVec<u8, 8>,
+        ranges: ArrayVec<u8, MAX_RANK>,
     ) -> Result<Declarations, AllocError>
         requires unnamed { tensor_number self.tensors name.bytes ≡ None }
-        requires room { length self.tensors < 32 }
+        requires room { length self.tensors < max_tensors }
         requires fits { IsTensor self.space (record { name = name.bytes; ranges = ranges.items }) }
         ensures { IfOk result (λ d. d ≡ record {
           space = self.space;

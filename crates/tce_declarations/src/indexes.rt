@@ -3,6 +3,7 @@
 ghost use Rattle.std.specs.Prelude.{◌≡◌, ◌<◌, ◌≤◌, ◌+◌, IsTrue, OnOk, IfErr, IfSome, None, length};
 ghost use Rattle.std.specs.List.{list_any};
 ghost use Rattle.std.specs.Str.{bytes_eq};
+ghost use Rattle.tce_space.specs.Limits.{max_indexes};
 ghost use Rattle.tce_space.specs.Name.{is_name};
 ghost use Rattle.tce_space.specs.Space.{IsSpace};
 ghost use Rattle.tce_grammar.specs.Code.{text_if_some};
@@ -15,9 +16,7 @@ use crate::fault::{Limit, SpecFault};
 use crate::ranges::range_named;
 use std::alloc::AllocError;
 use tce_grammar::name_of;
-use tce_space::Space;
-
-const MAX_INDEXES: usize = 24;
+use tce_space::{MAX_INDEXES, Space};
 
 /// Whether there is an index of this name.
 fn is_index(space: &Space, name: &[u8]) -> bool
@@ -59,7 +58,7 @@ fn add_indexes(space: &mut Space, range: u8, names: &[&[u8]]) -> Result<(), Allo
     requires names { AreNames (code.names names.now) }
     requires declared { range < length space.old.ranges }
     requires new { twice_after (index_names space.old) (code.names names.now) ≡ None }
-    requires room { length space.old.indexes + length names.now ≤ 24 }
+    requires room { length space.old.indexes + length names.now ≤ max_indexes }
     requires limits { IsSpace space.old }
     ensures declared { OnOk result (space.new ≡ with_numbered_indexes space.old range (code.names names.now)) }
     ensures limits { OnOk result (IsSpace space.new) }

@@ -1,6 +1,7 @@
 //! Lines that declare a tensor.
 
 ghost use Rattle.std.specs.Prelude.{◌≡◌, ◌≤◌, IsTrue, IfSome, length, find, is_none};
+ghost use Rattle.tce_space.specs.Limits.{max_rank};
 ghost use Rattle.tce_space.specs.Name.{is_name};
 ghost use Rattle.tce_space.specs.Space.{range_number};
 ghost use Rattle.tce_grammar.specs.Code.{text_if_some};
@@ -10,7 +11,7 @@ ghost use Rattle.tce_declarations.specs.DeclarationLines.{numbers_of_ranges};
 
 use crate::ranges::range_named;
 use arrayvec::ArrayVec;
-use tce_space::Space;
+use tce_space::{MAX_RANK, Space};
 
 /// The number of no range.
 const NO_RANGE: u8 = 16;
@@ -30,9 +31,9 @@ pub(crate) fn unknown_range<'a>(space: &Space, names: &[&'a [u8]]) -> Option<&'a
 }
 
 /// The numbers of ranges by their names, and 16 for a name that no range has.
-pub(crate) fn range_numbers(space: &Space, names: &[&[u8]]) -> ArrayVec<u8, 8>
+pub(crate) fn range_numbers(space: &Space, names: &[&[u8]]) -> ArrayVec<u8, MAX_RANK>
     requires names { AreNames (code.names names.now) }
-    requires rank { length names.now ≤ 8 }
+    requires rank { length names.now ≤ max_rank }
     ensures { result.items ≡ numbers_of_ranges space.now (code.names names.now) }
 {
     let mut numbers = ArrayVec::new();

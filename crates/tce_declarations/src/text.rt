@@ -1,6 +1,7 @@
 //! The lines of a text up to its formula, and behind it.
 
 ghost use Rattle.std.specs.Prelude.{◌≡◌, ◌+◌, ◌-◌, ◌<◌, ◌≤◌, ◌^◌, List, [], ◌∷◌, map, Ok, IfOk, IfErr, Option, Result, length, drop, slice_index_or};
+ghost use Rattle.tce_space.specs.Limits.{max_spec_bytes};
 ghost use Rattle.tce_grammar.specs.Code.{line as line_view};
 ghost use Rattle.tce_grammar.specs.Lines.{lines};
 ghost use Rattle.tce_grammar.specs.Grammar as grammar;
@@ -16,8 +17,7 @@ use crate::declarations::Declarations;
 use crate::fault::SpecFault;
 use std::alloc::{AllocError, Global};
 use tce_grammar::{Formula, Line, Statement, first_line, read_line};
-
-const MAX_BYTES: usize = 65_536;
+use tce_space::MAX_SPEC_BYTES;
 
 /// The formula of a text, the declarations in front of it, and the text behind its line.
 #[derive(Drop)]
@@ -85,11 +85,11 @@ fn read_first<'a>(
 
 /// Reads the lines of a text up to its formula.
 fn read_lines<'a>(alloc: Global, text: &'a [u8]) -> Result<Head<'a>, SpecFault>
-    requires { length text.now ≤ 2 ^ 16 }
+    requires { length text.now ≤ max_spec_bytes }
     ensures head { IfOk result (λ found. head_of 1 nothing_declared (map line_of (lines text.now)) ≡ Ok (head found)) }
     ensures fault { IfErr result (λ f. Shows (fault_in (head_of 1 nothing_declared (map line_of (lines text.now)))) f) }
     ensures rest { IfOk result (λ found. lines found.rest.now ≡ drop found.line (lines text.now)) }
-    ensures few { IfOk result (λ found. found.line + length found.rest.now ≤ 2 ^ 16) }
+    ensures few { IfOk result (λ found. found.line + length found.rest.now ≤ max_spec_bytes) }
 {
     let mut declarations = Declarations::new(alloc)?;
     let mut line: u64 = 1;
@@ -114,9 +114,9 @@ pub fn read_head<'a>(alloc: Global, text: &'a [u8]) -> Result<Head<'a>, SpecFaul
     ensures said { IfOk result (λ found. IsLine (slice_index_or (lines text.now) (found.line - 1) []) (says (formula_line found))) }
     ensures names { IfOk result (λ found. HaveNames found.declarations.tensors) }
     ensures rest { IfOk result (λ found. lines found.rest.now ≡ drop found.line (lines text.now)) }
-    ensures few { IfOk result (λ found. found.line + length found.rest.now ≤ 2 ^ 16) }
+    ensures few { IfOk result (λ found. found.line + length found.rest.now ≤ max_spec_bytes) }
 {
-    if text.len() > MAX_BYTES {
+    if text.len() > MAX_SPEC_BYTES {
         return Err(SpecFault::TooLong);
     }
     read_lines(alloc, text)

@@ -1,5 +1,6 @@
 -- The laws by which a sum of products is computed in any order: of the value of a tree, for all contents of the tensors.
 use Rattle.std.specs.Prelude.{◌≡◌, ℕ, false, IsTrue, List, ◌∷◌, ◌++◌}
+use Rattle.tce_space.specs.Limits.{max_indexes}
 use Rattle.tce_space.specs.IndexSet.{has}
 use Rattle.tce_tree.specs.ContractionTree.{ContractionTree, multiply, binary, sum, dims}
 use Rattle.tce_tree.specs.WellFormed.{among, indexes_below, is_distinct}
@@ -12,13 +13,13 @@ LacksIndexes tree indexes = (i : ℕ) → IsTrue (among indexes i) → has (dims
 -- a sum moves out of a product whose right operand has none of its indexes
 abbrev pub SumsMoveOutOfLeftOperands : Type 0
 SumsMoveOutOfLeftOperands =
-    (e : Elements) (indexes : List ℕ) (left right : ContractionTree) (a : Assignment) → IsTrue (indexes_below 24 right) → LacksIndexes right indexes
+    (e : Elements) (indexes : List ℕ) (left right : ContractionTree) (a : Assignment) → IsTrue (indexes_below max_indexes right) → LacksIndexes right indexes
     → value e (binary multiply (sum indexes left) right) a ≡ value e (sum indexes (binary multiply left right)) a
 
 -- and out of one whose left operand has none of them
 abbrev pub SumsMoveOutOfRightOperands : Type 0
 SumsMoveOutOfRightOperands =
-    (e : Elements) (indexes : List ℕ) (left right : ContractionTree) (a : Assignment) → IsTrue (indexes_below 24 left) → LacksIndexes left indexes
+    (e : Elements) (indexes : List ℕ) (left right : ContractionTree) (a : Assignment) → IsTrue (indexes_below max_indexes left) → LacksIndexes left indexes
     → value e (binary multiply left (sum indexes right)) a ≡ value e (sum indexes (binary multiply left right)) a
 
 -- the operands of a product may change places

@@ -1,5 +1,6 @@
 -- The windows of slots and of tiles.
 use Rattle.std.specs.Prelude.{◌≡◌, ℕ, ◌+◌, ◌<◌, ◌==◌, if◌then◌else◌, List, [], ◌∷◌, map, length, slice_index}
+use Rattle.tce_space.specs.Limits.{max_indexes}
 use Rattle.tce_space.specs.Box.{product}
 use Rattle.tce_space.specs.Tiling.{Tiling, place_in_tile}
 use Rattle.tce_tree.specs.Value.{Assignment}
@@ -21,8 +22,8 @@ tile_step (e ∷ edges) (x ∷ indexes) i = (if x == i then product edges else 0
 
 -- a step for each index
 pub record AreTileSteps (edges indexes steps : List ℕ) : Type 0 where
-  pub each : length steps ≡ 24
-  pub steps_are : (i : ℕ) → i < 24 → slice_index steps i ≡ tile_step edges indexes i
+  pub each : length steps ≡ max_indexes
+  pub steps_are : (i : ℕ) → i < max_indexes → slice_index steps i ≡ tile_step edges indexes i
 
 -- the window of a tile whose first word stands at `at`
 pub record IsTileWindow (shape : Tiling) (indexes : List ℕ) (first : Assignment) (at : ℕ) (w : Window) : Type 0 where

@@ -1,5 +1,6 @@
 -- Where the turns of a block stay: between the edges of the loops, and so in one tile of each array.
 use Rattle.std.specs.Prelude.{◌≡◌, ℕ, ◌+◌, ◌%◌, ◌<◌, ◌≤◌, IsTrue, false, List, length, map, slice_get, Some, All}
+use Rattle.tce_space.specs.Limits.{max_indexes}
 use Rattle.tce_space.specs.IndexSet.{has}
 use Rattle.tce_space.specs.Tiling.{Tiling, ArePositive, tile_number, place_in_tile}
 use Rattle.tce_tree.specs.Value.{Assignment}
@@ -36,7 +37,7 @@ BlocksStayInTiles =
 pub record HasIndexes (shape : Tiling) (edge : ℕ → ℕ) (indexes : List ℕ) : Type 0 where
   pub edges : shape.edges ≡ map edge indexes
   pub positive : ArePositive shape.edges
-  pub known : All (λ i. i < 24) indexes
+  pub known : All (λ i. i < max_indexes) indexes
 
 -- the element of a turn lies in the tile of that of the first turn, and its word stands where the window says
 pub record IsInTile (t : Turns) (shape : Tiling) (indexes : List ℕ) (at : ℕ) (w : Window) (b : Assignment) : Type 0 where

@@ -1,6 +1,7 @@
 -- Windows of operands and of the places of nodes, where `first` are the numbers of the first turn of a block.
 use Rattle.std.specs.Prelude.{◌≡◌, ℕ, ◌+◌, ◌<◌, ◌≤◌, Bool, true, false, List, map, Some, None}
 use Rattle.std.specs.List.{All}
+use Rattle.tce_space.specs.Limits.{max_indexes}
 use Rattle.tce_space.specs.Tiling.{Tiling, IsTiling, tile_number}
 use Rattle.tce_cache.specs.Cache.{State as CacheState}
 use Rattle.tce_tree.specs.ContractionTree.{operations}
@@ -29,7 +30,7 @@ HasPlace w (Node v) a = IsSlotAt w.places.space w.places.tree w.places.fusion v 
 -- the tile of an array in which the element of the first turn lies is among the `n` touched last, and the window is that of this tile
 pub record IsTouchedTile (n : ℕ) (c : CacheState) (array : ℕ) (shape : Tiling) (indexes : List ℕ) (first : Assignment) (marked : Bool) (window : Window) : Type 0 where
   pub tiling : IsTiling shape
-  pub known : All (λ i. i < 24) indexes
+  pub known : All (λ i. i < max_indexes) indexes
   pub at : ℕ
   pub among : IsAmongLast n c array (tile_number shape (map first indexes)) at marked
   pub window_is : IsTileWindow shape indexes first at window
@@ -73,7 +74,7 @@ pub record AreSteps (p : Places) (tail : Tail) (windows : Windows) : Type 0 wher
 
 -- an operand is a tensor with an array, or an inner node
 abbrev pub HasSteps : Places → CacheState → Operand → Type 0
-HasSteps p c (Leaf l) = All (λ i. i < 24) l.indexes.items × HasShape c l.tensor (shape_over p.space l.indexes.items)
+HasSteps p c (Leaf l) = All (λ i. i < max_indexes) l.indexes.items × HasShape c l.tensor (shape_over p.space l.indexes.items)
 HasSteps p c (Constant number) = ⊥
 HasSteps p c (Node v) = v + 1 < operations p.tree
 
@@ -84,7 +85,7 @@ pub record CanStep (p : Places) (array : ℕ) (c : CacheState) (tail : Tail) : T
   pub left_has : HasSteps p c (left_of p.tree tail.node)
   pub right_has : (o : Operand) → right_of p.tree tail.node ≡ Some o → HasSteps p c o
   pub sum_known : (w : ℕ) → tail.sum ≡ Some w → (w < operations p.tree) × (tail.node + 1 < operations p.tree)
-  pub indexes : All (λ i. i < 24) p.result
+  pub indexes : All (λ i. i < max_indexes) p.result
   pub stored : HasShape c array (shape_over p.space p.result)
 
 -- the tiles that were touched last stay, one further back

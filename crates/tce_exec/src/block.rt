@@ -23,6 +23,7 @@ use crate::windows::{node_window, pair_windows, sum_windows};
 use tce_block::Block;
 use tce_cache::Cache;
 use tce_outside::{Disk, Failed};
+use tce_space::Numbers;
 use tce_strides::Operation;
 use tce_tree::{Kind, Operand};
 use tce_walk::Tail;
@@ -50,7 +51,7 @@ fn run_sum<D: Disk>(
     cache: &mut Cache,
     disk: &mut D,
     tail: &Tail,
-    numbers: &[u64; 24],
+    numbers: &Numbers,
     block: &Block,
     first: &Position,
     sequence: &mut LoopSequence,
@@ -90,7 +91,7 @@ fn run_pair<D: Disk>(
     disk: &mut D,
     tail: &Tail,
     right: &Operand,
-    numbers: &[u64; 24],
+    numbers: &Numbers,
     block: &Block,
     first: &Position,
     sequence: &mut LoopSequence,
@@ -144,7 +145,7 @@ fn run_joined<D: Disk>(
     tail: &Tail,
     right: &Operand,
     sum: u8,
-    numbers: &[u64; 24],
+    numbers: &Numbers,
     block: &Block,
     first: &Position,
     sequence: &mut LoopSequence,
@@ -206,7 +207,7 @@ pub(crate) fn run_block<D: Disk>(
     cache: &mut Cache,
     disk: &mut D,
     tail: &Tail,
-    numbers: &[u64; 24],
+    numbers: &Numbers,
     block: &Block,
     first: &mut Position,
     sequence: &mut LoopSequence,

@@ -1,5 +1,6 @@
 // Loops that are cut at the edges of their ranges.
 ghost use Rattle.std.specs.Prelude.{◌≡◌, ◌<◌, ◌≤◌, length, map, All};
+ghost use Rattle.tce_space.specs.Limits.{max_loops};
 ghost use Rattle.tce_space.specs.Space.{extent_at, edge_at};
 ghost use Rattle.tce_block.specs.Cuts.{IsCut, extents_of, edges_of};
 ghost use Rattle.tce_windows.specs.Loops.{AreLoops};
@@ -9,13 +10,13 @@ ghost use Rattle.tce_exec.specs.Blocks.{loops_of};
 use crate::steps::Windows;
 use arrayvec::ArrayVec;
 use tce_block::Cut;
-use tce_space::Space;
+use tce_space::{MAX_LOOPS, Space};
 use tce_walk::Tail;
 use tce_windows::LoopSequence;
 
 /// The cuts of loops, each with the extent and the edge of its index's range.
-pub(crate) fn cuts_of(space: &Space, loops: &[u8]) -> ArrayVec<Cut, 10>
-    requires few { length loops.now ≤ 10 }
+pub(crate) fn cuts_of(space: &Space, loops: &[u8]) -> ArrayVec<Cut, MAX_LOOPS>
+    requires few { length loops.now ≤ max_loops }
     requires declared { All (λ i. i < length space.now.indexes) loops.now }
     ensures cuts { All IsCut result.items }
     ensures extents { extents_of result.items ≡ map (extent_at space.now) loops.now }
@@ -34,7 +35,11 @@ pub(crate) fn cuts_of(space: &Space, loops: &[u8]) -> ArrayVec<Cut, 10>
 }
 
 /// The best sequence of a tail's loops over its windows, for blocks as long as the edges.
-pub(crate) fn sequence_of(tail: &Tail, cuts: &ArrayVec<Cut, 10>, windows: &Windows) -> LoopSequence
+pub(crate) fn sequence_of(
+    tail: &Tail,
+    cuts: &ArrayVec<Cut, MAX_LOOPS>,
+    windows: &Windows,
+) -> LoopSequence
     requires cuts { All IsCut cuts.now.items }
     requires loops { AreLoops (loops_of tail.now) (edges_of cuts.now.items) }
     ensures { IsLoopSequence (loops_of tail.now) result }
@@ -50,8 +55,8 @@ pub(crate) fn sequence_of(tail: &Tail, cuts: &ArrayVec<Cut, 10>, windows: &Windo
 }
 
 // The edges of cuts.
-fn edges_in(cuts: &[Cut]) -> ArrayVec<u64, 10>
-    requires few { length cuts.now ≤ 10 }
+fn edges_in(cuts: &[Cut]) -> ArrayVec<u64, MAX_LOOPS>
+    requires few { length cuts.now ≤ max_loops }
     ensures { result.items ≡ edges_of cuts.now }
 {
     let mut edges = ArrayVec::new();

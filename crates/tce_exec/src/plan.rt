@@ -1,5 +1,6 @@
 // What stays from run to run of one tail.
 ghost use Rattle.std.specs.Prelude.{◌≡◌, ◌<◌, ◌≤◌, false, length, map, All, IsTrue};
+ghost use Rattle.tce_space.specs.Limits.{max_loops};
 ghost use Rattle.tce_operands.specs.NodeStates.{Places};
 ghost use Rattle.tce_space.specs.Space.{edge_at};
 ghost use Rattle.tce_windows.specs.Loops.{AreLoops};
@@ -14,7 +15,7 @@ use crate::steps::{Windows, set_steps};
 use arrayvec::ArrayVec;
 use tce_block::Cut;
 use tce_cache::Cache;
-use tce_space::{LoopOrder, Space};
+use tce_space::{LoopOrder, MAX_LOOPS, Space};
 use tce_walk::Tail;
 use tce_windows::LoopSequence;
 use tce_workspace::Evaluation;
@@ -25,14 +26,14 @@ pub(crate) struct Plan {
     // Whether the plan is that of its tail.
     pub made: bool,
     pub tail: Tail,
-    pub cuts: ArrayVec<Cut, 10>,
+    pub cuts: ArrayVec<Cut, MAX_LOOPS>,
     pub windows: Windows,
     pub sequence: LoopSequence,
 }
 
 // The same loops in a list of their own.
-fn copied(loops: &[u8]) -> ArrayVec<u8, 10>
-    requires { length loops.now ≤ 10 }
+fn copied(loops: &[u8]) -> ArrayVec<u8, MAX_LOOPS>
+    requires { length loops.now ≤ max_loops }
     ensures { result.items ≡ loops.now }
 {
     let mut copy = ArrayVec::new();

@@ -1,5 +1,6 @@
 // Where a block begins: its first numbers, and in which tiles of the ranges they lie.
 ghost use Rattle.std.specs.Prelude.{◌≡◌, ◌/◌, ◌%◌, ◌<◌, length, map, slice_index, slice_set, All, if◌then◌else◌};
+ghost use Rattle.tce_space.specs.Limits.{max_indexes};
 ghost use Rattle.tce_space.specs.Box.{IsInside};
 ghost use Rattle.tce_space.specs.Tiling.{IsTiling};
 ghost use Rattle.tce_tree.specs.Value.{assignment};
@@ -8,19 +9,19 @@ ghost use Rattle.tce_workspace.specs.Elements.{IsElementAt};
 ghost use Rattle.tce_workspace.specs.Workspace.{shape_over};
 
 use tce_operands::ElementPlace;
-use tce_space::Space;
+use tce_space::{MAX_INDEXES, Numbers, Space};
 
 /// A number for each index, in which tile of the index's range it lies, and how far behind the beginning of that tile.
 ///
 /// Tiles of tensors and places in them are found from these without a division.
 #[derive(Drop)]
 pub(crate) struct Position {
-    pub numbers: [u64; 24],
-    pub tiles: [u64; 24],
-    pub rests: [u64; 24],
+    pub numbers: Numbers,
+    pub tiles: Numbers,
+    pub rests: Numbers,
     // Of each index the edge, and the number of tiles that cover its extent. Both are 1 where no index is declared.
-    pub edges: [u64; 24],
-    pub counts: [u64; 24],
+    pub edges: Numbers,
+    pub counts: Numbers,
 }
 
 // A number divided by an edge, and what is left, where they are known of the number before. Where that stays, a tile further,
@@ -50,17 +51,17 @@ impl Position {
     pub(crate) fn zero(space: &Space) -> Position
         ensures { IsPosition space.now result }
     {
-        let mut edges = [1; 24];
-        let mut counts = [1; 24];
+        let mut edges = [1; MAX_INDEXES];
+        let mut counts = [1; MAX_INDEXES];
         for index in 0..space.index_count() {
             let edge = space.edge(index);
             edges[index as usize] = edge;
             counts[index as usize] = space.extent(index).div_ceil(edge);
         }
         Position {
-            numbers: [0; 24],
-            tiles: [0; 24],
-            rests: [0; 24],
+            numbers: [0; MAX_INDEXES],
+            tiles: [0; MAX_INDEXES],
+            rests: [0; MAX_INDEXES],
             edges,
             counts,
         }
@@ -69,7 +70,7 @@ impl Position {
     // Gives an index a number.
     fn set(&mut self, _space: &Space, index: usize, number: u64)
         requires position { IsPosition _space.now self.old }
-        requires known { index < 24 }
+        requires known { index < max_indexes }
         ensures numbers { self.new.numbers ≡ slice_set self.old.numbers index number }
         ensures position { IsPosition _space.now self.new }
     {
@@ -87,12 +88,12 @@ impl Position {
     }
 
     /// Gives all indexes these numbers.
-    pub(crate) fn go_to(&mut self, space: &Space, numbers: &[u64; 24])
+    pub(crate) fn go_to(&mut self, space: &Space, numbers: &Numbers)
         requires position { IsPosition space.now self.old }
         ensures numbers { slice_index self.new.numbers ≡ slice_index numbers.now }
         ensures position { IsPosition space.now self.new }
     {
-        for i in 0..24 {
+        for i in 0..MAX_INDEXES {
             if numbers[i] != self.numbers[i] {
                 self.set(space, i, numbers[i]);
             }
@@ -103,7 +104,7 @@ impl Position {
     /// and all other indexes keep theirs.
     pub(crate) fn begin(&mut self, space: &Space, loops: &[u8], from: &[u64])
         requires position { IsPosition space.now self.old }
-        requires known { All (λ i. i < 24) loops.now }
+        requires known { All (λ i. i < max_indexes) loops.now }
         requires each { length from.now ≡ length loops.now }
         ensures numbers { slice_index self.new.numbers ≡ (λ i. if among loops.now i then assignment loops.now from.now i else slice_index self.old.numbers i) }
         ensures position { IsPosition space.now self.new }
@@ -116,7 +117,7 @@ impl Position {
     /// Where the element of a tensor with these indexes stands at these numbers.
     pub(crate) fn element(&self, _space: &Space, indexes: &[u8]) -> ElementPlace
         requires position { IsPosition _space.now self.now }
-        requires known { All (λ i. i < 24) indexes.now }
+        requires known { All (λ i. i < max_indexes) indexes.now }
         requires tiling { IsTiling (shape_over _space.now indexes.now) }
         requires inside { IsInside (shape_over _space.now indexes.now).extents (map (slice_index self.now.numbers) indexes.now) }
         ensures { IsElementAt (shape_over _space.now indexes.now) (map (slice_index self.now.numbers) indexes.now) result.tile result.place }

@@ -10,6 +10,7 @@ use crate::plan::Kept;
 use crate::tail::run_tail;
 use tce_cache::Cache;
 use tce_outside::{Disk, Failed};
+use tce_space::Numbers;
 use tce_walk::{Machine, Tail};
 use tce_words::Words;
 use tce_workspace::{Evaluation, clear_slot, operate};
@@ -47,7 +48,7 @@ impl<'a, D: Disk> Machine for Runner<'a, D> {
         clear_slot(&self.evaluation, self.words, v);
     }
 
-    fn operate(&mut self, v: u8, numbers: &[u64; 24]) -> Result<(), Failed> {
+    fn operate(&mut self, v: u8, numbers: &Numbers) -> Result<(), Failed> {
         let answer = operate(
             &self.evaluation,
             self.words,
@@ -60,7 +61,7 @@ impl<'a, D: Disk> Machine for Runner<'a, D> {
         answer
     }
 
-    fn run_tail(&mut self, tail: &Tail, numbers: &[u64; 24]) -> Result<(), Failed> {
+    fn run_tail(&mut self, tail: &Tail, numbers: &Numbers) -> Result<(), Failed> {
         let answer = run_tail(
             &self.evaluation,
             self.words,

@@ -5,10 +5,11 @@ ghost use Rattle.tce_exec.specs.OperandWindows.{IsSlotWindow};
 
 use tce_layout::Slot;
 use tce_operands::slot_place;
+use tce_space::Numbers;
 use tce_windows::Window;
 
 /// Where the words of a slot stand from the first turn of a block on, whose numbers are `first`.
-pub fn slot_window(slot: &Slot, first: &[u64; 24]) -> Window
+pub fn slot_window(slot: &Slot, first: &Numbers) -> Window
     requires { slot_word slot.now (slice_index first.now) < 2 ^ 64 }
     ensures { IsSlotWindow slot.now (slice_index first.now) result }
 {

@@ -1,5 +1,6 @@
 // The steps of windows, which stay from block to block of a tail.
 ghost use Rattle.std.specs.Prelude.{◌≡◌, ◌+◌, ◌<◌, All};
+ghost use Rattle.tce_space.specs.Limits.{max_indexes};
 ghost use Rattle.tce_tree.specs.ContractionTree.{operations};
 ghost use Rattle.tce_layout.specs.Layout.{IsLayout, slot_at};
 ghost use Rattle.tce_operands.specs.Laws.{HasShape};
@@ -9,6 +10,7 @@ ghost use Rattle.tce_exec.specs.Evaluations.{places_of};
 
 use crate::tile_steps;
 use tce_cache::Cache;
+use tce_space::MAX_INDEXES;
 use tce_tree::{Leaf, Operand};
 use tce_walk::Tail;
 use tce_windows::Window;
@@ -29,7 +31,7 @@ impl Windows {
     pub(crate) fn blank() -> Windows {
         let window = Window {
             first: 0,
-            steps: [0; 24],
+            steps: [0; MAX_INDEXES],
         };
         Windows {
             left: window,
@@ -42,7 +44,7 @@ impl Windows {
 
 // Gives a window the steps of a tensor's tiles.
 fn set_leaf_steps(evaluation: &Evaluation, cache: &Cache, leaf: &Leaf, window: &mut Window)
-    requires known { All (λ i. i < 24) leaf.now.indexes.items }
+    requires known { All (λ i. i < max_indexes) leaf.now.indexes.items }
     requires stored { HasShape cache.now leaf.now.tensor (shape_over evaluation.now.space.now leaf.now.indexes.items) }
     ensures { AreTensorSteps (shape_over evaluation.now.space.now leaf.now.indexes.items) leaf.now.indexes.items window.new.steps }
 {
@@ -77,7 +79,7 @@ fn set_operand_steps(evaluation: &Evaluation, cache: &Cache, operand: &Operand, 
 fn set_place_steps(evaluation: &Evaluation, cache: &Cache, v: u8, window: &mut Window)
     requires laid { IsLayout evaluation.now.space.now evaluation.now.tree.now evaluation.now.fusion.now.0.items evaluation.now.layout.now.0.items }
     requires node { v < operations evaluation.now.tree.now }
-    requires known { All (λ i. i < 24) evaluation.now.result.now.indexes.items }
+    requires known { All (λ i. i < max_indexes) evaluation.now.result.now.indexes.items }
     requires stored { HasShape cache.now evaluation.now.result.now.tensor (shape_over evaluation.now.space.now evaluation.now.result.now.indexes.items) }
     ensures { ArePlaceSteps (places_of evaluation.now) v window.new.steps }
 {

@@ -16,6 +16,7 @@ use crate::position::Position;
 use tce_block::{Block, Blocks};
 use tce_cache::Cache;
 use tce_outside::{Disk, Failed};
+use tce_space::Numbers;
 use tce_walk::Tail;
 use tce_words::Words;
 use tce_workspace::Evaluation;
@@ -27,7 +28,7 @@ fn run_blocks<D: Disk>(
     cache: &mut Cache,
     disk: &mut D,
     tail: &Tail,
-    numbers: &[u64; 24],
+    numbers: &Numbers,
     first: &mut Position,
     plan: &mut Plan,
 ) -> Result<(), Failed>
@@ -78,7 +79,7 @@ pub(crate) fn run_tail<D: Disk>(
     cache: &mut Cache,
     disk: &mut D,
     tail: &Tail,
-    numbers: &[u64; 24],
+    numbers: &Numbers,
     kept: &mut Kept,
 ) -> Result<(), Failed>
     requires prepared { IsPrepared (workspace evaluation.now words.old cache.old (D.files disk.old)) }

@@ -1,17 +1,18 @@
 // The windows of tiles.
 ghost use Rattle.std.specs.Prelude.{◌≡◌, ◌+◌, ◌<◌, ◌≤◌, ◌^◌, length, map, slice_index, All};
+ghost use Rattle.tce_space.specs.Limits.{max_indexes};
 ghost use Rattle.tce_space.specs.Box.{IsInside};
 ghost use Rattle.tce_space.specs.Tiling.{IsTiling, tile_words};
 ghost use Rattle.tce_exec.specs.OperandWindows.{IsTileWindow, AreTileSteps};
 
 use tce_operands::{coordinates_of, place_of_element};
-use tce_space::Shape;
+use tce_space::{MAX_INDEXES, Numbers, Shape};
 use tce_windows::Window;
 
 /// Where the words of a tile stand from the first turn of a block on, whose numbers are `first`: `indexes` are those of
 /// the tensor's dimensions, of which an index may have several, and `at` is the place of the tile's first word.
-pub fn tile_window(shape: &Shape, indexes: &[u8], first: &[u64; 24], at: u64) -> Window
-    requires known { All (λ i. i < 24) indexes.now }
+pub fn tile_window(shape: &Shape, indexes: &[u8], first: &Numbers, at: u64) -> Window
+    requires known { All (λ i. i < max_indexes) indexes.now }
     requires inside { IsInside shape.now.extents (map (slice_index first.now) indexes.now) }
     requires room { at + tile_words shape.now ≤ 2 ^ 60 }
     ensures { IsTileWindow shape.now indexes.now (slice_index first.now) at result }
@@ -26,14 +27,14 @@ pub fn tile_window(shape: &Shape, indexes: &[u8], first: &[u64; 24], at: u64) ->
 }
 
 /// How far apart the words of a tile stand, for each index: `indexes` are those of the tensor's dimensions.
-pub fn tile_steps(shape: &Shape, indexes: &[u8]) -> [u64; 24]
-    requires known { All (λ i. i < 24) indexes.now }
+pub fn tile_steps(shape: &Shape, indexes: &[u8]) -> Numbers
+    requires known { All (λ i. i < max_indexes) indexes.now }
     requires each { length indexes.now ≡ length shape.now.extents }
     ensures steps { AreTileSteps shape.now.edges indexes.now result }
     ensures limits { IsTiling shape.now }
 {
     let edges = shape.edges();
-    let mut steps = [0; 24];
+    let mut steps = [0; MAX_INDEXES];
     let mut behind = 1;
     for d in (0..indexes.len()).rev() {
         steps[indexes[d] as usize] += behind;

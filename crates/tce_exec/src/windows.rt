@@ -1,6 +1,7 @@
 // Windows of operands and of the places of nodes.
 ghost use Rattle.std.specs.Prelude.{◌≡◌, ◌+◌, ◌<◌, ◌≤◌, ◌^◌, false, length, map, slice_index, All, OnOk, IsErr, IsTrue, Some};
 ghost use Rattle.std.specs.Option.{ForSome};
+ghost use Rattle.tce_space.specs.Limits.{max_indexes};
 ghost use Rattle.tce_outside.specs.Fault.{HasCause, TellsFaults};
 ghost use Rattle.tce_space.specs.Box.{IsInside};
 ghost use Rattle.tce_cache.specs.Cache.{IsWritable};
@@ -76,7 +77,7 @@ fn touch_window<D: Disk>(
     requires prepared { IsPrepared (workspace evaluation.now words.old cache.old (D.files disk.old)) }
     requires position { IsPosition evaluation.now.space.now first.now }
     requires stored { IsStored (workspace evaluation.now words.old cache.old (D.files disk.old)) leaf.now.tensor leaf.now.indexes.items }
-    requires known { All (λ i. i < 24) leaf.now.indexes.items }
+    requires known { All (λ i. i < max_indexes) leaf.now.indexes.items }
     requires inside { IsInside (shape_over evaluation.now.space.now leaf.now.indexes.items).extents (map (slice_index first.now.numbers) leaf.now.indexes.items) }
     requires writable { IsTrue write → IsWritable cache.old leaf.now.tensor }
     requires steps { AreTensorSteps (shape_over evaluation.now.space.now leaf.now.indexes.items) leaf.now.indexes.items window.old.steps }

@@ -1,7 +1,8 @@
 -- The texts of which a line is made: parts with a separator between them, lists of names, and numbers.
-use Rattle.std.specs.Prelude.{◌≡◌, ◌≢◌, ℕ, ◌<◌, ◌≤◌, ◌^◌, ◌==◌, not, Bool, IsTrue, List, [], ◌∷◌, length, codes}
+use Rattle.std.specs.Prelude.{◌≡◌, ◌≢◌, ℕ, ◌<◌, ◌≤◌, ◌==◌, not, Bool, IsTrue, List, [], ◌∷◌, length, codes}
 use Rattle.std.specs.Fmt.{decimal}
 use Rattle.std.specs.List.{list_all, join_with_byte}
+use Rattle.tce_space.specs.Limits.{cost_limit}
 use Rattle.tce_space.specs.Name.{is_name}
 
 -- whether the separator does not stand in the text
@@ -28,5 +29,5 @@ pub record AreListed (limit : ℕ) (text : List ℕ) (names : List (List ℕ)) :
 
 -- the text is this number in decimal, which is below the limit of all numbers in lines
 pub record IsNumber (text : List ℕ) (number : ℕ) : Type 0 where
-  pub limit : number < 2 ^ 96
+  pub limit : number < cost_limit
   pub text_is : text ≡ decimal number

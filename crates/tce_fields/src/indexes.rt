@@ -2,6 +2,7 @@
 ghost use Rattle.std.specs.Prelude.{◌≡◌, ◌≤◌, ℕ, IsTrue, List, length, option_map};
 ghost use Rattle.std.specs.List.{list_all};
 ghost use Rattle.std.specs.Str.{bytes_eq};
+ghost use Rattle.tce_space.specs.Limits.{max_indexes};
 ghost use Rattle.tce_space.specs.IndexSet.{members};
 ghost use Rattle.tce_space.specs.Name.{is_name};
 ghost use Rattle.tce_fields.specs.Names.{IsNamed, AreNamed, IsSetNamed};
@@ -9,7 +10,7 @@ ghost use Rattle.tce_fields.specs.Reading.{GivesExactly, texts};
 
 use arrayvec::ArrayVec;
 use std::str;
-use tce_space::{IndexSet, Space};
+use tce_space::{IndexSet, MAX_INDEXES, Space};
 
 // The index with this name.
 fn index_named(space: &Space, name: &[u8]) -> Option<u8>
@@ -39,11 +40,11 @@ pub fn indexes_named<const N: usize>(space: &Space, names: &[&[u8]]) -> Option<A
 }
 
 /// The members of a set in order.
-pub fn members_of(set: IndexSet) -> ArrayVec<u8, 24>
+pub fn members_of(set: IndexSet) -> ArrayVec<u8, MAX_INDEXES>
     ensures { result.items ≡ members set }
 {
     let mut all = ArrayVec::new();
-    for index in 0..24 {
+    for index in 0..MAX_INDEXES as u8 {
         if set.has(index) {
             all.push(index);
         }
@@ -60,11 +61,11 @@ fn are_same(a: &[u8], b: &[u8]) -> bool
 /// The set of the indexes with these names. `None` where a name is not declared, stands twice or stands out of the order of declaration.
 pub fn set_named(space: &Space, names: &[&[u8]]) -> Option<IndexSet>
     requires named { IsTrue (list_all is_name (texts names.now)) }
-    requires few { length names.now ≤ 24 }
+    requires few { length names.now ≤ max_indexes }
     ensures { GivesExactly result (IsSetNamed space.now (texts names.now)) }
 {
     let _declared = space.index_count();
-    let Some(indexes) = indexes_named::<24>(space, names) else {
+    let Some(indexes) = indexes_named::<MAX_INDEXES>(space, names) else {
         return None;
     };
     let set = IndexSet::of_list(indexes.as_slice());

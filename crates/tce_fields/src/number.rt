@@ -5,8 +5,7 @@ ghost use Rattle.tce_fields.specs.Fields.{IsNumber};
 ghost use Rattle.tce_fields.specs.Reading.{GivesExactly};
 
 use std::str;
-
-const LIMIT: u128 = 1 << 96;
+use tce_space::COST_LIMIT;
 
 // Whether the first byte may begin a number: a leading 0 stands alone, and no sign is taken.
 fn starts_as_number(text: &[u8]) -> bool
@@ -30,7 +29,7 @@ pub fn read_number(text: &[u8]) -> Option<u128>
         return None;
     };
     match digits.parse::<u128>() {
-        Ok(number) if number < LIMIT => Some(number),
+        Ok(number) if number < COST_LIMIT => Some(number),
         _ => None,
     }
 }

@@ -2,6 +2,7 @@
 ghost use Rattle.std.specs.Prelude.{◌≡◌, ◌≢◌, ◌⊎◌, ◌≤◌, Err, IfOk, IfErr, OnOk, IsErrOf, length};
 ghost use Rattle.std.specs.Option.{ForSome, IsSomeAnd};
 ghost use Rattle.std.specs.String.{string_bytes};
+ghost use Rattle.tce_space.specs.Limits.{max_name_bytes};
 ghost use Rattle.tce_outside.specs.Files.{file, others};
 ghost use Rattle.tce_outside.specs.Fault.{HasCause, TellsFaults};
 ghost use Rattle.tce_array.specs.Forms.{head_len, array_bytes};
@@ -26,7 +27,7 @@ use tce_sym::{MOST_LINE_WORDS, SymFault, Symmetry, expand, expand_through, open_
 
 // The refusal of a tensor whose stored elements are refused.
 fn sym_refusal(fault: SymFault, tensor: &str, packed: &str) -> Refusal
-    requires tensor { length tensor.now ≤ 16 }
+    requires tensor { length tensor.now ≤ max_name_bytes }
     requires packed { packed.now ≡ sym_file tensor.now }
     ensures { SymStands tensor.now fault result }
 {
@@ -81,7 +82,7 @@ pub fn expand_tensor<D: Disk>(
     tensor: &str,
     disk: &mut D,
 ) -> Result<String, Refusal>
-    requires { length tensor.now ≤ 16 }
+    requires { length tensor.now ≤ max_name_bytes }
     ensures done { IfOk result (λ report. IsExpanding (D.files disk.old) (D.files disk.new) shape.now tensor.now (string_bytes report)) }
     ensures refused { IfErr result (λ refusal. ForSome (D.files disk.old) (λ files. IsFree refusal ⊎ IsSymRefusal files tensor.now shape.now refusal)) }
     ensures unchanged { IfErr result (λ refusal. refusal ≢ Refusal.Disk → D.files disk.new ≡ D.files disk.old) }

@@ -2,6 +2,7 @@
 ghost use Rattle.std.specs.Prelude.{◌≡◌, ◌≢◌, ◌⊎◌, ◌≤◌, Err, IfOk, IfErr, length};
 ghost use Rattle.std.specs.Option.{ForSome};
 ghost use Rattle.std.specs.String.{string_bytes};
+ghost use Rattle.tce_space.specs.Limits.{max_name_bytes};
 ghost use Rattle.tce_outside.specs.Files.{others};
 ghost use Rattle.tce_outside.specs.Fault.{HasCause, TellsFaults};
 ghost use Rattle.tce_command.specs.Refusals.{IsFree};
@@ -27,7 +28,7 @@ pub fn pack_tensor<D: Disk>(
     flat: &str,
     disk: &mut D,
 ) -> Result<String, Refusal>
-    requires tensor { length tensor.now ≤ 16 }
+    requires tensor { length tensor.now ≤ max_name_bytes }
     requires flat { length flat.now ≤ 200 }
     requires apart { flat.now ≢ array_file tensor.now }
     ensures done { IfOk result (λ report. IsPacking (D.files disk.old) (D.files disk.new) shape.now tensor.now flat.now (string_bytes report)) }
@@ -57,7 +58,7 @@ pub fn unpack_tensor<D: Disk>(
     flat: &str,
     disk: &mut D,
 ) -> Result<String, Refusal>
-    requires tensor { length tensor.now ≤ 16 }
+    requires tensor { length tensor.now ≤ max_name_bytes }
     requires apart { array_file tensor.now ≢ flat.now }
     ensures done { IfOk result (λ report. IsUnpacking (D.files disk.old) (D.files disk.new) shape.now tensor.now flat.now (string_bytes report)) }
     ensures refused { IfErr result (λ refusal. ForSome (D.files disk.old) (λ files. IsFree refusal ⊎ IsArrayRefusal files tensor.now shape.now refusal)) }
@@ -86,7 +87,7 @@ pub fn convert_tensor<D: Disk>(
     form: Form,
     disk: &mut D,
 ) -> Result<String, Refusal>
-    requires tensor { length tensor.now ≤ 16 }
+    requires tensor { length tensor.now ≤ max_name_bytes }
     ensures done { IfOk result (λ report. IsConverting (D.files disk.old) (D.files disk.new) shape.now tensor.now form (string_bytes report)) }
     ensures refused { IfErr result (λ refusal. ForSome (D.files disk.old) (λ files. IsFree refusal ⊎ IsFormRefusal files tensor.now form shape.now refusal)) }
     ensures unchanged { IfErr result (λ refusal. refusal ≢ Refusal.Disk → D.files disk.new ≡ D.files disk.old) }

@@ -1,5 +1,6 @@
 // Refusals for what the tools answer.
 ghost use Rattle.std.specs.Prelude.{◌≡◌, ◌≢◌, ◌≤◌, IsTrue, length};
+ghost use Rattle.tce_space.specs.Limits.{max_name_bytes};
 ghost use Rattle.tce_flat.specs.Tools.{IsOfFiles, Stands};
 
 use tce_array::ArrayFault;
@@ -9,7 +10,7 @@ use tce_tools::ToolFault;
 
 // The refusal of a tensor whose array file is refused.
 fn array_refusal(fault: ArrayFault, tensor: &str, input: &str) -> Refusal
-    requires tensor { length tensor.now ≤ 16 }
+    requires tensor { length tensor.now ≤ max_name_bytes }
     requires input { length input.now ≤ 204 }
     requires of_files { fault ≢ ArrayFault.Disk }
     ensures { Stands tensor.now input.now (ToolFault.Array fault) result }
@@ -26,7 +27,7 @@ fn array_refusal(fault: ArrayFault, tensor: &str, input: &str) -> Refusal
 
 /// The refusal of a command on this tensor whose input is this file.
 pub fn refusal_of(fault: ToolFault, tensor: &str, input: &str) -> Refusal
-    requires tensor { length tensor.now ≤ 16 }
+    requires tensor { length tensor.now ≤ max_name_bytes }
     requires input { length input.now ≤ 204 }
     requires of_files { IsOfFiles fault }
     ensures { Stands tensor.now input.now fault result }

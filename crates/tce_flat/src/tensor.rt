@@ -1,6 +1,7 @@
 // Tensors, found by their names in the file of a specification.
 ghost use Rattle.std.specs.Prelude.{◌≡◌, ◌<◌, ◌≤◌, Err, IfOk, IfErr, length};
 ghost use Rattle.std.specs.Option.{ForSome};
+ghost use Rattle.tce_space.specs.Limits.{max_name_bytes};
 ghost use Rattle.tce_outside.specs.Fault.{HasCause, TellsFaults};
 ghost use Rattle.tce_spec.specs.Operands.{shape_of};
 ghost use Rattle.tce_flat.specs.Tensors.{HasTensor};
@@ -38,7 +39,7 @@ pub fn find_tensor<D: Disk>(
     disk: &mut D,
 ) -> Result<Found, Refusal>
     requires spec { length spec.now ≤ 200 }
-    requires tensor { length tensor.now ≤ 16 }
+    requires tensor { length tensor.now ≤ max_name_bytes }
     ensures found { IfOk result (λ found. ForSome (D.files disk.old) (λ files. HasTensor files spec.now tensor.now (shape_of found.spec found.number))) }
     ensures refused { IfErr result (λ refusal. ForSome (D.files disk.old) (λ files. IsTensorRefusal files spec.now tensor.now refusal)) }
     ensures same { D.files disk.new ≡ D.files disk.old }

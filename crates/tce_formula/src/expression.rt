@@ -1,6 +1,7 @@
 //! What a formula means.
 
-ghost use Rattle.std.specs.Prelude.{◌≡◌, ◌<◌, ◌≤◌, ◌^◌, ℕ, IfOk, IsTrue, length};
+ghost use Rattle.std.specs.Prelude.{◌≡◌, ◌<◌, ◌≤◌, ℕ, IfOk, IsTrue, length};
+ghost use Rattle.tce_space.specs.Limits.{max_rank};
 ghost use Rattle.tce_space.specs.Name.{is_name};
 ghost use Rattle.tce_tree.specs.Expr.{tree_of};
 ghost use Rattle.tce_grammar.specs.Code.{names, formula};
@@ -39,7 +40,7 @@ fn indexes_of<const N: usize>(space: &Space, indexes: &[&[u8]]) -> ArrayVec<u8, 
 pub(crate) fn leaf_of(declarations: &Declarations, name: &[u8], indexes: &[&[u8]]) -> Leaf
     requires name { IsTrue (is_name name.now) }
     requires names { AreNames (names indexes.now) }
-    requires few { length indexes.now ≤ 8 }
+    requires few { length indexes.now ≤ max_rank }
     ensures tensor { result.tensor ≡ tensor_of declarations.now name.now }
     ensures indexes { result.indexes.items ≡ indexes_of declarations.now.space (names indexes.now) }
 {

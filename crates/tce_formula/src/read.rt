@@ -9,6 +9,7 @@ ghost use Rattle.tce_tree.specs.Measure.{IsMeasured};
 ghost use Rattle.tce_tree.specs.Faults.{fault_of};
 ghost use Rattle.tce_space.specs.IndexSet.{set_of};
 ghost use Rattle.std.specs.List.{list_all};
+ghost use Rattle.tce_space.specs.Limits.{max_nodes};
 ghost use Rattle.tce_declarations.specs.Faults.{tree as refused_tree};
 ghost use Rattle.tce_grammar.specs.Code.{names, formula};
 ghost use Rattle.tce_grammar.specs.Grammar.{AreNames};
@@ -26,11 +27,8 @@ use crate::rule::Rule;
 use std::alloc::Global;
 use tce_declarations::{Declarations, SpecFault};
 use tce_grammar::{Formula, name_of};
-use tce_space::IndexSet;
+use tce_space::{IndexSet, MAX_NODES};
 use tce_tree::{Expr, Leaf, Tree, TreeFault};
-
-/// How many sums, products, additions and subtractions a formula may have.
-const MAX_NODES: u32 = 32;
 
 /// What a formula line computes.
 #[derive(Drop)]
@@ -102,7 +100,7 @@ fn build_tree(
     declarations: &Declarations,
     expr: &Expr,
 ) -> Result<Tree, SpecFault>
-    requires few { node_count (tree_of expr.now) ≤ 32 }
+    requires few { node_count (tree_of expr.now) ≤ max_nodes }
     requires declared { IsDeclaredTree declarations.now.space (tree_of expr.now) }
     requires distinct { IsTrue (sums_distinct (tree_of expr.now)) }
     ensures ok { IfOk result (λ tree. tree ≡ tree_of expr.now) }
@@ -139,7 +137,7 @@ fn contraction_of(
     requires name { IsTrue (is_name name.now) }
     requires indexes { AreNames (names indexes.now) }
     requires written { IsNamed (formula written.now) }
-    requires few { operations (formula written.now) ≤ 32 }
+    requires few { operations (formula written.now) ≤ max_nodes }
     requires faultless { places_fault line declarations.now name.now (names indexes.now) (formula written.now) ≡ None }
     ensures tensor { IfOk result (λ c. c.result.tensor ≡ tensor_of declarations.now name.now) }
     ensures indexes { IfOk result (λ c. c.result.indexes.items ≡ indexes_of declarations.now.space (names indexes.now)) }
@@ -194,7 +192,7 @@ pub fn read_formula(
     ensures fault { IfErr result (Shows (formula_fault line declarations.now name.now (names indexes.now) (formula written.now))) }
 {
     let _space = declarations.space();
-    if written.has_more_operations(MAX_NODES) {
+    if written.has_more_operations(MAX_NODES as u32) {
         return Err(SpecFault::TooManyNodes(line));
     }
     check_places(line, declarations, name, indexes, written)?;

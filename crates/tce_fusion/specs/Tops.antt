@@ -2,6 +2,7 @@
 use Rattle.std.specs.Prelude.{◌≡◌, ℕ, ◌<◌, ◌==◌, Bool, false, List, [], ◌⊎◌, slice_index, slice_index_or, IsTrue}
 use Rattle.std.specs.List.{count_by, range_with_len}
 use Rattle.std.specs.declared.option.Option.TheVariants.{Some}
+use Rattle.tce_space.specs.Limits.{max_indexes}
 use Rattle.tce_space.specs.IndexSet.{has}
 use Rattle.tce_tree.specs.ContractionTree.{ContractionTree, operations, parent}
 use Rattle.tce_tree.specs.Fusion.{fused_at}
@@ -33,7 +34,7 @@ abbrev pub row : List (List ℕ) → ℕ → List ℕ
 row tops i = slice_index_or tops i []
 
 abbrev pub TellsAllScopes : ContractionTree → List ℕ → List (List ℕ) → Type 0
-TellsAllScopes tree fusion tops = (i : ℕ) → i < 24 → TellsScopes tree fusion i (row tops i)
+TellsAllScopes tree fusion tops = (i : ℕ) → i < max_indexes → TellsScopes tree fusion i (row tops i)
 
 -- one of two sets of nodes contains the other
 abbrev pub AreNested : ℕ → (ℕ → Bool) → (ℕ → Bool) → Type 0

@@ -1,5 +1,6 @@
 // Whether the scopes of a fusion are nested.
 ghost use Rattle.std.specs.Prelude.{◌≡◌, ◌<◌, ◌≤◌, ◌↔◌, ℕ, IsTrue, IfSome, IsNone, false};
+ghost use Rattle.tce_space.specs.Limits.{max_indexes, max_nodes};
 ghost use Rattle.tce_space.specs.IndexSet.{has};
 ghost use Rattle.tce_tree.specs.ContractionTree.{operations};
 ghost use Rattle.tce_tree.specs.Fusion.{FusionFits};
@@ -7,7 +8,7 @@ ghost use Rattle.tce_fusion.specs.Scope.{IsSubset, IsLegal, IsIllegalAt};
 ghost use Rattle.tce_fusion.specs.Tops.{AreNested, joined, row};
 
 use crate::scopes::{Scopes, scopes_of};
-use tce_space::IndexSet;
+use tce_space::{IndexSet, MAX_INDEXES, MAX_NODES};
 use tce_tree::{Fusion, Tree};
 
 /// The least node at which two loops have scopes of which neither contains the other; `None` exactly where the fusion is legal.
@@ -40,14 +41,14 @@ pub fn is_legal(tree: &Tree, fusion: &Fusion) -> bool
 
 // Whether two of the loops have scopes at the node of which neither contains the other.
 fn loops_cross(scopes: &Scopes, count: u8, loops: IndexSet, v: u8) -> bool
-    requires few { count ≤ 32 }
+    requires few { count ≤ max_nodes }
     requires inside { v < count }
     ensures yes { IsTrue result → (i : ℕ) × (j : ℕ) × IsTrue (has loops i) × IsTrue (has loops j)
         × (AreNested count (joined (row scopes.now.0 i) v) (joined (row scopes.now.0 j) v) → ⊥) }
-    ensures no { result ≡ false → (i j : ℕ) → i < 24 → j < 24 → IsTrue (has loops i) → IsTrue (has loops j)
+    ensures no { result ≡ false → (i j : ℕ) → i < max_indexes → j < max_indexes → IsTrue (has loops i) → IsTrue (has loops j)
         → AreNested count (joined (row scopes.now.0 i) v) (joined (row scopes.now.0 j) v) }
 {
-    for i in 0..24 {
+    for i in 0..MAX_INDEXES as u8 {
         if loops.has(i) && crosses_another(scopes, count, loops, v, i) {
             return true;
         }
@@ -57,15 +58,15 @@ fn loops_cross(scopes: &Scopes, count: u8, loops: IndexSet, v: u8) -> bool
 
 // Whether the scope of the index at the node and that of another loop cross.
 fn crosses_another(scopes: &Scopes, count: u8, loops: IndexSet, v: u8, i: u8) -> bool
-    requires few { count ≤ 32 }
+    requires few { count ≤ max_nodes }
     requires inside { v < count }
-    requires index { i < 24 }
+    requires index { i < max_indexes }
     ensures yes { IsTrue result → (j : ℕ) × IsTrue (has loops j)
         × (AreNested count (joined (row scopes.now.0 i) v) (joined (row scopes.now.0 j) v) → ⊥) }
-    ensures no { result ≡ false → (j : ℕ) → j < 24 → IsTrue (has loops j)
+    ensures no { result ≡ false → (j : ℕ) → j < max_indexes → IsTrue (has loops j)
         → AreNested count (joined (row scopes.now.0 i) v) (joined (row scopes.now.0 j) v) }
 {
-    for j in 0..24 {
+    for j in 0..MAX_INDEXES as u8 {
         if loops.has(j) && !are_nested(tops_in(scopes, i), tops_in(scopes, j), count, v) {
             return true;
         }
@@ -74,16 +75,16 @@ fn crosses_another(scopes: &Scopes, count: u8, loops: IndexSet, v: u8, i: u8) ->
 }
 
 // The tops of an index.
-pub(crate) fn tops_in(scopes: &Scopes, i: u8) -> &[u8; 32]
-    requires { i < 24 }
+pub(crate) fn tops_in(scopes: &Scopes, i: u8) -> &[u8; MAX_NODES]
+    requires { i < max_indexes }
     ensures { result.now ≡ row scopes.now.0 i }
 {
     &scopes.0[i as usize]
 }
 
 // Whether one of two scopes at a node contains the other.
-fn are_nested(first: &[u8; 32], second: &[u8; 32], count: u8, v: u8) -> bool
-    requires few { count ≤ 32 }
+fn are_nested(first: &[u8; MAX_NODES], second: &[u8; MAX_NODES], count: u8, v: u8) -> bool
+    requires few { count ≤ max_nodes }
     requires inside { v < count }
     ensures { IsTrue result ↔ AreNested count (joined first.now v) (joined second.now v) }
 {
@@ -91,8 +92,8 @@ fn are_nested(first: &[u8; 32], second: &[u8; 32], count: u8, v: u8) -> bool
 }
 
 // Whether each node of the inner scope at a node is one of the outer.
-fn is_subset(inner: &[u8; 32], outer: &[u8; 32], count: u8, v: u8) -> bool
-    requires few { count ≤ 32 }
+fn is_subset(inner: &[u8; MAX_NODES], outer: &[u8; MAX_NODES], count: u8, v: u8) -> bool
+    requires few { count ≤ max_nodes }
     requires inside { v < count }
     ensures { IsTrue result ↔ IsSubset count (joined inner.now v) (joined outer.now v) }
 {
@@ -105,9 +106,9 @@ fn is_subset(inner: &[u8; 32], outer: &[u8; 32], count: u8, v: u8) -> bool
 }
 
 // Whether two nodes are in one scope.
-pub(crate) fn is_joined(tops: &[u8; 32], v: u8, w: u8) -> bool
-    requires first { v < 32 }
-    requires second { w < 32 }
+pub(crate) fn is_joined(tops: &[u8; MAX_NODES], v: u8, w: u8) -> bool
+    requires first { v < max_nodes }
+    requires second { w < max_nodes }
     ensures { result ≡ joined tops.now v w }
 {
     tops[v as usize] == tops[w as usize]

@@ -1,5 +1,6 @@
 // Loop orders that carry a fusion.
 ghost use Rattle.std.specs.Prelude.{◌≡◌, ◌<◌, ◌≤◌, ◌+◌, ℕ, ◌↔◌, IsTrue, IsNone, IfSome, All, AllPairs, IsPermutation, length, slice_index};
+ghost use Rattle.tce_space.specs.Limits.{max_indexes, max_loops, max_nodes};
 ghost use Rattle.tce_space.specs.IndexSet.{members, count as size};
 ghost use Rattle.tce_tree.specs.ContractionTree.{operations};
 ghost use Rattle.tce_tree.specs.Fusion.{FusionFits, OrdersFit, Carries, LeadBoth, fused_at, order_at};
@@ -10,7 +11,7 @@ ghost use Rattle.tce_fusion.specs.Tops.{row, size_in};
 use crate::legality::{is_joined, tops_in};
 use crate::scopes::{Scopes, scopes_of};
 use arrayvec::ArrayVec;
-use tce_space::{IndexSet, LoopOrder};
+use tce_space::{IndexSet, LoopOrder, MAX_INDEXES, MAX_NODES};
 use tce_tree::{Fusion, Orders, Tree};
 
 /// The standard orders of a legal fusion, which carry it: at each node the loops stand by the number of nodes in their scope, most first, and equal ones by index number.
@@ -73,7 +74,7 @@ fn order_at_node(orders: &Orders, v: u8) -> &LoopOrder
 fn leads_both(fused: IndexSet, lower: &LoopOrder, upper: &LoopOrder) -> bool
     requires lower_long { size fused ≤ length lower.now.0.items }
     requires upper_long { size fused ≤ length upper.now.0.items }
-    requires indexes { All (λ i. i < 24) lower.now.0.items }
+    requires indexes { All (λ i. i < max_indexes) lower.now.0.items }
     ensures { IsTrue result ↔ LeadBoth fused lower.now.0.items upper.now.0.items }
 {
     let size = fused.count() as usize;
@@ -84,14 +85,14 @@ fn leads_both(fused: IndexSet, lower: &LoopOrder, upper: &LoopOrder) -> bool
 
 // The loops of a node by the sizes of their scopes there.
 fn standard_order(scopes: &Scopes, count: u8, loops: IndexSet, v: u8) -> LoopOrder
-    requires few { count ≤ 32 }
+    requires few { count ≤ max_nodes }
     requires inside { v < count }
-    requires limit { size loops ≤ 10 }
+    requires limit { size loops ≤ max_loops }
     ensures permutes { IsPermutation (members loops) result.0.items }
     ensures standard { AllPairs (StandsBefore (λ i. size_in count (row scopes.now.0 i) v)) result.0.items }
 {
     let mut order = ArrayVec::new();
-    for i in 0..24 {
+    for i in 0..MAX_INDEXES as u8 {
         if loops.has(i) {
             let size = scope_size(tops_in(scopes, i), count, v);
             let place = place_behind(scopes, count, v, order.as_slice(), size);
@@ -103,9 +104,9 @@ fn standard_order(scopes: &Scopes, count: u8, loops: IndexSet, v: u8) -> LoopOrd
 
 // The place behind the first indexes whose scopes have at least `size` nodes.
 fn place_behind(scopes: &Scopes, count: u8, v: u8, order: &[u8], size: u8) -> usize
-    requires few { count ≤ 32 }
+    requires few { count ≤ max_nodes }
     requires inside { v < count }
-    requires indexes { All (λ i. i < 24) order.now }
+    requires indexes { All (λ i. i < max_indexes) order.now }
     ensures within { result ≤ length order.now }
     ensures before { (k : ℕ) → k < result → size ≤ size_in count (row scopes.now.0 (slice_index order.now k)) v }
     ensures behind { result < length order.now → size_in count (row scopes.now.0 (slice_index order.now result)) v < size }
@@ -119,8 +120,8 @@ fn place_behind(scopes: &Scopes, count: u8, v: u8, order: &[u8], size: u8) -> us
 }
 
 // How many nodes the scope at a node has.
-fn scope_size(tops: &[u8; 32], count: u8, v: u8) -> u8
-    requires few { count ≤ 32 }
+fn scope_size(tops: &[u8; MAX_NODES], count: u8, v: u8) -> u8
+    requires few { count ≤ max_nodes }
     requires inside { v < count }
     ensures { result ≡ size_in count tops.now v }
 {

@@ -1,33 +1,35 @@
 // The scopes of all indexes at all nodes, told by the topmost node of each.
 ghost use Rattle.std.specs.Prelude.{◌≡◌, ◌<◌, ◌≤◌, ℕ, IfSome, IsNone, false, slice_index};
+ghost use Rattle.tce_space.specs.Limits.{max_indexes, max_nodes};
 ghost use Rattle.tce_space.specs.IndexSet.{has};
 ghost use Rattle.tce_tree.specs.ContractionTree.{operations};
 ghost use Rattle.tce_tree.specs.Fusion.{FusionFits, fused_at};
 ghost use Rattle.tce_fusion.specs.Tops.{IsFusedParent, IsTop, TellsScopes, TellsAllScopes};
 
+use tce_space::{MAX_INDEXES, MAX_NODES};
 use tce_tree::{Fusion, Tree};
 
 // For each index the topmost node of its scope at each node: two nodes are in one scope exactly where it is the same.
 #[derive(Drop)]
-pub(crate) struct Scopes(pub(crate) [[u8; 32]; 24]);
+pub(crate) struct Scopes(pub(crate) [[u8; MAX_NODES]; MAX_INDEXES]);
 
 pub(crate) fn scopes_of(tree: &Tree, fusion: &Fusion) -> Scopes
     requires { FusionFits tree.now fusion.now.0.items }
     ensures { TellsAllScopes tree.now fusion.now.0.items result.0 }
 {
-    let mut tops = [[0; 32]; 24];
-    for i in 0..24 {
+    let mut tops = [[0; MAX_NODES]; MAX_INDEXES];
+    for i in 0..MAX_INDEXES as u8 {
         tops[i as usize] = tops_of(tree, fusion, i);
     }
     Scopes(tops)
 }
 
-fn tops_of(tree: &Tree, fusion: &Fusion, i: u8) -> [u8; 32]
+fn tops_of(tree: &Tree, fusion: &Fusion, i: u8) -> [u8; MAX_NODES]
     requires fits { FusionFits tree.now fusion.now.0.items }
-    requires index { i < 24 }
+    requires index { i < max_indexes }
     ensures { TellsScopes tree.now fusion.now.0.items i result }
 {
-    let mut tops = [0; 32];
+    let mut tops = [0; MAX_NODES];
     for v in (0..tree.count()).rev() {
         tops[v as usize] = top_of(tree, fusion, i, v, &tops);
     }
@@ -35,11 +37,11 @@ fn tops_of(tree: &Tree, fusion: &Fusion, i: u8) -> [u8; 32]
 }
 
 // The topmost node of the scope at a node, from those of the nodes above.
-fn top_of(tree: &Tree, fusion: &Fusion, i: u8, v: u8, tops: &[u8; 32]) -> u8
+fn top_of(tree: &Tree, fusion: &Fusion, i: u8, v: u8, tops: &[u8; MAX_NODES]) -> u8
     requires fits { FusionFits tree.now fusion.now.0.items }
-    requires index { i < 24 }
+    requires index { i < max_indexes }
     requires inside { v < operations tree.now }
-    requires few { operations tree.now ≤ 32 }
+    requires few { operations tree.now ≤ max_nodes }
     requires above { (w : ℕ) → v < w → w < operations tree.now → IsTop tree.now fusion.now.0.items i w (slice_index tops.now w) }
     ensures { IsTop tree.now fusion.now.0.items i v result }
 {
@@ -53,7 +55,7 @@ fn top_of(tree: &Tree, fusion: &Fusion, i: u8, v: u8, tops: &[u8; 32]) -> u8
 fn fused_parent(tree: &Tree, fusion: &Fusion, i: u8, v: u8) -> Option<u8>
     requires fits { FusionFits tree.now fusion.now.0.items }
     requires inside { v < operations tree.now }
-    requires index { i < 24 }
+    requires index { i < max_indexes }
     ensures some { IfSome result (IsFusedParent tree.now fusion.now.0.items i v) }
     ensures none { IsNone result → has (fused_at fusion.now.0.items v) i ≡ false }
 {

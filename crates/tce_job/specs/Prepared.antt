@@ -1,5 +1,6 @@
 -- What a run has before its result is made.
-use Rattle.std.specs.Prelude.{◌≡◌, ◌⊎◌, ℕ, ◌+◌, ◌≤◌, ◌^◌, List, [], ◌∷◌, ◌++◌, replicate}
+use Rattle.std.specs.Prelude.{◌≡◌, ◌⊎◌, ℕ, ◌+◌, ◌≤◌, List, [], ◌∷◌, ◌++◌, replicate}
+use Rattle.tce_space.specs.Limits.{max_memory}
 use Rattle.tce_space.specs.Space.{IndexSpace}
 use Rattle.tce_array.specs.declared.form.Form.{Form}
 use Rattle.tce_array.specs.declared.form.Form.TheVariants.{One}
@@ -53,7 +54,7 @@ pub record IsEmptyCache (s : Specification) (budget : ℕ) (forms : List Form) (
 -- a run by a plan: its code, the slots of its intermediates, words that are all 0, a cache with the forms of the operands' files, and the report
 pub record IsPrepared (s : Specification) (budget : ℕ) (forms : List Form) (p : Prepared) : Type 0 where
   pub plan : IsCarriedPlan s.declarations.space s.tree p.plan
-  pub small : p.plan.memory ≤ 2 ^ 40
+  pub small : p.plan.memory ≤ max_memory
   pub code : IsCodeFor s.tree (plan_of p.plan.fusion.0.items (lists_of p.plan.orders.0.items)) p.code
   pub slots : IsLayout s.declarations.space s.tree p.plan.fusion.0.items p.layout.0.items
   pub places : PlacesFill s.declarations.space s.tree p.plan.fusion.0.items p.layout.0.items

@@ -1,7 +1,8 @@
 -- Why a run is refused, by the first cause in order: the budget, the memory for intermediates, the first operand that is refused.
-use Rattle.std.specs.Prelude.{◌≡◌, ◌≢◌, ◌⊎◌, ⊤, ℕ, ◌<◌, ◌≤◌, ◌^◌, List, Option, Result, length}
+use Rattle.std.specs.Prelude.{◌≡◌, ◌≢◌, ◌⊎◌, ⊤, ℕ, ◌<◌, ◌≤◌, List, Option, Result, length}
 use Rattle.std.specs.declared.result.Result.TheVariants.{Ok, Err}
 use Rattle.std.specs.Option.{ForSome, IsSomeAnd}
+use Rattle.tce_space.specs.Limits.{max_memory}
 use Rattle.tce_outside.specs.Files.{Files}
 use Rattle.tce_array.specs.declared.fault.ArrayFault.TheVariants as array_fault
 use Rattle.tce_tree.specs.Memory.{memory}
@@ -22,12 +23,12 @@ pub record IsLeastMemory (s : Specification) (n : ℕ) : Type 0 where
 -- the budget is enough for three of the largest tiles, and the least memory is within the limit
 pub record IsAffordable (s : Specification) (budget : ℕ) : Type 0 where
   pub enough : least_budget s ≤ budget
-  pub small : (n : ℕ) → IsLeastMemory s n → n ≤ 2 ^ 40
+  pub small : (n : ℕ) → IsLeastMemory s n → n ≤ max_memory
 
 -- why a run is refused, where `refused` says which operand is refused, and why. The disk may fail, and memory be wanting, at any place
 abbrev pub IsCause : (Refused → Type 0) → Specification → ℕ → JobFault → Type 0
 IsCause refused s budget (BudgetTooSmall n) = (n ≡ least_budget s) × (budget < n)
-IsCause refused s budget (IntermediatesTooLarge n) = (least_budget s ≤ budget) × IsLeastMemory s n × (2 ^ 40 < n)
+IsCause refused s budget (IntermediatesTooLarge n) = (least_budget s ≤ budget) × IsLeastMemory s n × (max_memory < n)
 IsCause refused s budget (Array t fault) = IsAffordable s budget × refused (record { tensor = t; fault = fault }) × (fault ≢ array_fault.Disk)
 IsCause refused s budget Disk = ⊤
 IsCause refused s budget Memory = ⊤

@@ -1,6 +1,7 @@
 // What a run tests before it takes its memory: the budget, the memory for intermediates, and the operands.
-ghost use Rattle.std.specs.Prelude.{◌≡◌, ◌≢◌, ◌≤◌, ◌^◌, Err, IfOk, IfErr, OnOk};
+ghost use Rattle.std.specs.Prelude.{◌≡◌, ◌≢◌, ◌≤◌, Err, IfOk, IfErr, OnOk};
 ghost use Rattle.std.specs.Option.{ForSome};
+ghost use Rattle.tce_space.specs.Limits.{max_memory};
 ghost use Rattle.tce_outside.specs.Fault.{HasCause, TellsFaults};
 ghost use Rattle.tce_array.specs.declared.fault.ArrayFault.TheVariants as array_fault;
 ghost use Rattle.tce_search.specs.LeastPlan.{IsLeastPlan};
@@ -13,11 +14,9 @@ use tce_array::ArrayFault;
 use tce_nesting::Plan;
 use tce_outside::Disk;
 use tce_search::search;
+use tce_space::MAX_MEMORY;
 use tce_spec::Spec;
 use tce_tensors::{Forms, Refused, least_budget, open_operands};
-
-// The words that the intermediates of a run may take.
-const MOST_MEMORY: u128 = 1 << 40;
 
 /// A plan of a least fusion, where the budget is at least three of the largest tiles, in words, and the plan's memory at
 /// most 2^40 words.
@@ -26,7 +25,7 @@ const MOST_MEMORY: u128 = 1 << 40;
 /// with `Memory`.
 pub fn affordable_plan(alloc: Global, spec: &Spec, budget: u64) -> Result<Plan, JobFault>
     ensures plan { IfOk result (IsLeastPlan spec.now.declarations.space spec.now.tree) }
-    ensures small { IfOk result (λ plan. plan.memory ≤ 2 ^ 40) }
+    ensures small { IfOk result (λ plan. plan.memory ≤ max_memory) }
     ensures affordable { OnOk result (IsAffordable spec.now budget) }
     ensures refused { IfErr result (IsCause (λ _. ⊥) spec.now budget) }
     ensures no_fault { result ≢ Err JobFault.Disk }
@@ -38,7 +37,7 @@ pub fn affordable_plan(alloc: Global, spec: &Spec, budget: u64) -> Result<Plan, 
     let Ok(plan) = search(alloc, spec.space(), spec.tree()) else {
         return Err(JobFault::Memory);
     };
-    if plan.memory > MOST_MEMORY {
+    if plan.memory > MAX_MEMORY as u128 {
         return Err(JobFault::IntermediatesTooLarge(plan.memory));
     }
     Ok(plan)
@@ -80,7 +79,7 @@ pub fn tested<D: Disk>(
     disk: &mut D,
 ) -> Result<(Plan, Forms), JobFault>
     ensures plan { IfOk result (λ pair. IsLeastPlan spec.now.declarations.space spec.now.tree pair.0) }
-    ensures small { IfOk result (λ pair. pair.0.memory ≤ 2 ^ 40) }
+    ensures small { IfOk result (λ pair. pair.0.memory ≤ max_memory) }
     ensures affordable { OnOk result (IsAffordable spec.now budget) }
     ensures opened { IfOk result (λ pair. ForSome (D.files disk.old) (λ files. AreOpened files spec.now pair.1.0 (operand_count spec.now))) }
     ensures refused { IfErr result (IsCause (MayBeRefused (D.files disk.old) spec.now) spec.now budget) }

@@ -1,6 +1,7 @@
 // A run by a plan, up to the file of its result.
-ghost use Rattle.std.specs.Prelude.{◌≡◌, ◌⊎◌, ◌≤◌, ◌^◌, ◌++◌, ◌∷◌, [], Err, IfOk, IfErr, OnOk, OnErr};
+ghost use Rattle.std.specs.Prelude.{◌≡◌, ◌⊎◌, ◌≤◌, ◌++◌, ◌∷◌, [], Err, IfOk, IfErr, OnOk, OnErr};
 ghost use Rattle.std.specs.Option.{ForSome};
+ghost use Rattle.tce_space.specs.Limits.{max_memory};
 ghost use Rattle.tce_outside.specs.Files.{holding, others};
 ghost use Rattle.tce_outside.specs.Fault.{HasCause, TellsFaults};
 ghost use Rattle.tce_tensors.specs.TensorFiles.{file_of};
@@ -78,9 +79,9 @@ fn take_memory<R: Room>(
     room: &mut R,
 ) -> Result<Prepared, AllocError>
     requires enough { least_budget spec.now ≤ budget }
-    requires limit { budget ≤ 2 ^ 40 }
+    requires limit { budget ≤ max_memory }
     requires plan { IsCarriedPlan spec.now.declarations.space spec.now.tree plan }
-    requires small { plan.memory ≤ 2 ^ 40 }
+    requires small { plan.memory ≤ max_memory }
     ensures prepared { IfOk result (IsPrepared spec.now budget forms.now.0) }
     ensures plan { IfOk result (λ p. p.plan ≡ plan) }
     ensures taken { OnOk result (R.takings room.new ≡ R.takings room.old ++ taking_of spec.now budget plan ∷ []) }
@@ -139,9 +140,9 @@ pub fn begin<D: Disk, R: Room>(
     room: &mut R,
 ) -> Result<Prepared, JobFault>
     requires enough { least_budget spec.now ≤ budget }
-    requires limit { budget ≤ 2 ^ 40 }
+    requires limit { budget ≤ max_memory }
     requires plan { IsCarriedPlan spec.now.declarations.space spec.now.tree plan }
-    requires small { plan.memory ≤ 2 ^ 40 }
+    requires small { plan.memory ≤ max_memory }
     requires opened { ForSome (D.files disk.old) (λ files. AreOpened files spec.now forms.now.0 (operand_count spec.now)) }
     ensures begun { IfOk result (IsBegun spec.now (D.files disk.new)) }
     ensures prepared { IfOk result (IsPrepared spec.now budget forms.now.0) }

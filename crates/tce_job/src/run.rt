@@ -1,6 +1,7 @@
 // A whole run: what it prepares, its code, and the result in its file.
-ghost use Rattle.std.specs.Prelude.{◌≡◌, ◌⊎◌, ◌≤◌, ◌^◌, ◌++◌, ◌∷◌, [], IfOk, IfErr, OnOk, OnErr, IsErr, Err};
+ghost use Rattle.std.specs.Prelude.{◌≡◌, ◌⊎◌, ◌≤◌, ◌++◌, ◌∷◌, [], IfOk, IfErr, OnOk, OnErr, IsErr, Err};
 ghost use Rattle.std.specs.Option.{ForSome, option_map};
+ghost use Rattle.tce_space.specs.Limits.{max_memory};
 ghost use Rattle.tce_outside.specs.Files.{others};
 ghost use Rattle.tce_outside.specs.Fault.{HasCause, TellsFaults};
 ghost use Rattle.tce_tensors.specs.TensorFiles.{file_of};
@@ -85,9 +86,9 @@ pub fn run_by<D: Disk, R: Room>(
     room: &mut R,
 ) -> Result<RunReport, JobFault>
     requires enough { least_budget spec.now ≤ budget }
-    requires limit { budget ≤ 2 ^ 40 }
+    requires limit { budget ≤ max_memory }
     requires plan { IsCarriedPlan spec.now.declarations.space spec.now.tree plan }
-    requires small { plan.memory ≤ 2 ^ 40 }
+    requires small { plan.memory ≤ max_memory }
     requires opened { ForSome (D.files disk.old) (λ files. AreOpened files spec.now forms.now.0 (operand_count spec.now)) }
     ensures told { OnOk result (D.files disk.new ≡ option_map (with_result spec.now) (D.files disk.old)) }
     ensures report { IfOk result (IsReport spec.now budget plan) }
@@ -125,7 +126,7 @@ pub fn run_job<D: Disk, R: Room>(
     disk: &mut D,
     room: &mut R,
 ) -> Result<RunReport, JobFault>
-    requires { budget ≤ 2 ^ 40 }
+    requires { budget ≤ max_memory }
     ensures told { OnOk result (D.files disk.new ≡ option_map (with_result spec.now) (D.files disk.old)) }
     ensures reported { IfOk result (IsReported spec.now budget (R.takings room.old) (R.takings room.new)) }
     ensures able { OnOk result (ForSome (D.files disk.old) (λ files. CanRun files spec.now budget)) }

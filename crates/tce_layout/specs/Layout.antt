@@ -1,6 +1,7 @@
 -- Slots: where the words of each node's places stand in one list of words.
 use Rattle.std.specs.Prelude.{◌≡◌, ℕ, ◌+◌, ◌-◌, ◌<◌, List, [], map, slice_index, slice_index_or, length, if◌then◌else◌}
 use Rattle.std.specs.List.{filter, range_with_len}
+use Rattle.tce_space.specs.Limits.{max_indexes}
 use Rattle.tce_space.specs.Box.{product}
 use Rattle.tce_space.specs.IndexSet.{has}
 use Rattle.tce_space.specs.Space.{IndexSpace, extent_at, volume_of}
@@ -22,8 +23,8 @@ step_of space set i = if has set i then product (map (extent_at space) (members_
 pub record IsSlot (space : IndexSpace) (set offset : ℕ) (slot : Slot) : Type 0 where
   pub begins : slot.offset ≡ offset
   pub sized : slot.size ≡ volume_of space set
-  pub steps : (i : ℕ) → i < 24 → slice_index slot.steps i ≡ step_of space set i
-  pub indexes : length slot.steps ≡ 24
+  pub steps : (i : ℕ) → i < max_indexes → slice_index slot.steps i ≡ step_of space set i
+  pub indexes : length slot.steps ≡ max_indexes
 
 abbrev pub no_slot : Slot
 no_slot = record { offset = 0; size = 0; steps = [] }

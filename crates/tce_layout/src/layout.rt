@@ -1,5 +1,6 @@
 // The slots of all nodes, one behind the other.
-ghost use Rattle.std.specs.Prelude.{◌≡◌, ◌<◌, ◌≤◌, ◌^◌, length};
+ghost use Rattle.std.specs.Prelude.{◌≡◌, ◌<◌, ◌≤◌, length};
+ghost use Rattle.tce_space.specs.Limits.{max_memory};
 ghost use Rattle.tce_space.specs.Space.{IsDeclared, volume_of};
 ghost use Rattle.tce_tree.specs.ContractionTree.{operations};
 ghost use Rattle.tce_tree.specs.Fusion.{FusionFits, fused_at, kept_dims};
@@ -10,7 +11,7 @@ ghost use Rattle.tce_layout.specs.Places.{PlacesFill};
 
 use crate::slot::{Layout, Slot};
 use arrayvec::ArrayVec;
-use tce_space::{IndexSet, Space};
+use tce_space::{IndexSet, MAX_INDEXES, Space};
 use tce_tree::{Fusion, Tree};
 
 /// The slots of the nodes but the root, in the order of the nodes, from word 0 on.
@@ -21,7 +22,7 @@ use tce_tree::{Fusion, Tree};
 pub fn lay_out(space: &Space, tree: &Tree, fusion: &Fusion) -> Layout
     requires measured { IsMeasured space.now tree.now }
     requires fits { FusionFits tree.now fusion.now.0.items }
-    requires limit { memory space.now tree.now fusion.now.0.items ≤ 2 ^ 40 }
+    requires limit { memory space.now tree.now fusion.now.0.items ≤ max_memory }
     ensures slots { IsLayout space.now tree.now fusion.now.0.items result.0.items }
     ensures places { PlacesFill space.now tree.now fusion.now.0.items result.0.items }
 {
@@ -39,13 +40,13 @@ pub fn lay_out(space: &Space, tree: &Tree, fusion: &Fusion) -> Layout
 // The slot from `offset` on over a set of dims.
 fn slot_over(space: &Space, dims: IndexSet, offset: u64) -> Slot
     requires declared { IsDeclared space.now dims }
-    requires limit { volume_of space.now dims ≤ 2 ^ 40 }
+    requires limit { volume_of space.now dims ≤ max_memory }
     ensures { IsSlot space.now dims offset result }
 {
     let mut size = 1;
-    let mut steps = [0; 24];
+    let mut steps = [0; MAX_INDEXES];
     let _count = space.index_count();
-    for i in (0..24).rev() {
+    for i in (0..MAX_INDEXES as u8).rev() {
         if dims.has(i) {
             steps[i as usize] = size;
             size *= space.extent(i);

@@ -1,5 +1,6 @@
 // The choices of a node: the sets that may be fused above it.
-ghost use Rattle.std.specs.Prelude.{◌≡◌, ◌<◌, ◌≤◌, ◌^◌, All};
+ghost use Rattle.std.specs.Prelude.{◌≡◌, ◌<◌, ◌≤◌, All};
+ghost use Rattle.tce_space.specs.Limits.{max_volume};
 ghost use Rattle.tce_tree.specs.ContractionTree.{operations};
 ghost use Rattle.tce_tree.specs.Measure.{IsMeasured};
 ghost use Rattle.tce_nesting.specs.Choices.{AreChoices, LeavesSize};
@@ -21,7 +22,7 @@ pub fn choices(space: &Space, tree: &Tree, v: u8) -> ArrayVec<Choice, 1024>
     requires measured { IsMeasured space.now tree.now }
     requires inside { v < operations tree.now }
     ensures choices { AreChoices space.now tree.now v result.items }
-    ensures limit { All (λ choice. choice.size ≤ 2 ^ 90) result.items }
+    ensures limit { All (λ choice. choice.size ≤ max_volume) result.items }
 {
     let _loops = tree.loops(v);
     let dims = tree.dims(v);
@@ -38,7 +39,7 @@ fn choice_of(space: &Space, tree: &Tree, v: u8, fused: IndexSet) -> Choice
     requires inside { v < operations tree.now }
     ensures fused { result.fused ≡ fused }
     ensures size { LeavesSize space.now tree.now v result }
-    ensures limit { result.size ≤ 2 ^ 90 }
+    ensures limit { result.size ≤ max_volume }
 {
     let _count = space.index_count();
     let kept = tree.dims(v).minus(fused);

@@ -1,5 +1,6 @@
 // Nestings: disjoint sets of indexes, outermost first.
 ghost use Rattle.std.specs.Prelude.{◌≡◌, ◌==◌, ℕ, ◌+◌, ◌<◌, ◌≤◌, ◌↔◌, false, [], ◌∷◌, ◌++◌, length, IsTrue, IsSome, IfSome};
+ghost use Rattle.tce_space.specs.Limits.{max_loops};
 ghost use Rattle.tce_space.specs.IndexSet.{IsIndexSet, has, count, empty};
 ghost use Rattle.tce_states.specs.Relation.{above, joined, HasNoConflict, IsCoarser};
 ghost use Rattle.tce_states.specs.Classes.{IsNesting, IsInhabited, in_class};
@@ -7,14 +8,14 @@ ghost use Rattle.tce_nesting.specs.Classes.{restricted, IsJoinOf, AllAbove, Allo
 
 use arrayvec::ArrayVec;
 use std::marker::Model;
-use tce_space::IndexSet;
+use tce_space::{IndexSet, MAX_INDEXES, MAX_LOOPS};
 
 /// Disjoint sets of indexes with members, at most ten, outermost first: its classes.
 ///
 /// An index is above another where its class is earlier, or it has a class and the other has none.
 #[derive(Clone, PartialEq, Eq, Debug, Drop)]
 pub struct Nesting {
-    classes: ArrayVec<IndexSet, 10>,
+    classes: ArrayVec<IndexSet, MAX_LOOPS>,
 }
 
 impl Model for Nesting {
@@ -43,7 +44,7 @@ impl Nesting {
 
     /// The classes, with one more as the innermost.
     pub fn with_class(mut self, class: IndexSet) -> Nesting
-        requires room { length self < 10 }
+        requires room { length self < max_loops }
         requires inhabited { IsInhabited class }
         requires apart { (i : ℕ) → IsTrue (has class i) → in_class self i ≡ false }
         ensures { result ≡ self ++ class ∷ [] }
@@ -57,7 +58,7 @@ impl Nesting {
     pub fn classes(&self) -> &[IndexSet]
         ensures value { result.now ≡ self.now }
         ensures nesting { IsNesting self.now }
-        ensures room { length self.now ≤ 10 }
+        ensures room { length self.now ≤ max_loops }
     {
         self.classes.as_slice()
     }
@@ -148,7 +149,7 @@ impl Nesting {
     ///
     /// `None` exactly where `a` puts one loop above another and `b` puts the other above the one. The classes of both lie within the loops.
     pub fn combine(a: &Nesting, b: &Nesting, loops: IndexSet) -> Option<Nesting>
-        requires { count loops ≤ 10 }
+        requires { count loops ≤ max_loops }
         ensures joins { IfSome result (IsJoinOf loops (above a.now) (above b.now)) }
         ensures conflict { IsSome result ↔ HasNoConflict loops (joined (above a.now) (above b.now)) }
     {
@@ -193,7 +194,7 @@ fn contains(set: IndexSet, index: u8) -> bool
     ensures { result ≡ has set index }
 {
     let _number = set.bits();
-    index < 24 && set.has(index)
+    index < MAX_INDEXES as u8 && set.has(index)
 }
 
 // Whether the set has no member.

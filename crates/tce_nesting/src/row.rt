@@ -4,10 +4,7 @@ ghost use Rattle.tce_nesting.specs.Plan.{LiesWithin, RowFits};
 
 use crate::nesting::Nesting;
 use std::marker::Model;
-use tce_space::IndexSet;
-
-/// The numbers of a plan are below this.
-pub(crate) const LIMIT: u128 = 1 << 96;
+use tce_space::{COST_LIMIT, IndexSet};
 
 /// A state of a subtree: which loops have to be above which, and the elements that its nodes keep together.
 #[derive(Clone, Default, PartialEq, Eq, Debug, Drop)]
@@ -31,7 +28,7 @@ impl Row {
     pub(crate) fn fits(&self, dims: IndexSet) -> bool
         ensures { IsTrue result ↔ RowFits dims self.now }
     {
-        self.cost < LIMIT && lie_within(self.classes.classes(), dims)
+        self.cost < COST_LIMIT && lie_within(self.classes.classes(), dims)
     }
 }
 

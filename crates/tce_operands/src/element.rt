@@ -1,10 +1,11 @@
 // The elements of tensors.
 ghost use Rattle.std.specs.Prelude.{◌≡◌, ◌<◌, ◌≤◌, length, map, slice_index, All};
+ghost use Rattle.tce_space.specs.Limits.{max_indexes, max_rank};
 ghost use Rattle.tce_space.specs.Box.{IsInside};
 ghost use Rattle.tce_space.specs.Tiling.{tile_number, place_in_tile, tile_words, tiles, IsTiling};
 
 use arrayvec::ArrayVec;
-use tce_space::Shape;
+use tce_space::{MAX_RANK, Numbers, Shape};
 
 /// Where an element of an array stands.
 #[derive(Clone, Copy, Debug, PartialEq, Eq)]
@@ -16,9 +17,9 @@ pub struct ElementPlace {
 }
 
 /// The coordinates of the element that a tensor with these indexes has at these numbers. An index may stand twice.
-pub fn coordinates_of(indexes: &[u8], numbers: &[u64; 24]) -> ArrayVec<u64, 8>
-    requires rank { length indexes.now ≤ 8 }
-    requires known { All (λ i. i < 24) indexes.now }
+pub fn coordinates_of(indexes: &[u8], numbers: &Numbers) -> ArrayVec<u64, MAX_RANK>
+    requires rank { length indexes.now ≤ max_rank }
+    requires known { All (λ i. i < max_indexes) indexes.now }
     ensures { result.items ≡ map (slice_index numbers.now) indexes.now }
 {
     let mut coordinates = ArrayVec::new();

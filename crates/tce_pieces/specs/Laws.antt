@@ -1,5 +1,6 @@
 -- Laws of pieces and their values.
 use Rattle.std.specs.Prelude.{◌≡◌, ℕ, ◌<◌, IsTrue, List, map}
+use Rattle.tce_space.specs.Limits.{max_indexes, max_tensors}
 use Rattle.tce_base.specs.Word.{word}
 use Rattle.tce_space.specs.IndexSet.{members}
 use Rattle.tce_space.specs.Box.{IsInside}
@@ -32,10 +33,10 @@ pub record HoldPieces (files e : Elements) (tree : ContractionTree) (cut : Cuts)
 -- the value of node `v` is the value of its piece, over files with the values of the cut nodes
 abbrev pub PieceHasValue : Type 0
 PieceHasValue =
-    (files e : Elements) (tree : ContractionTree) (cut : Cuts) (v : ℕ) (a : Assignment) → IsTrue (indexes_below 24 tree) → IsTrue (tensors_below 32 tree)
+    (files e : Elements) (tree : ContractionTree) (cut : Cuts) (v : ℕ) (a : Assignment) → IsTrue (indexes_below max_indexes tree) → IsTrue (tensors_below max_tensors tree)
     → HoldNodes files e tree cut → v < operations tree → IsInExtents e (node_dims tree v) a → value files (piece tree cut v) a ≡ value e (node tree v) a
 
 -- where each cut node's array has the values of its piece, it has those of the node, and so the last piece has the value of the tree
 abbrev pub PiecesHaveValues : Type 0
 PiecesHaveValues =
-    (files e : Elements) (tree : ContractionTree) (cut : Cuts) → IsTrue (indexes_below 24 tree) → IsTrue (tensors_below 32 tree) → HoldPieces files e tree cut → HoldNodes files e tree cut
+    (files e : Elements) (tree : ContractionTree) (cut : Cuts) → IsTrue (indexes_below max_indexes tree) → IsTrue (tensors_below max_tensors tree) → HoldPieces files e tree cut → HoldNodes files e tree cut

@@ -1,8 +1,9 @@
 -- A node line as it is written, whatever tree it is about.
-use Rattle.std.specs.Prelude.{◌≡◌, ℕ, ◌<◌, ◌≤◌, ◌^◌, ⊤, IsTrue, List, ◌++◌, codes, Option, length}
+use Rattle.std.specs.Prelude.{◌≡◌, ℕ, ◌<◌, ◌≤◌, ⊤, IsTrue, List, ◌++◌, codes, Option, length}
 use Rattle.std.specs.declared.option.Option.TheVariants.{Some, None}
 use Rattle.std.specs.Fmt.{decimal}
 use Rattle.std.specs.List.{list_all}
+use Rattle.tce_space.specs.Limits.{cost_limit, max_indexes}
 use Rattle.tce_space.specs.Name.{is_name}
 use Rattle.tce_tree.specs.declared.node.Kind.{Kind}
 use Rattle.tce_report.specs.Names.{listed}
@@ -27,11 +28,11 @@ pub record AreNames (limit : ℕ) (names : List (List ℕ)) : Type 0 where
 
 abbrev pub IsArrayForm : Option ArrayForm → Type 0
 IsArrayForm None = ⊤
-IsArrayForm (Some array) = AreNames 24 array.fused × (array.size < 2 ^ 96)
+IsArrayForm (Some array) = AreNames max_indexes array.fused × (array.size < cost_limit)
 
 -- at most ten loops, at most 24 fused indexes, and numbers below their limit
 pub record IsForm (form : Form) : Type 0 where
-  pub node : form.node < 2 ^ 96
+  pub node : form.node < cost_limit
   pub order : AreNames 10 form.order
   pub array : IsArrayForm form.array
 

@@ -1,7 +1,8 @@
 -- The line of a node in reports and certificates.
-use Rattle.std.specs.Prelude.{◌≡◌, ℕ, ◌+◌, ◌<◌, ◌^◌, ◌==◌, if◌then◌else◌, List, ◌++◌, codes, slice_index}
+use Rattle.std.specs.Prelude.{◌≡◌, ℕ, ◌+◌, ◌<◌, ◌==◌, if◌then◌else◌, List, ◌++◌, codes, slice_index}
 use Rattle.std.specs.Fmt.{decimal}
 use Rattle.std.specs.List.Sorted.{IsPermutation}
+use Rattle.tce_space.specs.Limits.{cost_limit}
 use Rattle.tce_space.specs.IndexSet.{members, empty, IsWithin}
 use Rattle.tce_space.specs.Space.{IndexSpace}
 use Rattle.tce_tree.specs.ContractionTree.{ContractionTree, operations, node, node_loops, node_dims}
@@ -79,7 +80,7 @@ node_line space tree s v = line_saying space tree v (said_of s v)
 pub record MaySay (tree : ContractionTree) (v : ℕ) (said : Said) : Type 0 where
   pub order : IsPermutation (members (node_loops tree v)) said.order
   pub fused : IsWithin said.fused (node_dims tree v)
-  pub size : said.size < 2 ^ 96
+  pub size : said.size < cost_limit
   pub root : v + 1 ≡ operations tree → (said.fused ≡ empty) × (said.size ≡ 0)
 
 -- the line is one of node `v` of the tree, and says this

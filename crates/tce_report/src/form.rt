@@ -9,6 +9,7 @@ ghost use Rattle.tce_report.specs.NodeLine as lines;
 
 use arrayvec::ArrayVec;
 use tce_fields::{read_names, read_number, split_parts};
+use tce_space::{MAX_INDEXES, MAX_LOOPS};
 use tce_tree::Kind;
 
 const NODE: &[u8] = b"node";
@@ -32,7 +33,7 @@ const SUB: &[u8] = b"sub";
 // What a line says of the array of an intermediate: the names of the fused indexes and the size, in elements.
 #[derive(Drop)]
 pub(crate) struct WrittenArray<'a> {
-    pub(crate) fused: ArrayVec<&'a [u8], 24>,
+    pub(crate) fused: ArrayVec<&'a [u8], MAX_INDEXES>,
     pub(crate) size: u128,
 }
 
@@ -41,7 +42,7 @@ pub(crate) struct WrittenArray<'a> {
 pub(crate) struct WrittenLine<'a> {
     pub(crate) node: u128,
     pub(crate) kind: Kind,
-    pub(crate) order: ArrayVec<&'a [u8], 10>,
+    pub(crate) order: ArrayVec<&'a [u8], MAX_LOOPS>,
     pub(crate) array: Option<WrittenArray<'a>>,
 }
 

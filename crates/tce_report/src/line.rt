@@ -1,6 +1,7 @@
 // The line of a node in reports and certificates.
-ghost use Rattle.std.specs.Prelude.{◌≡◌, ◌<◌, ◌≤◌, ◌+◌, ◌^◌, ◌++◌, length, codes, All};
+ghost use Rattle.std.specs.Prelude.{◌≡◌, ◌<◌, ◌≤◌, ◌+◌, ◌++◌, length, codes, All};
 ghost use Rattle.std.specs.Fmt.{decimal};
+ghost use Rattle.tce_space.specs.Limits.{cost_limit, max_loops, max_nodes};
 ghost use Rattle.tce_space.specs.IndexSet.{members, count};
 ghost use Rattle.tce_tree.specs.ContractionTree.{operations};
 ghost use Rattle.tce_tree.specs.Fusion.{fused_at, order_at};
@@ -33,9 +34,9 @@ fn kind_word(kind: Kind) -> &'static str
 
 // A node, what it computes, and its loops, outermost first.
 fn loops_text(space: &Space, v: u8, kind: Kind, order: &[u8]) -> Line
-    requires inside { v < 32 }
+    requires inside { v < max_nodes }
     requires declared { All (λ i. i < length space.now.indexes) order.now }
-    requires few { length order.now ≤ 10 }
+    requires few { length order.now ≤ max_loops }
     ensures text { result.bytes ≡ lines.loops_text space.now v kind order.now }
     ensures length { length result.bytes ≤ 193 }
 {
@@ -52,8 +53,8 @@ fn loops_text(space: &Space, v: u8, kind: Kind, order: &[u8]) -> Line
 // What is fused on the edge to the parent, and how many elements the node's array then has.
 fn push_array(line: &mut Line, space: &Space, fused: IndexSet, size: u128)
     requires declared { All (λ i. i < length space.now.indexes) (members fused) }
-    requires few { count fused ≤ 10 }
-    requires small { size < 2 ^ 96 }
+    requires few { count fused ≤ max_loops }
+    requires small { size < cost_limit }
     requires room { length line.old.bytes ≤ 193 }
     ensures { line.new.bytes ≡ line.old.bytes ++ (codes " fused " ++ (lines.set_text space.now fused ++ (codes " size " ++ decimal size))) }
 {
@@ -84,7 +85,7 @@ pub fn node_line(space: &Space, tree: &Tree, plan: &Plan, v: u8) -> ArrayString<
 fn order_of(plan: &Plan, v: u8) -> &[u8]
     requires { v < length plan.now.orders.0.items }
     ensures value { result.now ≡ order_at (lists_of plan.now.orders.0.items) v }
-    ensures few { length result.now ≤ 10 }
+    ensures few { length result.now ≤ max_loops }
 {
     plan.orders.0[v as usize].0.as_slice()
 }

@@ -1,6 +1,7 @@
 // What a node line says of a node of a tree.
 ghost use Rattle.std.specs.Prelude.{◌≡◌, ◌<◌, ◌≤◌, ◌↔◌, ◌&&◌, not, IsTrue, IsPermutation, length, option_map};
 ghost use Rattle.std.specs.List.{list_all};
+ghost use Rattle.tce_space.specs.Limits.{max_indexes, max_loops};
 ghost use Rattle.tce_space.specs.IndexSet.{IsIndexSet, IsWithin, has, members};
 ghost use Rattle.tce_space.specs.Name.{is_name};
 ghost use Rattle.tce_tree.specs.ContractionTree.{operations};
@@ -14,7 +15,7 @@ ghost use Rattle.tce_report.specs.ReadLine.{said, said_if_read, form_saying};
 
 use crate::form::{WrittenLine, read_form};
 use tce_fields::{indexes_named, set_named};
-use tce_space::{IndexSet, LoopOrder, Space};
+use tce_space::{IndexSet, LoopOrder, MAX_INDEXES, Space};
 use tce_tree::Tree;
 
 /// What the line of a node says of it.
@@ -42,7 +43,7 @@ fn is_new(index: u8, loops: IndexSet, seen: IndexSet) -> bool
     requires { IsIndexSet loops }
     ensures { result ≡ (has loops index && not (has seen index)) }
 {
-    if index >= 24 {
+    if index >= MAX_INDEXES as u8 {
         return false;
     }
     loops.has(index) && !seen.has(index)
@@ -67,7 +68,7 @@ fn is_order_of(order: &[u8], loops: IndexSet) -> bool
 fn read_order(space: &Space, loops: IndexSet, names: &[&[u8]]) -> Option<LoopOrder>
     requires loops { IsIndexSet loops }
     requires named { IsTrue (list_all is_name (texts names.now)) }
-    requires few { length names.now ≤ 10 }
+    requires few { length names.now ≤ max_loops }
     ensures { GivesExactly (option_map (λ order. order.0.items) result) (λ order. IsPermutation (members loops) order × AreNamed space.now (texts names.now) order) }
 {
     let Some(order) = indexes_named::<10>(space, names) else {
@@ -83,7 +84,7 @@ fn read_order(space: &Space, loops: IndexSet, names: &[&[u8]]) -> Option<LoopOrd
 // The set of the dims with these names.
 fn read_fused(space: &Space, dims: IndexSet, names: &[&[u8]]) -> Option<IndexSet>
     requires named { IsTrue (list_all is_name (texts names.now)) }
-    requires few { length names.now ≤ 24 }
+    requires few { length names.now ≤ max_indexes }
     ensures { GivesExactly result (λ fused. IsWithin fused dims × IsSetNamed space.now (texts names.now) fused) }
 {
     let Some(fused) = set_named(space, names) else {

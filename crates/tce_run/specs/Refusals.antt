@@ -1,5 +1,6 @@
 -- Why the command is refused, by the first cause in order: the specification, the budget, the memory for intermediates, the first operand that is refused.
-use Rattle.std.specs.Prelude.{◌≡◌, ◌⊎◌, ⊤, ℕ, ◌<◌, ◌≤◌, ◌^◌, List}
+use Rattle.std.specs.Prelude.{◌≡◌, ◌⊎◌, ⊤, ℕ, ◌<◌, ◌≤◌, List}
+use Rattle.tce_space.specs.Limits.{max_memory}
 use Rattle.tce_outside.specs.Files.{Files, file}
 use Rattle.tce_array.specs.declared.fault.ArrayFault.{ArrayFault}
 use Rattle.tce_array.specs.declared.fault.ArrayFault.TheVariants.{NoFile}
@@ -25,7 +26,7 @@ pub record IsFirstRefused (files : Files) (s : Specification) (budget t : ℕ) (
 -- why a specification is refused under this budget: an operand that is not there is told by its file, one that is no array of its shape by its name. The disk may fail, and memory be wanting, at any place
 abbrev pub IsJobRefusal : Files → Specification → ℕ → Refusal → Type 0
 IsJobRefusal files s budget (Budget least) = (least ≡ least_budget s) × (budget < least)
-IsJobRefusal files s budget (Intermediates memory) = (least_budget s ≤ budget) × IsLeastMemory s memory × (2 ^ 40 < memory)
+IsJobRefusal files s budget (Intermediates memory) = (least_budget s ≤ budget) × IsLeastMemory s memory × (max_memory < memory)
 IsJobRefusal files s budget (Missing missing) = (t : ℕ) × IsFirstRefused files s budget t NoFile × (missing.bytes ≡ file_of s t)
 IsJobRefusal files s budget (Array tensor trouble) = (t : ℕ) × IsFirstRefused files s budget t (fault_of trouble) × (tensor.bytes ≡ name_of s t)
 IsJobRefusal files s budget Disk = ⊤

@@ -1,6 +1,7 @@
 // The command.
-ghost use Rattle.std.specs.Prelude.{◌≡◌, ◌⊎◌, ◌≤◌, ◌^◌, Err, IfOk, IfErr};
+ghost use Rattle.std.specs.Prelude.{◌≡◌, ◌⊎◌, ◌≤◌, Err, IfOk, IfErr};
 ghost use Rattle.std.specs.Option.{ForSome};
+ghost use Rattle.tce_space.specs.Limits.{max_memory};
 ghost use Rattle.tce_outside.specs.Fault.{HasCause, TellsFaults};
 ghost use Rattle.tce_command.specs.Command.{NamesSpec};
 ghost use Rattle.tce_run.specs.Done.{IsRun, IsRoomLeft, OnlyResultDiffers};
@@ -29,7 +30,7 @@ pub fn run<D: Disk, R: Room>(
     room: &mut R,
 ) -> Result<Vec<u8>, Refusal>
     requires spec { NamesSpec spec.now }
-    requires budget { budget ≤ 2 ^ 40 }
+    requires budget { budget ≤ max_memory }
     ensures done { IfOk result (λ report. IsRun (D.files disk.old) (D.files disk.new) (R.takings room.old) (R.takings room.new) spec.now budget report.items) }
     ensures refused { IfErr result (λ refusal. ForSome (D.files disk.old) (λ files. IsRunRefusal files spec.now budget refusal)) }
     ensures unchanged { IfErr result (λ refusal. (refusal ≡ Refusal.Disk) ⊎ (D.files disk.new ≡ D.files disk.old)) }

@@ -1,7 +1,8 @@
 -- Lists of candidates, one for each node so far by its number, and what the search keeps of them.
-use Rattle.std.specs.Prelude.{◌≡◌, ◌⊎◌, ℕ, ◌+◌, ◌<◌, ◌≤◌, ◌^◌, Option, List, [], ◌∷◌, ◌++◌, map, length, slice_index_or}
+use Rattle.std.specs.Prelude.{◌≡◌, ◌⊎◌, ℕ, ◌+◌, ◌<◌, ◌≤◌, Option, List, [], ◌∷◌, ◌++◌, map, length, slice_index_or}
 use Rattle.std.specs.List.{All, AllPairs}
 use Rattle.std.specs.declared.option.Option.TheVariants.{Some, None}
+use Rattle.tce_space.specs.Limits.{cost_limit}
 use Rattle.tce_space.specs.Space.{IndexSpace}
 use Rattle.tce_tree.specs.ContractionTree.{ContractionTree, node, node_dims, node_loops, parent}
 use Rattle.tce_tree.specs.FlatTree.{left_of, right_of}
@@ -117,6 +118,6 @@ pub record IsFoundAt (space : IndexSpace) (tree : ContractionTree) (found : Sear
 -- so it is at each node that has a list, and the ceiling is a number of a plan
 pub record AreFound (space : IndexSpace) (tree : ContractionTree) (found : Searched) : Type 0 where
   pub some : 0 < found.ceiling
-  pub small : found.ceiling < 2 ^ 96
+  pub small : found.ceiling < cost_limit
   pub count : length found.limits ≡ length found.lists
   pub each : (v : ℕ) → v < length found.lists → IsFoundAt space tree found v

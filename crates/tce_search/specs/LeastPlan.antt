@@ -1,6 +1,7 @@
 -- What the plan that is found keeps.
-use Rattle.std.specs.Prelude.{◌≡◌, ℕ, ◌+◌, ◌-◌, ◌<◌, ◌≤◌, ◌^◌, List, length, slice_index}
+use Rattle.std.specs.Prelude.{◌≡◌, ℕ, ◌+◌, ◌-◌, ◌<◌, ◌≤◌, List, length, slice_index}
 use Rattle.std.specs.List.{All}
+use Rattle.tce_space.specs.Limits.{cost_limit}
 use Rattle.tce_space.specs.Space.{IndexSpace}
 use Rattle.tce_tree.specs.ContractionTree.{ContractionTree, operations}
 use Rattle.tce_tree.specs.Fusion.{FusionFits, OrdersFit, Carries, order_at}
@@ -46,7 +47,7 @@ pub record IsPlanOf (space : IndexSpace) (tree : ContractionTree) (fusion : List
   pub standard : HasStandardOrders tree plan
   pub count : length plan.sizes.items + 1 ≡ operations tree
   pub sizes : HasSizes space tree plan
-  pub size_limit : All (λ n. n < 2 ^ 96) plan.sizes.items
+  pub size_limit : All (λ n. n < cost_limit) plan.sizes.items
   pub memory_is : plan.memory ≡ memory space tree plan.fusion.0.items
-  pub memory_limit : plan.memory < 2 ^ 96
+  pub memory_limit : plan.memory < cost_limit
   pub tables_are : plan.tables ≡ tables

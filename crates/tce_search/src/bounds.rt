@@ -1,8 +1,10 @@
 // What one round of the search may cost, and what earlier rounds showed subtrees to cost at least.
 ghost use Rattle.std.specs.Prelude.{◌≡◌, ◌+◌, ◌<◌, ◌≤◌, ◌^◌, false};
+ghost use Rattle.tce_space.specs.Limits.{cost_limit};
 ghost use Rattle.tce_tree.specs.ContractionTree.{operations};
 
 use tce_candidates::Candidate;
+use tce_space::MAX_NODES;
 use tce_tree::{Operand, Tree};
 
 // A round that keeps fewer candidates is so short that the next one may go twice as far.
@@ -23,7 +25,7 @@ pub(crate) struct Bounds {
     pub(crate) ceiling: u128,
     // Whether they are used; else each subtree is searched up to the ceiling.
     pub(crate) learns: bool,
-    least: [u128; 32],
+    least: [u128; MAX_NODES],
     kept: usize,
     earlier: Round,
 }
@@ -37,7 +39,7 @@ impl Bounds {
         Bounds {
             ceiling,
             learns,
-            least: [0; 32],
+            least: [0; MAX_NODES],
             kept: 0,
             earlier: Round {
                 ceiling: 0,
@@ -136,7 +138,7 @@ impl Bounds {
     pub(crate) fn raise(&mut self)
         requires { self.old.ceiling < 2 ^ 95 }
         ensures more { self.old.ceiling < self.new.ceiling }
-        ensures small { self.new.ceiling < 2 ^ 96 }
+        ensures small { self.new.ceiling < cost_limit }
         ensures learns { self.new.learns ≡ self.old.learns }
     {
         let step = self.step();

@@ -1,5 +1,6 @@
 // Below which limit the candidates of a node are states.
-ghost use Rattle.std.specs.Prelude.{◌≡◌, ℕ, ◌+◌, ◌<◌, ◌≤◌, ◌^◌, [], ◌∷◌, length, All};
+ghost use Rattle.std.specs.Prelude.{◌≡◌, ℕ, ◌+◌, ◌<◌, ◌≤◌, [], ◌∷◌, length, All};
+ghost use Rattle.tce_space.specs.Limits.{cost_limit};
 ghost use Rattle.tce_tree.specs.ContractionTree.{operations};
 ghost use Rattle.tce_candidates.specs.Candidates.{IsLimited};
 ghost use Rattle.tce_search.specs.CandidateLists.{AreFound, IsLimitOf, AreAtLeast};
@@ -29,7 +30,7 @@ pub(crate) fn limit_of(space: &Space, tree: &Tree, found: &Found, v: u8, target:
 
 // The limit, or where it is less the least sum of an operand's limit and a cost of the other one.
 fn lesser(limit: u128, operand: u128, others: &[Candidate]) -> u128
-    requires operand { operand < 2 ^ 96 }
+    requires operand { operand < cost_limit }
     requires others { All IsLimited others.now }
     ensures less { result ≤ limit }
     ensures beside { All (λ other. result ≤ operand + other.row.cost) others.now }

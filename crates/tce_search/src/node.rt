@@ -1,5 +1,6 @@
 // The candidates of the nodes, from the leaves up.
-ghost use Rattle.std.specs.Prelude.{◌≡◌, ℕ, false, ◌+◌, ◌<◌, ◌^◌, [], ◌∷◌, ◌++◌, length, IfOk};
+ghost use Rattle.std.specs.Prelude.{◌≡◌, ℕ, false, ◌+◌, ◌<◌, [], ◌∷◌, ◌++◌, length, IfOk};
+ghost use Rattle.tce_space.specs.Limits.{cost_limit};
 ghost use Rattle.tce_tree.specs.ContractionTree.{operations, node_loops, parent};
 ghost use Rattle.tce_tree.specs.Measure.{IsMeasured};
 ghost use Rattle.tce_search.specs.CandidateLists.{AreCandidates, AreFound, IsLimitOf, AreAtLeast};
@@ -22,7 +23,7 @@ pub(crate) fn find_candidates(
 ) -> Result<Found, AllocError>
     requires measured { IsMeasured space.now tree.now }
     requires some { 0 < bounds.old.ceiling }
-    requires small { bounds.old.ceiling < 2 ^ 96 }
+    requires small { bounds.old.ceiling < cost_limit }
     ensures count { IfOk result (λ found. length found.lists + 1 ≡ operations tree.now) }
     ensures found { IfOk result (AreFound space.now tree.now) }
     ensures ceiling { IfOk result (λ found. found.ceiling ≡ bounds.old.ceiling) }

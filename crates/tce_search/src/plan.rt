@@ -1,5 +1,6 @@
 // Plans of least fusions.
-ghost use Rattle.std.specs.Prelude.{◌≡◌, ℕ, false, ◌+◌, ◌-◌, ◌<◌, ◌≤◌, ◌^◌, ◌++◌, length, slice_index, slice_set, All, IfSome, IfOk, OnOk};
+ghost use Rattle.std.specs.Prelude.{◌≡◌, ℕ, false, ◌+◌, ◌-◌, ◌<◌, ◌≤◌, ◌++◌, length, slice_index, slice_set, All, IfSome, IfOk, OnOk};
+ghost use Rattle.tce_space.specs.Limits.{cost_limit};
 ghost use Rattle.tce_tree.specs.ContractionTree.{operations};
 ghost use Rattle.tce_tree.specs.Fusion.{FusionFits};
 ghost use Rattle.tce_tree.specs.Measure.{IsMeasured};
@@ -21,7 +22,7 @@ use std::alloc::{AllocError, Global};
 use tce_candidates::Candidate;
 use tce_fusion::{memory, size_of, standard_orders};
 use tce_nesting::{Plan, Tables};
-use tce_space::Space;
+use tce_space::{MAX_NODES, Space};
 use tce_tree::{Fusion, Tree};
 
 // No fusion takes as much as this.
@@ -59,7 +60,7 @@ fn search_below(
 ) -> Result<Option<Plan>, AllocError>
     requires measured { IsMeasured space.now tree.now }
     requires some { 0 < bounds.old.ceiling }
-    requires small { bounds.old.ceiling < 2 ^ 96 }
+    requires small { bounds.old.ceiling < cost_limit }
     ensures plan { IfOk result (λ found. IfSome found (IsLeastPlan space.now tree.now)) }
     ensures none { bounds.old.learns ≡ false → IfOk result (λ found. found ≡ None → IsBelowFusions space.now tree.now bounds.old.ceiling) }
     ensures same { bounds.new.ceiling ≡ bounds.old.ceiling }
@@ -120,14 +121,14 @@ fn plan_of(
 }
 
 // The elements that each node but the root keeps.
-fn sizes_of(space: &Space, tree: &Tree, fusion: &Fusion) -> ArrayVec<u128, 32>
+fn sizes_of(space: &Space, tree: &Tree, fusion: &Fusion) -> ArrayVec<u128, MAX_NODES>
     requires measured { IsMeasured space.now tree.now }
     requires fits { FusionFits tree.now fusion.now.0.items }
     ensures count { length result.items + 1 ≡ operations tree.now }
     ensures sizes { (v : ℕ) → v < operations tree.now - 1 → slice_index result.items v ≡ size_at space.now tree.now fusion.now.0.items v }
-    ensures limit { All (λ n. n < 2 ^ 96) result.items }
+    ensures limit { All (λ n. n < cost_limit) result.items }
 {
-    let mut sizes = ArrayVec::<u128, 32>::new();
+    let mut sizes = ArrayVec::<u128, MAX_NODES>::new();
     for v in 0..tree.count() - 1 {
         sizes.push(size_of(space, tree, fusion, v));
     }

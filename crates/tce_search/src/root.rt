@@ -1,17 +1,18 @@
 // The fusion of least memory that candidates of the root's operands make.
 ghost use Rattle.std.specs.Prelude.{◌≡◌, ◌⊎◌, ℕ, ◌+◌, ◌<◌, ◌≤◌, length, IfSome, All};
+ghost use Rattle.tce_space.specs.Limits.{max_loops, max_nodes};
 ghost use Rattle.tce_space.specs.IndexSet.{count};
 ghost use Rattle.tce_candidates.specs.Candidates.{IsLimited, HaveRoom};
 ghost use Rattle.tce_search.specs.Root.{IsMadeOf, IsMadeOfSome, IsAtMost, IsBound, IsBoundOfAll};
 
 use arrayvec::ArrayVec;
 use tce_candidates::{Candidate, join_rows, joined_sets};
-use tce_space::IndexSet;
+use tce_space::{IndexSet, MAX_NODES};
 
 /// A fusion of a whole tree, as the sets of its nodes, and its memory.
 #[derive(Drop)]
 pub(crate) struct WholeFusion {
-    pub(crate) sets: ArrayVec<IndexSet, 32>,
+    pub(crate) sets: ArrayVec<IndexSet, MAX_NODES>,
     pub(crate) memory: u128,
 }
 
@@ -21,7 +22,7 @@ pub(crate) fn least_fusion(
     rights: &[Candidate],
     loops: IndexSet,
 ) -> Option<WholeFusion>
-    requires loops { count loops ≤ 10 }
+    requires loops { count loops ≤ max_loops }
     requires lefts { All IsLimited lefts.now }
     requires rights { All IsLimited rights.now }
     requires room { HaveRoom lefts.now rights.now }
@@ -44,10 +45,10 @@ fn lesser(
     right: &Candidate,
     loops: IndexSet,
 ) -> Option<WholeFusion>
-    requires loops { count loops ≤ 10 }
+    requires loops { count loops ≤ max_loops }
     requires left { IsLimited left.now }
     requires right { IsLimited right.now }
-    requires room { length left.now.sets.items + length right.now.sets.items < 32 }
+    requires room { length left.now.sets.items + length right.now.sets.items < max_nodes }
     ensures bound { IsBound loops result left.now right.now }
     ensures kept { (limit : ℕ) → IsAtMost best limit → IsAtMost result limit }
     ensures made { IfSome result (λ whole. (best ≡ Some whole) ⊎ IsMadeOf loops left.now right.now whole) }

@@ -1,6 +1,7 @@
 // The command that runs several formulas.
-ghost use Rattle.std.specs.Prelude.{◌≡◌, ◌≤◌, ◌^◌, Err, IfOk, IfErr};
+ghost use Rattle.std.specs.Prelude.{◌≡◌, ◌≤◌, Err, IfOk, IfErr};
 ghost use Rattle.std.specs.Option.{ForSome};
+ghost use Rattle.tce_space.specs.Limits.{max_memory};
 ghost use Rattle.tce_outside.specs.Fault.{HasCause, TellsFaults};
 ghost use Rattle.tce_command.specs.Command.{NamesSpec};
 ghost use Rattle.tce_sequence.specs.BatchDone.{IsBatchLeft, IsBatchRoomLeft, IsBatchRun, OnlyBatchDiffers};
@@ -31,7 +32,7 @@ pub fn run_all<D: Disk, R: Room>(
     room: &mut R,
 ) -> Result<Vec<u8>, Refusal>
     requires spec { NamesSpec spec.now }
-    requires budget { budget ≤ 2 ^ 40 }
+    requires budget { budget ≤ max_memory }
     ensures done { IfOk result (λ report. IsBatchRun (D.files disk.old) (D.files disk.new) (R.takings room.old) (R.takings room.new) spec.now budget report.items) }
     ensures refused { IfErr result (λ refusal. ForSome (D.files disk.old) (λ files. IsBatchRefusal files spec.now budget refusal)) }
     ensures left { IfErr result (λ refusal. IsBatchLeft refusal (D.files disk.old) (D.files disk.new) spec.now) }

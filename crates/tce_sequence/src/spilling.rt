@@ -1,6 +1,7 @@
 // The command that runs a tree in pieces.
-ghost use Rattle.std.specs.Prelude.{◌≡◌, ◌≤◌, ◌^◌, Err, IfOk, IfErr};
+ghost use Rattle.std.specs.Prelude.{◌≡◌, ◌≤◌, Err, IfOk, IfErr};
 ghost use Rattle.std.specs.Option.{ForSome};
+ghost use Rattle.tce_space.specs.Limits.{max_memory};
 ghost use Rattle.tce_outside.specs.Fault.{HasCause, TellsFaults};
 ghost use Rattle.tce_command.specs.Command.{NamesSpec};
 ghost use Rattle.tce_sequence.specs.SpillDone.{IsSpillLeft, IsSpillRoomLeft, IsSpillRun, OnlyPiecesDiffer};
@@ -32,8 +33,8 @@ pub fn spill<D: Disk, R: Room>(
     room: &mut R,
 ) -> Result<Vec<u8>, Refusal>
     requires spec { NamesSpec spec.now }
-    requires budget { budget ≤ 2 ^ 40 }
-    requires limit { limit ≤ 2 ^ 40 }
+    requires budget { budget ≤ max_memory }
+    requires limit { limit ≤ max_memory }
     ensures done { IfOk result (λ report. IsSpillRun (D.files disk.old) (D.files disk.new) (R.takings room.old) (R.takings room.new) spec.now budget limit report.items) }
     ensures refused { IfErr result (λ refusal. ForSome (D.files disk.old) (λ files. IsSpillRefusal files spec.now budget limit refusal)) }
     ensures left { IfErr result (λ refusal. IsSpillLeft refusal (D.files disk.old) (D.files disk.new) spec.now limit) }

@@ -1,7 +1,8 @@
 -- The file of a specification.
-use Rattle.std.specs.Prelude.{◌≡◌, ◌≢◌, ⊤, ℕ, ◌^◌, ◌<◌, List, length, Option, Some, None}
+use Rattle.std.specs.Prelude.{◌≡◌, ◌≢◌, ⊤, ℕ, ◌<◌, List, length, Option, Some, None}
 use Rattle.std.specs.Option.{IsSomeAnd}
 use Rattle.std.specs.declared.result.Result.TheVariants.{Ok, Err}
+use Rattle.tce_space.specs.Limits.{max_spec_bytes}
 use Rattle.tce_declarations.specs.Faults.{Fault}
 use Rattle.tce_declarations.specs.FaultCode.{Shows}
 use Rattle.tce_declarations.specs.declared.fault.SpecFault.{SpecFault}
@@ -26,7 +27,7 @@ pub record HasFault (text : List ℕ) (fault : SpecFault) : Type 0 where
 
 -- the text is refused unread
 abbrev pub IsTooLong : List ℕ → SpecFault → Type 0
-IsTooLong text fault = (fault ≡ TooLong) × (2 ^ 16 < length text)
+IsTooLong text fault = (fault ≡ TooLong) × (max_spec_bytes < length text)
 
 -- why the text in a file with these contents, or in none, is refused, where `Has` says which faults a text has. The disk may fail and memory be wanting at any place
 abbrev pub IsTextRefusal : (List ℕ → SpecFault → Type 0) → List ℕ → Option (List ℕ) → Refusal → Type 0

@@ -9,10 +9,8 @@ ghost use Rattle.tce_source.specs.Source.{HasSpecification, IsSourceRefusal, IsT
 use std::alloc::Global;
 use tce_command::Refusal;
 use tce_outside::Disk;
+use tce_space::MAX_SPEC_BYTES;
 use tce_spec::{Spec, SpecFault, read_spec};
-
-// The bytes of a specification at most.
-const MAX_LEN: u64 = 65_536;
 
 /// Reads the specification in a file.
 ///
@@ -60,7 +58,7 @@ pub(crate) fn read_text<D: Disk>(
     let Some(len) = size else {
         return Err(Refusal::missing(name));
     };
-    if len > MAX_LEN {
+    if len > MAX_SPEC_BYTES as u64 {
         return Err(Refusal::Specification(SpecFault::TooLong));
     }
     let Ok(mut bytes) = vec![in alloc; 0; len as usize] else {

@@ -1,3 +1,4 @@
+pub mod Limits
 pub mod IndexSet
 pub mod Name
 pub mod Space

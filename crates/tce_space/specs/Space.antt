@@ -2,6 +2,7 @@
 use Rattle.std.specs.Prelude.{◌≡◌, ℕ, ◌<◌, ◌≤◌, ◌^◌, IsTrue, List, [], ◌∷◌, ◌++◌, length, map, slice_index_or, position, Option, None}
 use Rattle.std.specs.Str.{bytes_eq}
 use Rattle.std.specs.List.{All, IsDistinct}
+use Rattle.tce_space.specs.Limits.{max_indexes, max_ranges}
 use Rattle.tce_space.specs.IndexSet.{has, volume}
 use Rattle.tce_space.specs.Name.{is_name}
 use Rattle.tce_space.specs.Tiling.{Tiling}
@@ -66,8 +67,8 @@ pub record IsRange (r : Range) : Type 0 where
 
 -- what every space keeps: the limits of both lists, different names in each, and a declared range for each index
 pub record IsSpace (space : IndexSpace) : Type 0 where
-  pub range_limit : length space.ranges ≤ 16
-  pub index_limit : length space.indexes ≤ 24
+  pub range_limit : length space.ranges ≤ max_ranges
+  pub index_limit : length space.indexes ≤ max_indexes
   pub ranges : All IsRange space.ranges
   pub indexes : All (λ (i : Index). IsTrue (is_name i.name) × (i.of_range < length space.ranges)) space.indexes
   pub range_names : IsDistinct bytes_eq (map (λ (r : Range). r.name) space.ranges)
@@ -83,7 +84,7 @@ index_number space name = position (λ (i : Index). bytes_eq i.name name) space.
 -- the range is declared last, under a name that no range had, and gets this number
 pub record AddsRange (old new : IndexSpace) (range : Range) (number : ℕ) : Type 0 where
   pub unnamed : range_number old range.name ≡ None
-  pub room : length old.ranges < 16
+  pub room : length old.ranges < max_ranges
   pub number_is : number ≡ length old.ranges
   pub ranges : new.ranges ≡ old.ranges ++ range ∷ []
   pub indexes : new.indexes ≡ old.indexes
@@ -91,7 +92,7 @@ pub record AddsRange (old new : IndexSpace) (range : Range) (number : ℕ) : Typ
 -- the index is declared last, under a name that no index had, and gets this number
 pub record AddsIndex (old new : IndexSpace) (index : Index) (number : ℕ) : Type 0 where
   pub unnamed : index_number old index.name ≡ None
-  pub room : length old.indexes < 24
+  pub room : length old.indexes < max_indexes
   pub number_is : number ≡ length old.indexes
   pub ranges : new.ranges ≡ old.ranges
   pub indexes : new.indexes ≡ old.indexes ++ index ∷ []

@@ -1,6 +1,7 @@
 -- An array's shape: its extents, and the edges of the tiles into which it is cut.
 use Rattle.std.specs.Prelude.{◌≡◌, ℕ, ◌+◌, ◌*◌, ◌/◌, ◌%◌, ◌^◌, ◌≤◌, ◌<◌, List, [], ◌∷◌, length, All}
 use Rattle.std.specs.Int.{div_ceil}
+use Rattle.tce_space.specs.Limits.{max_array_words, max_rank, max_tile_words}
 use Rattle.tce_space.specs.Box.{product, place, IsInside}
 
 pub record Tiling : Type 0 where
@@ -76,11 +77,11 @@ ArePositive (e ∷ es) = (0 < e) × ArePositive es
 -- an edge for each extent, and the limits of size
 pub record IsTiling (s : Tiling) : Type 0 where
   pub same_rank : length s.edges ≡ length s.extents
-  pub rank : length s.extents ≤ 8
+  pub rank : length s.extents ≤ max_rank
   pub sizes : All (λ n. (0 < n) × (n < 2 ^ 32)) s.extents
   pub positive : ArePositive s.edges
-  pub tile_room : tile_words s ≤ 2 ^ 20
-  pub room : padded_words s ≤ 2 ^ 48
+  pub tile_room : tile_words s ≤ max_tile_words
+  pub room : padded_words s ≤ max_array_words
 
 -- different elements are different words of the file, and each is one of its words
 abbrev pub WordsAreApart : Type 0

@@ -1,7 +1,9 @@
 ghost use Rattle.std.specs.Prelude.{◌≡◌, ◌≢◌, ℕ, ◌<◌, ◌≤◌, ◌||◌, ◌&&◌, ◌↔◌, not, false, IsTrue, All, Contains};
 ghost use Rattle.tce_space.specs.IndexSet as set;
+ghost use Rattle.tce_space.specs.Limits.{max_indexes};
 ghost use Rattle.tce_space.specs.Laws.{SetsAreTheirMembers};
 
+use crate::limits::MAX_INDEXES;
 use std::marker::Model;
 
 /// A set of index numbers below 24, kept as the bits of a number.
@@ -32,7 +34,7 @@ impl IndexSet {
 
     /// The set with one member more.
     pub fn with(self, index: u8) -> IndexSet
-        requires { index < 24 }
+        requires { index < max_indexes }
         ensures value { result ≡ set.with_index self index }
         ensures member { IsTrue (set.has result index) }
         ensures others { (i : ℕ) → i ≢ index → set.has result i ≡ set.has self i }
@@ -42,7 +44,7 @@ impl IndexSet {
 
     /// Whether an index is a member.
     pub fn has(self, index: u8) -> bool
-        requires { index < 24 }
+        requires { index < max_indexes }
         ensures { result ≡ set.has self index }
     {
         self.0 >> index & 1 == 1
@@ -98,12 +100,12 @@ impl IndexSet {
     /// How many members there are.
     pub fn count(self) -> u8
         ensures value { result ≡ set.count self }
-        ensures limit { result ≤ 24 }
+        ensures limit { result ≤ max_indexes }
         ensures bounded { set.IsIndexSet self }
     {
         let _bits = self.0;
         let mut members = 0;
-        for index in 0..24 {
+        for index in 0..MAX_INDEXES as u8 {
             if self.has(index) {
                 members += 1;
             }
@@ -113,7 +115,7 @@ impl IndexSet {
 
     /// The set of the numbers of a list.
     pub fn of_list(indexes: &[u8]) -> IndexSet
-        requires { All (λ i. i < 24) indexes.now }
+        requires { All (λ i. i < max_indexes) indexes.now }
         ensures value { result ≡ set.set_of indexes.now }
         ensures members { (i : ℕ) → IsTrue (set.has result i) ↔ Contains indexes.now i }
     {

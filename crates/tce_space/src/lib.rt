@@ -2,6 +2,7 @@
 #![tactic(auto)]
 
 mod index_set;
+mod limits;
 mod loop_order;
 mod name;
 mod product;
@@ -10,6 +11,10 @@ mod shape;
 mod space;
 
 pub use index_set::{IndexSet, sets_are_their_members};
+pub use limits::{
+    COST_LIMIT, MAX_ARRAY_WORDS, MAX_INDEXES, MAX_LOOPS, MAX_MEMORY, MAX_NODES, MAX_RANGES,
+    MAX_RANK, MAX_SPEC_BYTES, MAX_TENSORS, MAX_TILE_WORDS, MAX_VOLUME, Numbers,
+};
 pub use loop_order::LoopOrder;
 pub use name::{FileName, Name, is_name};
 pub use row_major::{place, places_are_in_order};

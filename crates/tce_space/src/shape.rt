@@ -1,15 +1,13 @@
 // The shape of an array that is cut into tiles.
 ghost use Rattle.std.specs.Prelude.{◌≡◌, ◌<◌, ◌≤◌, ◌^◌, ◌↔◌, length, All, IfOk, ⊤};
+ghost use Rattle.tce_space.specs.Limits.{max_array_words, max_rank, max_tile_words};
 ghost use Rattle.tce_space.specs.Tiling.{Tiling, ArePositive, WordsAreApart, counts_along, no_dimensions, tile_words, padded_words};
 
+use crate::limits::{MAX_ARRAY_WORDS, MAX_RANK, MAX_TILE_WORDS};
 use crate::product::{product_of, product_within};
 use arrayvec::ArrayVec;
 use std::alloc::AllocError;
 use std::marker::Model;
-
-const MAX_TILE_WORDS: u64 = 1 << 20;
-
-const MAX_ARRAY_WORDS: u64 = 1 << 48;
 
 /// Why there is no array of some ranges.
 #[derive(Clone, Copy, Debug, PartialEq, Eq)]
@@ -25,11 +23,12 @@ pub enum ShapeFault {
 /// A tile has at most 2^20 words, and all tiles together have at most 2^48. Tiles that reach over an extent are padded.
 #[derive(Drop)]
 pub struct Shape {
-    extents: ArrayVec<u64, 8>,
-    edges: ArrayVec<u64, 8>,
+    extents: ArrayVec<u64, MAX_RANK>,
+    edges: ArrayVec<u64, MAX_RANK>,
 }
 
 impl Model for Shape {
+    ghost use Rattle.tce_space.specs.Limits.{max_array_words, max_tile_words};
     ghost use Rattle.tce_space.specs.Tiling.{Tiling, IsTiling};
 
     ghost Value = { Tiling };
@@ -40,9 +39,9 @@ impl Model for Shape {
 }
 
 // In each dimension the number of tiles.
-fn tile_counts_of(extents: &[u64], edges: &[u64]) -> ArrayVec<u64, 8>
+fn tile_counts_of(extents: &[u64], edges: &[u64]) -> ArrayVec<u64, MAX_RANK>
     requires same_rank { length edges.now ≡ length extents.now }
-    requires rank { length extents.now ≤ 8 }
+    requires rank { length extents.now ≤ max_rank }
     requires positive { ArePositive edges.now }
     ensures { result.items ≡ counts_along extents.now edges.now }
 {
@@ -55,17 +54,17 @@ fn tile_counts_of(extents: &[u64], edges: &[u64]) -> ArrayVec<u64, 8>
 
 // The shape with these extents and edges.
 pub(crate) fn shape_of(
-    extents: ArrayVec<u64, 8>,
-    edges: ArrayVec<u64, 8>,
+    extents: ArrayVec<u64, MAX_RANK>,
+    edges: ArrayVec<u64, MAX_RANK>,
 ) -> Result<Shape, ShapeFault>
     requires same_rank { length edges.items ≡ length extents.items }
     requires sizes { All (λ n. (0 < n) × (n < 2 ^ 32)) extents.items }
     requires positive { ArePositive edges.items }
     ensures made { let s : Tiling = record { extents = extents.items; edges = edges.items } in IfOk result (λ shape. shape ≡ s) }
     ensures tile_words { let s : Tiling = record { extents = extents.items; edges = edges.items } in
-        (result ≡ Err ShapeFault.TileWords) ↔ (2 ^ 20 < tile_words s) }
+        (result ≡ Err ShapeFault.TileWords) ↔ (max_tile_words < tile_words s) }
     ensures array_words { let s : Tiling = record { extents = extents.items; edges = edges.items } in
-        (result ≡ Err ShapeFault.ArrayWords) ↔ ((tile_words s ≤ 2 ^ 20) × (2 ^ 48 < padded_words s)) }
+        (result ≡ Err ShapeFault.ArrayWords) ↔ ((tile_words s ≤ max_tile_words) × (max_array_words < padded_words s)) }
 {
     let Some(tile_words) = product_within(edges.as_slice(), MAX_TILE_WORDS) else {
         return Err(ShapeFault::TileWords);
@@ -78,6 +77,7 @@ pub(crate) fn shape_of(
 }
 
 impl Shape {
+    ghost use Rattle.tce_space.specs.Limits.{max_array_words, max_tile_words};
     ghost use Rattle.tce_space.specs.Tiling.{IsTiling, tile_words, tiles, padded_words, elements, file_len};
 
     /// The extents, in elements.

@@ -1,6 +1,7 @@
 // Index spaces: the declared ranges and indexes, by name and by number.
 ghost use Rattle.std.specs.Prelude.{◌≡◌, ◌<◌, ◌≤◌, ◌^◌, ◌↔◌, length, None, IsSome, SomeIff, IfOk, OnOk, OnErr, IsTrue, slice_index_or, All};
 ghost use Rattle.tce_space.specs.Space.{IsSpace, IsRange, IsDeclared, AddsRange, AddsIndex, no_declarations, range_at, index_at, extent_at, edge_at, range_number, index_number, volume_of, tiling_of};
+ghost use Rattle.tce_space.specs.Limits.{max_array_words, max_indexes, max_name_bytes, max_ranges, max_tile_words, max_volume};
 ghost use Rattle.tce_space.specs.Tiling.{tile_words, padded_words};
 ghost use Rattle.tce_space.specs.Laws.{VolumesGrow};
 ghost use Rattle.tce_space.specs.Name.{is_name};
@@ -9,18 +10,13 @@ ghost use Rattle.std.specs.List.{IsDistinct};
 ghost use Rattle.std.specs.Str.{bytes_eq};
 
 use crate::index_set::IndexSet;
+use crate::limits::{MAX_INDEXES, MAX_RANGES, MAX_RANK, MAX_VOLUME};
 use crate::name::Name;
 use crate::shape::{Shape, ShapeFault, shape_of};
 use arrayvec::ArrayVec;
 use indexmap::IndexMap;
 use std::alloc::{AllocError, Global};
 use std::marker::Model;
-
-const MAX_RANGES: usize = 16;
-
-const MAX_INDEXES: usize = 24;
-
-const MAX_VOLUME: u128 = 1 << 90;
 
 /// Why a declaration is refused.
 #[derive(Clone, Copy, Debug, PartialEq, Eq)]
@@ -100,7 +96,7 @@ fn declare<V: Copy>(
 // The number of this name among the entries. A text that is too long for a name is none of them.
 fn named<V>(entries: &IndexMap<Name, V>, name: &str) -> Option<u8>
     requires small { length entries.now.entries ≤ 256 }
-    requires short { All (λ name. length name ≤ 16) (names_of entries.now.entries) }
+    requires short { All (λ name. length name ≤ max_name_bytes) (names_of entries.now.entries) }
     ensures { result ≡ entry_number entries.now.entries name.now }
 {
     let Ok(name) = Name::from(name) else {
@@ -137,7 +133,7 @@ impl Space {
         requires { IsRange (record { name = name.now.bytes; extent = extent; edge = edge }) }
         ensures added { IfOk result (AddsRange self.old self.new (record { name = name.now.bytes; extent = extent; edge = edge })) }
         ensures named { (result ≡ Err SpaceFault.NameTwice) ↔ IsSome (range_number self.old name.now.bytes) }
-        ensures full { (result ≡ Err SpaceFault.Full) ↔ ((range_number self.old name.now.bytes ≡ None) × (length self.old.ranges ≡ 16)) }
+        ensures full { (result ≡ Err SpaceFault.Full) ↔ ((range_number self.old name.now.bytes ≡ None) × (length self.old.ranges ≡ max_ranges)) }
         ensures refused { OnErr result (self.new ≡ self.old) }
         ensures limits { IsSpace self.new }
     {
@@ -157,7 +153,7 @@ impl Space {
         requires declared { range < length self.old.ranges }
         ensures added { IfOk result (AddsIndex self.old self.new (record { name = name.now.bytes; of_range = range })) }
         ensures named { (result ≡ Err SpaceFault.NameTwice) ↔ IsSome (index_number self.old name.now.bytes) }
-        ensures full { (result ≡ Err SpaceFault.Full) ↔ ((index_number self.old name.now.bytes ≡ None) × (length self.old.indexes ≡ 24)) }
+        ensures full { (result ≡ Err SpaceFault.Full) ↔ ((index_number self.old name.now.bytes ≡ None) × (length self.old.indexes ≡ max_indexes)) }
         ensures refused { OnErr result (self.new ≡ self.old) }
         ensures limits { IsSpace self.new }
     {
@@ -271,7 +267,7 @@ impl Space {
     /// How many elements an array over these indexes has: the product of their extents. `None` where it is above 2^90.
     pub fn volume(&self, set: IndexSet) -> Option<u128>
         requires { IsDeclared self.now set }
-        ensures volume { SomeIff result (volume_of self.now set ≤ 2 ^ 90) (volume_of self.now set) }
+        ensures volume { SomeIff result (volume_of self.now set ≤ max_volume) (volume_of self.now set) }
         ensures limits { IsSpace self.now }
     {
         let mut product: u128 = 1;
@@ -289,12 +285,12 @@ impl Space {
     /// The shape of an array with these ranges, one for each dimension.
     ///
     /// `TileWords` where a tile has more than 2^20 words, and else `ArrayWords` where the tiles together have more than 2^48.
-    pub fn shape(&self, ranges: &ArrayVec<u8, 8>) -> Result<Shape, ShapeFault>
+    pub fn shape(&self, ranges: &ArrayVec<u8, MAX_RANK>) -> Result<Shape, ShapeFault>
         requires { All (λ r. r < length self.now.ranges) ranges.now.items }
         ensures made { IfOk result (λ shape. shape ≡ tiling_of self.now ranges.now.items) }
-        ensures tile_words { (result ≡ Err ShapeFault.TileWords) ↔ (2 ^ 20 < tile_words (tiling_of self.now ranges.now.items)) }
+        ensures tile_words { (result ≡ Err ShapeFault.TileWords) ↔ (max_tile_words < tile_words (tiling_of self.now ranges.now.items)) }
         ensures array_words { (result ≡ Err ShapeFault.ArrayWords) ↔
-            ((tile_words (tiling_of self.now ranges.now.items) ≤ 2 ^ 20) × (2 ^ 48 < padded_words (tiling_of self.now ranges.now.items))) }
+            ((tile_words (tiling_of self.now ranges.now.items) ≤ max_tile_words) × (max_array_words < padded_words (tiling_of self.now ranges.now.items))) }
     {
         let mut extents = ArrayVec::new();
         let mut edges = ArrayVec::new();

@@ -2,6 +2,7 @@
 use Rattle.std.specs.Prelude.{◌≡◌, ⊤, ◌⊎◌, ℕ, true, ◌+◌, ◌-◌, ◌<◌, ◌≤◌, ◌==◌, if◌then◌else◌, List, length, map}
 use Rattle.std.specs.List.{AllByRecursion, IsDistinct}
 use Rattle.std.specs.Str.{bytes_eq}
+use Rattle.tce_space.specs.Limits.{max_rank, max_tensors}
 use Rattle.tce_space.specs.IndexSet.{count}
 use Rattle.tce_tree.specs.ContractionTree.{ContractionTree, leaf, constant, binary, sum, operations, node, node_dims}
 use Rattle.tce_declarations.specs.Declarations.{IsTensor}
@@ -19,16 +20,16 @@ StandsAt tree first (sum indexes operand) = (node tree (first + operations opera
 
 -- a cut node has at most eight dims
 abbrev pub HaveRank : ContractionTree → Cuts → Type 0
-HaveRank tree cut = (v : ℕ) → v < operations tree → cut v ≡ true → count (node_dims tree v) ≤ 8
+HaveRank tree cut = (v : ℕ) → v < operations tree → cut v ≡ true → count (node_dims tree v) ≤ max_rank
 
 -- a declared tensor, or the array of a node with at most eight dims
 abbrev pub IsSource : Specification → ℕ → Type 0
 IsSource s t =
-    (t < length s.declarations.tensors) ⊎ ((32 ≤ t) × ((t - 32 < operations s.tree) × (count (node_dims s.tree (t - 32)) ≤ 8)))
+    (t < length s.declarations.tensors) ⊎ ((32 ≤ t) × ((t - 32 < operations s.tree) × (count (node_dims s.tree (t - 32)) ≤ max_rank)))
 
 -- these tensors can be declared over the same space: their names differ
 pub record CanDeclare (s : Specification) (numbers : List ℕ) : Type 0 where
-  pub few : length numbers ≤ 32
+  pub few : length numbers ≤ max_tensors
   pub sources : AllByRecursion (IsSource s) numbers
   pub tensors : AllByRecursion (λ t. IsTensor s.declarations.space (source s t)) numbers
   pub names : IsDistinct bytes_eq (map (λ t. (source s t).name) numbers)

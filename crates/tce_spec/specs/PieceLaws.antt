@@ -1,5 +1,6 @@
 -- A law of the specifications of pieces and their values.
 use Rattle.std.specs.Prelude.{◌≡◌, ℕ, ◌<◌, IsTrue, List, length, slice_index}
+use Rattle.tce_space.specs.Limits.{max_indexes, max_tensors}
 use Rattle.tce_tree.specs.ContractionTree.{operations, node, node_dims}
 use Rattle.tce_tree.specs.WellFormed.{indexes_below}
 use Rattle.tce_tree.specs.Value.{Assignment, Elements, IsInExtents, value}
@@ -18,5 +19,5 @@ pub record PieceSpecificationHasValue : Type 0 where
   pub of_piece : (own files : Elements) (s : Specification) (cut : Cuts) (v : ℕ) (a : Assignment) → HaveSources own files s cut v
       → value own (piece_of s cut v).tree a ≡ value files (piece s.tree cut v) a
   pub of_node : (own files e : Elements) (s : Specification) (cut : Cuts) (v : ℕ) (a : Assignment) → HaveSources own files s cut v
-      → IsTrue (indexes_below 24 s.tree) → IsTrue (tensors_below 32 s.tree) → HoldNodes files e s.tree cut → v < operations s.tree
+      → IsTrue (indexes_below max_indexes s.tree) → IsTrue (tensors_below max_tensors s.tree) → HoldNodes files e s.tree cut → v < operations s.tree
       → IsInExtents e (node_dims s.tree v) a → value own (piece_of s cut v).tree a ≡ value e (node s.tree v) a

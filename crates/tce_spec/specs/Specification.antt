@@ -1,5 +1,6 @@
 -- Specifications: declared ranges, indexes and tensors, and what is computed over them.
 use Rattle.std.specs.Prelude.{◌≡◌, ⊤, ℕ, ◌<◌, ◌≤◌, ◌^◌, None, IsTrue, List}
+use Rattle.tce_space.specs.Limits.{max_nodes}
 use Rattle.tce_tree.specs.ContractionTree.{ContractionTree, leaf, constant, binary, sum, operations}
 use Rattle.tce_tree.specs.WellFormed.{sums_distinct}
 use Rattle.tce_tree.specs.Faults.{fault_of}
@@ -25,7 +26,7 @@ ConstantsAreWords (sum indexes operand) = ConstantsAreWords operand
 pub record IsSpecification (s : Specification) : Type 0 where
   pub declarations : IsDeclarations s.declarations
   pub contraction : IsContraction s.declarations s.result s.indexes s.tree
-  pub few : operations s.tree ≤ 32
+  pub few : operations s.tree ≤ max_nodes
   pub distinct : IsTrue (sums_distinct s.tree)
   pub faultless : fault_of s.declarations.space s.tree ≡ None
   pub measured : IsMeasured s.declarations.space s.tree

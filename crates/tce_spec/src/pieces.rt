@@ -3,6 +3,7 @@
 ghost use Rattle.std.specs.Prelude.{◌≡◌, ◌<◌, ◌≤◌, ◌+◌, ◌-◌, ◌++◌, ◌&&◌, nat_lt, not, map, codes, IfOk, IsTrue, length};
 ghost use Rattle.std.specs.List.{list_all};
 ghost use Rattle.std.specs.Fmt.{decimal};
+ghost use Rattle.tce_space.specs.Limits.{max_nodes, max_rank};
 ghost use Rattle.tce_space.specs.IndexSet.{has, count, members};
 ghost use Rattle.tce_tree.specs.Expr.{tree_of};
 ghost use Rattle.tce_tree.specs.ContractionTree.{operations, node, node_dims};
@@ -26,7 +27,7 @@ use std::boxed::Box;
 use tce_declarations::Declarations;
 use tce_fields::{decimal_text, members_of};
 use tce_formula::Contraction;
-use tce_space::{Name, Space};
+use tce_space::{MAX_RANK, Name, Space};
 use tce_tree::{Expr, Leaf, Tree};
 
 /// How many tensors are declared at most. The array of node `v` stands among them as number `32 + v`.
@@ -42,7 +43,7 @@ struct CutNodes {
 impl CutNodes {
     // Whether the piece has the array of this node in place of the node.
     fn has(self, v: u8) -> bool
-        requires { v < 32 }
+        requires { v < max_nodes }
         ensures { result ≡ model.except (has self.cuts) self.root v }
     {
         has_bit(self.cuts, v) && v != self.root
@@ -50,7 +51,7 @@ impl CutNodes {
 
     // Whether there are nodes, numbered from `first` on, and the last of them is cut.
     fn has_last(self, first: u8, nodes: u8) -> bool
-        requires { first + nodes ≤ 32 }
+        requires { first + nodes ≤ max_nodes }
         ensures some { IsTrue result → 0 < nodes }
         ensures last { 0 < nodes → result ≡ model.except (has self.cuts) self.root (first + nodes - 1) }
     {
@@ -59,16 +60,16 @@ impl CutNodes {
 }
 
 fn has_bit(bits: u32, v: u8) -> bool
-    requires { v < 32 }
+    requires { v < max_nodes }
     ensures { result ≡ has bits v }
 {
     bits >> v & 1 == 1
 }
 
 // The indexes of a node in order.
-fn dims_of(tree: &Tree, v: u8) -> ArrayVec<u8, 8>
+fn dims_of(tree: &Tree, v: u8) -> ArrayVec<u8, MAX_RANK>
     requires inside { v < operations tree.now }
-    requires rank { count (node_dims tree.now v) ≤ 8 }
+    requires rank { count (node_dims tree.now v) ≤ max_rank }
     ensures { result.items ≡ members (node_dims tree.now v) }
 {
     let all = members_of(tree.dims(v));
@@ -82,7 +83,7 @@ fn dims_of(tree: &Tree, v: u8) -> ArrayVec<u8, 8>
 // The array of a node in place of the node.
 fn reference_to(tree: &Tree, v: u8) -> Expr
     requires inside { v < operations tree.now }
-    requires rank { count (node_dims tree.now v) ≤ 8 }
+    requires rank { count (node_dims tree.now v) ≤ max_rank }
     ensures { tree_of result ≡ model.reference_to v (node tree.now v) }
 {
     let _count = tree.count();
@@ -95,7 +96,7 @@ fn reference_to(tree: &Tree, v: u8) -> Expr
 // The part of an expression that is a node.
 fn node_of(expr: &Expr, v: u64) -> &Expr
     requires inside { v < operations (tree_of expr.now) }
-    requires few { operations (tree_of expr.now) ≤ 32 }
+    requires few { operations (tree_of expr.now) ≤ max_nodes }
     ensures { tree_of result.now ≡ node (tree_of expr.now) v }
 {
     if v + 1 == expr.operations() {
@@ -217,7 +218,7 @@ fn renumbered(alloc: Global, expr: &Expr, numbers: &[u8]) -> Result<Expr, AllocE
 
 // The name of a node's array.
 fn array_name(v: u8) -> Name
-    requires { v < 32 }
+    requires { v < max_nodes }
     ensures { result.bytes ≡ codes "spill-" ++ decimal v }
 {
     let mut name = Name::new();
@@ -227,10 +228,10 @@ fn array_name(v: u8) -> Name
 }
 
 // The ranges of a node's dims.
-fn ranges_of(space: &Space, tree: &Tree, v: u8) -> ArrayVec<u8, 8>
+fn ranges_of(space: &Space, tree: &Tree, v: u8) -> ArrayVec<u8, MAX_RANK>
     requires measured { IsMeasured space.now tree.now }
     requires inside { v < operations tree.now }
-    requires rank { count (node_dims tree.now v) ≤ 8 }
+    requires rank { count (node_dims tree.now v) ≤ max_rank }
     ensures { result.items ≡ ranges_of_node space.now tree.now v }
 {
     let _indexes = space.index_count();
@@ -256,7 +257,7 @@ fn source_name(spec: &Spec, t: u8) -> Name
 }
 
 // The ranges of a tensor or an array.
-fn source_ranges(spec: &Spec, t: u8) -> Result<ArrayVec<u8, 8>, AllocError>
+fn source_ranges(spec: &Spec, t: u8) -> Result<ArrayVec<u8, MAX_RANK>, AllocError>
     requires { IsSource spec.now t }
     ensures { IfOk result (λ ranges. ranges.items ≡ (source spec.now t).ranges) }
 {
@@ -316,7 +317,7 @@ fn target_of(spec: &Spec, root: u8) -> u8
 }
 
 // The indexes of what the piece computes.
-fn target_indexes(spec: &Spec, root: u8, cuts: u32) -> Result<ArrayVec<u8, 8>, AllocError>
+fn target_indexes(spec: &Spec, root: u8, cuts: u32) -> Result<ArrayVec<u8, MAX_RANK>, AllocError>
     requires { CanCut spec.now (has cuts) root }
     ensures { IfOk result (λ indexes. indexes.items ≡ target_indexes spec.now root) }
 {
@@ -335,7 +336,7 @@ fn specified(
     target: Leaf,
     expr: Expr,
 ) -> Result<Spec, AllocError>
-    requires few { operations (tree_of expr) ≤ 32 }
+    requires few { operations (tree_of expr) ≤ max_nodes }
     requires distinct { IsTrue (sums_distinct (tree_of expr)) }
     requires words { ConstantsAreWords (tree_of expr) }
     requires contraction { IsContraction declarations target.tensor target.indexes.items (tree_of expr) }

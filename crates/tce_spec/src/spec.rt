@@ -20,7 +20,7 @@ use std::marker::Model;
 use tce_canonical::print_lines;
 use tce_declarations::{Declarations, SpecFault, Tensor, check_rest, read_head};
 use tce_formula::{Contraction, read_formula};
-use tce_space::Space;
+use tce_space::{MAX_TENSORS, Space};
 use tce_tree::{Expr, Leaf, Tree};
 
 /// Declared ranges, indexes and tensors, and a formula over them with its tree.
@@ -116,7 +116,7 @@ impl Spec {
     }
 
     /// The numbers of the tensors of the formula, by their first place from the left, each once.
-    pub fn operands(&self) -> ArrayVec<u8, 32>
+    pub fn operands(&self) -> ArrayVec<u8, MAX_TENSORS>
         ensures { result.items ≡ operands self.now }
     {
         let mut seen = ArrayVec::new();

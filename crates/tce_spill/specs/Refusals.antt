@@ -1,6 +1,7 @@
 -- Why there are no cuts for a limit.
 use Rattle.std.specs.Prelude.{◌≡◌, ◌⊎◌, ⊤, ℕ, ◌<◌, ◌≤◌, IsTrue, List, Result, length}
 use Rattle.std.specs.declared.result.Result.TheVariants.{Ok, Err}
+use Rattle.tce_space.specs.Limits.{max_tensors}
 use Rattle.tce_space.specs.Space.{IndexSpace}
 use Rattle.tce_tree.specs.ContractionTree.{ContractionTree, operations}
 use Rattle.tce_tree.specs.Memory.{memory}
@@ -28,8 +29,8 @@ pub record IsTooLarge (space : IndexSpace) (tree : ContractionTree) (limit v n :
 
 -- why there are no cuts: first too many tensors, then a piece above the limit. Memory may be wanting at any place
 abbrev pub IsCutFault : Specification → ℕ → SpillFault → Type 0
-IsCutFault s limit TooManyTensors = 32 ≤ length s.declarations.tensors
-IsCutFault s limit (LimitTooSmall v n) = (length s.declarations.tensors < 32) × IsTooLarge s.declarations.space s.tree limit v n
+IsCutFault s limit TooManyTensors = max_tensors ≤ length s.declarations.tensors
+IsCutFault s limit (LimitTooSmall v n) = (length s.declarations.tensors < max_tensors) × IsTooLarge s.declarations.space s.tree limit v n
 IsCutFault s limit (BudgetTooSmall n) = ⊥
 IsCutFault s limit (Array name fault) = ⊥
 IsCutFault s limit Disk = ⊥

@@ -7,10 +7,8 @@ ghost use Rattle.tce_tree.specs.Measure.{IsMeasured};
 ghost use Rattle.tce_pieces.specs.Storable as store;
 
 use arrayvec::ArrayVec;
-use tce_space::{IndexSet, Space};
+use tce_space::{IndexSet, MAX_INDEXES, MAX_RANK, Space};
 use tce_tree::Tree;
-
-const MAX_RANK: u8 = 8;
 
 /// Whether a node may be cut: it is not the root, and its values fit an array, which has a dimension for each of its
 /// dims in the order of the indexes, of at most eight, tiles of at most 2^20 words, and at most 2^48 words in all tiles.
@@ -21,7 +19,7 @@ pub fn storable(space: &Space, tree: &Tree, v: u8) -> bool
 {
     let _indexes = space.index_count();
     let dims = tree.dims(v);
-    if is_root(tree, v) || dims.count() > MAX_RANK {
+    if is_root(tree, v) || dims.count() > MAX_RANK as u8 {
         return false;
     }
     has_room(space, &ranges_of(space, dims))
@@ -36,14 +34,14 @@ fn is_root(tree: &Tree, v: u8) -> bool
 }
 
 // The ranges of the members of a set, in order.
-fn ranges_of(space: &Space, dims: IndexSet) -> ArrayVec<u8, 8>
+fn ranges_of(space: &Space, dims: IndexSet) -> ArrayVec<u8, MAX_RANK>
     requires few { count dims ≤ 8 }
     requires declared { IsDeclared space.now dims }
     ensures ranges { result.items ≡ map (λ i. (index_at space.now i).of_range) (members dims) }
     ensures declared { All (λ r. r < length space.now.ranges) result.items }
 {
     let mut ranges = ArrayVec::new();
-    for index in 0..24 {
+    for index in 0..MAX_INDEXES as u8 {
         if dims.has(index) {
             ranges.push(space.range_of(index));
         }
@@ -52,7 +50,7 @@ fn ranges_of(space: &Space, dims: IndexSet) -> ArrayVec<u8, 8>
 }
 
 // Whether an array over these ranges is within the limits.
-fn has_room(space: &Space, ranges: &ArrayVec<u8, 8>) -> bool
+fn has_room(space: &Space, ranges: &ArrayVec<u8, MAX_RANK>) -> bool
     requires { All (λ r. r < length space.now.ranges) ranges.now.items }
     ensures { result ≡ store.has_room (tiling_of space.now ranges.now.items) }
 {

@@ -1,7 +1,8 @@
 -- Why the pieces of a tree are not run: first there may be no cuts, then the budget may be small, then an operand may be refused.
-use Rattle.std.specs.Prelude.{◌≡◌, ◌≢◌, ◌⊎◌, ⊤, ℕ, ◌*◌, ◌-◌, ◌<◌, ◌≤◌, ◌^◌, IsTrue, List, length, Option, IsSomeAnd, Result}
+use Rattle.std.specs.Prelude.{◌≡◌, ◌≢◌, ◌⊎◌, ⊤, ℕ, ◌*◌, ◌-◌, ◌<◌, ◌≤◌, IsTrue, List, length, Option, IsSomeAnd, Result}
 use Rattle.std.specs.declared.result.Result.TheVariants.{Ok, Err}
 use Rattle.std.specs.Option.{ForSome}
+use Rattle.tce_space.specs.Limits.{max_memory}
 use Rattle.tce_outside.specs.Files.{Files}
 use Rattle.tce_array.specs.declared.fault.ArrayFault.{ArrayFault}
 use Rattle.tce_array.specs.declared.fault.ArrayFault.TheVariants as array_fault
@@ -90,8 +91,8 @@ pub record CanSpill (s : Specification) (cut : Cuts) (budget : ℕ) : Type 0 whe
   pub allowed : AreStorable s.declarations.space s.tree cut
   pub inside : (v : ℕ) → operations s.tree ≤ v → IsTrue (cut v) → ⊥
   pub enough : 3 * largest_of s cut ≤ budget
-  pub limit : budget ≤ 2 ^ 40
-  pub meet : MeetLimit s.declarations.space s.tree cut (2 ^ 40)
+  pub limit : budget ≤ max_memory
+  pub meet : MeetLimit s.declarations.space s.tree cut max_memory
 
 -- a declared tensor of this name is refused
 pub record IsTensorRefused (Refused : ℕ → Type 0) (s : Specification) (name : List ℕ) (fault : ArrayFault) : Type 0 where

@@ -1,6 +1,7 @@
 // The pieces in turn.
-ghost use Rattle.std.specs.Prelude.{◌≡◌, ◌⊎◌, ℕ, ◌<◌, ◌≤◌, ◌*◌, ◌^◌, IsTrue, IfOk, IfErr, OnOk, Err, length};
+ghost use Rattle.std.specs.Prelude.{◌≡◌, ◌⊎◌, ℕ, ◌<◌, ◌≤◌, ◌*◌, IsTrue, IfOk, IfErr, OnOk, Err, length};
 ghost use Rattle.std.specs.Option.{ForSome, option_map};
+ghost use Rattle.tce_space.specs.Limits.{max_memory};
 ghost use Rattle.tce_space.specs.IndexSet.{has};
 ghost use Rattle.tce_outside.specs.Files.{others};
 ghost use Rattle.tce_outside.specs.Fault.{HasCause, TellsFaults};
@@ -47,7 +48,7 @@ fn run_one<D: Disk, R: Room>(
     room: &mut R,
 ) -> Result<RunReport, SpillFault>
     requires affordable { IsAffordable spec.now budget }
-    requires budget { budget ≤ 2 ^ 40 }
+    requires budget { budget ≤ max_memory }
     requires plan { IsLeastButRows spec.now.declarations.space spec.now.tree plan }
     requires operands { ForSome (D.files disk.old) (λ files. HasOperands files spec.now (operand_count spec.now)) }
     ensures told { OnOk result (D.files disk.new ≡ option_map (with_result spec.now) (D.files disk.old)) }
@@ -190,8 +191,8 @@ pub fn run_spill<D: Disk, R: Room>(
     room: &mut R,
 ) -> Result<SpillReport, SpillFault>
     requires names { HaveNames spec.now.declarations.tensors }
-    requires budget { budget ≤ 2 ^ 40 }
-    requires limit { limit ≤ 2 ^ 40 }
+    requires budget { budget ≤ max_memory }
+    requires limit { limit ≤ max_memory }
     ensures told { OnOk result (HasSpilled (D.files disk.old) (D.files disk.new) spec.now limit) }
     ensures reported { IfOk result (λ report. IsReportedFor spec.now budget limit (R.takings room.old) (R.takings room.new) report.text) }
     ensures refused { IfErr result (IsSpillCause (D.files disk.old) spec.now budget limit) }

@@ -1,5 +1,6 @@
 // The cuts that the pieces are made by, and the budget of their runs.
-ghost use Rattle.std.specs.Prelude.{◌≡◌, ℕ, ◌<◌, ◌≤◌, ◌^◌, IsTrue, IfOk, length};
+ghost use Rattle.std.specs.Prelude.{◌≡◌, ℕ, ◌<◌, ◌≤◌, IsTrue, IfOk, length};
+ghost use Rattle.tce_space.specs.Limits.{max_tile_words};
 ghost use Rattle.tce_space.specs.IndexSet.{has};
 ghost use Rattle.tce_tree.specs.ContractionTree.{operations};
 ghost use Rattle.tce_pieces.specs.Pieces.{is_root as is_root_of};
@@ -42,7 +43,7 @@ pub(crate) fn largest_tile(alloc: Global, spec: &Spec, cuts: u32) -> Result<u64,
     requires names { HaveNames spec.now.declarations.tensors }
     requires few { length spec.now.declarations.tensors ≤ 31 }
     requires allowed { (v : ℕ) → IsTrue (has cuts v) → IsTrue (storable spec.now.declarations.space spec.now.tree v) }
-    ensures { IfOk result (λ words. (words ≡ largest_of spec.now (has cuts)) × (words ≤ 2 ^ 20)) }
+    ensures { IfOk result (λ words. (words ≡ largest_of spec.now (has cuts)) × (words ≤ max_tile_words)) }
 {
     let count = spec.tree().count();
     let mut largest = spec.largest_tile();
@@ -61,7 +62,7 @@ fn array_tile(alloc: Global, spec: &Spec, cuts: u32, v: u8) -> Result<u64, Alloc
     requires can { CanCut spec.now (has cuts) v }
     requires cut { IsTrue (has cuts v) }
     ensures words { IfOk result (λ words. words ≡ tile_words (shape_of_node spec.now.declarations.space spec.now.tree v)) }
-    ensures limit { IfOk result (λ words. words ≤ 2 ^ 20) }
+    ensures limit { IfOk result (λ words. words ≤ max_tile_words) }
 {
     let piece = piece(alloc, spec, v, cuts)?;
     Ok(piece.tensor(piece.result().tensor).shape.tile_words())

@@ -1,5 +1,6 @@
 -- Elements of the whole array, by the place of their other coordinates and the two.
 use Rattle.std.specs.Prelude.{◌≡◌, ℕ, ◌+◌, ◌*◌, ◌^◌, ◌<◌, ◌≤◌, Bool, false, nat_lt, if◌then◌else◌, List}
+use Rattle.tce_space.specs.Limits.{max_array_words}
 use Rattle.tce_space.specs.Box.{product, place}
 use Rattle.tce_sym.specs.declared.symmetry.Symmetry.{Symmetry}
 use Rattle.tce_sym.specs.declared.cells.Triangles.{Triangles}
@@ -12,8 +13,8 @@ pub record AreTriangles (t : Triangles) : Type 0 where
   pub extent : t.extent < 2 ^ 32
   pub pairs : t.pairs ≡ pairs t.negated t.extent
   pub count : t.count ≡ t.others * t.pairs
-  pub small : t.count ≤ 2 ^ 48
-  pub few : t.others ≤ 2 ^ 48
+  pub small : t.count ≤ max_array_words
+  pub few : t.others ≤ max_array_words
   pub grid : t.slots.grid.count ≡ t.count
 
 -- the triangles are those of a tensor

@@ -1,5 +1,6 @@
 -- Lines of stored words that are held in memory, each in a slot: its mark in the first row, and its words in the rows below.
-use Rattle.std.specs.Prelude.{◌≡◌, ℕ, ◌+◌, ◌*◌, ◌<◌, ◌≤◌, ◌^◌, true, if◌then◌else◌, List, slice_index}
+use Rattle.std.specs.Prelude.{◌≡◌, ℕ, ◌+◌, ◌*◌, ◌<◌, ◌≤◌, true, if◌then◌else◌, List, slice_index}
+use Rattle.tce_space.specs.Limits.{max_array_words}
 use Rattle.tce_sym.specs.declared.lines.Grid.{Grid}
 use Rattle.tce_sym.specs.declared.lines.Layout.{Layout}
 use Rattle.tce_sym.specs.declared.lines.Layout.TheVariants.{Lines, Whole, Across}
@@ -53,7 +54,7 @@ pub record IsWanted (g : Grid) (wanted : Wanted) : Type 0 where
   pub line : g.line ≤ wanted.span
   pub short : wanted.span ≤ 2048
   pub slot : wanted.slot ≤ g.last
-  pub count : g.count ≤ 2 ^ 48
+  pub count : g.count ≤ max_array_words
 
 -- the place of a word so many steps on
 abbrev pub walk_place : Walk → ℕ → ℕ

@@ -1,6 +1,7 @@
 // Whole arrays from stored elements.
 ghost use Rattle.std.specs.Prelude.{◌≡◌, ◌≢◌, ◌+◌, ◌*◌, ◌<◌, ◌≤◌, ◌^◌, length, replicate, OnOk, IsErr, IsErrOf};
 ghost use Rattle.std.specs.Option.{ForSome, IsSomeAnd};
+ghost use Rattle.tce_space.specs.Limits.{max_array_words};
 ghost use Rattle.tce_space.specs.Tiling.{padded_words};
 ghost use Rattle.tce_outside.specs.Files.{file, others};
 ghost use Rattle.tce_outside.specs.Fault.{HasCause, TellsFaults};
@@ -48,7 +49,7 @@ fn hold_words<D: Disk>(
     lines: &mut [u64],
 ) -> Result<(), Failed>
     requires room { HasRoom grid.now.layout grid.now (length lines.old) }
-    requires count { grid.now.count ≤ 2 ^ 48 }
+    requires count { grid.now.count ≤ max_array_words }
     requires file { ForSome (D.files disk.old) (λ fs. IsSomeAnd (file fs packed.now) (λ bytes. length bytes ≡ 32 + 8 * grid.now.count)) }
     ensures held { OnOk result (ForSome (D.files disk.old) (λ fs. AreHeld grid.now.layout grid.now (contents fs packed.now) lines.new)) }
     ensures same { D.files disk.new ≡ D.files disk.old }

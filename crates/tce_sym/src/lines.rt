@@ -1,7 +1,8 @@
 // Lines of stored words, held in memory: the words from one place on, each line in a slot of its own. Slots stand side by
 // side, and the words of a line below each other, so that words of neighbouring slots are neighbours.
-ghost use Rattle.std.specs.Prelude.{◌≡◌, ℕ, ◌+◌, ◌*◌, ◌<◌, ◌≤◌, ◌^◌, List, length, slice_index, IfOk, OnOk, IsErr};
+ghost use Rattle.std.specs.Prelude.{◌≡◌, ℕ, ◌+◌, ◌*◌, ◌<◌, ◌≤◌, List, length, slice_index, IfOk, OnOk, IsErr};
 ghost use Rattle.std.specs.Option.{ForSome, IsSomeAnd};
+ghost use Rattle.tce_space.specs.Limits.{max_array_words};
 ghost use Rattle.tce_outside.specs.Files.{file};
 ghost use Rattle.tce_outside.specs.Fault.{HasCause, TellsFaults};
 ghost use Rattle.tce_tools.specs.Flat.{contents};
@@ -72,7 +73,7 @@ pub struct Wanted {
 fn put_line(grid: &Grid, lines: &mut [u64], slot: usize, start: u64, words: &[u64])
     requires grid { IsGrid grid.now (length lines.old) }
     requires slot { slot ≤ grid.now.last }
-    requires start { start ≤ 2 ^ 48 }
+    requires start { start ≤ max_array_words }
     requires short { length words.now ≤ grid.now.line }
     requires whole { (k : ℕ) → k < grid.now.line → start + k < grid.now.count → k < length words.now }
     ensures { (bytes : List ℕ) → AreLines grid.now bytes lines.old
@@ -90,7 +91,7 @@ fn put_lines(grid: &Grid, lines: &mut [u64], wanted: Wanted, start: u64, words: 
     requires grid { IsGrid grid.now (length lines.old) }
     requires slot { wanted.slot ≤ grid.now.last }
     requires start { start + length words.now ≤ grid.now.count }
-    requires count { grid.now.count ≤ 2 ^ 48 }
+    requires count { grid.now.count ≤ max_array_words }
     requires whole { (k : ℕ) → k < grid.now.line → start + k < grid.now.count → k < length words.now }
     ensures { (bytes : List ℕ) → AreLines grid.now bytes lines.old
         → ((k : ℕ) → k < length words.now → slice_index words.now k ≡ stored_word bytes (start + k)) → AreLines grid.now bytes lines.new }
@@ -217,7 +218,7 @@ pub fn held_word(grid: &Grid, lines: &[u64], slot: usize, place: u64) -> Option<
     requires grid { IsGrid grid.now (length lines.now) }
     requires slot { slot ≤ grid.now.last }
     requires place { place < grid.now.count }
-    requires count { grid.now.count ≤ 2 ^ 48 }
+    requires count { grid.now.count ≤ max_array_words }
     ensures { (bytes : List ℕ) → AreLines grid.now bytes lines.now → ForSome result (λ word. word ≡ stored_word bytes place) }
 {
     let mark = lines[slot];

@@ -1,5 +1,6 @@
 // Which slots are for which lines: those of columns, the pairs with one second coordinate, and those of pieces of triangles.
-ghost use Rattle.std.specs.Prelude.{◌≡◌, ◌+◌, ◌*◌, ◌<◌, ◌≤◌, ◌^◌, length};
+ghost use Rattle.std.specs.Prelude.{◌≡◌, ◌+◌, ◌*◌, ◌<◌, ◌≤◌, length};
+ghost use Rattle.tce_space.specs.Limits.{max_array_words};
 ghost use Rattle.tce_sym.specs.Storage.{AreRight};
 ghost use Rattle.tce_sym.specs.Lines.{IsGrid, HasRoom};
 
@@ -159,7 +160,7 @@ pub fn are_across(shape: &Shape, s: &Symmetry) -> bool
 pub fn grid_within(grid: Grid, others: u64, pairs: u64, across: bool, room: usize) -> Grid
     requires lines { IsGrid grid room }
     requires count { grid.count ≡ others * pairs }
-    requires few { others ≤ 2 ^ 48 }
+    requires few { others ≤ max_array_words }
     ensures room { HasRoom result.layout result room }
     ensures count { result.count ≡ grid.count }
 {

@@ -1,12 +1,13 @@
 // Which elements are stored, and where.
 ghost use Rattle.std.specs.Prelude.{◌≡◌, ◌+◌, ◌^◌, ◌<◌, ◌≤◌, ◌++◌, length};
+ghost use Rattle.tce_space.specs.Limits.{max_array_words};
 ghost use Rattle.arrayvec.specs.ArrayVec.{array_vec_len};
 ghost use Rattle.tce_space.specs.Box.{IsInside};
 ghost use Rattle.tce_space.specs.Tiling.{elements};
 ghost use Rattle.tce_sym.specs.Storage.{AreRight, IsPair, at_first, at_second, at_others, pairs, stored_place, stored_count, turned};
 
 use arrayvec::ArrayVec;
-use tce_space::{Shape, place};
+use tce_space::{MAX_RANK, Shape, place};
 
 /// Which two coordinates of a tensor may be exchanged, and whether its elements then turn their sign.
 #[derive(Clone, Copy, Debug, PartialEq, Eq)]
@@ -20,7 +21,7 @@ pub struct Symmetry {
 }
 
 /// What a list has at the other positions.
-pub(crate) fn at_others(s: &Symmetry, numbers: &[u64]) -> ArrayVec<u64, 8>
+pub(crate) fn at_others(s: &Symmetry, numbers: &[u64]) -> ArrayVec<u64, MAX_RANK>
     requires ordered { s.now.first < s.now.second }
     requires inside { s.now.second < length numbers.now }
     requires short { length numbers.now ≤ 8 }
@@ -36,7 +37,7 @@ pub(crate) fn at_others(s: &Symmetry, numbers: &[u64]) -> ArrayVec<u64, 8>
 }
 
 /// Appends numbers.
-pub(crate) fn push_all(list: &mut ArrayVec<u64, 8>, numbers: &[u64])
+pub(crate) fn push_all(list: &mut ArrayVec<u64, MAX_RANK>, numbers: &[u64])
     requires { array_vec_len list.old + length numbers.now ≤ 8 }
     ensures items { list.new.items ≡ list.old.items ++ numbers.now }
     ensures len { array_vec_len list.new ≡ array_vec_len list.old + length numbers.now }
@@ -63,7 +64,7 @@ pub(crate) fn stored_count(shape: &Shape, s: &Symmetry) -> u64
     requires { AreRight shape.now.extents s.now }
     ensures count { result ≡ stored_count shape.now.extents s.now }
     ensures few { result ≤ elements shape.now }
-    ensures small { result ≤ 2 ^ 48 }
+    ensures small { result ≤ max_array_words }
     ensures rank { length shape.now.extents ≤ 8 }
 {
     let extent = shape.extents()[s.first as usize];

@@ -7,14 +7,14 @@ ghost use Rattle.tce_sym.specs.TileRows.{IsWordOf, IsTileRow};
 
 use crate::symmetry::push_all;
 use arrayvec::ArrayVec;
-use tce_space::Shape;
+use tce_space::{MAX_RANK, Shape};
 use tce_tools::{coords_at, is_row_major};
 
 /// Words that follow each other in a row of a tile, or of the array where its words are in row-major order.
 #[derive(Drop)]
 pub struct TileRow {
     /// The coordinates of the first word, which are beyond the extents where it is padding.
-    pub coords: ArrayVec<u64, 8>,
+    pub coords: ArrayVec<u64, MAX_RANK>,
     /// How many words there are.
     pub len: u64,
     /// How many of them are elements; the others, behind them, are padding.
@@ -22,7 +22,7 @@ pub struct TileRow {
 }
 
 // The coordinates of a word.
-fn coords_of(shape: &Shape, word: u64) -> ArrayVec<u64, 8>
+fn coords_of(shape: &Shape, word: u64) -> ArrayVec<u64, MAX_RANK>
     requires { word < padded_words shape.now }
     ensures { IsWordOf shape.now word result.items }
 {

@@ -1,6 +1,7 @@
 // Stored words that are wanted one after the other, and the slots for their lines.
 ghost use Rattle.std.specs.Prelude.{◌≡◌, ℕ, ◌+◌, ◌*◌, ◌<◌, ◌≤◌, ◌^◌, List, length, slice_index, OnOk, IsErr};
 ghost use Rattle.std.specs.Option.{ForSome, IsSomeAnd};
+ghost use Rattle.tce_space.specs.Limits.{max_array_words};
 ghost use Rattle.tce_outside.specs.Files.{file};
 ghost use Rattle.tce_outside.specs.Fault.{HasCause, TellsFaults};
 ghost use Rattle.tce_tools.specs.Flat.{contents};
@@ -97,7 +98,7 @@ fn span_of(grid: &Grid, unit: u64, step: u64) -> usize
 fn wanted_at(grid: &Grid, walk: &Walk, k: u64, place: u64) -> Wanted
     requires line { grid.now.line ≤ 256 }
     requires place { place < grid.now.count }
-    requires count { grid.now.count ≤ 2 ^ 48 }
+    requires count { grid.now.count ≤ max_array_words }
     ensures wanted { IsWanted grid.now result }
     ensures place { result.place ≡ place }
 {
@@ -119,7 +120,7 @@ fn wanted_at(grid: &Grid, walk: &Walk, k: u64, place: u64) -> Wanted
 // The words from one on that slots hold, as far as they hold all. The first that is not there is answered.
 fn held(grid: &Grid, lines: &[u64], walk: &Walk, words: &mut [u64], from: usize) -> usize
     requires grid { IsGrid grid.now (length lines.now) }
-    requires count { grid.now.count ≤ 2 ^ 48 }
+    requires count { grid.now.count ≤ max_array_words }
     requires places { (k : ℕ) → k < length words.old → walk_place walk.now k < grid.now.count }
     requires few { length words.old ≤ 8192 }
     requires from { from ≤ length words.old }
@@ -151,7 +152,7 @@ fn read_lines<D: Disk>(
     words: &mut [u64],
 ) -> Result<(), Failed>
     requires grid { IsGrid grid.now (length lines.old) }
-    requires count { grid.now.count ≤ 2 ^ 48 }
+    requires count { grid.now.count ≤ max_array_words }
     requires places { (k : ℕ) → k < length words.old → walk_place walk.now k < grid.now.count }
     requires few { length words.old ≤ 8192 }
     requires file { ForSome (D.files disk.old) (λ fs. IsSomeAnd (file fs packed.now) (λ bytes. length bytes ≡ 32 + 8 * grid.now.count)) }
@@ -182,7 +183,7 @@ pub fn read_walk<D: Disk>(
     words: &mut [u64],
 ) -> Result<(), Failed>
     requires room { HasRoom grid.now.layout grid.now (length lines.old) }
-    requires count { grid.now.count ≤ 2 ^ 48 }
+    requires count { grid.now.count ≤ max_array_words }
     requires places { (k : ℕ) → k < length words.old → walk_place walk.now k < grid.now.count }
     requires few { length words.old ≤ 8192 }
     requires file { ForSome (D.files disk.old) (λ fs. IsSomeAnd (file fs packed.now) (λ bytes. length bytes ≡ 32 + 8 * grid.now.count)) }

@@ -1,6 +1,7 @@
 // All stored words in memory: one after the other, or those of one pair side by side.
 ghost use Rattle.std.specs.Prelude.{◌≡◌, ◌≢◌, ◌⊎◌, ℕ, ◌+◌, ◌*◌, ◌/◌, ◌%◌, ◌<◌, ◌≤◌, ◌^◌, length, slice_index, IfOk, OnOk, IsErr};
 ghost use Rattle.std.specs.Option.{ForSome, IsSomeAnd};
+ghost use Rattle.tce_space.specs.Limits.{max_array_words};
 ghost use Rattle.tce_outside.specs.Files.{file};
 ghost use Rattle.tce_outside.specs.Fault.{HasCause, TellsFaults};
 ghost use Rattle.tce_tools.specs.Flat.{contents};
@@ -23,7 +24,7 @@ pub fn read_whole<D: Disk>(
     lines: &mut [u64],
 ) -> Result<(), Failed>
     requires room { grid.now.count ≤ length lines.old }
-    requires count { grid.now.count ≤ 2 ^ 48 }
+    requires count { grid.now.count ≤ max_array_words }
     requires file { ForSome (D.files disk.old) (λ fs. IsSomeAnd (file fs packed.now) (λ bytes. length bytes ≡ 32 + 8 * grid.now.count)) }
     ensures read { OnOk result (ForSome (D.files disk.old) (λ fs. AreWhole grid.now (contents fs packed.now) lines.new)) }
     ensures same { D.files disk.new ≡ D.files disk.old }
@@ -63,7 +64,7 @@ fn read_strip<D: Disk>(
     from: u64,
 ) -> Result<u64, Failed>
     requires room { IsAcross grid.now (length lines.old) }
-    requires count { grid.now.count ≤ 2 ^ 48 }
+    requires count { grid.now.count ≤ max_array_words }
     requires from { from < grid.now.pairs }
     requires file { ForSome (D.files disk.old) (λ fs. IsSomeAnd (file fs packed.now) (λ bytes. length bytes ≡ 32 + 8 * grid.now.count)) }
     ensures some { IfOk result (λ len. (0 < len) × (from + len ≤ grid.now.pairs)) }
@@ -98,7 +99,7 @@ pub fn read_across<D: Disk>(
     lines: &mut [u64],
 ) -> Result<(), Failed>
     requires room { IsAcross grid.now (length lines.old) }
-    requires count { grid.now.count ≤ 2 ^ 48 }
+    requires count { grid.now.count ≤ max_array_words }
     requires file { ForSome (D.files disk.old) (λ fs. IsSomeAnd (file fs packed.now) (λ bytes. length bytes ≡ 32 + 8 * grid.now.count)) }
     ensures read { OnOk result (ForSome (D.files disk.old) (λ fs. ArePairs grid.now grid.now.pairs (contents fs packed.now) lines.new)) }
     ensures same { D.files disk.new ≡ D.files disk.old }
@@ -124,7 +125,7 @@ fn copy_words(lines: &[u64], at: usize, words: &mut [u64])
 /// The words of a walk, where all stand one after the other.
 pub fn gather(grid: &Grid, lines: &[u64], walk: &Walk, words: &mut [u64])
     requires room { grid.now.count ≤ length lines.now }
-    requires count { grid.now.count ≤ 2 ^ 48 }
+    requires count { grid.now.count ≤ max_array_words }
     requires places { (k : ℕ) → k < length words.old → walk_place walk.now k < grid.now.count }
     requires few { length words.old ≤ 8192 }
     ensures { (k : ℕ) → k < length words.new → slice_index words.new k ≡ slice_index lines.now (walk_place walk.now k) }
@@ -142,8 +143,8 @@ pub fn gather(grid: &Grid, lines: &[u64], walk: &Walk, words: &mut [u64])
 fn across_at(grid: &Grid, place: u64) -> usize
     requires some { 0 < grid.now.pairs }
     requires fits { grid.now.pairs * grid.now.pitch < 2 ^ 63 }
-    requires place { place < 2 ^ 48 }
-    requires outer { place / grid.now.pairs < 2 ^ 48 }
+    requires place { place < max_array_words }
+    requires outer { place / grid.now.pairs < max_array_words }
     ensures { result ≡ place % grid.now.pairs * grid.now.pitch + place / grid.now.pairs }
 {
     (place % grid.pairs) as usize * grid.pitch + (place / grid.pairs) as usize
@@ -152,7 +153,7 @@ fn across_at(grid: &Grid, place: u64) -> usize
 /// The words of a walk, where those of one pair stand side by side.
 pub fn gather_across(grid: &Grid, lines: &[u64], walk: &Walk, words: &mut [u64])
     requires room { IsAcross grid.now (length lines.now) }
-    requires count { grid.now.count ≤ 2 ^ 48 }
+    requires count { grid.now.count ≤ max_array_words }
     requires places { (k : ℕ) → k < length words.old → walk_place walk.now k < grid.now.count }
     requires few { length words.old ≤ 8192 }
     ensures { (k : ℕ) → k < length words.new → let place = walk_place walk.now k in slice_index words.new k ≡ slice_index lines.now (place % grid.now.pairs * grid.now.pitch + place / grid.now.pairs) }

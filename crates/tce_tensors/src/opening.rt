@@ -12,11 +12,12 @@ ghost use Rattle.tce_tensors.specs.Opened.{form_at, operand_count, AreOpened, Is
 use crate::file_of;
 use tce_array::{ArrayFault, Form, open};
 use tce_outside::Disk;
+use tce_space::MAX_TENSORS;
 use tce_spec::Spec;
 
 /// The forms of the operands' files, by the numbers of their tensors. That of another tensor may be any.
 #[derive(Clone, Copy, Debug)]
-pub struct Forms(pub [Form; 32]);
+pub struct Forms(pub [Form; MAX_TENSORS]);
 
 /// An operand that is refused, by the number of its tensor, and why.
 #[derive(Clone, Copy, Debug)]
@@ -57,7 +58,7 @@ pub fn open_operands<D: Disk>(spec: &Spec, disk: &mut D) -> Result<Forms, Refuse
     let operands = spec.operands();
     // A specification keeps its rules.
     let _tree = spec.tree();
-    let mut forms = [Form::One; 32];
+    let mut forms = [Form::One; MAX_TENSORS];
     for t in operands.as_slice() {
         forms[*t as usize] = open_tensor(spec, *t, disk)?;
     }

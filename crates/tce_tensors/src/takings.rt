@@ -1,6 +1,7 @@
 //! Tiles and frames of a specification.
 
-ghost use Rattle.std.specs.Prelude.{◌≡◌, ◌+◌, ◌*◌, ◌^◌, ◌<◌, ◌≤◌, length};
+ghost use Rattle.std.specs.Prelude.{◌≡◌, ◌+◌, ◌*◌, ◌<◌, ◌≤◌, length};
+ghost use Rattle.tce_space.specs.Limits.{max_array_words, max_tile_words};
 ghost use Rattle.tce_space.specs.Tiling.{tiles};
 ghost use Rattle.tce_spec.specs.Operands.{largest_tile, shape_of};
 ghost use Rattle.tce_tensors.specs.Takings.{least_budget, tile_count, frame_count, tile_take};
@@ -11,7 +12,7 @@ use tce_spec::Spec;
 fn frame_words(spec: &Spec) -> u64
     ensures words { result ≡ largest_tile spec.now }
     ensures some { 0 < result }
-    ensures limit { result ≤ 2 ^ 20 }
+    ensures limit { result ≤ max_tile_words }
 {
     // A specification keeps its rules.
     let _result = spec.result();
@@ -22,7 +23,7 @@ fn frame_words(spec: &Spec) -> u64
 fn tiles_of(spec: &Spec, t: u8) -> u64
     requires { t < length spec.now.declarations.tensors }
     ensures tiles { result ≡ tiles (shape_of spec.now t) }
-    ensures limit { result ≤ 2 ^ 48 }
+    ensures limit { result ≤ max_array_words }
 {
     spec.tensor(t).shape.tiles()
 }
@@ -30,7 +31,7 @@ fn tiles_of(spec: &Spec, t: u8) -> u64
 /// The least budget of a run, in words: three of the largest tiles of the operands and the result.
 pub fn least_budget(spec: &Spec) -> u64
     ensures words { result ≡ least_budget spec.now }
-    ensures limit { result ≤ 3 * 2 ^ 20 }
+    ensures limit { result ≤ 3 * max_tile_words }
 {
     3 * frame_words(spec)
 }

@@ -6,7 +6,7 @@ ghost use Rattle.tce_tools.specs.Runs.{IsRun, IsRowMajor};
 
 use arrayvec::ArrayVec;
 use tce_array::{Form, address};
-use tce_space::Shape;
+use tce_space::{MAX_RANK, Shape};
 
 /// The most elements of a run.
 pub const LONGEST_RUN: usize = 4096;
@@ -23,7 +23,7 @@ pub struct Run {
 }
 
 /// The coordinates of the element at this place in row-major order.
-pub fn coords_at(shape: &Shape, number: u64) -> ArrayVec<u64, 8>
+pub fn coords_at(shape: &Shape, number: u64) -> ArrayVec<u64, MAX_RANK>
     requires { number < elements shape.now }
     ensures inside { IsInside shape.now.extents result.items }
     ensures place { place shape.now.extents result.items ≡ number }

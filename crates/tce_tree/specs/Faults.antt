@@ -1,8 +1,9 @@
 -- Why an expression has no tree: its first fault, by nodes in postorder.
-use Rattle.std.specs.Prelude.{◌≡◌, ℕ, ◌+◌, ◌^◌, not, if◌then◌else◌, nat_lt, ◌==◌, List, Option}
+use Rattle.std.specs.Prelude.{◌≡◌, ℕ, ◌+◌, not, if◌then◌else◌, nat_lt, ◌==◌, List, Option}
 use Rattle.std.specs.declared.option.Option.TheVariants.{Some, None}
 use Rattle.std.specs.Option.{option_or, option_map}
 use Rattle.std.specs.List.{find}
+use Rattle.tce_space.specs.Limits.{max_volume}
 use Rattle.tce_space.specs.IndexSet.{has, count}
 use Rattle.tce_space.specs.Space.{IndexSpace, index_at, volume_of}
 use Rattle.tce_tree.specs.ContractionTree.{ContractionTree, leaf, constant, binary, sum, dims, loops, operations}
@@ -20,7 +21,7 @@ pub data Fault : Type 0 where
 unfoldable pub loops_fault : IndexSpace → ℕ → ℕ → Option Fault
 loops_fault space v set =
     if nat_lt 10 (count set) then Some (too_many_loops v)
-    else (if nat_lt (2 ^ 90) (volume_of space set) then Some (volume_too_large v) else None)
+    else (if nat_lt max_volume (volume_of space set) then Some (volume_too_large v) else None)
 
 -- the first listed index that the operand lacks
 unfoldable pub sum_fault : IndexSpace → List ℕ → ℕ → Option Fault

@@ -1,6 +1,7 @@
 -- A tree as a list of its nodes in postorder, as the program keeps it.
 use Rattle.std.specs.Prelude.{◌≡◌, ℕ, ◌+◌, ◌-◌, ◌<◌, ◌≤◌, Option, List, [], ◌∷◌, ◌++◌}
 use Rattle.std.specs.declared.option.Option.TheVariants.{Some, None}
+use Rattle.tce_space.specs.Limits.{max_loops, max_nodes}
 use Rattle.tce_space.specs.IndexSet.{count}
 use Rattle.tce_tree.specs.ContractionTree.{ContractionTree, Arithmetic, leaf, constant, binary, sum, multiply, add, subtract, dims, loops, operations, node, node_loops}
 use Rattle.tce_tree.specs.TreeCode.{top, below}
@@ -119,9 +120,9 @@ IsBefore v (NodeOperand u) = u < v
 -- what the program's trees keep: from 1 to 32 nodes, rightly named indexes, and at most ten loops at each node
 pub record IsTree (tree : ContractionTree) : Type 0 where
   pub some : 0 < operations tree
-  pub limit : operations tree ≤ 32
+  pub limit : operations tree ≤ max_nodes
   pub well_formed : IsWellFormed tree
-  pub few_loops : (v : ℕ) → v < operations tree → count (node_loops tree v) ≤ 10
+  pub few_loops : (v : ℕ) → v < operations tree → count (node_loops tree v) ≤ max_loops
 
 -- the list of the nodes of such a tree
 pub record AreNodes (nodes : List Node) : Type 0 where

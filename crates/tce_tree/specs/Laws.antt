@@ -1,6 +1,7 @@
 -- Laws of trees and their values.
 use Rattle.std.specs.Prelude.{◌≡◌, ◌↔◌, ◌⊎◌, ℕ, ◌<◌, ◌^◌, IsTrue}
 use Rattle.std.specs.declared.option.Option.TheVariants.{Some}
+use Rattle.tce_space.specs.Limits.{max_indexes}
 use Rattle.tce_space.specs.IndexSet.{has}
 use Rattle.tce_tree.specs.ContractionTree.{ContractionTree, dims, operations, parent}
 use Rattle.tce_tree.specs.FlatTree.{left_of, right_of}
@@ -17,7 +18,7 @@ ParentsHaveOperands =
 -- the value depends on the numbers of the dims alone
 abbrev pub ValueDependsOnDims : Type 0
 ValueDependsOnDims =
-    (e : Elements) (tree : ContractionTree) (a b : Assignment) → IsTrue (indexes_below 24 tree)
+    (e : Elements) (tree : ContractionTree) (a b : Assignment) → IsTrue (indexes_below max_indexes tree)
     → ((i : ℕ) → IsTrue (has (dims tree) i) → a i ≡ b i) → value e tree a ≡ value e tree b
 
 -- the value is a word

@@ -1,6 +1,7 @@
 -- Trees that name their indexes rightly.
 use Rattle.std.specs.Prelude.{ℕ, Bool, true, false, not, ◌&&◌, ◌||◌, ◌==◌, nat_lt, IsTrue, List, [], ◌∷◌, length}
 use Rattle.std.specs.List.{list_all}
+use Rattle.tce_space.specs.Limits.{max_indexes}
 use Rattle.tce_space.specs.IndexSet.{has}
 use Rattle.tce_space.specs.Space.{IndexSpace}
 use Rattle.tce_tree.specs.ContractionTree.{ContractionTree, leaf, constant, binary, sum, dims}
@@ -38,7 +39,7 @@ sums_present (sum indexes operand) = list_all (has (dims operand)) indexes && su
 
 -- all numbers are numbers of indexes, and each sum lists indexes of its operand, each once
 pub record IsWellFormed (tree : ContractionTree) : Type 0 where
-  pub indexed : IsTrue (indexes_below 24 tree)
+  pub indexed : IsTrue (indexes_below max_indexes tree)
   pub distinct : IsTrue (sums_distinct tree)
   pub present : IsTrue (sums_present tree)
 

@@ -10,21 +10,22 @@ ghost use Rattle.tce_tree.specs.WellFormed.{IsDeclaredTree};
 ghost use Rattle.tce_tree.specs.FlatTree.{flat, node_of, operand_of, arithmetic_of};
 ghost use Rattle.tce_tree.specs.Faults.{nodes_fault, sum_fault, loops_fault, Shows};
 ghost use Rattle.std.specs.Option.{option_or};
+ghost use Rattle.tce_space.specs.Limits.{max_nodes};
 
 use crate::expr::{Expr, Leaf};
 use crate::fault::TreeFault;
 use crate::node::{Arithmetic, Node, Operand, Operation};
 use arrayvec::ArrayVec;
 use std::alloc::AllocError;
-use tce_space::{IndexSet, Space};
+use tce_space::{IndexSet, MAX_INDEXES, MAX_LOOPS, MAX_NODES, Space};
 
 // Appends the nodes of an expression.
 pub(crate) fn push_nodes(
     space: &Space,
-    nodes: &mut ArrayVec<Node, 32>,
+    nodes: &mut ArrayVec<Node, MAX_NODES>,
     expr: &Expr,
 ) -> Result<(), TreeFault>
-    requires room { array_vec_len nodes.old + operations (tree_of expr.now) ≤ 32 }
+    requires room { array_vec_len nodes.old + operations (tree_of expr.now) ≤ max_nodes }
     requires declared { IsDeclaredTree space.now (tree_of expr.now) }
     ensures len { OnOk result (array_vec_len nodes.new ≡ array_vec_len nodes.old + operations (tree_of expr.now)) }
     ensures ok { OnOk result (nodes.new.items ≡ nodes.old.items ++ flat (array_vec_len nodes.old) (tree_of expr.now)) }
@@ -60,14 +61,14 @@ pub(crate) fn push_nodes(
 // Appends a node with two operands, whose nodes stand last, from number `first` on.
 fn push_binary(
     space: &Space,
-    nodes: &mut ArrayVec<Node, 32>,
+    nodes: &mut ArrayVec<Node, MAX_NODES>,
     first: usize,
     arithmetic: Arithmetic,
     left: &Expr,
     right: &Expr,
 ) -> Result<(), TreeFault>
     requires place { first + operations (tree_of left.now) + operations (tree_of right.now) ≡ array_vec_len nodes.old }
-    requires room { array_vec_len nodes.old < 32 }
+    requires room { array_vec_len nodes.old < max_nodes }
     requires left_declared { IsDeclaredTree space.now (tree_of left.now) }
     requires right_declared { IsDeclaredTree space.now (tree_of right.now) }
     ensures len { OnOk result (array_vec_len nodes.new ≡ array_vec_len nodes.old + 1) }
@@ -96,13 +97,13 @@ fn push_binary(
 // Appends a sum over an operand, whose nodes stand last, from number `first` on.
 fn push_sum(
     space: &Space,
-    nodes: &mut ArrayVec<Node, 32>,
+    nodes: &mut ArrayVec<Node, MAX_NODES>,
     first: usize,
-    indexes: &ArrayVec<u8, 24>,
+    indexes: &ArrayVec<u8, MAX_INDEXES>,
     operand: &Expr,
 ) -> Result<(), TreeFault>
     requires place { first + operations (tree_of operand.now) ≡ array_vec_len nodes.old }
-    requires room { array_vec_len nodes.old < 32 }
+    requires room { array_vec_len nodes.old < max_nodes }
     requires listed { IsTrue (list_all (λ i. nat_lt i (length space.now.indexes)) indexes.now.items) }
     requires declared { IsDeclaredTree space.now (tree_of operand.now) }
     ensures len { OnOk result (array_vec_len nodes.new ≡ array_vec_len nodes.old + 1) }
@@ -130,7 +131,7 @@ fn push_sum(
 // An operand whose nodes end before number `end`.
 fn operand_before(end: usize, expr: &Expr) -> Result<Operand, AllocError>
     requires numbered { operations (tree_of expr.now) ≤ end }
-    requires few { end ≤ 32 }
+    requires few { end ≤ max_nodes }
     ensures { IfOk result (λ operand. operand ≡ operand_of (end - operations (tree_of expr.now)) (tree_of expr.now)) }
 {
     match expr {
@@ -146,7 +147,7 @@ fn operand_before(end: usize, expr: &Expr) -> Result<Operand, AllocError>
     }
 }
 
-fn copied(indexes: &ArrayVec<u8, 24>) -> Result<ArrayVec<u8, 24>, AllocError>
+fn copied(indexes: &ArrayVec<u8, MAX_INDEXES>) -> Result<ArrayVec<u8, MAX_INDEXES>, AllocError>
     ensures { IfOk result (λ copy. copy ≡ indexes.now) }
 {
     indexes.clone()
@@ -193,7 +194,7 @@ fn check_loops(space: &Space, v: u8, loops: IndexSet) -> Result<(), TreeFault>
     ensures ok { OnOk result (loops_fault space.now v loops ≡ None) }
     ensures fault { IfErr result (Shows (loops_fault space.now v loops)) }
 {
-    if loops.count() > 10 {
+    if loops.count() > MAX_LOOPS as u8 {
         return Err(TreeFault::TooManyLoops(v));
     }
     match space.volume(loops) {

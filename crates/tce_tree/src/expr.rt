@@ -1,19 +1,20 @@
 // Expressions as they are written.
 ghost use Rattle.std.specs.Prelude.{◌≡◌, ◌↔◌, ◌+◌, ◌-◌, ◌^◌, nat_lt, IsTrue, min};
 ghost use Rattle.std.specs.List.{list_all};
+ghost use Rattle.tce_space.specs.Limits.{max_indexes};
 ghost use Rattle.tce_tree.specs.ContractionTree.{dims, operations};
 ghost use Rattle.tce_tree.specs.WellFormed.{IsDeclaredTree, among, indexes_below, is_distinct, sums_distinct};
 ghost use Rattle.tce_tree.specs.Expr.{tree_of};
 
 use arrayvec::ArrayVec;
 use std::boxed::Box;
-use tce_space::{IndexSet, Space};
+use tce_space::{IndexSet, MAX_INDEXES, MAX_RANK, Space};
 
 /// A reference to a tensor: its number and the indexes at its positions, which may repeat.
 #[derive(Drop)]
 pub struct Leaf {
     pub tensor: u8,
-    pub indexes: ArrayVec<u8, 8>,
+    pub indexes: ArrayVec<u8, MAX_RANK>,
 }
 
 /// A formula of words: tensors and constants, joined by products, additions and subtractions, and summed over lists of indexes.
@@ -24,7 +25,7 @@ pub enum Expr {
     Product(Box<Expr>, Box<Expr>),
     Add(Box<Expr>, Box<Expr>),
     Sub(Box<Expr>, Box<Expr>),
-    Sum(ArrayVec<u8, 24>, Box<Expr>),
+    Sum(ArrayVec<u8, MAX_INDEXES>, Box<Expr>),
 }
 
 impl Expr {
@@ -83,7 +84,7 @@ impl Expr {
 
     // The indexes on which the value depends.
     pub(crate) fn dims(&self) -> IndexSet
-        requires { IsTrue (indexes_below 24 (tree_of self.now)) }
+        requires { IsTrue (indexes_below max_indexes (tree_of self.now)) }
         ensures { result ≡ dims (tree_of self.now) }
     {
         match self {

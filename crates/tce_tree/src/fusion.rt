@@ -6,15 +6,15 @@ ghost use Rattle.tce_tree.specs.Orders.{lists_of};
 
 use crate::tree::Tree;
 use arrayvec::ArrayVec;
-use tce_space::{IndexSet, LoopOrder};
+use tce_space::{IndexSet, LoopOrder, MAX_INDEXES, MAX_NODES};
 
 /// The indexes that are fused on the edge from each node to its parent, by the node's number.
 #[derive(Drop)]
-pub struct Fusion(pub ArrayVec<IndexSet, 32>);
+pub struct Fusion(pub ArrayVec<IndexSet, MAX_NODES>);
 
 /// The sequence of each node's loops, outermost first, by the node's number.
 #[derive(Drop)]
-pub struct Orders(pub ArrayVec<LoopOrder, 32>);
+pub struct Orders(pub ArrayVec<LoopOrder, MAX_NODES>);
 
 impl Fusion {
     /// Whether there is one set per node, each within the node's dims, and the root's is empty.
@@ -72,7 +72,7 @@ fn is_new(index: u8, loops: IndexSet, seen: IndexSet) -> bool
     requires { IsIndexSet loops }
     ensures { result ≡ (has loops index && not (has seen index)) }
 {
-    if index >= 24 {
+    if index >= MAX_INDEXES as u8 {
         return false;
     }
     loops.has(index) && !seen.has(index)

@@ -4,7 +4,7 @@ ghost use Rattle.tce_tree.specs.FlatTree.{arithmetic_kind, arithmetic_of};
 
 use crate::expr::Leaf;
 use arrayvec::ArrayVec;
-use tce_space::IndexSet;
+use tce_space::{IndexSet, MAX_INDEXES};
 
 /// What a node computes.
 #[derive(Clone, Copy, PartialEq, Eq, Debug)]
@@ -46,7 +46,7 @@ impl Arithmetic {
 #[derive(Drop)]
 pub(crate) enum Operation {
     Binary(Arithmetic, Operand, Operand),
-    Sum(ArrayVec<u8, 24>, Operand),
+    Sum(ArrayVec<u8, MAX_INDEXES>, Operand),
 }
 
 // An operation with the sets of its indexes, and how many nodes its subtree has.

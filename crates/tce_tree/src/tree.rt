@@ -1,5 +1,6 @@
 // Trees: the nodes of an expression by their numbers in postorder.
 ghost use Rattle.std.specs.Prelude.{ℕ, ◌≡◌, ◌<◌, ◌≤◌, ◌+◌, ◌↔◌, None, IsNone, IfSome, IfOk, OnOk, IfErr, IsTrue};
+ghost use Rattle.tce_space.specs.Limits.{max_loops, max_nodes};
 ghost use Rattle.tce_tree.specs.Expr.{tree_of};
 ghost use Rattle.tce_tree.specs.WellFormed.{IsDeclaredTree, sums_distinct};
 ghost use Rattle.tce_tree.specs.Measure.{IsMeasured};
@@ -12,12 +13,12 @@ use crate::node::{Kind, Node, Operand, Operation};
 use arrayvec::ArrayVec;
 use std::alloc::Global;
 use std::marker::Model;
-use tce_space::{IndexSet, Space};
+use tce_space::{IndexSet, MAX_NODES, Space};
 
 /// A tree with its nodes, numbered from 0 in postorder: left operand, right operand, the node itself. There are 1 to 32 nodes, of at most ten loops each, and the root is the last one.
 #[derive(Drop)]
 pub struct Tree {
-    nodes: ArrayVec<Node, 32>,
+    nodes: ArrayVec<Node, MAX_NODES>,
 }
 
 impl Model for Tree {
@@ -45,7 +46,7 @@ impl Tree {
     ///
     /// `NoOperation` where the expression is a tensor or a constant. Else, node by node in postorder and at each node in this order: `SumOverAbsent` with the name of the first listed index that the operand lacks, `TooManyLoops` where there are more than ten loops, and `VolumeTooLarge` where the product of their extents is above 2^90.
     pub fn build(_alloc: Global, space: &Space, expr: &Expr) -> Result<Tree, TreeFault>
-        requires few { operations (tree_of expr.now) ≤ 32 }
+        requires few { operations (tree_of expr.now) ≤ max_nodes }
         requires declared { IsDeclaredTree space.now (tree_of expr.now) }
         requires distinct { IsTrue (sums_distinct (tree_of expr.now)) }
         ensures ok { IfOk result (λ tree. tree ≡ tree_of expr.now) }
@@ -66,7 +67,7 @@ impl Tree {
     pub fn count(&self) -> u8
         ensures value { result ≡ operations self.now }
         ensures positive { 0 < result }
-        ensures limit { result ≤ 32 }
+        ensures limit { result ≤ max_nodes }
         ensures kept { IsTree self.now }
     {
         self.nodes.len() as u8
@@ -74,7 +75,7 @@ impl Tree {
 
     fn node(&self, v: u8) -> &Node
         requires { v < operations self.now }
-        ensures limit { set.count (node_loops self.now v) ≤ 10 }
+        ensures limit { set.count (node_loops self.now v) ≤ max_loops }
         ensures value { result.now ≡ node_of (first_number_of self.now v) (node self.now v) }
     {
         &self.nodes[v as usize]
@@ -128,7 +129,7 @@ impl Tree {
     pub fn loops(&self, v: u8) -> IndexSet
         requires { v < operations self.now }
         ensures value { result ≡ node_loops self.now v }
-        ensures limit { set.count result ≤ 10 }
+        ensures limit { set.count result ≤ max_loops }
     {
         self.node(v).loops
     }

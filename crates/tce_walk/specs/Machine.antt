@@ -1,7 +1,8 @@
 -- What a machine does for loop code: whole tails, single operations, and clearing.
-use Rattle.std.specs.Prelude.{◌≡◌, ℕ, ◌+◌, ◌*◌, ◌^◌, ◌<◌, ◌≤◌, IsTrue, false, Option, List, length, map, slice_index}
+use Rattle.std.specs.Prelude.{◌≡◌, ℕ, ◌+◌, ◌*◌, ◌<◌, ◌≤◌, IsTrue, false, Option, List, length, map, slice_index}
 use Rattle.std.specs.declared.option.Option.TheVariants.{Some, None}
 use Rattle.std.specs.Option.{option_map}
+use Rattle.tce_space.specs.Limits.{max_volume}
 use Rattle.tce_space.specs.Box.{product}
 use Rattle.tce_space.specs.IndexSet.{has}
 use Rattle.tce_space.specs.Space.{IndexSpace}
@@ -68,7 +69,7 @@ pub record IsTailAt (s : Setting) (tail : Tail) (a : Assignment) : Type 0 where
   pub distinct : IsTrue (is_distinct tail.loops.0.items)
   pub loops : (i : ℕ) → IsTrue (among tail.loops.0.items i) → IsTrue (has (node_loops s.tree tail.node) i)
   pub inside : (i : ℕ) → IsTrue (has (node_loops s.tree tail.node) i) → among tail.loops.0.items i ≡ false → a i < s.elements.extent i
-  pub limit : product (map s.elements.extent tail.loops.0.items) ≤ 2 ^ 90
+  pub limit : product (map s.elements.extent tail.loops.0.items) ≤ max_volume
   pub free : reads_constant s.tree (operation_of_node s.tree tail.node) ≡ false
   pub joined : IsJoinedTo s.tree tail.node tail.sum
 

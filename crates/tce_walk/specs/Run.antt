@@ -1,5 +1,6 @@
 -- What is asked of a run, and what parts of it leave.
 use Rattle.std.specs.Prelude.{◌≡◌, ℕ, ◌+◌, ◌<◌, ◌≤◌, true, Option, List, length}
+use Rattle.tce_space.specs.Limits.{max_loops}
 use Rattle.tce_space.specs.Space.{IndexSpace, IsSpace, extent_at}
 use Rattle.tce_tree.specs.ContractionTree.{ContractionTree}
 use Rattle.tce_tree.specs.FlatTree.{IsTree}
@@ -45,7 +46,7 @@ pub record IsPart (space : IndexSpace) (tree : ContractionTree) (program : Progr
   pub fit : OrdersFit tree plan.orders
   pub opened : List ℕ
   pub shape : EachAction (ActionFits tree plan) (IsLoop tree) program opened
-  pub few : length opened + most_open program ≤ 10
+  pub few : length opened + most_open program ≤ max_loops
   pub inside : (i : ℕ) → among opened i ≡ true → a i < extent_at space i
 
 -- a run of a program, from one state to another with so many touches before and after

@@ -7,7 +7,7 @@ ghost use Rattle.tce_code.specs.Execution.{Setting, State, cleared};
 ghost use Rattle.tce_walk.specs.Machine.{assignment_of, after, operation_of_node, tail_program, touches_of_tail, IsNodeAt, IsInnerSum, IsTailAt};
 
 use tce_outside::Failed;
-use tce_space::LoopOrder;
+use tce_space::{LoopOrder, Numbers};
 
 /// A tail: loops, outermost first, that hold the operation of one node, and behind it that of a joined sum, where there
 /// is one.
@@ -57,7 +57,7 @@ pub trait Machine {
         ensures kept { keeps self.old self.new };
 
     /// Does the operation of one node at the numbers of its loops, with at most three touches.
-    fn operate(&mut self, v: u8, numbers: &[u64; 24]) -> Result<(), Failed>
+    fn operate(&mut self, v: u8, numbers: &Numbers) -> Result<(), Failed>
         requires ready { ready self.old }
         requires node { IsNodeAt (setting self.old) v (assignment_of numbers.now) }
         requires few { touches self.old + 3 ≤ 2 ^ 100 }
@@ -71,7 +71,7 @@ pub trait Machine {
         ensures kept { keeps self.old self.new };
 
     /// Runs a whole tail at the numbers of the loops round it, with at most three touches for each block of its loops.
-    fn run_tail(&mut self, tail: &Tail, numbers: &[u64; 24]) -> Result<(), Failed>
+    fn run_tail(&mut self, tail: &Tail, numbers: &Numbers) -> Result<(), Failed>
         requires ready { ready self.old }
         requires tail { IsTailAt (setting self.old) tail.now (assignment_of numbers.now) }
         requires few { touches self.old + touches_of_tail (space self.old) tail.now ≤ 2 ^ 100 }

@@ -13,7 +13,7 @@ use crate::machine::Machine;
 use crate::search::find_tail;
 use tce_code::Op;
 use tce_outside::Failed;
-use tce_space::Space;
+use tce_space::{MAX_INDEXES, Numbers, Space};
 use tce_tree::Tree;
 
 /// Runs the code of a tree on a machine.
@@ -41,13 +41,13 @@ pub fn run_program<M: Machine>(
 {
     let _indexes = space.index_count();
     let _nodes = tree.count();
-    let mut numbers = [0; 24];
+    let mut numbers = [0; MAX_INDEXES];
     let _end = run_part(space, tree, ops, machine, 0, &mut numbers)?;
     Ok(())
 }
 
 // Does an operation that is no loop.
-fn run_action<M: Machine>(machine: &mut M, op: Op, numbers: &[u64; 24]) -> Result<(), Failed>
+fn run_action<M: Machine>(machine: &mut M, op: Op, numbers: &Numbers) -> Result<(), Failed>
     requires plain { IsPlain op }
     requires ready { M.ready machine.old }
     requires part { IsPart (M.space machine.old) (M.setting machine.old).tree (plain_program op) (assignment_of numbers.now) }
@@ -80,7 +80,7 @@ fn run_part<M: Machine>(
     ops: &[Op],
     machine: &mut M,
     start: usize,
-    numbers: &mut [u64; 24],
+    numbers: &mut Numbers,
 ) -> Result<usize, Failed>
     requires start { start ≤ length ops.now }
     requires limits { AreKept space.now tree.now }
@@ -125,7 +125,7 @@ fn run_loop<M: Machine>(
     machine: &mut M,
     at: usize,
     i: u8,
-    numbers: &mut [u64; 24],
+    numbers: &mut Numbers,
 ) -> Result<usize, Failed>
     requires within { at < length ops.now }
     requires limits { AreKept space.now tree.now }
@@ -160,7 +160,7 @@ fn run_turns<M: Machine>(
     machine: &mut M,
     at: usize,
     i: u8,
-    numbers: &mut [u64; 24],
+    numbers: &mut Numbers,
 ) -> Result<usize, Failed>
     requires within { at < length ops.now }
     requires limits { AreKept space.now tree.now }

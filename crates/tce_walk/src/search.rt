@@ -1,6 +1,7 @@
 // Finds the tail that a loop of the code begins.
 ghost use Rattle.std.specs.Prelude.{◌≡◌, ◌+◌, ◌<◌, ◌≤◌, ◌||◌, ℕ, true, false, length, slice_index_or, MatchOption};
 ghost use Rattle.std.specs.declared.option.Option.TheVariants.{None};
+ghost use Rattle.tce_space.specs.Limits.{max_loops};
 ghost use Rattle.tce_tree.specs.ContractionTree.{operations};
 ghost use Rattle.tce_code.specs.Shape.{most_open};
 ghost use Rattle.tce_code.specs.declared.op.Op.TheVariants.{Open, Mul};
@@ -113,7 +114,7 @@ fn find_operations(tree: &Tree, ops: &[Op], at: usize) -> Option<Inside>
 fn find_inside(tree: &Tree, ops: &[Op], at: usize, loops: &mut LoopOrder) -> Option<Inside>
     requires within { at ≤ length ops.now }
     requires shaped { IsShaped tree.now (program_at ops.now at) }
-    requires few { length loops.old.0.items + most_open (program_at ops.now at) ≤ 10 }
+    requires few { length loops.old.0.items + most_open (program_at ops.now at) ≤ max_loops }
     ensures { MatchOption result (tail_loops tree.now (program_at ops.now at) ≡ None)
         (λ f. IsInside tree.now ops.now at loops.old.0.items loops.new.0.items f.node f.sum f.close) }
 {
@@ -159,7 +160,7 @@ fn is_constant(operand: &Operand) -> bool
 // The tail without a constant operand that the loop over `i` begins, whose `Open` stands here.
 pub(crate) fn find_tail(tree: &Tree, ops: &[Op], at: usize, i: u8) -> Option<Found>
     requires within { at < length ops.now }
-    requires few { 1 + most_open (program_at ops.now (at + 1)) ≤ 10 }
+    requires few { 1 + most_open (program_at ops.now (at + 1)) ≤ max_loops }
     requires shaped { IsShaped tree.now (program_at ops.now (at + 1)) }
     ensures { MatchOption result (HasNoTail tree.now i (program_at ops.now (at + 1)))
         (λ f. IsTailOf tree.now i (program_at ops.now (at + 1)) f.tail × IsEnd ops.now (at + 1) f.close) }

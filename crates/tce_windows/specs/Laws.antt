@@ -1,6 +1,7 @@
 -- What loops over windows leave, in any sequence.
 use Rattle.std.specs.Prelude.{◌≡◌, ◌≢◌, ℕ, ◌<◌, IsTrue, List, map, length}
 use Rattle.std.specs.List.Sorted.{IsPermutation}
+use Rattle.tce_space.specs.Limits.{max_indexes}
 use Rattle.tce_base.specs.Word.{wrapping_add}
 use Rattle.tce_space.specs.Box.{places, IsInside}
 use Rattle.tce_tree.specs.Value.{Assignment}
@@ -19,7 +20,7 @@ use Rattle.tce_windows.specs.declared.window.Window.{Window}
 -- the loops in some sequence, each with an index of its own
 pub record IsSequence (t : Turns) (inner : List ℕ) : Type 0 where
   pub distinct : IsTrue (is_distinct t.order)
-  pub below : (i : ℕ) → IsTrue (among t.order i) → i < 24
+  pub below : (i : ℕ) → IsTrue (among t.order i) → i < max_indexes
   pub same : IsPermutation t.order inner
 
 -- how many numbers the loops have, in the sequence

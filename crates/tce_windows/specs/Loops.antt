@@ -1,6 +1,7 @@
 -- Loops of a block, as the calls take them, and what the calls leave.
 use Rattle.std.specs.Prelude.{◌≡◌, ℕ, ◌<◌, IsTrue, List, map, length}
 use Rattle.std.specs.List.Sorted.{IsPermutation}
+use Rattle.tce_space.specs.Limits.{max_indexes}
 use Rattle.tce_space.specs.Box.{places}
 use Rattle.tce_space.specs.Tiling.{ArePositive}
 use Rattle.tce_tree.specs.Value.{assignment}
@@ -13,7 +14,7 @@ use Rattle.tce_windows.specs.declared.window.Window.{Window}
 -- loops, each with an index of its own and some numbers
 pub record AreLoops (order lens : List ℕ) : Type 0 where
   pub distinct : IsTrue (is_distinct order)
-  pub below : (i : ℕ) → IsTrue (among order i) → i < 24
+  pub below : (i : ℕ) → IsTrue (among order i) → i < max_indexes
   pub as_many : length lens ≡ length order
   pub some : ArePositive lens
 

@@ -2,6 +2,7 @@
 use Rattle.std.specs.Prelude.{◌≡◌, ℕ, ◌-◌, ◌*◌, ◌<◌, ◌==◌, Bool, not, if◌then◌else◌, List, map, slice_get, slice_index, Some}
 use Rattle.std.specs.List.{All}
 use Rattle.std.specs.List.Sorted.{IsPermutation}
+use Rattle.tce_space.specs.Limits.{max_indexes}
 use Rattle.tce_tree.specs.Value.{assignment}
 use Rattle.tce_strides.specs.declared.loops.Loop.{Loop}
 use Rattle.tce_strides.specs.declared.loops.SumLoop.{SumLoop}
@@ -18,7 +19,7 @@ lens_of axes = map (λ (x : Axis). x.len) axes
 pub record IsNest (order lens : List ℕ) (axes : List Axis) : Type 0 where
   pub same : IsPermutation order (indexes_of axes)
   pub numbers : All (λ (x : Axis). x.len ≡ assignment order lens x.index) axes
-  pub below : All (λ (x : Axis). x.index < 24) axes
+  pub below : All (λ (x : Axis). x.index < max_indexes) axes
 
 -- the loop that stands at the axis's place has its index
 abbrev pub IsPlaced : List ℕ → Axis → Type 0

@@ -1,11 +1,13 @@
 // The sequence in which loops run.
 ghost use Rattle.std.specs.Prelude.{◌≡◌, ℕ, ◌<◌, ◌≤◌, List, length, map, take, slice_set};
 ghost use Rattle.std.specs.List.{All};
+ghost use Rattle.tce_space.specs.Limits.{max_indexes, max_loops};
 ghost use Rattle.tce_windows.specs.Loops.{AreLoops};
 ghost use Rattle.tce_windows.specs.Nests.{ArePlaced, IsPlaced, indexes_of, with_len, pair_loop, sum_loop};
 
 use crate::window::Window;
 use arrayvec::ArrayVec;
+use tce_space::MAX_LOOPS;
 use tce_strides::{Loop, SumLoop};
 
 /// A loop: its index, where it stands among the loops, how many numbers it has in the block that runs, and how far in it
@@ -33,7 +35,7 @@ fn rank(len: u64, out: u64, left: u64, right: u64) -> u64 {
 }
 
 fn ranked(index: u8, at: usize, len: u64, out: &Window, left: &Window, right: &Window) -> Axis
-    requires { index < 24 }
+    requires { index < max_indexes }
     ensures index { result.index ≡ index }
     ensures place { result.at ≡ at }
 {
@@ -53,8 +55,8 @@ pub(crate) fn axes_of(
     out: &Window,
     left: &Window,
     right: &Window,
-) -> ArrayVec<Axis, 10>
-    requires few { length loops.now ≤ 10 }
+) -> ArrayVec<Axis, MAX_LOOPS>
+    requires few { length loops.now ≤ max_loops }
     requires loops { AreLoops loops.now lens.now }
     ensures indexes { indexes_of result.items ≡ loops.now }
     ensures placed { All (IsPlaced loops.now) result.items }
@@ -79,8 +81,8 @@ pub(crate) fn set_lens(axes: &mut [Axis], _loops: &[u8], lens: &[u64])
 
 // Puts a loop into its place, where another one stands there: from block to block most stay.
 #[inline]
-fn put_sum_loop(loops: &mut [SumLoop; 10], d: usize, next: SumLoop)
-    requires { d < 10 }
+fn put_sum_loop(loops: &mut [SumLoop; MAX_LOOPS], d: usize, next: SumLoop)
+    requires { d < max_loops }
     ensures { loops.new ≡ slice_set loops.old d next }
 {
     let SumLoop { len, out, operand } = next;
@@ -91,8 +93,8 @@ fn put_sum_loop(loops: &mut [SumLoop; 10], d: usize, next: SumLoop)
 
 /// The same for a loop over two operands.
 #[inline]
-pub(crate) fn put_pair_loop(loops: &mut [Loop; 10], d: usize, next: Loop)
-    requires { d < 10 }
+pub(crate) fn put_pair_loop(loops: &mut [Loop; MAX_LOOPS], d: usize, next: Loop)
+    requires { d < max_loops }
     ensures { loops.new ≡ slice_set loops.old d next }
 {
     let Loop {
@@ -115,10 +117,10 @@ pub(crate) fn fill_sum_loops(
     axes: &[Axis],
     out: &Window,
     operand: &Window,
-    loops: &mut [SumLoop; 10],
+    loops: &mut [SumLoop; MAX_LOOPS],
 )
-    requires few { length axes.now ≤ 10 }
-    requires below { All (λ x. x.index < 24) axes.now }
+    requires few { length axes.now ≤ max_loops }
+    requires below { All (λ x. x.index < max_indexes) axes.now }
     ensures { take (length axes.now) loops.new ≡ map (sum_loop out.now operand.now) axes.now }
 {
     for d in 0..axes.len() {
@@ -138,10 +140,10 @@ pub(crate) fn fill_pair_loops(
     out: &Window,
     left: &Window,
     right: &Window,
-    loops: &mut [Loop; 10],
+    loops: &mut [Loop; MAX_LOOPS],
 )
-    requires few { length axes.now ≤ 10 }
-    requires below { All (λ x. x.index < 24) axes.now }
+    requires few { length axes.now ≤ max_loops }
+    requires below { All (λ x. x.index < max_indexes) axes.now }
     ensures { take (length axes.now) loops.new ≡ map (pair_loop out.now left.now right.now) axes.now }
 {
     for d in 0..axes.len() {

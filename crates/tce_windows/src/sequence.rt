@@ -1,11 +1,13 @@
 //! The sequence in which the loops of blocks run.
 ghost use Rattle.std.specs.Prelude.{◌≡◌, ◌≤◌, length};
+ghost use Rattle.tce_space.specs.Limits.{max_loops};
 ghost use Rattle.tce_windows.specs.Loops.{AreLoops};
 ghost use Rattle.tce_windows.specs.Nests.{IsNest};
 
 use crate::nest::{Axis, axes_of, set_lens};
 use crate::window::Window;
 use arrayvec::ArrayVec;
+use tce_space::MAX_LOOPS;
 use tce_strides::{Loop, SumLoop};
 
 /// The sequence in which loops run best over windows with some steps, the last one innermost, for one block after another.
@@ -13,9 +15,9 @@ use tce_strides::{Loop, SumLoop};
 /// It has room for the loops of the block that runs, with their steps.
 #[derive(Drop)]
 pub struct LoopSequence {
-    pub(crate) axes: ArrayVec<Axis, 10>,
-    pub(crate) sums: [SumLoop; 10],
-    pub(crate) pairs: [Loop; 10],
+    pub(crate) axes: ArrayVec<Axis, MAX_LOOPS>,
+    pub(crate) sums: [SumLoop; MAX_LOOPS],
+    pub(crate) pairs: [Loop; MAX_LOOPS],
 }
 
 impl LoopSequence {
@@ -30,7 +32,7 @@ impl LoopSequence {
         left: &Window,
         right: &Window,
     ) -> LoopSequence
-        requires few { length loops.now ≤ 10 }
+        requires few { length loops.now ≤ max_loops }
         requires loops { AreLoops loops.now lens.now }
         ensures { IsLoopSequence loops.now result }
     {
@@ -42,13 +44,13 @@ impl LoopSequence {
                 len: 1,
                 out: 0,
                 operand: 0,
-            }; 10],
+            }; MAX_LOOPS],
             pairs: [Loop {
                 len: 1,
                 out: 0,
                 left: 0,
                 right: 0,
-            }; 10],
+            }; MAX_LOOPS],
         }
     }
 

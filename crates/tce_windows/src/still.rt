@@ -1,10 +1,12 @@
 // Loops along which the place of a result stays: of what is put there, only that of their last turns counts.
 ghost use Rattle.std.specs.Prelude.{◌≡◌, ℕ, ◌+◌, ◌<◌, ◌≤◌, ◌^◌, length, map, take, sum_by};
 ghost use Rattle.std.specs.List.{All, filter};
+ghost use Rattle.tce_space.specs.Limits.{max_indexes, max_loops};
 ghost use Rattle.tce_windows.specs.Nests.{advanced, moves, pair_loop};
 
 use crate::nest::{Axis, put_pair_loop};
 use crate::window::Window;
+use tce_space::MAX_LOOPS;
 use tce_strides::Loop;
 
 /// Puts the loops along which the place of the result moves at the front of a list, and answers how many they are.
@@ -13,11 +15,11 @@ pub(crate) fn fill_moving_loops(
     out: &Window,
     left: &Window,
     right: &Window,
-    loops: &mut [Loop; 10],
+    loops: &mut [Loop; MAX_LOOPS],
 ) -> usize
-    requires few { length axes.now ≤ 10 }
-    requires below { All (λ x. x.index < 24) axes.now }
-    ensures few { result ≤ 10 }
+    requires few { length axes.now ≤ max_loops }
+    requires below { All (λ x. x.index < max_indexes) axes.now }
+    ensures few { result ≤ max_loops }
     ensures loops { take result loops.new ≡ map (pair_loop out.now left.now right.now) (filter (moves out.now) axes.now) }
 {
     let mut count = 0;
@@ -38,7 +40,7 @@ pub(crate) fn fill_moving_loops(
 }
 
 fn advance(axis: Axis, out: &Window, window: &Window) -> u64
-    requires below { axis.index < 24 }
+    requires below { axis.index < max_indexes }
     requires some { 0 < axis.len }
     requires fits { advanced out.now window.now axis < 2 ^ 60 }
     ensures { result ≡ advanced out.now window.now axis }
@@ -54,7 +56,7 @@ fn advance(axis: Axis, out: &Window, window: &Window) -> u64
 /// The place of a window's word where the loops along which that of the result stays have their last numbers, and all
 /// others their first ones.
 pub(crate) fn at_last(axes: &[Axis], out: &Window, window: &Window) -> u64
-    requires below { All (λ x. x.index < 24) axes.now }
+    requires below { All (λ x. x.index < max_indexes) axes.now }
     requires some { All (λ x. 0 < x.len) axes.now }
     requires fits { window.now.first + sum_by (advanced out.now window.now) axes.now < 2 ^ 60 }
     ensures { result ≡ window.now.first + sum_by (advanced out.now window.now) axes.now }

@@ -2,6 +2,7 @@
 use Rattle.std.specs.Prelude.{ℕ, ◌<◌, IsTrue, map, Option}
 use Rattle.std.specs.declared.option.Option.TheVariants.{Some, None}
 use Rattle.std.specs.List.{All}
+use Rattle.tce_space.specs.Limits.{max_indexes}
 use Rattle.tce_base.specs.Word.{word, wrapping_add, wrapping_sub, wrapping_mul}
 use Rattle.tce_space.specs.Box.{IsInside}
 use Rattle.tce_space.specs.IndexSet.{has}
@@ -53,7 +54,7 @@ pub record IsPlaceOf (w : Workspace) (v : ℕ) (a : Assignment) : Type 0 where
 -- the tensor is an operand, and the numbers of its indexes lie in their extents
 pub record IsElementOf (w : Workspace) (l : LeafReference) (a : Assignment) : Type 0 where
   pub operand : IsOperand w l.tensor l.indexes.items
-  pub known : All (λ i. i < 24) l.indexes.items
+  pub known : All (λ i. i < max_indexes) l.indexes.items
   pub inside : IsInside (shape_over w.places.space l.indexes.items).extents (map a l.indexes.items)
 
 -- an operand has a word at these numbers

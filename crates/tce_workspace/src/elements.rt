@@ -1,6 +1,7 @@
 // Elements of arrays whose tiles a cache holds.
 ghost use Rattle.std.specs.Prelude.{◌≡◌, ◌+◌, ◌<◌, ◌^◌, length, map, slice_index, All, IfOk, OnOk, IsErr, IsTrue};
 ghost use Rattle.std.specs.Option.{ForSome};
+ghost use Rattle.tce_space.specs.Limits.{max_indexes};
 ghost use Rattle.tce_outside.specs.Fault.{HasCause, TellsFaults};
 ghost use Rattle.tce_space.specs.Box.{IsInside};
 ghost use Rattle.tce_cache.specs.Cache.{IsCache, IsReady, IsArrayAt, IsWritable, HasRoom, IsSameOutsideFrames, OnlyWritableDiffers};
@@ -12,12 +13,13 @@ ghost use Rattle.tce_workspace.specs.Elements.{IsElementAt, IsElementTouched};
 use tce_cache::Cache;
 use tce_operands::{ElementPlace, coordinates_of, place_of_element};
 use tce_outside::{Disk, Failed};
+use tce_space::Numbers;
 use tce_tree::Leaf;
 use tce_words::Words;
 
 /// The tile in which the element of a tensor at these numbers lies, and its place there.
-pub fn find_element(cache: &Cache, leaf: &Leaf, numbers: &[u64; 24]) -> ElementPlace
-    requires known { All (λ i. i < 24) leaf.now.indexes.items }
+pub fn find_element(cache: &Cache, leaf: &Leaf, numbers: &Numbers) -> ElementPlace
+    requires known { All (λ i. i < max_indexes) leaf.now.indexes.items }
     requires inside { IsArrayAt cache.now.arrays leaf.now.tensor (λ a. IsInside a.shape.extents (map (slice_index numbers.now) leaf.now.indexes.items)) }
     ensures { IsArrayAt cache.now.arrays leaf.now.tensor (λ a. IsElementAt a.shape (map (slice_index numbers.now) leaf.now.indexes.items) result.tile result.place) }
 {
@@ -33,10 +35,10 @@ pub fn touch_element<D: Disk>(
     cache: &mut Cache,
     disk: &mut D,
     leaf: &Leaf,
-    numbers: &[u64; 24],
+    numbers: &Numbers,
     write: bool,
 ) -> Result<u64, Failed>
-    requires known { All (λ i. i < 24) leaf.now.indexes.items }
+    requires known { All (λ i. i < max_indexes) leaf.now.indexes.items }
     requires inside { IsArrayAt cache.old.arrays leaf.now.tensor (λ a. IsInside a.shape.extents (map (slice_index numbers.now) leaf.now.indexes.items)) }
     requires writable { IsTrue write → IsWritable cache.old leaf.now.tensor }
     requires room { HasRoom cache.old words.old }

@@ -15,6 +15,7 @@ use crate::places::{read_operand, read_place};
 use crate::puts::put_place;
 use tce_cache::Cache;
 use tce_outside::{Disk, Failed};
+use tce_space::Numbers;
 use tce_tree::Kind;
 use tce_words::Words;
 
@@ -37,7 +38,7 @@ fn read_second<D: Disk>(
     cache: &mut Cache,
     disk: &mut D,
     v: u8,
-    numbers: &[u64; 24],
+    numbers: &Numbers,
 ) -> Result<u64, Failed>
     requires prepared { IsPrepared (workspace evaluation.now words.old cache.old (D.files disk.old)) }
     requires node { IsNodeAt (setting_in (workspace evaluation.now words.old cache.old (D.files disk.old))) v (slice_index numbers.now) }
@@ -63,7 +64,7 @@ fn read_operation<D: Disk>(
     cache: &mut Cache,
     disk: &mut D,
     v: u8,
-    numbers: &[u64; 24],
+    numbers: &Numbers,
 ) -> Result<u64, Failed>
     requires prepared { IsPrepared (workspace evaluation.now words.old cache.old (D.files disk.old)) }
     requires node { IsNodeAt (setting_in (workspace evaluation.now words.old cache.old (D.files disk.old))) v (slice_index numbers.now) }
@@ -89,7 +90,7 @@ pub fn operate<D: Disk>(
     cache: &mut Cache,
     disk: &mut D,
     v: u8,
-    numbers: &[u64; 24],
+    numbers: &Numbers,
 ) -> Result<(), Failed>
     requires prepared { IsPrepared (workspace evaluation.now words.old cache.old (D.files disk.old)) }
     requires node { IsNodeAt (setting_in (workspace evaluation.now words.old cache.old (D.files disk.old))) v (slice_index numbers.now) }

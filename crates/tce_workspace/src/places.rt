@@ -18,16 +18,12 @@ use crate::evaluation::Evaluation;
 use tce_cache::Cache;
 use tce_operands::slot_place;
 use tce_outside::{Disk, Failed};
+use tce_space::Numbers;
 use tce_tree::{Leaf, Operand};
 use tce_words::Words;
 
 // The place of an inner node's word among the words of the run.
-pub(crate) fn place_in_slot(
-    evaluation: &Evaluation,
-    words: &Words,
-    v: u8,
-    numbers: &[u64; 24],
-) -> u64
+pub(crate) fn place_in_slot(evaluation: &Evaluation, words: &Words, v: u8, numbers: &Numbers) -> u64
     requires laid { IsLayout evaluation.now.space.now evaluation.now.tree.now evaluation.now.fusion.now.0.items evaluation.now.layout.now.0.items }
     requires inner { IsSlotAt evaluation.now.space.now evaluation.now.tree.now evaluation.now.fusion.now.0.items v (slice_index numbers.now) }
     requires room { memory evaluation.now.space.now evaluation.now.tree.now evaluation.now.fusion.now.0.items ≤ length words.now }
@@ -45,7 +41,7 @@ fn read_root<D: Disk>(
     words: &mut Words,
     cache: &mut Cache,
     disk: &mut D,
-    numbers: &[u64; 24],
+    numbers: &Numbers,
 ) -> Result<u64, Failed>
     requires prepared { IsPrepared (workspace evaluation.now words.old cache.old (D.files disk.old)) }
     requires place { IsPlaceOf (workspace evaluation.now words.old cache.old (D.files disk.old)) (operations evaluation.now.tree.now - 1) (slice_index numbers.now) }
@@ -68,7 +64,7 @@ pub(crate) fn read_place<D: Disk>(
     cache: &mut Cache,
     disk: &mut D,
     v: u8,
-    numbers: &[u64; 24],
+    numbers: &Numbers,
 ) -> Result<u64, Failed>
     requires prepared { IsPrepared (workspace evaluation.now words.old cache.old (D.files disk.old)) }
     requires place { IsPlaceOf (workspace evaluation.now words.old cache.old (D.files disk.old)) v (slice_index numbers.now) }
@@ -95,7 +91,7 @@ fn read_leaf<D: Disk>(
     cache: &mut Cache,
     disk: &mut D,
     leaf: &Leaf,
-    numbers: &[u64; 24],
+    numbers: &Numbers,
 ) -> Result<u64, Failed>
     requires prepared { IsPrepared (workspace evaluation.now words.old cache.old (D.files disk.old)) }
     requires element { IsElementOf (workspace evaluation.now words.old cache.old (D.files disk.old)) leaf.now (slice_index numbers.now) }
@@ -120,7 +116,7 @@ pub(crate) fn read_operand<D: Disk>(
     cache: &mut Cache,
     disk: &mut D,
     operand: &Operand,
-    numbers: &[u64; 24],
+    numbers: &Numbers,
 ) -> Result<u64, Failed>
     requires prepared { IsPrepared (workspace evaluation.now words.old cache.old (D.files disk.old)) }
     requires readable { IsReadable (workspace evaluation.now words.old cache.old (D.files disk.old)) operand.now (slice_index numbers.now) }

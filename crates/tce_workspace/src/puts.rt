@@ -18,6 +18,7 @@ use crate::evaluation::Evaluation;
 use crate::places::place_in_slot;
 use tce_cache::Cache;
 use tce_outside::{Disk, Failed};
+use tce_space::Numbers;
 use tce_words::Words;
 
 // Puts a word at the root's place at these numbers, which is an element of the result.
@@ -26,7 +27,7 @@ fn put_root<D: Disk>(
     words: &mut Words,
     cache: &mut Cache,
     disk: &mut D,
-    numbers: &[u64; 24],
+    numbers: &Numbers,
     word: u64,
 ) -> Result<(), Failed>
     requires prepared { IsPrepared (workspace evaluation.now words.old cache.old (D.files disk.old)) }
@@ -51,7 +52,7 @@ pub(crate) fn put_place<D: Disk>(
     cache: &mut Cache,
     disk: &mut D,
     v: u8,
-    numbers: &[u64; 24],
+    numbers: &Numbers,
     word: u64,
 ) -> Result<(), Failed>
     requires prepared { IsPrepared (workspace evaluation.now words.old cache.old (D.files disk.old)) }

@@ -4,7 +4,7 @@ use arrayvec::ArrayVec;
 use std::alloc::Global;
 use std::process::Abort;
 use tce_fields::{indexes_named, members_of, read_names, read_number, set_named, split_parts};
-use tce_space::{IndexSet, Space};
+use tce_space::{IndexSet, MAX_INDEXES, Space};
 
 #[test]
 fn numbers_are_read(rt: HostRuntime) {
@@ -63,7 +63,7 @@ fn space_of_three(rt: &impl Abort, alloc: Global) -> Space {
 }
 
 fn set_listed(space: &Space, list: &str) -> Option<IndexSet> {
-    let Some(names) = read_names::<24>(list.as_bytes()) else {
+    let Some(names) = read_names::<MAX_INDEXES>(list.as_bytes()) else {
         return None;
     };
     set_named(space, names.as_slice())

@@ -5,7 +5,7 @@ use arrayvec::ArrayVec;
 use std::alloc::Global;
 use std::process::Abort;
 use tce_code::Op;
-use tce_space::IndexSet;
+use tce_space::{IndexSet, MAX_INDEXES};
 use tce_tree::{Fusion, Operand, Tree};
 
 // No worked code runs for so many operations.
@@ -267,7 +267,7 @@ fn place(extents: &[u64; 10], numbers: &[u64; 10], indexes: &[u8]) -> u64 {
 }
 
 // The indexes of a node's places, ascending.
-fn kept(tree: &Tree, fusion: &Fusion, v: u8) -> ArrayVec<u8, 24> {
+fn kept(tree: &Tree, fusion: &Fusion, v: u8) -> ArrayVec<u8, MAX_INDEXES> {
     let mut list = ArrayVec::new();
     if v >= tree.count() {
         return list;

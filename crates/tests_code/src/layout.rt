@@ -9,7 +9,7 @@ use std::alloc::Global;
 use std::process::Abort;
 use tce_fusion::memory;
 use tce_layout::{Layout, Slot, lay_out};
-use tce_space::Space;
+use tce_space::{MAX_INDEXES, Space};
 use tce_tree::Tree;
 
 // What the definitions give for the worked trees.
@@ -36,7 +36,7 @@ fn laid_out(rt: &impl Abort, space: &Space, tree: &Tree, sets: &[&[u8]]) -> Layo
 
 // A slot whose steps are 0 but for these indexes.
 fn slot(offset: u64, size: u64, moves: &[(u8, u64)]) -> Slot {
-    let mut steps = [0; 24];
+    let mut steps = [0; MAX_INDEXES];
     for (i, step) in moves {
         if *i < 24 {
             steps[*i as usize] = *step;

@@ -13,14 +13,14 @@ use tce_exec::{
 };
 use tce_layout::Slot;
 use tce_operands::coordinates_of;
-use tce_space::{Name, Shape, Space, is_name};
+use tce_space::{MAX_INDEXES, Name, Numbers, Shape, Space, is_name};
 use tce_windows::Window;
 
 // These numbers for indexes 0 and 1, and 0 for the others.
-fn two(first: u64, second: u64) -> [u64; 24]
+fn two(first: u64, second: u64) -> Numbers
     ensures { result ≡ slice_set (slice_set (replicate 24 0) 0 first) 1 second }
 {
-    let mut all = [0; 24];
+    let mut all = [0; MAX_INDEXES];
     all[0] = first;
     all[1] = second;
     all

@@ -4,11 +4,11 @@ use tce_operands::{
     places_have_their_words, puts_change_one_place, slots_lead_to_places,
     tile_puts_change_one_place, touched_tiles_show_elements, touches_keep_states,
 };
-use tce_space::Shape;
+use tce_space::{MAX_INDEXES, Numbers, Shape};
 
 // Numbers of which that of index 2 is 1, that of index 3 is 4, and those of the others are 9.
-fn numbers() -> [u64; 24] {
-    let mut all = [9; 24];
+fn numbers() -> Numbers {
+    let mut all = [9; MAX_INDEXES];
     all[2] = 1;
     all[3] = 4;
     all

@@ -1,4 +1,5 @@
 ghost use Rattle.std.specs.Prelude.{◌≡◌, ◌<◌, length};
+ghost use Rattle.tce_space.specs.Limits.{max_indexes};
 
 use std::alloc::Global;
 use std::process::Abort;
@@ -7,7 +8,7 @@ use tce_words::{HeapRoom, Room, Words};
 
 // The words at the front of a block of 24.
 fn block_of(rt: &impl Abort, alloc: Global, from: &[u64; 12]) -> Words
-    ensures { length result ≡ 24 }
+    ensures { length result ≡ max_indexes }
 {
     let mut words = room_of_24(rt, alloc);
     for k in 0..12usize {
@@ -17,7 +18,7 @@ fn block_of(rt: &impl Abort, alloc: Global, from: &[u64; 12]) -> Words
 }
 
 fn room_of_24(rt: &impl Abort, alloc: Global) -> Words
-    ensures { length result ≡ 24 }
+    ensures { length result ≡ max_indexes }
 {
     match HeapRoom::new(alloc).take(24, 0) {
         Ok(words) => words,
@@ -26,16 +27,16 @@ fn room_of_24(rt: &impl Abort, alloc: Global) -> Words
 }
 
 fn expect_word(rt: &impl Abort, words: &Words, at: u64, word: u64)
-    requires length { length words.now ≡ 24 }
-    requires at { at < 24 }
+    requires length { length words.now ≡ max_indexes }
+    requires at { at < max_indexes }
 {
     assert!(rt; words.get(at) == word);
 }
 
 // A product of the matrices of 2 by 3 words at 0 and of 3 by 2 at 6, to the words at 12.
 fn multiply(words: &mut Words)
-    requires { length words.old ≡ 24 }
-    ensures { length words.new ≡ 24 }
+    requires { length words.old ≡ max_indexes }
+    ensures { length words.new ≡ max_indexes }
 {
     let row = Loop {
         len: 2,
@@ -72,8 +73,8 @@ fn matrices_are_multiplied(rt: HostRuntime) {
 
 // The sums of the rows of 3 words and of their diagonal.
 fn sum_rows(words: &mut Words)
-    requires { length words.old ≡ 24 }
-    ensures { length words.new ≡ 24 }
+    requires { length words.old ≡ max_indexes }
+    ensures { length words.new ≡ max_indexes }
 {
     let row = SumLoop {
         len: 3,
@@ -109,8 +110,8 @@ fn rows_and_a_diagonal_are_summed(rt: HostRuntime) {
 
 // The words at 3 less those at 0, both operations' other results, and the last product of both rows.
 fn join_rows(words: &mut Words)
-    requires { length words.old ≡ 24 }
-    ensures { length words.new ≡ 24 }
+    requires { length words.old ≡ max_indexes }
+    ensures { length words.new ≡ max_indexes }
 {
     let along = Loop {
         len: 3,
@@ -151,8 +152,8 @@ fn rows_are_joined(rt: HostRuntime) {
 // Loops of eight turns: the ninth word's products with the first eight are added, the sum of their squares, and the last
 // square is put.
 fn run_along(words: &mut Words)
-    requires { length words.old ≡ 24 }
-    ensures { length words.new ≡ 24 }
+    requires { length words.old ≡ max_indexes }
+    ensures { length words.new ≡ max_indexes }
 {
     let along = Loop {
         len: 8,
@@ -184,8 +185,8 @@ fn long_loops_run(rt: HostRuntime) {
 // Five rows of eight words, each a word further than the one before, are added with one factor each: first those of the
 // right operand, then those of the left one.
 fn add_rows(words: &mut Words)
-    requires { length words.old ≡ 24 }
-    ensures { length words.new ≡ 24 }
+    requires { length words.old ≡ max_indexes }
+    ensures { length words.new ≡ max_indexes }
 {
     let row = Loop {
         len: 5,

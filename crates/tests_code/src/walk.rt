@@ -11,7 +11,7 @@ use std::test::Fail;
 use tce_code::generate;
 use tce_fusion::{is_legal, standard_orders};
 use tce_outside::Failed;
-use tce_space::{IndexSet, Name, Space};
+use tce_space::{IndexSet, Name, Numbers, Space};
 use tce_tree::{Expr, Fusion, Tree};
 use tce_walk::{Machine, Tail, run_program, touches_are_few};
 
@@ -68,12 +68,12 @@ impl<'a> Machine for Recorder<'a> {
         let _written = self.write(&[b'c', v]);
     }
 
-    fn operate(&mut self, v: u8, numbers: &[u64; 24]) -> Result<(), Failed> {
+    fn operate(&mut self, v: u8, numbers: &Numbers) -> Result<(), Failed> {
         self.write(&[b'o', v, (numbers[0] % 256) as u8])
     }
 
     // The node, 100 and the sum's number where one is joined, the number of index 1, and the loops.
-    fn run_tail(&mut self, tail: &Tail, numbers: &[u64; 24]) -> Result<(), Failed> {
+    fn run_tail(&mut self, tail: &Tail, numbers: &Numbers) -> Result<(), Failed> {
         let joined = match tail.sum {
             Some(v) => v % 100 + 100,
             None => 0,

@@ -1,5 +1,6 @@
 //! Small blocks, with results by hand.
 ghost use Rattle.std.specs.Prelude.{◌≡◌, ◌+◌, ◌<◌, length};
+ghost use Rattle.tce_space.specs.Limits.{max_indexes};
 
 use std::alloc::Global;
 use std::process::Abort;
@@ -68,7 +69,7 @@ const DIFFERENCES: Window = Window {
 
 // The words at the front of a block of 24.
 fn block_of(rt: &impl Abort, alloc: Global, from: &[u64; 12]) -> Words
-    ensures { length result ≡ 24 }
+    ensures { length result ≡ max_indexes }
 {
     let mut words = room_of_24(rt, alloc);
     for k in 0..12usize {
@@ -78,7 +79,7 @@ fn block_of(rt: &impl Abort, alloc: Global, from: &[u64; 12]) -> Words
 }
 
 fn room_of_24(rt: &impl Abort, alloc: Global) -> Words
-    ensures { length result ≡ 24 }
+    ensures { length result ≡ max_indexes }
 {
     match HeapRoom::new(alloc).take(24, 0) {
         Ok(words) => words,
@@ -87,7 +88,7 @@ fn room_of_24(rt: &impl Abort, alloc: Global) -> Words
 }
 
 fn expect_words(rt: &impl Abort, words: &Words, from: u64, expected: &[u64])
-    requires length { length words.now ≡ 24 }
+    requires length { length words.now ≡ max_indexes }
     requires within { from + length expected.now < 25 }
 {
     for k in 0..expected.len() {
@@ -97,8 +98,8 @@ fn expect_words(rt: &impl Abort, words: &Words, from: u64, expected: &[u64])
 
 // Twice the product of the matrices, with its loops in two sequences.
 fn multiply(words: &mut Words)
-    requires { length words.old ≡ 24 }
-    ensures { length words.new ≡ 24 }
+    requires { length words.old ≡ max_indexes }
+    ensures { length words.new ≡ max_indexes }
 {
     let mut sequence = LoopSequence::of(
         &[ROW, COLUMN, BETWEEN],
@@ -130,8 +131,8 @@ fn multiply(words: &mut Words)
 
 // The sums of the rows of the first matrix, and its first word once more.
 fn sum_rows(words: &mut Words)
-    requires { length words.old ≡ 24 }
-    ensures { length words.new ≡ 24 }
+    requires { length words.old ≡ max_indexes }
+    ensures { length words.new ≡ max_indexes }
 {
     let mut sequence = LoopSequence::of(&[BETWEEN, ROW], &[3, 2], &SUMS, &LEFT, &LEFT);
     grow(words, &mut sequence, &[BETWEEN, ROW], &[3, 2], &SUMS, &LEFT);
@@ -141,8 +142,8 @@ fn sum_rows(words: &mut Words)
 
 // The last products in the rows, and the differences of the rows.
 fn put_results(words: &mut Words)
-    requires { length words.old ≡ 24 }
-    ensures { length words.new ≡ 24 }
+    requires { length words.old ≡ max_indexes }
+    ensures { length words.new ≡ max_indexes }
 {
     let mut sequence = LoopSequence::of(&[BETWEEN, ROW], &[3, 2], &LAST, &LEFT, &RIGHT);
     compute(

@@ -1,5 +1,6 @@
 //! Fusions that are drawn, and runs by them.
-ghost use Rattle.std.specs.Prelude.{◌≤◌, ◌^◌, IfOk, IfSome};
+ghost use Rattle.std.specs.Prelude.{◌≤◌, IfOk, IfSome};
+ghost use Rattle.tce_space.specs.Limits.{max_memory};
 ghost use Rattle.tce_job.specs.Prepared.{IsCarriedPlan};
 
 use crate::job::draws::Draws;
@@ -59,7 +60,7 @@ fn no_sizes(tree: &Tree) -> Result<ArrayVec<u128, 32>, Fail> {
 // The plan of a fusion with its standard orders; none where the fusion is not legal or takes too many words.
 fn plan_by(alloc: Global, spec: &Spec, fusion: Fusion) -> Result<Option<Plan>, Fail>
     ensures carried { IfOk result (λ found. IfSome found (IsCarriedPlan spec.now.declarations.space spec.now.tree)) }
-    ensures small { IfOk result (λ found. IfSome found (λ plan. plan.memory ≤ 2 ^ 40)) }
+    ensures small { IfOk result (λ found. IfSome found (λ plan. plan.memory ≤ max_memory)) }
 {
     let space = spec.space();
     let tree = spec.tree();

@@ -5,7 +5,7 @@ use Rattle.tce_declarations.proofs.text.read_head.Goals as goal
 
 pub returns-clause-answers : goal.returns-clause-answers
 returns-clause-answers c = λ found is.
-    answers found c.args.text.now c.read_lines.result (le-ltb (2 ^ 16) (length c.args.text.now) c.if-text-gt-MAX_BYTES.false) is c.read_lines.ensures.head c.read_lines.ensures.fault
+    answers found c.args.text.now c.read_lines.result (le-ltb (2 ^ 16) (length c.args.text.now) c.if-text-gt-MAX_SPEC_BYTES.false) is c.read_lines.ensures.head c.read_lines.ensures.fault
 
 pub returns-clause-names : goal.returns-clause-names
 returns-clause-names c = read_has_names c.args.text.now c.read_lines.result c.read_lines.ensures.head

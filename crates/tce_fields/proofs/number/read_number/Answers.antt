@@ -11,13 +11,13 @@ returns-in_default c = no_number c.args.text.now (not_utf8 c.args.text.now c.in_
 pub returns-in-Ok-parse : goal.returns-in-Ok-parse
 returns-in-Ok-parse c =
     number_read c.args.text.now c.in-Ok.digits.now c.in-Ok-parse.number c.parse.result c.in-Ok.ensures.cases.0 (sym c.starts_as_number.ensures ∙ c.if-not-starts_as_number.false)
-    c.parse.ensures.value.0 c.in-Ok-parse.is (omega (arith, c.if-number-lt-LIMIT.true))
+    c.parse.ensures.value.0 c.in-Ok-parse.is (omega (arith, c.if-number-lt-COST_LIMIT.true))
 
 pub returns-in_default-parse : goal.returns-in_default-parse
 returns-in_default-parse c =
     no_number c.args.text.now
     (not_parsed c.args.text.now c.in-Ok.digits.now c.parse.result c.in-Ok.ensures.cases.0 c.parse.ensures.value.0
-    (λ value is. let same : c.in-Ok-parse.number ≡ value = (let e = sym c.in-Ok-parse.is ∙ is in cc) in omega (arith, c.if-number-lt-LIMIT.false, same)))
+    (λ value is. let same : c.in-Ok-parse.number ≡ value = (let e = sym c.in-Ok-parse.is ∙ is in cc) in omega (arith, c.if-number-lt-COST_LIMIT.false, same)))
 
 pub returns-in_default-parse-2 : goal.returns-in_default-parse-2
 returns-in_default-parse-2 c =

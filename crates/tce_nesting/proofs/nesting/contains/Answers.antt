@@ -3,6 +3,6 @@ use Rattle.std.proofs.lemmas.Bool.{le-ltb}
 use Rattle.tce_space.proofs.IndexSetLaws.{has-beyond}
 use Rattle.tce_nesting.proofs.nesting.contains.Goals as goal
 
-pub returns-else-index-lt24 : goal.returns-else-index-lt24
-returns-else-index-lt24 c =
-    le-ltb c.args.index 24 c.if-index-lt24.false ∙ sym (has-beyond c.args.set c.args.index c.bits-number.ensures.bounded c.if-index-lt24.false)
+pub returns-else-index : goal.returns-else-index
+returns-else-index c =
+    le-ltb c.args.index 24 c.if-index.false ∙ sym (has-beyond c.args.set c.args.index c.bits-number.ensures.bounded c.if-index.false)
