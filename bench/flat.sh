@@ -1,5 +1,6 @@
 #!/bin/sh
-# Times pack and unpack over real files of 2^24 elements against cp, and prints the ratio of the times of each shape.
+# Times pack and unpack over real files of 2^24 elements against cp, and prints the ratio of the times of each shape. Pack and
+# unpack flush the file before its first bytes are written, so they are held against a cp that is followed by `sync FILE`.
 # To be run by hand, at the top of the repository: sh bench/flat.sh
 #
 # The disk is copied from crates/tce into a throw-away program that packs or unpacks once. Each side is timed from its
@@ -121,21 +122,25 @@ timed() {
     echo $(((end - start) / 1000))
 }
 
-echo '2^24 elements: milliseconds of cp, pack and unpack, and the speed of the two in parts of that of cp'
+echo '2^24 elements: milliseconds of cp, of cp and sync, of pack and unpack, and the speed of the two in parts of that of cp and sync'
 for shape in '16777216 1' '16777216 64' '4096 1 4096 1' '4096 64 4096 64' '4096 256 4096 4096' \
     '4096 1 4096 4096' '256 64 256 64 256 64' '256 16 256 256 256 256'; do
     : > times.cp
+    : > times.flushed
     : > times.pack
     : > times.unpack
     round=0
     while [ $round -lt $rounds ]; do
         rm -f copy.flat out.tca out.flat
         timed cp in.flat copy.flat >> times.cp
+        rm -f copy.flat
+        timed sh -c 'cp in.flat copy.flat && sync copy.flat' >> times.flushed
         timed crates/tce/out/tce 0 $shape >> times.pack
         timed crates/tce/out/tce 1 $shape >> times.unpack
         cmp -s in.flat out.flat || { echo "the elements differ"; exit 1; }
         round=$((round + 1))
     done
-    echo "$(least times.cp) $(least times.pack) $(least times.unpack)" | awk -v what="$shape" '{
-        printf "%-28s cp %5.0f   pack %6.0f  %.2f   unpack %6.0f  %.2f\n", what, $1 / 1e3, $2 / 1e3, $1 / $2, $3 / 1e3, $1 / $3 }'
+    echo "$(least times.cp) $(least times.flushed) $(least times.pack) $(least times.unpack)" | awk -v what="$shape" '{
+        printf "%-28s cp %5.0f   flushed %5.0f   pack %6.0f  %.2f   unpack %6.0f  %.2f\n",
+            what, $1 / 1e3, $2 / 1e3, $3 / 1e3, $2 / $3, $4 / 1e3, $2 / $4 }'
 done
