@@ -117,9 +117,8 @@ module _ (space : IndexSpace) (tree : ContractionTree) (limit : ℕ) (found : Se
   whole_below loops best whole is are bound =
       root_below loops whole is (subst (λ o. IsBoundOfAll loops o (left_candidates tree found.lists root) (right_candidates tree found.lists root)) are bound)
 
-  -- where the best takes the limit, each legal fusion does
-  pub below_fusions : (loops : ℕ) (best : Option WholeFusion) (whole : WholeFusion) → loops ≡ node_loops tree root → limit ≤ whole.memory → best ≡ Some whole
-      → IsBoundOfAll loops best (left_candidates tree found.lists root) (right_candidates tree found.lists root) → IsBelowFusions space tree limit
-  below_fusions loops best whole is high are bound fusion fits legal =
-      let total = total_is_bound space tree (tables_of found.lists) whole.memory (record { nodes = nodes_covered; root = whole_below loops best whole is are bound }) fusion fits legal in
-      omega (arith, high, total)
+  -- no legal fusion takes less than the best
+  pub below_fusions : (loops : ℕ) (best : Option WholeFusion) (whole : WholeFusion) → loops ≡ node_loops tree root → best ≡ Some whole
+      → IsBoundOfAll loops best (left_candidates tree found.lists root) (right_candidates tree found.lists root) → IsBelowFusions space tree whole.memory
+  below_fusions loops best whole is are bound =
+      total_is_bound space tree (tables_of found.lists) whole.memory (record { nodes = nodes_covered; root = whole_below loops best whole is are bound })

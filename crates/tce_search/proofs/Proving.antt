@@ -8,6 +8,7 @@ use Rattle.tce_tree.specs.ContractionTree.{ContractionTree, operations, node, no
 use Rattle.tce_tree.specs.Fusion.{FusionFits}
 use Rattle.tce_tree.specs.Memory.{memory}
 use Rattle.tce_fusion.specs.Scope.{IsLegal}
+use Rattle.tce_states.specs.Row.{Row}
 use Rattle.tce_states.specs.Cover.{Covers, ArePruned, NodesCovered, RootBelow}
 use Rattle.tce_states.specs.Reached.{IsLegalWith}
 use Rattle.tce_states.proofs.Covers.{least_by_cover}
@@ -33,6 +34,11 @@ rows_fit space tree found all v low =
     let inside : v < length found.lists = rw length-map at low in
     let here = all.each v inside in
     rw (tables-at found.lists v) (rows_fit_node space tree (limit_at found.limits v) found.lists v (omega (arith, here.low, all.small)) here.candidates)
+
+-- the plan of a legal fusion has its memory
+pub plan_memory : (space : IndexSpace) (tree : ContractionTree) (fusion : List ℕ) (total : ℕ) (tables : List (List Row)) (plan : Plan)
+    → IsLegalWith space tree fusion total → IsPlanOf space tree fusion tables plan → plan.memory ≡ total
+plan_memory space tree fusion total tables plan legal made = made.memory_is ∙ ap (memory space tree) made.fusion_is ∙ legal.memory_is
 
 pub least_plan : (space : IndexSpace) (tree : ContractionTree) (found : Searched) (fusion : List ℕ) (total : ℕ) (plan : Plan)
     → length found.lists + 1 ≡ operations tree → AreFound space tree found → NodesCovered space tree (tables_of found.lists) → ArePruned tree (tables_of found.lists) → RootBelow tree (tables_of found.lists) total
@@ -63,7 +69,7 @@ least_plan space tree found fusion total plan count all covered pruned below leg
     is_legal = subst (IsLegal tree) (sym made.fusion_is) legal.legal
 
     total_is : total ≡ plan.memory
-    total_is = sym legal.memory_is ∙ ap (memory space tree) (sym made.fusion_is) ∙ sym made.memory_is
+    total_is = sym (plan_memory space tree fusion total (tables_of found.lists) plan legal made)
 
     covers : Covers space tree plan.tables plan.memory
     covers = rw (made.tables_are, ← total_is) (record { nodes = covered; root = below })

@@ -100,6 +100,10 @@ right_limit tree found v = right_operand_limit found (right_of tree v)
 abbrev pub AreAtLeast : ℕ → List ℕ → Type 0
 AreAtLeast least limits = All (λ limit. least ≤ limit) limits
 
+-- no limit is below the ceiling
+abbrev pub AreFull : Searched → Type 0
+AreFull found = AreAtLeast found.ceiling found.limits
+
 -- the limit of an operand and the cost of any candidate of the other one together are no less
 abbrev pub IsBeside : ℕ → ℕ → List Candidate → Type 0
 IsBeside limit operand others = All (λ other. limit ≤ operand + other.row.cost) others

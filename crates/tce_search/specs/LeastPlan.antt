@@ -1,5 +1,5 @@
 -- What the plan that is found keeps.
-use Rattle.std.specs.Prelude.{◌≡◌, ℕ, ◌+◌, ◌-◌, ◌<◌, ◌≤◌, List, length, slice_index}
+use Rattle.std.specs.Prelude.{◌≡◌, ⊤, ℕ, ◌+◌, ◌-◌, ◌<◌, ◌≤◌, List, length, slice_index}
 use Rattle.std.specs.List.{All}
 use Rattle.tce_space.specs.Limits.{cost_limit}
 use Rattle.tce_space.specs.Space.{IndexSpace}
@@ -13,6 +13,8 @@ use Rattle.tce_states.specs.Row.{Row}
 use Rattle.tce_states.specs.Cover.{Covers, ArePruned}
 use Rattle.tce_nesting.specs.declared.plan.Plan.{Plan}
 use Rattle.tce_nesting.specs.Plan.{PlanFits}
+use Rattle.tce_search.specs.declared.plan.Answer.{Answer}
+use Rattle.tce_search.specs.declared.plan.Answer.TheVariants.{Least, AtLeast}
 
 -- the orders are the standard ones of the plan's fusion
 abbrev pub HasStandardOrders : ContractionTree → Plan → Type 0
@@ -38,6 +40,20 @@ pub record IsLeastPlan (space : IndexSpace) (tree : ContractionTree) (plan : Pla
 -- each legal fusion takes at least as much memory
 abbrev pub IsBelowFusions : IndexSpace → ContractionTree → ℕ → Type 0
 IsBelowFusions space tree limit = (fusion : List ℕ) → FusionFits tree fusion → IsLegal tree fusion → limit ≤ memory space tree fusion
+
+-- each legal fusion takes more memory than the limit
+abbrev pub IsExceeded : IndexSpace → ContractionTree → ℕ → Type 0
+IsExceeded space tree limit = (fusion : List ℕ) → FusionFits tree fusion → IsLegal tree fusion → limit < memory space tree fusion
+
+-- a round answers with a plan of a least fusion, which takes less memory than the ceiling, or with a number that no legal fusion is below
+abbrev pub IsAnswer : IndexSpace → ContractionTree → ℕ → Answer → Type 0
+IsAnswer space tree ceiling (Least plan) = IsLeastPlan space tree plan × (plan.memory < ceiling)
+IsAnswer space tree ceiling (AtLeast least) = IsBelowFusions space tree least
+
+-- that number is no less than the ceiling, where nothing was hidden
+abbrev pub IsPlainAnswer : ℕ → Answer → Type 0
+IsPlainAnswer ceiling (Least plan) = ⊤
+IsPlainAnswer ceiling (AtLeast least) = ceiling ≤ least
 
 -- the plan of a fusion with these tables: its standard orders, its sizes and its memory
 pub record IsPlanOf (space : IndexSpace) (tree : ContractionTree) (fusion : List ℕ) (tables : List (List Row)) (plan : Plan) : Type 0 where

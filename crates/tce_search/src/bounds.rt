@@ -1,5 +1,5 @@
 // What one round of the search may cost, and what earlier rounds showed subtrees to cost at least.
-ghost use Rattle.std.specs.Prelude.{◌≡◌, ◌+◌, ◌<◌, ◌≤◌, ◌^◌, false};
+ghost use Rattle.std.specs.Prelude.{◌≡◌, ◌<◌, ◌≤◌, true, false};
 ghost use Rattle.tce_space.specs.Limits.{cost_limit};
 ghost use Rattle.tce_tree.specs.ContractionTree.{operations};
 
@@ -31,14 +31,14 @@ pub(crate) struct Bounds {
 }
 
 impl Bounds {
-    /// Nothing is known of subtrees yet.
-    pub(crate) fn new(ceiling: u128, learns: bool) -> Bounds
-        ensures ceiling { result.ceiling ≡ ceiling }
-        ensures learns { result.learns ≡ learns }
+    /// Before the first round the ceiling is 0, and nothing is known of subtrees.
+    pub(crate) fn new() -> Bounds
+        ensures ceiling { result.ceiling ≡ 0 }
+        ensures learns { result.learns ≡ true }
     {
         Bounds {
-            ceiling,
-            learns,
+            ceiling: 0,
+            learns: true,
             least: [0; MAX_NODES],
             kept: 0,
             earlier: Round {
@@ -134,19 +134,24 @@ impl Bounds {
         }
     }
 
-    /// Raises the ceiling for the next round.
-    pub(crate) fn raise(&mut self)
-        requires { self.old.ceiling < 2 ^ 95 }
-        ensures more { self.old.ceiling < self.new.ceiling }
-        ensures small { self.new.ceiling < cost_limit }
-        ensures learns { self.new.learns ≡ self.old.learns }
+    /// Raises the ceiling for the next round, at most to the end. Behind a round at the end comes one that uses nothing of what is known.
+    pub(crate) fn raise(&mut self, end: u128)
+        requires small { end < cost_limit }
+        requires below { self.old.ceiling ≤ end }
+        ensures most { self.new.ceiling ≤ end }
+        ensures more { self.new.learns ≡ true → self.old.ceiling < self.new.ceiling }
+        ensures last { self.new.learns ≡ false → self.new.ceiling ≡ end }
     {
+        self.learns = self.ceiling < end;
+        if !self.learns {
+            return;
+        }
         let step = self.step();
         self.earlier = Round {
             ceiling: self.ceiling,
             kept: self.kept,
         };
-        self.ceiling += step + 1;
+        self.ceiling = end.min(self.ceiling + step + 1);
         self.kept = 0;
     }
 }

@@ -8,4 +8,4 @@ mod node;
 mod plan;
 mod root;
 
-pub use plan::search;
+pub use plan::{search, search_within};

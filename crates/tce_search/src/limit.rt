@@ -3,7 +3,7 @@ ghost use Rattle.std.specs.Prelude.{◌≡◌, ℕ, ◌+◌, ◌<◌, ◌≤◌,
 ghost use Rattle.tce_space.specs.Limits.{cost_limit};
 ghost use Rattle.tce_tree.specs.ContractionTree.{operations};
 ghost use Rattle.tce_candidates.specs.Candidates.{IsLimited};
-ghost use Rattle.tce_search.specs.CandidateLists.{AreFound, IsLimitOf, AreAtLeast};
+ghost use Rattle.tce_search.specs.CandidateLists.{AreFound, IsLimitOf, AreFull};
 
 use crate::found::Found;
 use tce_candidates::Candidate;
@@ -17,7 +17,7 @@ pub(crate) fn limit_of(space: &Space, tree: &Tree, found: &Found, v: u8, target:
     requires next { length found.now.lists ≡ v }
     requires target { target ≤ found.now.ceiling }
     ensures limit { IsLimitOf tree.now found.now v result }
-    ensures plain { AreAtLeast found.now.ceiling found.now.limits → target ≡ found.now.ceiling → result ≡ target }
+    ensures plain { AreFull found.now → target ≡ found.now.ceiling → result ≡ target }
 {
     let _count = tree.count();
     let _indexes = space.index_count();

@@ -3,7 +3,7 @@ ghost use Rattle.std.specs.Prelude.{◌≡◌, ℕ, false, ◌+◌, ◌<◌, [],
 ghost use Rattle.tce_space.specs.Limits.{cost_limit};
 ghost use Rattle.tce_tree.specs.ContractionTree.{operations, node_loops, parent};
 ghost use Rattle.tce_tree.specs.Measure.{IsMeasured};
-ghost use Rattle.tce_search.specs.CandidateLists.{AreCandidates, AreFound, IsLimitOf, AreAtLeast};
+ghost use Rattle.tce_search.specs.CandidateLists.{AreCandidates, AreFound, IsLimitOf, AreFull};
 
 use crate::bounds::Bounds;
 use crate::found::Found;
@@ -27,7 +27,7 @@ pub(crate) fn find_candidates(
     ensures count { IfOk result (λ found. length found.lists + 1 ≡ operations tree.now) }
     ensures found { IfOk result (AreFound space.now tree.now) }
     ensures ceiling { IfOk result (λ found. found.ceiling ≡ bounds.old.ceiling) }
-    ensures plain { bounds.old.learns ≡ false → IfOk result (λ found. AreAtLeast found.ceiling found.limits) }
+    ensures plain { bounds.old.learns ≡ false → IfOk result AreFull }
     ensures same { bounds.new.ceiling ≡ bounds.old.ceiling }
     ensures learns { bounds.new.learns ≡ bounds.old.learns }
 {

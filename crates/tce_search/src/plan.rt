@@ -1,5 +1,5 @@
 // Plans of least fusions.
-ghost use Rattle.std.specs.Prelude.{◌≡◌, ℕ, false, ◌+◌, ◌-◌, ◌<◌, ◌≤◌, ◌++◌, length, slice_index, slice_set, All, IfSome, IfOk, OnOk};
+ghost use Rattle.std.specs.Prelude.{◌≡◌, ℕ, false, ◌+◌, ◌-◌, ◌<◌, ◌≤◌, ◌++◌, length, slice_index, slice_set, All, IfSome, IfNone, IfOk, OnOk};
 ghost use Rattle.tce_space.specs.Limits.{cost_limit};
 ghost use Rattle.tce_tree.specs.ContractionTree.{operations};
 ghost use Rattle.tce_tree.specs.Fusion.{FusionFits};
@@ -9,8 +9,8 @@ ghost use Rattle.tce_fusion.specs.Scope.{IsLegal};
 ghost use Rattle.tce_states.specs.Row.{rows_at};
 ghost use Rattle.tce_candidates.specs.Laws.{rows_of};
 ghost use Rattle.tce_search.specs.CandidateLists as list;
-ghost use Rattle.tce_search.specs.CandidateLists.{AreFound, AreAtLeast};
-ghost use Rattle.tce_search.specs.LeastPlan.{IsLeastPlan, IsPlanOf, IsBelowFusions};
+ghost use Rattle.tce_search.specs.CandidateLists.{AreFound, AreFull};
+ghost use Rattle.tce_search.specs.LeastPlan.{IsAnswer, IsPlainAnswer, IsLeastPlan, IsPlanOf, IsBelowFusions, IsExceeded};
 
 use crate::bounds::Bounds;
 use crate::found::Found;
@@ -28,6 +28,15 @@ use tce_tree::{Fusion, Tree};
 // No fusion takes as much as this.
 const LAST_LIMIT: u128 = 1 << 95;
 
+/// What a round answers.
+#[derive(Drop)]
+enum Answer {
+    /// A plan of a least fusion.
+    Least(Plan),
+    /// No legal fusion takes less memory than this.
+    AtLeast(u128),
+}
+
 /// A plan of a legal fusion of the tree such that no legal fusion takes less memory, with its standard orders, the sizes of its nodes, its memory in elements, and tables of states that show it to be least.
 ///
 /// It is sought below a limit that grows until there is one, so that states which cost more need not be told apart (a search in rounds, after Korf 1985).
@@ -39,30 +48,64 @@ pub fn search(alloc: Global, space: &Space, tree: &Tree) -> Result<Plan, AllocEr
 {
     let _indexes = space.index_count();
     let _nodes = tree.count();
-    let mut bounds = Bounds::new(1, true);
-    while bounds.ceiling < LAST_LIMIT {
-        if let Some(plan) = search_below(alloc, space, tree, &mut bounds)? {
-            return Ok(plan);
-        }
-        bounds.raise();
-    }
-    let mut last = Bounds::new(LAST_LIMIT, false);
-    let plan = search_below(alloc, space, tree, &mut last)?;
+    let plan = search_below(alloc, space, tree, LAST_LIMIT)?;
     Ok(plan.unwrap())
 }
 
-// A plan of a least fusion, where one takes less memory than the ceiling and what is known of subtrees does not hide it.
+/// The plan that [`search`] finds, where its memory is at most the limit, in elements; `None` exactly where each legal fusion takes more.
+///
+/// It costs no more than the search up to the limit, however much the least fusion takes. Only want of memory is refused.
+pub fn search_within(
+    alloc: Global,
+    space: &Space,
+    tree: &Tree,
+    limit: u64,
+) -> Result<Option<Plan>, AllocError>
+    requires { IsMeasured space.now tree.now }
+    ensures plan { IfOk result (λ found. IfSome found (IsLeastPlan space.now tree.now)) }
+    ensures within { IfOk result (λ found. IfSome found (λ plan. plan.memory ≤ limit)) }
+    ensures none { IfOk result (λ found. IfNone found (IsExceeded space.now tree.now limit)) }
+{
+    search_below(alloc, space, tree, limit as u128 + 1)
+}
+
+// The plan of a least fusion, where it takes less memory than the end. Its rounds go no further.
 fn search_below(
     alloc: Global,
     space: &Space,
     tree: &Tree,
-    bounds: &mut Bounds,
+    end: u128,
 ) -> Result<Option<Plan>, AllocError>
+    requires measured { IsMeasured space.now tree.now }
+    requires small { end < cost_limit }
+    ensures plan { IfOk result (λ found. IfSome found (IsLeastPlan space.now tree.now)) }
+    ensures below { IfOk result (λ found. IfSome found (λ plan. plan.memory < end)) }
+    ensures none { IfOk result (λ found. IfNone found (IsBelowFusions space.now tree.now end)) }
+{
+    let mut bounds = Bounds::new();
+    let mut least = 0;
+    while least < end {
+        bounds.raise(end);
+        match search_round(alloc, space, tree, &mut bounds)? {
+            Answer::Least(plan) => return Ok(Some(plan)),
+            Answer::AtLeast(memory) => least = memory,
+        }
+    }
+    Ok(None)
+}
+
+// A plan of a least fusion, where one takes less memory than the ceiling and what is known of subtrees does not hide it.
+fn search_round(
+    alloc: Global,
+    space: &Space,
+    tree: &Tree,
+    bounds: &mut Bounds,
+) -> Result<Answer, AllocError>
     requires measured { IsMeasured space.now tree.now }
     requires some { 0 < bounds.old.ceiling }
     requires small { bounds.old.ceiling < cost_limit }
-    ensures plan { IfOk result (λ found. IfSome found (IsLeastPlan space.now tree.now)) }
-    ensures none { bounds.old.learns ≡ false → IfOk result (λ found. found ≡ None → IsBelowFusions space.now tree.now bounds.old.ceiling) }
+    ensures answer { IfOk result (IsAnswer space.now tree.now bounds.old.ceiling) }
+    ensures plain { bounds.old.learns ≡ false → IfOk result (IsPlainAnswer bounds.old.ceiling) }
     ensures same { bounds.new.ceiling ≡ bounds.old.ceiling }
     ensures learns { bounds.new.learns ≡ bounds.old.learns }
 {
@@ -70,18 +113,18 @@ fn search_below(
     plan_below(alloc, space, tree, &found)
 }
 
-// The plan of the least fusion that the candidates of all nodes but the root make, where it takes less memory than the limit of the root.
+// The plan of the least fusion that the candidates of all nodes but the root make, where it takes less memory than the limit of the root; else that memory, which no legal fusion is below.
 fn plan_below(
     alloc: Global,
     space: &Space,
     tree: &Tree,
     found: &Found,
-) -> Result<Option<Plan>, AllocError>
+) -> Result<Answer, AllocError>
     requires measured { IsMeasured space.now tree.now }
     requires count { length found.now.lists + 1 ≡ operations tree.now }
     requires found { AreFound space.now tree.now found.now }
-    ensures plan { IfOk result (λ found. IfSome found (IsLeastPlan space.now tree.now)) }
-    ensures none { AreAtLeast found.now.ceiling found.now.limits → IfOk result (λ plan. plan ≡ None → IsBelowFusions space.now tree.now found.now.ceiling) }
+    ensures answer { IfOk result (IsAnswer space.now tree.now found.now.ceiling) }
+    ensures plain { AreFull found.now → IfOk result (IsPlainAnswer found.now.ceiling) }
 {
     let root = tree.count() - 1;
     let limit = limit_of(space, tree, found, root, found.ceiling());
@@ -90,10 +133,10 @@ fn plan_below(
     let rights = found.of_right(tree, root, &leaf);
     let whole = least_fusion(lefts, rights, tree.loops(root)).unwrap();
     if limit <= whole.memory {
-        return Ok(None);
+        return Ok(Answer::AtLeast(whole.memory));
     }
     let plan = plan_of(alloc, space, tree, Fusion(whole.sets), found)?;
-    Ok(Some(plan))
+    Ok(Answer::Least(plan))
 }
 
 // The plan of a legal fusion, with the states of all candidates as its tables.
