@@ -15,7 +15,7 @@ use Rattle.tce_spec.specs.Specification.{Specification}
 use Rattle.tce_spec.specs.Operands.{references, each_once}
 use Rattle.tce_spec.specs.PieceSpecification.{renumbered, place_in, piece_of}
 use Rattle.tce_spill.specs.InTurn.{AreDecided}
-use Rattle.tce_spill.specs.Planned.{IsWithoutRows, IsLeastButRows, IsPlanOfPiece, IsPlanned, HasPlan, HavePlansBelow, HavePlans, ArePlanned}
+use Rattle.tce_spill.specs.Planned.{IsAbove, IsWithoutRows, IsLeastButRows, IsPlanOfPiece, IsPlanned, HasPlan, HavePlansBelow, HavePlans, ArePlanned}
 use Rattle.tce_spill.specs.Refusals.{HasLeastMemory}
 use Rattle.tce_spill.specs.declared.planned.PlannedCuts.{PlannedCuts}
 use Rattle.tce_spill.proofs.Pieces.{except_is, root_some, root_itself}
@@ -103,21 +103,22 @@ module _ (s : Specification) (limit : ℕ) (planned : PlannedCuts) (v : ℕ) (be
   pub planned_on : has planned.nodes v ≡ false → ArePlanned s limit planned (v + 1)
   planned_on apart = record { decided = goes_on s.declarations.space s.tree limit (has planned.nodes) v before.decided apart; count = before.count; plans = before.plans }
 
-  module _ (fewer : Cuts) (r : ℕ) (joined : Plan) (same : (u : ℕ) → fewer u ≡ except (has planned.nodes) v u) (top : IsRootOver s.tree fewer v r) (one : IsPlanOfPiece s fewer r joined) where
+  module _ (fewer : Cuts) (r : ℕ) (same : (u : ℕ) → fewer u ≡ except (has planned.nodes) v u) (top : IsRootOver s.tree fewer v r) where
     -- its cut stays
-    pub planned_stays : limit < joined.memory → ArePlanned s limit planned (v + 1)
+    pub planned_stays : IsAbove s fewer r limit → ArePlanned s limit planned (v + 1)
     planned_stays above = record {
-      decided = stays_at s limit (has planned.nodes) fewer v r before.decided same top joined.memory (plan_memory s fewer r joined one) above;
+      decided = stays_at s limit (has planned.nodes) fewer v r before.decided same top above;
       count = before.count;
       plans = before.plans;
     }
 
     -- it is taken back
-    pub goes_planned : v < operations s.tree → HavePlans s fewer (set (set planned.plans.items v None) r (Some joined))
-    goes_planned v_in =
-        subst (λ c. HavePlans s c (set (set planned.plans.items v None) r (Some joined))) (sym (fun_ext same))
-        (joined_plans s (has planned.nodes) planned.plans.items v r joined before.count v_in before.plans
-        (subst (λ c. IsRootOver s.tree c v r) (fun_ext same) top) (subst (λ c. IsPlanOfPiece s c r joined) (fun_ext same) one))
+    module _ (joined : Plan) (one : IsPlanOfPiece s fewer r joined) where
+      pub goes_planned : v < operations s.tree → HavePlans s fewer (set (set planned.plans.items v None) r (Some joined))
+      goes_planned v_in =
+          subst (λ c. HavePlans s c (set (set planned.plans.items v None) r (Some joined))) (sym (fun_ext same))
+          (joined_plans s (has planned.nodes) planned.plans.items v r joined before.count v_in before.plans
+          (subst (λ c. IsRootOver s.tree c v r) (fun_ext same) top) (subst (λ c. IsPlanOfPiece s c r joined) (fun_ext same) one))
 
-    pub goes_decided : v < operations s.tree → joined.memory ≤ limit → AreDecided s.declarations.space s.tree limit fewer (v + 1)
-    goes_decided v_in low = goes_at s limit (has planned.nodes) fewer v r before.decided same top joined.memory (plan_memory s fewer r joined one) v_in low
+      pub goes_decided : v < operations s.tree → joined.memory ≤ limit → AreDecided s.declarations.space s.tree limit fewer (v + 1)
+      goes_decided v_in low = goes_at s limit (has planned.nodes) fewer v r before.decided same top joined.memory (plan_memory s fewer r joined one) v_in low

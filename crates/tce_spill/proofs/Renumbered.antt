@@ -12,10 +12,11 @@ use Rattle.tce_tree.specs.Memory.{size_at, size_before, memory}
 use Rattle.tce_fusion.specs.Scope.{differ, on_path, scope, IsSubset, AreDisjoint, IsLegal}
 use Rattle.tce_pieces.specs.Pieces.{Cuts, piece}
 use Rattle.tce_nesting.specs.declared.plan.Plan.{Plan}
-use Rattle.tce_search.specs.LeastPlan.{IsLeastPlan}
+use Rattle.tce_search.specs.LeastPlan.{IsLeastPlan, IsExceeded}
 use Rattle.tce_spec.specs.Specification.{Specification}
 use Rattle.tce_spec.specs.PieceSpecification.{renumbered, sources, place_in, piece_of}
 use Rattle.tce_spill.specs.Laws.{HaveSameFusions}
+use Rattle.tce_spill.specs.Planned.{IsAbove}
 use Rattle.tce_spill.specs.Refusals.{HasLeastMemory}
 
 -- ---- trees whose nodes have the same indexes
@@ -150,3 +151,15 @@ plan_is_least s p cut v space tree plan is same_space same_tree least =
     least_too s.declarations.space (renumbered (place_in (sources s cut v)) (piece s.tree cut v)) (piece s.tree cut v) plan.memory
     (renumbered_is_alike s.declarations.space (piece s.tree cut v) (place_in (sources s cut v)))
     (subst (λ (t : ContractionTree). HasLeastMemory s.declarations.space t plan.memory) (same_tree ∙ ap (λ (q : Specification). q.tree) is) own)
+
+-- where each fusion of that specification takes more than a limit, each of the piece does
+pub piece_is_above : (s p : Specification) (cut : Cuts) (v : ℕ) (space : IndexSpace) (tree : ContractionTree) (limit : ℕ) → p ≡ piece_of s cut v
+    → space ≡ p.declarations.space → tree ≡ p.tree → IsExceeded space tree limit → IsAbove s cut v limit
+piece_is_above s p cut v space tree limit is same_space same_tree more f =
+    let alike = renumbered_is_alike s.declarations.space (piece s.tree cut v) (place_in (sources s cut v)) in
+    let own : IsExceeded s.declarations.space tree limit =
+    subst (λ (k : IndexSpace). IsExceeded k tree limit) (same_space ∙ ap (λ (q : Specification). q.declarations.space) is) more in
+    let high : IsExceeded s.declarations.space (renumbered (place_in (sources s cut v)) (piece s.tree cut v)) limit =
+    subst (λ (t : ContractionTree). IsExceeded s.declarations.space t limit) (same_tree ∙ ap (λ (q : Specification). q.tree) is) own in
+    let above = high f.fusion ((alike.fits f.fusion).1 f.fits) ((alike.legal f.fusion).1 f.legal) in
+    omega (arith, above, alike.memory_is f.fusion, f.cheap)

@@ -13,6 +13,7 @@ use Rattle.tce_spec.specs.Specification.{Specification}
 use Rattle.tce_spill.specs.Parts.{FitsMemory}
 use Rattle.tce_spill.specs.CutsFor.{MeetLimit, JoinMeetsLimit, in_turn, AreCutsFor}
 use Rattle.tce_spill.specs.InTurn.{AllAreCut, AreDecided, FitBefore}
+use Rattle.tce_spill.specs.Planned.{IsAbove}
 use Rattle.tce_spec.specs.PieceSpecification.{CanCut}
 use Rattle.tce_spill.specs.Refusals.{HasLeastMemory, IsTooLarge, IsCutFault, IsFree}
 use Rattle.tce_spill.specs.declared.fault.SpillFault.{SpillFault}
@@ -82,9 +83,6 @@ module _ (space : IndexSpace) (tree : ContractionTree) (cut : Cuts) (v r n limit
   join_meets low q over =
       subst (λ k. FitsMemory space (piece tree (except cut v) k) limit) (root_same tree (except cut v) v r q top over)
       (least_fits space (piece tree (except cut v) r) n limit least low)
-
-  pub join_is_above : limit < n → JoinMeetsLimit space tree cut v limit → ⊥
-  join_is_above above meets = least_above space (piece tree (except cut v) r) n limit least above (meets r top)
 
 -- ---- from one turn to the next
 
@@ -232,17 +230,17 @@ module _ (s : Specification) (limit : ℕ) (cut fewer : Cuts) (v r : ℕ) (decid
     allowed = λ u t. decided.only_storable u (except_is cut v u (sym (same u) ∙ t)).0;
   }
 
-  module _ (n : ℕ) (least : HasLeastMemory s.declarations.space (piece s.tree fewer r) n) where
-    own_top : IsRootOver s.tree (except cut v) v r
-    own_top = subst (λ c. IsRootOver s.tree c v r) (fun_ext same) top
+  own_top : IsRootOver s.tree (except cut v) v r
+  own_top = subst (λ c. IsRootOver s.tree c v r) (fun_ext same) top
 
+  pub stays_at : IsAbove s fewer r limit → AreDecided s.declarations.space s.tree limit cut (v + 1)
+  stays_at above =
+      stays_cut s.declarations.space s.tree limit cut v decided
+      (λ meets. above (subst (λ c. FitsMemory s.declarations.space (piece s.tree c r) limit) (sym (fun_ext same)) (meets r own_top)))
+
+  module _ (n : ℕ) (least : HasLeastMemory s.declarations.space (piece s.tree fewer r) n) where
     own_least : HasLeastMemory s.declarations.space (piece s.tree (except cut v) r) n
     own_least = subst (λ c. HasLeastMemory s.declarations.space (piece s.tree c r) n) (fun_ext same) least
-
-    pub stays_at : limit < n → AreDecided s.declarations.space s.tree limit cut (v + 1)
-    stays_at above =
-        stays_cut s.declarations.space s.tree limit cut v decided
-        (join_is_above s.declarations.space s.tree cut v r n limit own_top own_least above)
 
     pub goes_at : v < operations s.tree → n ≤ limit → AreDecided s.declarations.space s.tree limit fewer (v + 1)
     goes_at v_in low =

@@ -5,9 +5,10 @@ use Rattle.tce_space.specs.Space.{IndexSpace}
 use Rattle.tce_tree.specs.ContractionTree.{ContractionTree, operations}
 use Rattle.tce_nesting.specs.declared.plan.Plan.{Plan}
 use Rattle.tce_search.specs.LeastPlan.{IsLeastPlan}
-use Rattle.tce_pieces.specs.Pieces.{Cuts, is_root}
+use Rattle.tce_pieces.specs.Pieces.{Cuts, piece, is_root}
 use Rattle.tce_spec.specs.Specification.{Specification}
 use Rattle.tce_spec.specs.PieceSpecification.{piece_of}
+use Rattle.tce_spill.specs.Parts.{FitsMemory}
 use Rattle.tce_spill.specs.InTurn.{AreDecided}
 use Rattle.tce_spill.specs.declared.planned.PlannedCuts.{PlannedCuts}
 
@@ -28,6 +29,10 @@ pub record IsLeastButRows (space : IndexSpace) (tree : ContractionTree) (plan : 
 -- such a plan of the specification of a piece
 abbrev pub IsPlanOfPiece : Specification → Cuts → ℕ → Plan → Type 0
 IsPlanOfPiece s cut v plan = IsLeastButRows (piece_of s cut v).declarations.space (piece_of s cut v).tree plan
+
+-- no fusion of the piece is within the limit
+abbrev pub IsAbove : Specification → Cuts → ℕ → ℕ → Type 0
+IsAbove s cut v limit = FitsMemory s.declarations.space (piece s.tree cut v) limit → ⊥
 
 -- where node `v` is a root, there is a plan of its piece
 abbrev pub IsPlanned : Specification → Cuts → ℕ → Option Plan → Type 0

@@ -1,5 +1,5 @@
 // The cuts of a tree for a limit of memory.
-ghost use Rattle.std.specs.Prelude.{◌≡◌, ℕ, ◌+◌, ◌<◌, ◌≤◌, false, IfOk, IfErr, OnOk, length};
+ghost use Rattle.std.specs.Prelude.{◌≡◌, ℕ, ◌+◌, ◌<◌, ◌≤◌, false, IfOk, IfErr, IfSome, IfNone, OnOk, length};
 ghost use Rattle.tce_space.specs.IndexSet.{has};
 ghost use Rattle.tce_tree.specs.ContractionTree.{operations};
 ghost use Rattle.tce_tree.specs.Measure.{IsMeasured};
@@ -8,7 +8,7 @@ ghost use Rattle.tce_pieces.specs.Pieces.{is_root as is_root_of, IsRootOver};
 ghost use Rattle.tce_spec.specs.PieceSpecification.{CanCut};
 ghost use Rattle.tce_spill.specs.CutsFor.{AreCutsFor, MeetLimit};
 ghost use Rattle.tce_spill.specs.InTurn.{AllAreCut, FitBefore};
-ghost use Rattle.tce_spill.specs.Planned.{ArePlanned, HavePlans, IsPlanned, IsPlanOfPiece};
+ghost use Rattle.tce_spill.specs.Planned.{ArePlanned, HavePlans, IsPlanned, IsPlanOfPiece, IsAbove};
 ghost use Rattle.tce_spill.specs.Refusals.{IsCutFault, IsFree, IsRefusedAs};
 ghost use Rattle.tce_spill.specs.declared.fault.SpillFault.{SpillFault as Fault};
 
@@ -18,7 +18,7 @@ use crate::planned::{PlannedCuts, put_joined, without_rows};
 use crate::storage::storable;
 use std::alloc::{AllocError, Global};
 use tce_nesting::Plan;
-use tce_search::search;
+use tce_search::{search, search_within};
 use tce_space::Space;
 use tce_spec::{Spec, piece};
 use tce_tree::Tree;
@@ -177,10 +177,9 @@ fn decide(
     }
     let fewer = without_node(planned.nodes, v);
     let root = root_over(spec, fewer, v);
-    let joined = plan_of_piece(alloc, spec, root, fewer)?;
-    if joined.memory > limit as u128 {
+    let Some(joined) = plan_within(alloc, spec, root, fewer, limit)? else {
         return Ok(());
-    }
+    };
     put_joined(&mut planned.plans, v, root, joined);
     planned.nodes = fewer;
     Ok(())
@@ -196,6 +195,28 @@ fn plan_of_piece(alloc: Global, spec: &Spec, root: u8, cuts: u32) -> Result<Plan
     let piece = piece(alloc, spec, root, cuts)?;
     let plan = search(alloc, piece.space(), piece.tree())?;
     without_rows(alloc, plan)
+}
+
+// The same, where its memory is at most the limit; none where each fusion of the piece takes more.
+fn plan_within(
+    alloc: Global,
+    spec: &Spec,
+    root: u8,
+    cuts: u32,
+    limit: u64,
+) -> Result<Option<Plan>, AllocError>
+    requires names { HaveNames spec.now.declarations.tensors }
+    requires few { length spec.now.declarations.tensors ≤ 31 }
+    requires cuts { CanCut spec.now (has cuts) root }
+    ensures plan { IfOk result (λ found. IfSome found (IsPlanOfPiece spec.now (has cuts) root)) }
+    ensures within { IfOk result (λ found. IfSome found (λ plan. plan.memory ≤ limit)) }
+    ensures none { IfOk result (λ found. IfNone found (IsAbove spec.now (has cuts) root limit)) }
+{
+    let piece = piece(alloc, spec, root, cuts)?;
+    match search_within(alloc, piece.space(), piece.tree(), limit)? {
+        Some(plan) => Ok(Some(without_rows(alloc, plan)?)),
+        None => Ok(None),
+    }
 }
 
 // Whether a node is the root of a piece.
