@@ -1,15 +1,12 @@
 -- Upper parts of two states that cross show a conflict.
-use Rattle.std.proofs.Common.{◌≡◌, ℕ, ◌+◌, ◌<◌, ◌≤◌, Bool, true, false, ◌||◌, ◌⊎◌, List, [], ◌∷◌, ◌++◌, length, get_or, inl, inr, refl, arith, ◌∙◌, sym, ap, subst}
+use Rattle.std.proofs.Common.{◌≡◌, ℕ, ◌+◌, ◌≤◌, Bool, true, false, ◌||◌, inl, inr, arith, ap}
 use Rattle.std.specs.Prelude.{IsTrue}
-use Rattle.std.proofs.lemmas.Bool.{cases_Bool, cases_eq}
-use Rattle.std.proofs.lemmas.List.{get_or_append_left, get_or_push}
-use Rattle.std.proofs.lemmas.List.Elements.{at_read}
+use Rattle.std.proofs.lemmas.Bool.{cases_Bool}
 use Rattle.tce_space.specs.IndexSet.{IsWithin, has}
 use Rattle.tce_states.specs.Relation.{Relation, above, joined, HasNoConflict}
-use Rattle.tce_states.specs.Row.{Row, rows_joined}
-use Rattle.tce_candidates.specs.declared.candidate.Candidate.{Candidate}
+use Rattle.tce_states.specs.Row.{Row}
 use Rattle.tce_candidates.specs.declared.ends.Ends.{Ends}
-use Rattle.tce_candidates.specs.Ends.{AreEnds, HaveEnds, DoCross, IsCut, AreRuledOut}
+use Rattle.tce_candidates.specs.Ends.{AreEnds, IsCut, AreRuledOut}
 use Rattle.tce_candidates.specs.Parts.{IsUpperPart}
 
 module _ (loops : ℕ) (r s : Relation) (p q : ℕ) (upper : IsUpperPart loops r p) (other : IsUpperPart loops s q) (quiet : HasNoConflict loops (joined r s)) where
@@ -52,22 +49,3 @@ module _ (limit : ℕ) (left right : Ends) where
 
   pub largest_cut : IsCut left right.largest → AreRuledOut limit left right
   largest_cut = cut_by right.largest (λ loops y there. there.largest)
-
--- the ends of one more candidate
-pub ends_further : (loops n : ℕ) (candidates : List Candidate) (old new : List Ends) (x : Candidate) (last : Ends) → new ≡ old ++ last ∷ [] → length old ≡ n → n < length candidates
-    → x ≡ get_or candidates n x → AreEnds loops x.row last → ((k : ℕ) (y : Candidate) (e : Ends) → k < n → AreEnds loops (get_or candidates k y).row (get_or old k e))
-    → (k : ℕ) (y : Candidate) (e : Ends) → k < n + 1 → AreEnds loops (get_or candidates k y).row (get_or new k e)
-ends_further loops n candidates old new x last grown count low is ends each k y e inside = elim (cases_eq k n) [
-  | inl at ↦
-      subst (λ m. AreEnds loops (get_or candidates m y).row (get_or new m e)) (sym at)
-      (subst (AreEnds loops (get_or candidates n y).row) (sym (ap (λ l. get_or l n e) grown ∙ get_or_push old last e n count))
-      (at_read candidates (λ (z : Candidate). AreEnds loops z.row last) n x low is ends y))
-  | inr other ↦
-      let before : k < n = omega (arith, inside, other) in
-      let within : k < length old = omega (arith, before, count) in
-      subst (AreEnds loops (get_or candidates k y).row) (sym (ap (λ l. get_or l k e) grown ∙ get_or_append_left old (last ∷ []) e k within)) (each k y e before)
-]
-
--- ends that are listed, at a place
-pub ends_at : (loops k : ℕ) (candidates : List Candidate) (ends : List Ends) (x : Candidate) (e : Ends) → HaveEnds loops candidates ends → k < length candidates → x ≡ get_or candidates k x → e ≡ get_or ends k e → AreEnds loops x.row e
-ends_at loops k candidates ends x e have low is at = subst (λ (z : Candidate). AreEnds loops z.row e) (sym is) (subst (AreEnds loops (get_or candidates k x).row) (sym at) (have.each k x e low))

@@ -10,6 +10,8 @@ pub mod Parts
 pub mod Quantifiers
 pub mod ReachedStates
 pub mod Reaching
+pub mod Reordered
+pub mod RunParts
 pub mod Standing
 pub mod Steppings
 pub mod Thinning

@@ -1,6 +1,6 @@
 -- Groups of candidates by upper parts of the outer loops.
-use Rattle.std.specs.Prelude.{◌≡◌, ℕ, ◌<◌, ◌≤◌, ◌%◌, List, [], length, slice_index_or}
-use Rattle.std.specs.List.{All, Contains}
+use Rattle.std.specs.Prelude.{◌≡◌, ℕ, ◌+◌, ◌*◌, ◌<◌, ◌≤◌, ◌%◌, List, [], length, slice_index_or}
+use Rattle.std.specs.List.{All, Any, Contains}
 use Rattle.tce_space.specs.IndexSet.{IsWithin}
 use Rattle.tce_states.specs.Relation.{Relation, above}
 use Rattle.tce_candidates.specs.declared.candidate.Candidate.{Candidate}
@@ -17,19 +17,22 @@ pub record Listed : Type 0 where
 abbrev pub LeavesOpen : ℕ → Candidate → Candidate → Type 0
 LeavesOpen outer x y = Stands outer (above y.row.classes) y.row.cost x → ⊥
 
--- the entries of the group of a set of loops
-abbrev pub group_of : List (List Entry) → ℕ → List Entry
-group_of groups part = slice_index_or groups (part % 1021) []
+-- the entries of the group of two sets of loops
+abbrev pub group_of : List (List Entry) → ℕ → ℕ → List Entry
+group_of groups part under = slice_index_or groups ((part * 1021 + under) % length groups) []
 
--- the candidate has an entry in the group of one of its upper parts, with the marks of some of them
+-- the candidate has an entry in the group of two of its upper parts, with the marks of some of them
 pub record IsEntered (outer : ℕ) (groups : List (List Entry)) (place : ℕ) (candidate : Candidate) : Type 0 where
   pub parts : List ℕ
   pub part : ℕ
+  pub under : ℕ
   pub marks : ℕ
   pub upper : All (IsUpperPart outer (above candidate.row.classes)) parts
   pub among : Contains parts part
+  pub too : Contains parts under
+  pub order : under ≤ part
   pub marked : AreMarksOf parts marks
-  pub entered : Contains (group_of groups part) (record { cost = candidate.row.cost; place = place; marks = marks })
+  pub entered : Contains (group_of groups part under) (record { cost = candidate.row.cost; place = place; marks = marks })
 
 -- so does each
 abbrev pub AreEntered : ℕ → List (List Entry) → List Candidate → Type 0
@@ -44,3 +47,11 @@ pub record StandsAt (outer : ℕ) (relation : Relation) (limit marks : ℕ) (can
   pub inside : entry.place < length candidates
   pub is : slice_index_or candidates entry.place candidate ≡ candidate
   pub stands : Stands outer relation limit candidate
+
+-- of two parts the second is no greater as a number, and some entry of their group is at a candidate that stands for a state
+abbrev pub PairStands : ℕ → Relation → ℕ → ℕ → List (List Entry) → List Candidate → ℕ → ℕ → Type 0
+PairStands outer relation limit marks groups candidates part under = (under ≤ part) × Any (StandsAt outer relation limit marks candidates) (group_of groups part under)
+
+-- so do a part and some of the parts
+pub record PartStands (outer : ℕ) (relation : Relation) (limit marks : ℕ) (groups : List (List Entry)) (candidates : List Candidate) (parts : List ℕ) (part : ℕ) : Type 0 where
+  pub some : Any (PairStands outer relation limit marks groups candidates part) parts

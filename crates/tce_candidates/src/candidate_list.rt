@@ -1,8 +1,8 @@
 // Lists of candidates in which those that stand for a state are found quickly.
-ghost use Rattle.std.specs.Prelude.{◌≡◌, ◌↔◌, ◌<◌, [], ◌∷◌, ◌++◌, length, IsTrue, IfOk, OnOk, Any, Contains};
+ghost use Rattle.std.specs.Prelude.{◌≡◌, ◌↔◌, ◌<◌, ◌≤◌, [], ◌∷◌, ◌++◌, length, IsTrue, IfOk, OnOk, Any, Contains};
 ghost use Rattle.tce_states.specs.Relation.{above};
 ghost use Rattle.tce_candidates.specs.Candidates.{Stands};
-ghost use Rattle.tce_candidates.specs.Groups.{StandsAt, group_of};
+ghost use Rattle.tce_candidates.specs.Groups.{StandsAt, PairStands, PartStands};
 
 use crate::candidate::Candidate;
 use crate::groups::{Entry, Groups};
@@ -13,9 +13,12 @@ use std::marker::Model;
 use tce_nesting::Row;
 use tce_space::IndexSet;
 
+// A list has no fewer groups.
+const LEAST_GROUPS: usize = 61;
+
 /// Candidates of a node in the order in which they came, to be compared on outer loops.
 ///
-/// Each has an entry in the group of its largest upper part. The upper parts of what stands for a state are upper parts of the state too, so a candidate that does is in the group of one of these.
+/// Each has an entry in the group of its two largest upper parts. The upper parts of what stands for a state are upper parts of the state too, so a candidate that does is in the group of two of these.
 #[derive(Drop)]
 pub(crate) struct CandidateList {
     outer: IndexSet,
@@ -34,14 +37,18 @@ impl Model for CandidateList {
 }
 
 impl CandidateList {
-    /// No candidates.
-    pub(crate) fn new(alloc: Global, outer: IndexSet) -> Result<CandidateList, AllocError>
+    /// No candidates, where about so many are expected.
+    pub(crate) fn new(
+        alloc: Global,
+        outer: IndexSet,
+        expected: usize,
+    ) -> Result<CandidateList, AllocError>
         ensures { IfOk result (λ list. list ≡ record { outer = outer; candidates = [] }) }
     {
         Ok(CandidateList {
             outer,
             candidates: Vec::new(alloc),
-            groups: Groups::new(alloc)?,
+            groups: Groups::new(alloc, expected / 2 + LEAST_GROUPS)?,
         })
     }
 
@@ -57,14 +64,13 @@ impl CandidateList {
         ensures { IsTrue result ↔ Any (Stands self.now.outer (above state.now.classes) state.now.cost) self.now.candidates }
     {
         let parts = upper_parts(&state.classes, self.outer);
-        some_group_covers(
-            self.candidates.as_slice(),
-            &self.groups,
-            parts.as_slice(),
-            marks_of(parts.as_slice()),
+        let sought = Sought {
             state,
-            self.outer,
-        )
+            outer: self.outer,
+            parts: parts.as_slice(),
+            marks: marks_of(parts.as_slice()),
+        };
+        some_group_covers(self.candidates.as_slice(), &self.groups, &sought)
     }
 
     /// Appends a candidate.
@@ -74,18 +80,19 @@ impl CandidateList {
     {
         let parts = upper_parts(&candidate.row.classes, self.outer);
         let part = last_of(parts.as_slice());
+        let under = under_of(parts.as_slice(), part);
         let entry = Entry {
             cost: candidate.row.cost,
             place: self.count(),
             marks: marks_of(parts.as_slice()),
         };
-        self.groups.push(part, entry)?;
+        self.groups.push(part, under, entry)?;
         self.candidates.push(candidate)?;
         Ok(())
     }
 
-    // How many candidates there are.
-    fn count(&self) -> usize
+    /// How many candidates there are.
+    pub(crate) fn count(&self) -> usize
         ensures { result ≡ length self.now.candidates }
     {
         self.candidates.len()
@@ -108,51 +115,98 @@ fn last_of(parts: &[IndexSet]) -> IndexSet
     parts[parts.len() - 1]
 }
 
-// Whether some candidate of the parts' groups stands for the state.
-fn some_group_covers(
+// The last but one of the parts, where there is one and it is no greater as a number than the last one, and else that.
+#[tactic(auto, using(crate::proofs::Covers::read_contains))]
+fn under_of(parts: &[IndexSet], part: IndexSet) -> IndexSet
+    requires { Contains parts.now part }
+    ensures among { Contains parts.now result }
+    ensures order { result ≤ part }
+{
+    if parts.len() < 2 {
+        return part;
+    }
+    let under = parts[parts.len() - 2];
+    if under.bits() <= part.bits() {
+        under
+    } else {
+        part
+    }
+}
+
+// A state, the outer loops on which it is compared, its upper parts, and their marks.
+#[derive(Clone, Copy)]
+struct Sought<'a> {
+    state: &'a Row,
+    outer: IndexSet,
+    parts: &'a [IndexSet],
+    marks: IndexSet,
+}
+
+// Whether some candidate of the groups of the parts stands for the state.
+fn some_group_covers(candidates: &[Candidate], groups: &Groups, sought: &Sought) -> bool
+    ensures { IsTrue result ↔ Any (PartStands sought.now.outer (above sought.now.state.now.classes) sought.now.state.now.cost sought.now.marks groups.now candidates.now sought.now.parts.now) sought.now.parts.now }
+{
+    let parts = sought.parts;
+    for part in parts {
+        if part_covers(candidates, groups, sought, *part) {
+            return true;
+        }
+    }
+    false
+}
+
+// The same of one part.
+fn part_covers(candidates: &[Candidate], groups: &Groups, sought: &Sought, part: IndexSet) -> bool
+    ensures { IsTrue result ↔ PartStands sought.now.outer (above sought.now.state.now.classes) sought.now.state.now.cost sought.now.marks groups.now candidates.now sought.now.parts.now part }
+{
+    some_pair_covers(candidates, groups, sought, part)
+}
+
+// Whether some candidate of the groups of a part and each other one stands for the state.
+fn some_pair_covers(
     candidates: &[Candidate],
     groups: &Groups,
-    parts: &[IndexSet],
-    marks: IndexSet,
-    state: &Row,
-    outer: IndexSet,
+    sought: &Sought,
+    part: IndexSet,
 ) -> bool
-    ensures { IsTrue result ↔ Any (λ part. Any (StandsAt outer (above state.now.classes) state.now.cost marks candidates.now) (group_of groups.now part)) parts.now }
+    ensures { IsTrue result ↔ Any (PairStands sought.now.outer (above sought.now.state.now.classes) sought.now.state.now.cost sought.now.marks groups.now candidates.now part) sought.now.parts.now }
 {
-    parts.iter().any(|part| group_covers(candidates, groups.of(*part), marks, state, outer))
+    sought.parts.iter().any(|under| pair_covers(candidates, groups, sought, part, *under))
+}
+
+// Whether some candidate of the group of two parts, of which the second is no greater as a number, stands for the state.
+fn pair_covers(
+    candidates: &[Candidate],
+    groups: &Groups,
+    sought: &Sought,
+    part: IndexSet,
+    under: IndexSet,
+) -> bool
+    ensures { IsTrue result ↔ PairStands sought.now.outer (above sought.now.state.now.classes) sought.now.state.now.cost sought.now.marks groups.now candidates.now part under }
+{
+    under.bits() <= part.bits() && group_covers(candidates, groups.of(part, under), sought)
 }
 
 // Whether some candidate of a group stands for the state. What came last is asked first: it mostly costs least.
-fn group_covers(
-    candidates: &[Candidate],
-    group: &[Entry],
-    marks: IndexSet,
-    state: &Row,
-    outer: IndexSet,
-) -> bool
-    ensures { IsTrue result ↔ Any (StandsAt outer (above state.now.classes) state.now.cost marks candidates.now) group.now }
+fn group_covers(candidates: &[Candidate], group: &[Entry], sought: &Sought) -> bool
+    ensures { IsTrue result ↔ Any (StandsAt sought.now.outer (above sought.now.state.now.classes) sought.now.state.now.cost sought.now.marks candidates.now) group.now }
 {
     group
         .iter()
         .rev()
-        .any(|entry| stands_at(candidates, entry, marks, state, outer))
+        .any(|entry| stands_at(candidates, entry, sought))
 }
 
 // Whether there is a candidate at the entry's place that stands for the state, the entry's cost is no more, and its marks are among those of the state.
-fn stands_at(
-    candidates: &[Candidate],
-    entry: &Entry,
-    marks: IndexSet,
-    state: &Row,
-    outer: IndexSet,
-) -> bool
-    ensures { IsTrue result ↔ StandsAt outer (above state.now.classes) state.now.cost marks candidates.now entry.now }
+fn stands_at(candidates: &[Candidate], entry: &Entry, sought: &Sought) -> bool
+    ensures { IsTrue result ↔ StandsAt sought.now.outer (above sought.now.state.now.classes) sought.now.state.now.cost sought.now.marks candidates.now entry.now }
 {
-    if state.cost < entry.cost || !entry.marks.within(marks) {
+    let state = sought.state;
+    if state.cost < entry.cost || !entry.marks.within(sought.marks) {
         return false;
     }
     match candidates.get(entry.place) {
-        Some(candidate) => stands_for(&candidate.row, state, outer),
+        Some(candidate) => stands_for(&candidate.row, state, sought.outer),
         None => false,
     }
 }

@@ -1,10 +1,8 @@
 // The least and the largest upper part of a state, by which most pairs of candidates that have a conflict are told at once.
-ghost use Rattle.std.specs.Prelude.{◌<◌, length, IsTrue, IfOk, Contains};
-ghost use Rattle.tce_candidates.specs.Ends.{AreEnds, HaveEnds, DoCross, IsCut, AreRuledOut};
+ghost use Rattle.std.specs.Prelude.{◌<◌, length, IsTrue, Contains};
+ghost use Rattle.tce_candidates.specs.Ends.{AreEnds, DoCross, IsCut, AreRuledOut};
 
-use crate::candidate::Candidate;
 use crate::upper::upper_parts;
-use std::alloc::{AllocError, Global};
 use tce_nesting::Row;
 use tce_space::IndexSet;
 
@@ -44,21 +42,6 @@ pub(crate) fn largest_of(parts: &[IndexSet]) -> IndexSet
     ensures { Contains parts.now result }
 {
     parts[parts.len() - 1]
-}
-
-/// The ends of each candidate.
-pub(crate) fn ends_of_all(
-    alloc: Global,
-    candidates: &[Candidate],
-    loops: IndexSet,
-) -> Result<Vec<Ends>, AllocError>
-    ensures { IfOk result (λ ends. HaveEnds loops candidates.now ends.items) }
-{
-    let mut ends = Vec::with_capacity(alloc, candidates.len())?;
-    for candidate in candidates {
-        ends.push(ends_of(&candidate.row, loops))?;
-    }
-    Ok(ends)
 }
 
 /// Whether two states are seen to have a conflict, or together to cost the limit or more.

@@ -3,14 +3,15 @@ ghost use Rattle.std.specs.Prelude.{◌≡◌, ◌⊎◌, ◌↔◌, ◌+◌, �
 ghost use Rattle.tce_space.specs.Limits.{max_loops};
 ghost use Rattle.tce_space.specs.IndexSet.{count};
 ghost use Rattle.tce_candidates.specs.Candidates.{StandForAll, IsLimited, LeavesRoom, HaveRoom};
-ghost use Rattle.tce_candidates.specs.Ends.{AreEnds, HaveEnds};
+ghost use Rattle.tce_candidates.specs.Ends.{AreRuns};
 ghost use Rattle.tce_candidates.specs.Groups.{LeavesOpen};
 ghost use Rattle.tce_candidates.specs.Joins.{IsJoinBelow, IsSomeJoinBelow, JoinCovered, HasNext};
 
 use crate::candidate::{Candidate, both_sets};
 use crate::candidate_list::CandidateList;
-use crate::ends::{Ends, are_ruled_out, ends_of, ends_of_all};
+use crate::ends::{are_ruled_out, ends_of};
 use crate::join_rows;
+use crate::runs::{Run, runs_of};
 use crate::thinned::thinned;
 use std::alloc::{AllocError, Global};
 use tce_space::IndexSet;
@@ -55,46 +56,19 @@ fn add_join(
     Ok(())
 }
 
-// Appends what two operands' candidates are together, where their ends do not rule it out.
-fn add_likely_join(
-    list: &mut CandidateList,
-    left: &Candidate,
-    own: &Ends,
-    right: &Candidate,
-    other: &Ends,
-    limit: u128,
-) -> Result<(), AllocError>
-    requires loops { count list.old.outer ≤ max_loops }
-    requires left { IsLimited left.now }
-    requires right { IsLimited right.now }
-    requires room { LeavesRoom left.now right.now }
-    requires own { AreEnds list.old.outer left.now.row own.now }
-    requires other { AreEnds list.old.outer right.now.row other.now }
-    ensures covered { OnOk result (JoinCovered limit list.old.outer list.new.candidates left.now right.now) }
-    ensures outer { OnOk result (list.new.outer ≡ list.old.outer) }
-    ensures others { OnOk result (StandForAll list.old.outer list.old.candidates list.new.candidates) }
-    ensures later { OnOk result (AllPairs (LeavesOpen list.old.outer) list.old.candidates → AllPairs (LeavesOpen list.old.outer) list.new.candidates) }
-    ensures origin { OnOk result (All (λ x. Contains list.old.candidates x ⊎ IsJoinBelow limit list.old.outer left.now right.now x) list.new.candidates) }
-{
-    if are_ruled_out(own, other, limit) {
-        return Ok(());
-    }
-    add_join(list, left, right, limit)
-}
-
-// Appends what one of the left operand's candidates and those of the right one are together.
+// Appends what one of the left operand's candidates and those of the right one are together. A run of these whose ends rule it out is passed over at once.
 fn add_joins(
     list: &mut CandidateList,
     left: &Candidate,
     rights: &[Candidate],
-    ends: &[Ends],
+    runs: &[Run],
     limit: u128,
 ) -> Result<(), AllocError>
     requires loops { count list.old.outer ≤ max_loops }
     requires left { IsLimited left.now }
     requires rights { All IsLimited rights.now }
     requires room { All (LeavesRoom left.now) rights.now }
-    requires ends { HaveEnds list.old.outer rights.now ends.now }
+    requires runs { AreRuns list.old.outer rights.now runs.now }
     ensures covered { OnOk result (All (JoinCovered limit list.old.outer list.new.candidates left.now) rights.now) }
     ensures outer { OnOk result (list.new.outer ≡ list.old.outer) }
     ensures others { OnOk result (StandForAll list.old.outer list.old.candidates list.new.candidates) }
@@ -103,8 +77,13 @@ fn add_joins(
 {
     let own = ends_of(&left.row, list.outer());
     let mut place = 0;
-    for right in rights {
-        add_likely_join(list, left, &own, right, &ends[place], limit)?;
+    while place < rights.len() {
+        let run = runs[place];
+        if are_ruled_out(&own, &run.ends, limit) {
+            place = run.until;
+            continue;
+        }
+        add_join(list, left, &rights[place], limit)?;
         place += 1;
     }
     Ok(())
@@ -128,10 +107,10 @@ pub(crate) fn joins_of(
     ensures joins { IfOk result (λ joins. All (IsSomeJoinBelow limit loops lefts.now rights.now) joins.items) }
     ensures next { IfOk result (λ joins. All HasNext joins.items) }
 {
-    let mut list = CandidateList::new(alloc, loops)?;
-    let ends = ends_of_all(alloc, rights, loops)?;
+    let mut list = CandidateList::new(alloc, loops, lefts.len().saturating_add(rights.len()))?;
+    let runs = runs_of(alloc, rights, loops)?;
     for left in lefts {
-        add_joins(&mut list, left, rights, ends.as_slice(), limit)?;
+        add_joins(&mut list, left, rights, runs.as_slice(), limit)?;
     }
     let joins = thinned(alloc, list)?;
     Ok(joins)

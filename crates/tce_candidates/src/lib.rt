@@ -9,6 +9,8 @@ mod ends;
 mod groups;
 mod joins;
 mod laws;
+mod ordered;
+mod runs;
 mod steps;
 mod table;
 mod thinned;

@@ -10,6 +10,7 @@ ghost use Rattle.tce_candidates.specs.Joins.{IsStepFrom, IsSomeStepFrom, HasNext
 use crate::candidate::{Candidate, at_limit, with_set};
 use crate::candidate_list::CandidateList;
 use crate::joins::joins_of;
+use crate::ordered::by_ends;
 use crate::step;
 use crate::thinned::thinned;
 use std::alloc::{AllocError, Global};
@@ -113,9 +114,10 @@ pub fn candidates_of(
 {
     let _number = loops.bits();
     let joins = joins_of(alloc, lefts, rights, loops, limit)?;
-    let mut list = CandidateList::new(alloc, outer)?;
+    let mut list = CandidateList::new(alloc, outer, joins.len())?;
     list.push(at_limit(limit))?;
     add_all_steps(&mut list, joins.as_slice(), choices, limit)?;
-    let table = thinned(alloc, list)?;
+    let kept = thinned(alloc, list)?;
+    let table = by_ends(kept, outer)?;
     Ok(table)
 }

@@ -14,7 +14,7 @@ pub(crate) fn thinned(alloc: Global, list: CandidateList) -> Result<Vec<Candidat
     ensures apart { IfOk result (λ kept. AllPairs (AreApart list.outer) kept.items) }
     ensures origin { IfOk result (λ kept. All (Contains list.candidates) kept.items) }
 {
-    let mut kept = CandidateList::new(alloc, list.outer())?;
+    let mut kept = CandidateList::new(alloc, list.outer(), list.count())?;
     let mut rest = list.into_candidates();
     while let Some(candidate) = rest.pop() {
         if !kept.covers(&candidate.row) {

@@ -6,8 +6,10 @@ use Rattle.tce_candidates.specs.declared.candidate.Candidate.{Candidate}
 use Rattle.tce_candidates.specs.Candidates.{StandForAll, AreApart, ChoiceCovered, IsReachedBelow, limit_candidate}
 use Rattle.tce_candidates.specs.Groups.{Listed, LeavesOpen}
 use Rattle.tce_candidates.specs.Joins.{IsSomeJoinBelow, IsSomeStepFrom, HasNext}
+use Rattle.std.proofs.lemmas.List.Sorted.{All-permutation}
 use Rattle.tce_candidates.proofs.Covers.{pairs_later}
 use Rattle.tce_candidates.proofs.Joining.{pairs_from_joins, joins_placed, step_reached, limit_stands, limit_alone, all_at_limit}
+use Rattle.tce_candidates.proofs.Reordered.{stand_permuted, apart_permuted}
 use Rattle.tce_candidates.proofs.table.candidates_of.Goals as goal
 
 pub add_all_steps-requires-clause-limit : goal.add_all_steps-requires-clause-limit
@@ -36,6 +38,7 @@ returns-clause-covered c =
     let start = c.push.new.self in
     let joins = c.in_ok-joins.joins.items in
     let mid = c.add_all_steps.new.list.candidates in
+    let kept = c.in_ok-kept.kept.items in
     let new = c.in_ok-table.table.items in
     let here = c.in_ok-add_all_steps.ensures in
     let same = c.in_ok-push.ensures.outer ∙ ap (λ (l : Listed). l.outer) c.in_ok-list.ensures in
@@ -45,7 +48,8 @@ returns-clause-covered c =
     let at_limit = subst (λ o. StandForAll o start.candidates mid) same here.others none limit (limit_stands outer limit start.candidates is) in
     let covered = pairs_from_joins limit loops outer choices mid joins c.bits-number.ensures.bounded
     (joins_placed limit loops lefts rights joins c.in_ok-joins.ensures.joins) each at_limit lefts rights c.in_ok-joins.ensures.covered in
-    pairs_later loops outer choices mid new lefts rights (subst (λ o. StandForAll o mid new) (here.outer ∙ same) c.in_ok-table.ensures.others) covered
+    let shorter = pairs_later loops outer choices mid kept lefts rights (subst (λ o. StandForAll o mid kept) (here.outer ∙ same) c.in_ok-kept.ensures.others) covered in
+    pairs_later loops outer choices kept new lefts rights (stand_permuted outer kept new c.in_ok-table.ensures) shorter
 
 pub returns-clause-reached : goal.returns-clause-reached
 returns-clause-reached c =
@@ -67,9 +71,13 @@ returns-clause-reached c =
       | inr found ↦ inl (step_reached limit loops choices lefts rights found.1 x
           (All-contains (IsSomeJoinBelow limit loops lefts rights) joins found.1 c.in_ok-joins.ensures.joins (found.0, found.2, found.3)) found.4)
     ]) mid origin in
-    All-weaker (Contains mid) reached (λ x inn. All-contains reached mid x all inn) c.in_ok-table.table.items c.in_ok-table.ensures.origin
+    let kept = c.in_ok-kept.kept.items in
+    All-permutation reached kept c.in_ok-table.table.items c.in_ok-table.ensures
+    (All-weaker (Contains mid) reached (λ x inn. All-contains reached mid x all inn) kept c.in_ok-kept.ensures.origin)
 
 pub returns-clause-apart : goal.returns-clause-apart
 returns-clause-apart c =
     let same = c.in_ok-push.ensures.outer ∙ ap (λ (l : Listed). l.outer) c.in_ok-list.ensures in
-    subst (λ o. AllPairs (AreApart o) c.in_ok-table.table.items) (c.in_ok-add_all_steps.ensures.outer ∙ same) c.in_ok-table.ensures.apart
+    let kept = c.in_ok-kept.kept.items in
+    apart_permuted c.args.outer kept c.in_ok-table.table.items c.in_ok-table.ensures
+    (subst (λ o. AllPairs (AreApart o) kept) (c.in_ok-add_all_steps.ensures.outer ∙ same) c.in_ok-kept.ensures.apart)

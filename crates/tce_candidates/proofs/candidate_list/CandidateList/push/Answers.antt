@@ -26,10 +26,11 @@ invariant_of-self-2 c =
     let same = ap (λ (x : Candidate). x.row.classes) c.candidate.view_is in
     let each = subst (λ cs. All (IsUpperPart inside.outer (above cs)) parts) same c.upper_parts-parts.ensures.each in
     let inn = subst (λ xs. Contains xs part) c.as_slice.ensures.value c.last_of-part.ensures in
-    let marked = subst (λ ps. AreMarksOf ps c.marks_of.result) c.as_slice-2.ensures.value c.marks_of.ensures in
-    entered_last inside.outer c.push.new.self inside.candidates.items c.push-2.new.self.items c.args.candidate parts part c.marks_of.result c.count.result
+    let too = subst (λ xs. Contains xs c.under_of-under.result) c.as_slice-2.ensures.value c.under_of-under.ensures.among in
+    let marked = subst (λ ps. AreMarksOf ps c.marks_of.result) c.as_slice-3.ensures.value c.marks_of.ensures in
+    entered_last inside.outer c.push.new.self inside.candidates.items c.push-2.new.self.items c.args.candidate parts part c.under_of-under.result c.marks_of.result c.count.result
     (entered_later inside.outer inside.groups c.push.new.self inside.candidates.items c.in_ok-push.ensures.kept c.self.invariant)
     c.in_ok-push-2.ensures.items
-    each inn marked
+    each inn too c.under_of-under.ensures.order marked
     (c.count.ensures ∙ ap (λ (l : Listed). length l.candidates) (sym c.self.view_is))
-    (subst (λ (x : Candidate). Contains (group_of c.push.new.self part) (record { cost = x.row.cost; place = c.count.result; marks = c.marks_of.result })) c.candidate.view_is c.in_ok-push.ensures.added)
+    (subst (λ (x : Candidate). Contains (group_of c.push.new.self part c.under_of-under.result) (record { cost = x.row.cost; place = c.count.result; marks = c.marks_of.result })) c.candidate.view_is c.in_ok-push.ensures.added)

@@ -1,0 +1,12 @@
+use Rattle.std.proofs.Common.{◌≤◌, length}
+use Rattle.tce_candidates.specs.Ends.{AreRuns}
+use Rattle.tce_candidates.proofs.runs.runs_of.Given as goal
+
+abbrev pub invariant-loop-place : goal.invariant-loop-place
+invariant-loop-place l = record {
+  inside : l.place ≤ length l.candidates;
+  runs : AreRuns l.fn.loops l.candidates l.runs.items;
+}
+
+abbrev pub decreases-loop-place : goal.decreases-loop-place
+decreases-loop-place l = l.place
