@@ -1,4 +1,5 @@
 pub mod Held
+pub mod Frames
 pub mod Current
 pub mod Laws
 pub mod Ring

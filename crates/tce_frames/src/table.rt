@@ -1,7 +1,7 @@
 // Which tiles the frames hold, in the order of their last use.
-ghost use Rattle.std.specs.Prelude.{◌≡◌, ◌⊎◌, ℕ, ◌+◌, ◌-◌, ◌*◌, ◌<◌, ◌≤◌, ◌||◌, ◌++◌, List, [], ◌∷◌, length, true, false, Some, None, MatchOption, IfOk, IfSome, ◌^◌};
-ghost use Rattle.std.specs.Option.{IsSomeAnd};
-ghost use Rattle.tce_frames.specs.Held.{Held, look_up, without, cleaned, IsFree, AreApart};
+ghost use Rattle.std.specs.Prelude.{◌≡◌, ◌+◌, ◌<◌, ◌≤◌, ◌∷◌, length, Some, None, IfOk, ◌^◌};
+ghost use Rattle.tce_frames.specs.Held.{look_up, IsFree, AreApart};
+ghost use Rattle.tce_frames.specs.Frames.{held_at, AreLow, HasTile, IsFrameOf, IsLastFrame, IsCleaned, IsReplaced, IsMovedToFront};
 
 use crate::ring::Rings;
 use std::alloc::{AllocError, Global};
@@ -108,10 +108,12 @@ impl Model for Table {
 }
 
 impl Table {
+    ghost use Rattle.tce_frames.specs.Table.{holding_none, held_by};
+
     /// A table of so many frames, of which none holds a tile. `tiles` has the number of tiles of each array.
     pub fn new(alloc: Global, frames: usize, tiles: &[u64]) -> Result<Table, AllocError>
         requires { frames ≤ 2 ^ 40 }
-        ensures { IfOk result (λ t. t ≡ record { frames = frames; arrays = length tiles.now; held = [] }) }
+        ensures { IfOk result (λ t. t ≡ holding_none frames (length tiles.now)) }
     {
         let buckets = bucket_count(frames);
         let empty = Frame {
@@ -140,7 +142,7 @@ impl Table {
         ensures count { result ≡ length self.now.held }
         ensures within { length self.now.held ≤ self.now.frames }
         ensures apart { AreApart self.now.frames self.now.held }
-        ensures low { (array tile : ℕ) (h : Held) → look_up self.now.held array tile ≡ Some h → h.frame < length self.now.held }
+        ensures low { AreLow self.now.held }
     {
         self.held
     }
@@ -148,7 +150,7 @@ impl Table {
     /// What a frame holds.
     pub fn frame(&self, frame: usize) -> Frame
         requires { frame < length self.now.held }
-        ensures { look_up self.now.held result.array result.tile ≡ Some (record { array = result.array; tile = result.tile; frame = frame; marked = result.marked }) }
+        ensures { look_up self.now.held result.array result.tile ≡ Some (held_by frame result) }
     {
         self.frames[frame]
     }
@@ -156,7 +158,7 @@ impl Table {
     /// The frame whose tile was used least recently.
     pub fn oldest(&self) -> usize
         requires { 0 < length self.now.held }
-        ensures last { (rest : List Held) (z : Held) → self.now.held ≡ rest ++ z ∷ [] → result ≡ z.frame }
+        ensures last { IsLastFrame result self.now.held }
         ensures held { result < length self.now.held }
     {
         self.order.before(self.frames.len())
@@ -165,7 +167,7 @@ impl Table {
     /// The frame that holds a tile.
     pub fn find(&self, array: u8, tile: u64) -> Option<usize>
         requires { array < self.now.arrays }
-        ensures { MatchOption result (look_up self.now.held array tile ≡ None) (λ f. IsSomeAnd (look_up self.now.held array tile) (λ h. h.frame ≡ f)) }
+        ensures { IsFrameOf (look_up self.now.held array tile) result }
     {
         let latest = self.order.after(self.frames.len());
         if latest < self.frames.len() {
@@ -192,7 +194,7 @@ impl Table {
         requires room { length self.old.held < self.old.frames }
         requires absent { look_up self.old.held array tile ≡ None }
         ensures same { (self.new.frames ≡ self.old.frames) × (self.new.arrays ≡ self.old.arrays) }
-        ensures held { self.new.held ≡ record { array = array; tile = tile; frame = result; marked = marked } ∷ self.old.held }
+        ensures held { self.new.held ≡ held_at array tile result marked ∷ self.old.held }
         ensures free { IsFree result self.old.held }
         ensures low { result < self.old.frames }
     {
@@ -211,11 +213,12 @@ impl Table {
 
     /// Puts a tile that no frame holds in the place of another, marked or not, and makes it the one used last.
     pub fn replace(&mut self, frame: usize, array: u8, tile: u64, marked: bool)
-        requires frame { (h : Held) × (look_up self.old.held h.array h.tile ≡ Some h) × (h.frame ≡ frame) }
+        requires frame { HasTile frame self.old.held }
         requires array { array < self.old.arrays }
         requires absent { look_up self.old.held array tile ≡ None }
         ensures same { (self.new.frames ≡ self.old.frames) × (self.new.arrays ≡ self.old.arrays) }
-        ensures held { (a t : ℕ) (h : Held) → look_up self.old.held a t ≡ Some h → h.frame ≡ frame → self.new.held ≡ record { array = array; tile = tile; frame = frame; marked = marked } ∷ without a t self.old.held }
+        ensures held { IsReplaced frame (held_at array tile frame marked)
+            self.old.held self.new.held }
     {
         let end = self.frames.len();
         let bucket = self.spread.bucket(array, tile);
@@ -232,18 +235,18 @@ impl Table {
 
     /// Takes the mark of a frame's tile away.
     pub fn clean(&mut self, frame: usize)
-        requires { (h : Held) × (look_up self.old.held h.array h.tile ≡ Some h) × (h.frame ≡ frame) }
+        requires { HasTile frame self.old.held }
         ensures same { (self.new.frames ≡ self.old.frames) × (self.new.arrays ≡ self.old.arrays) }
-        ensures held { (array tile : ℕ) (h : Held) → look_up self.old.held array tile ≡ Some h → h.frame ≡ frame → self.new.held ≡ cleaned array tile self.old.held }
+        ensures held { IsCleaned frame self.old.held self.new.held }
     {
         self.frames[frame].marked = false;
     }
 
     /// Makes this frame the one used last, and may mark its tile.
     pub fn touch(&mut self, frame: usize, mark: bool)
-        requires { (h : Held) × (look_up self.old.held h.array h.tile ≡ Some h) × (h.frame ≡ frame) }
+        requires { HasTile frame self.old.held }
         ensures same { (self.new.frames ≡ self.old.frames) × (self.new.arrays ≡ self.old.arrays) }
-        ensures held { (array tile : ℕ) (h : Held) → look_up self.old.held array tile ≡ Some h → h.frame ≡ frame → self.new.held ≡ record h { marked = h.marked || mark } ∷ without array tile self.old.held }
+        ensures held { IsMovedToFront frame mark self.old.held self.new.held }
     {
         let front = self.frames.len();
         self.order.remove(frame);

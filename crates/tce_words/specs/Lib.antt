@@ -5,6 +5,8 @@ pub mod PlacesLends
 pub mod Refusing
 pub mod Rows
 pub mod Run
+pub mod Runs
+pub mod Added
 pub mod RunLaws
 pub mod Whole
 pub mod WordsLends

@@ -94,7 +94,8 @@ impl Places {
         requires at { at ≡ length self.old.words }
         requires limit { at < 2 ^ 60 }
         requires left { 0 < self.old.left }
-        ensures { self.new ≡ record self.old { words = self.old.words ++ word ∷ []; left = self.old.left - 1 } }
+        ensures { self.new ≡ record self.old
+            { words = self.old.words ++ word ∷ []; left = self.old.left - 1 } }
     {
         unsafe { base.ptr.add(at).write(word) }
     }

@@ -1,8 +1,10 @@
 //! Runs of products.
-ghost use Rattle.std.specs.Prelude.{◌≡◌, ◌+◌, ◌≤◌, ◌⊎◌, map, length, slice_range};
+ghost use Rattle.std.specs.Prelude.{◌≡◌, ◌+◌, ◌≤◌, ◌⊎◌, map, length};
 ghost use Rattle.std.specs.Simd.Lanes.{zip2};
-ghost use Rattle.tce_base.specs.Word.{wrapping_add, wrapping_mul, wrapping_sum};
-ghost use Rattle.tce_words.specs.Run.{IsWithin, AreApart, IsDistinct, IsRun, with_part, word_along, words_along};
+ghost use Rattle.tce_base.specs.Word.{wrapping_add, wrapping_mul};
+ghost use Rattle.tce_words.specs.Rows.{row_of};
+ghost use Rattle.tce_words.specs.Run.{IsWithin, AreApart, IsDistinct, with_part};
+ghost use Rattle.tce_words.specs.Runs.{IsTimes, IsTimesAdded, dot_of};
 
 use crate::runs::{Run, part};
 use tce_kernel::{dot, mul_add_sv, mul_add_vv, mul_sv, mul_vv, sum};
@@ -14,7 +16,7 @@ fn mul_strided(words: &mut [u64], out: Run, a: Run, b: Run, n: usize)
     requires apart_from_a { AreApart out.first out.step a.first a.step n }
     requires apart_from_b { AreApart out.first out.step b.first b.step n }
     requires distinct { IsDistinct out.first out.step n }
-    ensures { IsRun (λ t. wrapping_mul (word_along words.old a.first a.step t) (word_along words.old b.first b.step t)) out.first out.step n words.old words.new }
+    ensures { IsTimes out.first out.step a.first a.step b.first b.step n words.old words.new }
 {
     for t in 0..n {
         words[out.first + t * out.step] = words[a.first + t * a.step].wrapping_mul(
@@ -29,7 +31,8 @@ fn mul_contiguous(words: &mut [u64], out: usize, a: usize, b: usize, n: usize)
     requires b { b + n ≤ length words.old }
     requires apart_from_a { (a + n ≤ out) ⊎ (out + n ≤ a) }
     requires apart_from_b { (b + n ≤ out) ⊎ (out + n ≤ b) }
-    ensures { words.new ≡ with_part words.old out (zip2 wrapping_mul (slice_range words.old a (a + n)) (slice_range words.old b (b + n))) }
+    ensures { words.new ≡ with_part words.old out
+        (zip2 wrapping_mul (row_of words.old a n) (row_of words.old b n)) }
 {
     let (front, rest) = words.split_at_mut(out);
     let (target, back) = rest.split_at_mut(n);
@@ -42,7 +45,8 @@ fn mul_scaled(words: &mut [u64], out: usize, factor: u64, b: usize, n: usize)
     requires out { out + n ≤ length words.old }
     requires b { b + n ≤ length words.old }
     requires apart { (b + n ≤ out) ⊎ (out + n ≤ b) }
-    ensures { words.new ≡ with_part words.old out (map (wrapping_mul factor) (slice_range words.old b (b + n))) }
+    ensures { words.new ≡ with_part words.old out
+        (map (wrapping_mul factor) (row_of words.old b n)) }
 {
     let (front, rest) = words.split_at_mut(out);
     let (target, back) = rest.split_at_mut(n);
@@ -57,7 +61,7 @@ pub(crate) fn mul_run(words: &mut [u64], out: Run, a: Run, b: Run, n: usize)
     requires apart_from_a { AreApart out.first out.step a.first a.step n }
     requires apart_from_b { AreApart out.first out.step b.first b.step n }
     requires distinct { IsDistinct out.first out.step n }
-    ensures { IsRun (λ t. wrapping_mul (word_along words.old a.first a.step t) (word_along words.old b.first b.step t)) out.first out.step n words.old words.new }
+    ensures { IsTimes out.first out.step a.first a.step b.first b.step n words.old words.new }
 {
     if n == 0 {
         return;
@@ -83,7 +87,7 @@ fn mul_add_strided(words: &mut [u64], out: Run, a: Run, b: Run, n: usize)
     requires apart_from_a { AreApart out.first out.step a.first a.step n }
     requires apart_from_b { AreApart out.first out.step b.first b.step n }
     requires distinct { IsDistinct out.first out.step n }
-    ensures { IsRun (λ t. wrapping_add (word_along words.old out.first out.step t) (wrapping_mul (word_along words.old a.first a.step t) (word_along words.old b.first b.step t))) out.first out.step n words.old words.new }
+    ensures { IsTimesAdded out.first out.step a.first a.step b.first b.step n words.old words.new }
 {
     for t in 0..n {
         let product = words[a.first + t * a.step].wrapping_mul(words[b.first + t * b.step]);
@@ -97,7 +101,8 @@ fn mul_add_contiguous(words: &mut [u64], out: usize, a: usize, b: usize, n: usiz
     requires b { b + n ≤ length words.old }
     requires apart_from_a { (a + n ≤ out) ⊎ (out + n ≤ a) }
     requires apart_from_b { (b + n ≤ out) ⊎ (out + n ≤ b) }
-    ensures { words.new ≡ with_part words.old out (zip2 wrapping_add (slice_range words.old out (out + n)) (zip2 wrapping_mul (slice_range words.old a (a + n)) (slice_range words.old b (b + n)))) }
+    ensures { words.new ≡ with_part words.old out
+        (zip2 wrapping_add (row_of words.old out n) (zip2 wrapping_mul (row_of words.old a n) (row_of words.old b n))) }
 {
     let (front, rest) = words.split_at_mut(out);
     let (target, back) = rest.split_at_mut(n);
@@ -110,7 +115,8 @@ fn mul_add_scaled(words: &mut [u64], out: usize, factor: u64, b: usize, n: usize
     requires out { out + n ≤ length words.old }
     requires b { b + n ≤ length words.old }
     requires apart { (b + n ≤ out) ⊎ (out + n ≤ b) }
-    ensures { words.new ≡ with_part words.old out (zip2 wrapping_add (slice_range words.old out (out + n)) (map (wrapping_mul factor) (slice_range words.old b (b + n)))) }
+    ensures { words.new ≡ with_part words.old out
+        (zip2 wrapping_add (row_of words.old out n) (map (wrapping_mul factor) (row_of words.old b n))) }
 {
     let (front, rest) = words.split_at_mut(out);
     let (target, back) = rest.split_at_mut(n);
@@ -125,7 +131,7 @@ pub(crate) fn mul_add_run(words: &mut [u64], out: Run, a: Run, b: Run, n: usize)
     requires apart_from_a { AreApart out.first out.step a.first a.step n }
     requires apart_from_b { AreApart out.first out.step b.first b.step n }
     requires distinct { IsDistinct out.first out.step n }
-    ensures { IsRun (λ t. wrapping_add (word_along words.old out.first out.step t) (wrapping_mul (word_along words.old a.first a.step t) (word_along words.old b.first b.step t))) out.first out.step n words.old words.new }
+    ensures { IsTimesAdded out.first out.step a.first a.step b.first b.step n words.old words.new }
 {
     if n == 0 {
         return;
@@ -147,7 +153,7 @@ pub(crate) fn mul_add_run(words: &mut [u64], out: Run, a: Run, b: Run, n: usize)
 fn dot_strided(words: &[u64], a: Run, b: Run, n: usize) -> u64
     requires a { IsWithin (length words.now) a.first a.step n }
     requires b { IsWithin (length words.now) b.first b.step n }
-    ensures { result ≡ wrapping_sum (zip2 wrapping_mul (words_along words.now a.first a.step n) (words_along words.now b.first b.step n)) }
+    ensures { result ≡ dot_of words.now a.first a.step b.first b.step n }
 {
     let mut total: u64 = 0;
     for t in 0..n {
@@ -161,7 +167,7 @@ fn dot_strided(words: &[u64], a: Run, b: Run, n: usize) -> u64
 pub(crate) fn dot_run(words: &[u64], a: Run, b: Run, n: usize) -> u64
     requires a { IsWithin (length words.now) a.first a.step n }
     requires b { IsWithin (length words.now) b.first b.step n }
-    ensures { result ≡ wrapping_sum (zip2 wrapping_mul (words_along words.now a.first a.step n) (words_along words.now b.first b.step n)) }
+    ensures { result ≡ dot_of words.now a.first a.step b.first b.step n }
 {
     if n == 0 {
         return 0;

@@ -1,8 +1,9 @@
 //! Rows of products that are added to a run of words, four at once.
 ghost use Rattle.std.specs.Prelude.{◌≡◌, ℕ, ◌+◌, ◌*◌, ◌<◌, ◌≤◌, ◌⊎◌, length, slice_range};
-ghost use Rattle.tce_kernel.specs.Scaled.{with_four};
-ghost use Rattle.tce_words.specs.Rows.{AreFourRowsAdded, row_of};
-ghost use Rattle.tce_words.specs.Run.{IsWithin, AreApart, with_part};
+ghost use Rattle.tce_words.specs.Rows.{AreFourRowsAdded};
+ghost use Rattle.tce_words.specs.Added.{four_added};
+ghost use Rattle.tce_words.specs.Run.{IsWithin, with_part};
+ghost use Rattle.tce_words.specs.Runs.{AreRowsWithin, AreRowsApart, AreRowsBeside};
 
 use crate::runs::{Run, part};
 
@@ -10,8 +11,9 @@ use crate::runs::{Run, part};
 fn mul_add_scaled_four(words: &mut [u64], out: usize, factors: [u64; 4], rows: Run, n: usize)
     requires out { out + n ≤ length words.old }
     requires rows { (t : ℕ) → t < 4 → rows.first + t * rows.step + n ≤ length words.old }
-    requires apart { (t : ℕ) → t < 4 → (rows.first + t * rows.step + n ≤ out) ⊎ (out + n ≤ rows.first + t * rows.step) }
-    ensures { words.new ≡ with_part words.old out (with_four (slice_range words.old out (out + n)) factors (row_of words.old rows.first n) (row_of words.old (rows.first + rows.step) n) (row_of words.old (rows.first + 2 * rows.step) n) (row_of words.old (rows.first + 3 * rows.step) n)) }
+    requires apart { AreRowsBeside out rows.first rows.step n }
+    ensures { words.new ≡ with_part words.old out
+        (four_added words.old out factors rows.first rows.step n) }
 {
     let Run { first, step } = rows;
     let (front, rest) = words.split_at_mut(out);
@@ -27,10 +29,11 @@ fn mul_add_scaled_four(words: &mut [u64], out: usize, factors: [u64; 4], rows: R
 pub(crate) fn mul_add_four(words: &mut [u64], out: usize, factors: Run, rows: Run, n: usize)
     requires out { IsWithin (length words.old) out 1 n }
     requires factors { IsWithin (length words.old) factors.first factors.step 4 }
-    requires rows { (t : ℕ) → t < 4 → IsWithin (length words.old) (rows.first + t * rows.step) 1 n }
-    requires apart_from_factors { (t : ℕ) → t < 4 → AreApart out 1 (factors.first + t * factors.step) 0 n }
-    requires apart_from_rows { (t : ℕ) → t < 4 → AreApart out 1 (rows.first + t * rows.step) 1 n }
-    ensures { AreFourRowsAdded out factors.first factors.step rows.first rows.step n words.old words.new }
+    requires rows { AreRowsWithin (length words.old) rows.first rows.step n }
+    requires apart_from_factors { AreRowsApart out factors.first factors.step 0 n }
+    requires apart_from_rows { AreRowsApart out rows.first rows.step 1 n }
+    ensures { AreFourRowsAdded out factors.first factors.step rows.first rows.step n
+        words.old words.new }
 {
     if n == 0 {
         return;

@@ -1,5 +1,5 @@
 //! Where a run goes over a slice of words, and the parts of a slice beside the one that is written.
-ghost use Rattle.std.specs.Prelude.{ℕ, List, ◌≡◌, ◌++◌, ◌+◌, ◌≤◌, ◌⊎◌, length, slice_range};
+ghost use Rattle.std.specs.Prelude.{ℕ, List, ◌≡◌, ◌++◌, ◌+◌, ◌^◌, ◌<◌, ◌≤◌, ◌⊎◌, length, slice_index, slice_range};
 
 /// Places of words, each a step after the one before.
 #[derive(Clone, Copy, Debug, PartialEq, Eq)]
@@ -26,11 +26,20 @@ pub(crate) fn part<'a>(
     requires front { length front.now ≡ out }
     requires back { at + n ≤ out + n + length back.now }
     requires apart { (at + n ≤ out) ⊎ (out + n ≤ at) }
-    ensures { (middle : List ℕ) → length middle ≡ n → result.now ≡ slice_range (front.now ++ (middle ++ back.now)) at (at + n) }
+    ensures { (middle : List ℕ) → length middle ≡ n
+        → result.now ≡ slice_range (front.now ++ (middle ++ back.now)) at (at + n) }
 {
     if at < out {
         &front[at..at + n]
     } else {
         &back[at - out - n..at - out]
     }
+}
+
+// How many words there are.
+pub(crate) fn count(words: &[u64]) -> u64
+    ensures value { result ≡ length words.now }
+    ensures words { (k : ℕ) → slice_index words.now k < 2 ^ 64 }
+{
+    words.len() as u64
 }

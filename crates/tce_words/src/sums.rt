@@ -1,8 +1,10 @@
 //! Runs of sums and differences.
-ghost use Rattle.std.specs.Prelude.{◌≡◌, ◌+◌, ◌≤◌, ◌⊎◌, map, length, slice_range};
+ghost use Rattle.std.specs.Prelude.{◌≡◌, ◌+◌, ◌≤◌, ◌⊎◌, map, length};
 ghost use Rattle.std.specs.Simd.Lanes.{zip2};
 ghost use Rattle.tce_base.specs.Word.{wrapping_add, wrapping_sub, wrapping_sum};
-ghost use Rattle.tce_words.specs.Run.{IsWithin, AreApart, IsDistinct, IsRun, with_part, word_along, words_along};
+ghost use Rattle.tce_words.specs.Rows.{row_of};
+ghost use Rattle.tce_words.specs.Run.{IsWithin, AreApart, IsDistinct, with_part, words_along};
+ghost use Rattle.tce_words.specs.Runs.{IsPlus, IsMinus, IsAdded};
 
 use crate::runs::{Run, part};
 use tce_kernel::{add_vv, minus_sv, minus_vs, minus_vv, plus_sv, plus_vv, sum};
@@ -14,7 +16,7 @@ fn plus_strided(words: &mut [u64], out: Run, a: Run, b: Run, n: usize)
     requires apart_from_a { AreApart out.first out.step a.first a.step n }
     requires apart_from_b { AreApart out.first out.step b.first b.step n }
     requires distinct { IsDistinct out.first out.step n }
-    ensures { IsRun (λ t. wrapping_add (word_along words.old a.first a.step t) (word_along words.old b.first b.step t)) out.first out.step n words.old words.new }
+    ensures { IsPlus out.first out.step a.first a.step b.first b.step n words.old words.new }
 {
     for t in 0..n {
         words[out.first + t * out.step] = words[a.first + t * a.step].wrapping_add(
@@ -29,7 +31,8 @@ fn plus_contiguous(words: &mut [u64], out: usize, a: usize, b: usize, n: usize)
     requires b { b + n ≤ length words.old }
     requires apart_from_a { (a + n ≤ out) ⊎ (out + n ≤ a) }
     requires apart_from_b { (b + n ≤ out) ⊎ (out + n ≤ b) }
-    ensures { words.new ≡ with_part words.old out (zip2 wrapping_add (slice_range words.old a (a + n)) (slice_range words.old b (b + n))) }
+    ensures { words.new ≡ with_part words.old out
+        (zip2 wrapping_add (row_of words.old a n) (row_of words.old b n)) }
 {
     let (front, rest) = words.split_at_mut(out);
     let (target, back) = rest.split_at_mut(n);
@@ -42,7 +45,8 @@ fn plus_one(words: &mut [u64], out: usize, summand: u64, b: usize, n: usize)
     requires out { out + n ≤ length words.old }
     requires b { b + n ≤ length words.old }
     requires apart { (b + n ≤ out) ⊎ (out + n ≤ b) }
-    ensures { words.new ≡ with_part words.old out (map (wrapping_add summand) (slice_range words.old b (b + n))) }
+    ensures { words.new ≡ with_part words.old out
+        (map (wrapping_add summand) (row_of words.old b n)) }
 {
     let (front, rest) = words.split_at_mut(out);
     let (target, back) = rest.split_at_mut(n);
@@ -57,7 +61,7 @@ pub(crate) fn plus_run(words: &mut [u64], out: Run, a: Run, b: Run, n: usize)
     requires apart_from_a { AreApart out.first out.step a.first a.step n }
     requires apart_from_b { AreApart out.first out.step b.first b.step n }
     requires distinct { IsDistinct out.first out.step n }
-    ensures { IsRun (λ t. wrapping_add (word_along words.old a.first a.step t) (word_along words.old b.first b.step t)) out.first out.step n words.old words.new }
+    ensures { IsPlus out.first out.step a.first a.step b.first b.step n words.old words.new }
 {
     if n == 0 {
         return;
@@ -83,7 +87,7 @@ fn minus_strided(words: &mut [u64], out: Run, a: Run, b: Run, n: usize)
     requires apart_from_a { AreApart out.first out.step a.first a.step n }
     requires apart_from_b { AreApart out.first out.step b.first b.step n }
     requires distinct { IsDistinct out.first out.step n }
-    ensures { IsRun (λ t. wrapping_sub (word_along words.old a.first a.step t) (word_along words.old b.first b.step t)) out.first out.step n words.old words.new }
+    ensures { IsMinus out.first out.step a.first a.step b.first b.step n words.old words.new }
 {
     for t in 0..n {
         words[out.first + t * out.step] = words[a.first + t * a.step].wrapping_sub(
@@ -98,7 +102,8 @@ fn minus_contiguous(words: &mut [u64], out: usize, a: usize, b: usize, n: usize)
     requires b { b + n ≤ length words.old }
     requires apart_from_a { (a + n ≤ out) ⊎ (out + n ≤ a) }
     requires apart_from_b { (b + n ≤ out) ⊎ (out + n ≤ b) }
-    ensures { words.new ≡ with_part words.old out (zip2 wrapping_sub (slice_range words.old a (a + n)) (slice_range words.old b (b + n))) }
+    ensures { words.new ≡ with_part words.old out
+        (zip2 wrapping_sub (row_of words.old a n) (row_of words.old b n)) }
 {
     let (front, rest) = words.split_at_mut(out);
     let (target, back) = rest.split_at_mut(n);
@@ -111,7 +116,8 @@ fn one_minus(words: &mut [u64], out: usize, minuend: u64, b: usize, n: usize)
     requires out { out + n ≤ length words.old }
     requires b { b + n ≤ length words.old }
     requires apart { (b + n ≤ out) ⊎ (out + n ≤ b) }
-    ensures { words.new ≡ with_part words.old out (map (wrapping_sub minuend) (slice_range words.old b (b + n))) }
+    ensures { words.new ≡ with_part words.old out
+        (map (wrapping_sub minuend) (row_of words.old b n)) }
 {
     let (front, rest) = words.split_at_mut(out);
     let (target, back) = rest.split_at_mut(n);
@@ -122,7 +128,8 @@ fn minus_one(words: &mut [u64], out: usize, a: usize, subtrahend: u64, n: usize)
     requires out { out + n ≤ length words.old }
     requires a { a + n ≤ length words.old }
     requires apart { (a + n ≤ out) ⊎ (out + n ≤ a) }
-    ensures { words.new ≡ with_part words.old out (map (λ x. wrapping_sub x subtrahend) (slice_range words.old a (a + n))) }
+    ensures { words.new ≡ with_part words.old out
+        (map (λ x. wrapping_sub x subtrahend) (row_of words.old a n)) }
 {
     let (front, rest) = words.split_at_mut(out);
     let (target, back) = rest.split_at_mut(n);
@@ -137,7 +144,7 @@ pub(crate) fn minus_run(words: &mut [u64], out: Run, a: Run, b: Run, n: usize)
     requires apart_from_a { AreApart out.first out.step a.first a.step n }
     requires apart_from_b { AreApart out.first out.step b.first b.step n }
     requires distinct { IsDistinct out.first out.step n }
-    ensures { IsRun (λ t. wrapping_sub (word_along words.old a.first a.step t) (word_along words.old b.first b.step t)) out.first out.step n words.old words.new }
+    ensures { IsMinus out.first out.step a.first a.step b.first b.step n words.old words.new }
 {
     if n == 0 {
         return;
@@ -161,7 +168,7 @@ fn add_strided(words: &mut [u64], out: Run, a: Run, n: usize)
     requires a { IsWithin (length words.old) a.first a.step n }
     requires apart { AreApart out.first out.step a.first a.step n }
     requires distinct { IsDistinct out.first out.step n }
-    ensures { IsRun (λ t. wrapping_add (word_along words.old out.first out.step t) (word_along words.old a.first a.step t)) out.first out.step n words.old words.new }
+    ensures { IsAdded out.first out.step a.first a.step n words.old words.new }
 {
     for t in 0..n {
         words[out.first + t * out.step] = words[out.first + t * out.step].wrapping_add(
@@ -174,7 +181,8 @@ fn add_contiguous(words: &mut [u64], out: usize, a: usize, n: usize)
     requires out { out + n ≤ length words.old }
     requires a { a + n ≤ length words.old }
     requires apart { (a + n ≤ out) ⊎ (out + n ≤ a) }
-    ensures { words.new ≡ with_part words.old out (zip2 wrapping_add (slice_range words.old out (out + n)) (slice_range words.old a (a + n))) }
+    ensures { words.new ≡ with_part words.old out
+        (zip2 wrapping_add (row_of words.old out n) (row_of words.old a n)) }
 {
     let (front, rest) = words.split_at_mut(out);
     let (target, back) = rest.split_at_mut(n);
@@ -187,7 +195,7 @@ pub(crate) fn add_run(words: &mut [u64], out: Run, a: Run, n: usize)
     requires a { IsWithin (length words.old) a.first a.step n }
     requires apart { AreApart out.first out.step a.first a.step n }
     requires distinct { IsDistinct out.first out.step n }
-    ensures { IsRun (λ t. wrapping_add (word_along words.old out.first out.step t) (word_along words.old a.first a.step t)) out.first out.step n words.old words.new }
+    ensures { IsAdded out.first out.step a.first a.step n words.old words.new }
 {
     if n == 0 {
         return;

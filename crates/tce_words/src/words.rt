@@ -1,15 +1,14 @@
 //! A block of words.
-ghost use Rattle.std.specs.Prelude.{◌≡◌, ℕ, ◌+◌, ◌*◌, ◌/◌, ◌%◌, ◌^◌, ◌<◌, ◌≤◌, length, slice_index, slice_range, slice_set, replicate, IfOk};
-ghost use Rattle.std.specs.List.{flat_map};
-ghost use Rattle.std.specs.Simd.Lanes.{zip2};
-ghost use Rattle.tce_base.specs.Word.{wrapping_add, wrapping_sub, wrapping_mul, wrapping_sum, word_bytes, word_of_bytes, widened};
-ghost use Rattle.tce_words.specs.Load.{IsLoaded};
+ghost use Rattle.std.specs.Prelude.{◌≡◌, ℕ, ◌+◌, ◌/◌, ◌%◌, ◌^◌, ◌<◌, ◌≤◌, length, slice_index, slice_set, replicate, IfOk};
+ghost use Rattle.tce_base.specs.Word.{wrapping_sum, word_of_bytes};
+ghost use Rattle.tce_words.specs.Load.{IsLoaded, narrow_of, bytes_of};
 ghost use Rattle.tce_words.specs.Rows.{AreFourRowsAdded};
-ghost use Rattle.tce_words.specs.Run.{IsWithin, AreApart, IsDistinct, IsRun, with_part, word_along, words_along};
+ghost use Rattle.tce_words.specs.Run.{IsWithin, AreApart, IsDistinct, with_part, words_along};
+ghost use Rattle.tce_words.specs.Runs.{IsTimes, IsTimesAdded, IsPlus, IsMinus, IsAdded, AreRowsWithin, AreRowsApart, dot_of, grown_at};
 
 use crate::block::{Base, Deed, Places};
 use crate::bytes::{read_narrow, read_words};
-use crate::runs::{Run, Strided};
+use crate::runs::{Run, Strided, count};
 use crate::{products, rows as added, sums};
 use byteorder::{ByteOrder, LittleEndian};
 use std::alloc::{AllocError, Global};
@@ -30,14 +29,6 @@ struct Block {
     places: Places,
     deed: Deed<Global>,
     alloc: Global,
-}
-
-// How many words there are.
-fn count(words: &[u64]) -> u64
-    ensures value { result ≡ length words.now }
-    ensures words { (k : ℕ) → slice_index words.now k < 2 ^ 64 }
-{
-    words.len() as u64
 }
 
 impl Model for Words {
@@ -137,7 +128,7 @@ impl Words {
     pub fn load_narrow(&mut self, from: u64, bytes: &[u8])
         requires whole { length bytes.now % 4 ≡ 0 }
         requires room { from + length bytes.now / 4 ≤ length self.old }
-        ensures { IsLoaded (λ piece. widened (word_of_bytes 4 piece)) 4 from bytes.now self.old self.new }
+        ensures { IsLoaded narrow_of 4 from bytes.now self.old self.new }
     {
         let n = bytes.len() / 4;
         let from = from as usize;
@@ -148,7 +139,7 @@ impl Words {
     pub fn store(&self, from: u64, out: &mut [u8])
         requires whole { length out.old % 8 ≡ 0 }
         requires room { from + length out.old / 8 ≤ length self.now }
-        ensures { out.new ≡ flat_map (word_bytes 8) (slice_range self.now from (from + length out.old / 8)) }
+        ensures { out.new ≡ bytes_of self.now from (length out.old / 8) }
     {
         let n = out.len() / 8;
         let from = from as usize;
@@ -172,7 +163,7 @@ impl Words {
         requires apart_from_a { AreApart out out_step a a_step n }
         requires apart_from_b { AreApart out out_step b b_step n }
         requires distinct { IsDistinct out out_step n }
-        ensures { IsRun (λ t. wrapping_mul (word_along self.old a a_step t) (word_along self.old b b_step t)) out out_step n self.old self.new }
+        ensures { IsTimes out out_step a a_step b b_step n self.old self.new }
     {
         products::mul_run(
             self.as_mut_slice(),
@@ -209,7 +200,7 @@ impl Words {
         requires apart_from_a { AreApart out out_step a a_step n }
         requires apart_from_b { AreApart out out_step b b_step n }
         requires distinct { IsDistinct out out_step n }
-        ensures { IsRun (λ t. wrapping_add (word_along self.old out out_step t) (wrapping_mul (word_along self.old a a_step t) (word_along self.old b b_step t))) out out_step n self.old self.new }
+        ensures { IsTimesAdded out out_step a a_step b b_step n self.old self.new }
     {
         products::mul_add_run(
             self.as_mut_slice(),
@@ -236,10 +227,11 @@ impl Words {
     pub fn mul_add_four(&mut self, out: u64, factors: Strided, rows: Strided, n: u64)
         requires out { IsWithin (length self.old) out 1 n }
         requires factors { IsWithin (length self.old) factors.first factors.step 4 }
-        requires rows { (t : ℕ) → t < 4 → IsWithin (length self.old) (rows.first + t * rows.step) 1 n }
-        requires apart_from_factors { (t : ℕ) → t < 4 → AreApart out 1 (factors.first + t * factors.step) 0 n }
-        requires apart_from_rows { (t : ℕ) → t < 4 → AreApart out 1 (rows.first + t * rows.step) 1 n }
-        ensures { AreFourRowsAdded out factors.first factors.step rows.first rows.step n self.old self.new }
+        requires rows { AreRowsWithin (length self.old) rows.first rows.step n }
+        requires apart_from_factors { AreRowsApart out factors.first factors.step 0 n }
+        requires apart_from_rows { AreRowsApart out rows.first rows.step 1 n }
+        ensures { AreFourRowsAdded out factors.first factors.step rows.first rows.step n
+            self.old self.new }
     {
         added::mul_add_four(
             self.as_mut_slice(),
@@ -273,7 +265,7 @@ impl Words {
         requires apart_from_a { AreApart out out_step a a_step n }
         requires apart_from_b { AreApart out out_step b b_step n }
         requires distinct { IsDistinct out out_step n }
-        ensures { IsRun (λ t. wrapping_add (word_along self.old a a_step t) (word_along self.old b b_step t)) out out_step n self.old self.new }
+        ensures { IsPlus out out_step a a_step b b_step n self.old self.new }
     {
         sums::plus_run(
             self.as_mut_slice(),
@@ -310,7 +302,7 @@ impl Words {
         requires apart_from_a { AreApart out out_step a a_step n }
         requires apart_from_b { AreApart out out_step b b_step n }
         requires distinct { IsDistinct out out_step n }
-        ensures { IsRun (λ t. wrapping_sub (word_along self.old a a_step t) (word_along self.old b b_step t)) out out_step n self.old self.new }
+        ensures { IsMinus out out_step a a_step b b_step n self.old self.new }
     {
         sums::minus_run(
             self.as_mut_slice(),
@@ -336,7 +328,7 @@ impl Words {
         requires a { IsWithin (length self.old) a a_step n }
         requires apart { AreApart out out_step a a_step n }
         requires distinct { IsDistinct out out_step n }
-        ensures { IsRun (λ t. wrapping_add (word_along self.old out out_step t) (word_along self.old a a_step t)) out out_step n self.old self.new }
+        ensures { IsAdded out out_step a a_step n self.old self.new }
     {
         sums::add_run(
             self.as_mut_slice(),
@@ -357,7 +349,7 @@ impl Words {
         requires out { out < length self.old }
         requires a { IsWithin (length self.old) a a_step n }
         requires b { IsWithin (length self.old) b b_step n }
-        ensures { self.new ≡ slice_set self.old out (wrapping_add (slice_index self.old out) (wrapping_sum (zip2 wrapping_mul (words_along self.old a a_step n) (words_along self.old b b_step n)))) }
+        ensures { self.new ≡ grown_at self.old out (dot_of self.old a a_step b b_step n) }
     {
         let total = products::dot_run(
             self.as_slice(),
@@ -378,7 +370,8 @@ impl Words {
     pub fn sum_run(&mut self, out: u64, a: u64, a_step: u64, n: u64)
         requires out { out < length self.old }
         requires a { IsWithin (length self.old) a a_step n }
-        ensures { self.new ≡ slice_set self.old out (wrapping_add (slice_index self.old out) (wrapping_sum (words_along self.old a a_step n))) }
+        ensures { self.new ≡ grown_at self.old out
+            (wrapping_sum (words_along self.old a a_step n)) }
     {
         let along = Run {
             first: a as usize,
