@@ -11,11 +11,12 @@ use Rattle.tce_strides.specs.Places.{word_place}
 use Rattle.tce_strides.specs.Turns.{IsMade, turned}
 use Rattle.tce_strides.proofs.Folds.{turns_before}
 use Rattle.tce_strides.proofs.Innermost.{made_by_run, place_along, run_within, run_apart}
-use Rattle.tce_strides.proofs.Outer.{TurnFit, turn_rest, turn_bases, turn_turns_more}
+use Rattle.tce_strides.specs.Running.{CanRun}
+use Rattle.tce_strides.proofs.Outer.{turn_rest, turn_bases, turn_turns_more}
 
 -- what a call asks for
 pub record RowFit (count : ℕ) (rows along : Loop) (out left right : ℕ) : Type 0 where
-  pub fit : TurnFit count (rows ∷ along ∷ []) out left right
+  pub fit : CanRun count (rows ∷ along ∷ []) out left right
   pub still : rows.out ≡ 0
   pub next_word : along.out ≡ 1
   pub one_factor : along.left ≡ 0

@@ -3,13 +3,13 @@ use Rattle.std.proofs.Common.{◌≡◌, ◌∙◌, refl, sym, ap, ℕ, ◌+◌,
 use Rattle.std.proofs.lemmas.List.{take_all}
 use Rattle.tce_base.specs.Word.{wrapping_add}
 use Rattle.tce_space.specs.Box.{places}
-use Rattle.tce_space.specs.Tiling.{ArePositive}
 use Rattle.tce_strides.specs.declared.loops.Loop.{Loop}
 use Rattle.tce_strides.specs.declared.loops.SumLoop.{SumLoop}
 use Rattle.tce_strides.specs.declared.loops.Turn.{Turn}
-use Rattle.tce_strides.specs.Places.{word_place, AreWithin, AreApart}
+use Rattle.tce_strides.specs.Places.{word_place}
 use Rattle.tce_strides.specs.Steps.{lens, out_steps, left_steps, right_steps, sum_lens, sum_out_steps, operand_steps}
 use Rattle.tce_strides.specs.Turns.{IsMade, grown, turn_word, turned}
+use Rattle.tce_strides.specs.Running.{CanRun, CanSum}
 use Rattle.tce_strides.proofs.Folds.{turns_before}
 use Rattle.tce_strides.proofs.Moves.{shift, rest_within, rest_apart, base_within, kept_at, turns_more}
 
@@ -37,17 +37,10 @@ more_loops d (l ∷ ls) some = ap (λ rest. l ∷ rest) (sym (take_all (length (
 same_turn : (turn : Turn) (w : ℕ) {left also_left right also_right : ℕ} → left ≡ also_left → right ≡ also_right → turn_word turn w left right ≡ turn_word turn w also_left also_right
 same_turn turn w {left = left} {also_left = also_left} {right = right} {also_right = also_right} p q = ap (λ x. turn_word turn w x right) p ∙ ap (turn_word turn w also_left) q
 
--- what a call asks for
-pub record SumFit (count : ℕ) (loops : List SumLoop) (out operand : ℕ) : Type 0 where
-  pub positive : ArePositive (sum_lens loops)
-  pub out_within : AreWithin count (sum_lens loops) (word_place out (sum_out_steps loops))
-  pub operand_within : AreWithin count (sum_lens loops) (word_place operand (operand_steps loops))
-  pub operand_apart : AreApart (sum_lens loops) (word_place out (sum_out_steps loops)) (word_place operand (operand_steps loops))
-
-pub sum_rest : (count now : ℕ) (first : SumLoop) (rest loops : List SumLoop) (out operand x : ℕ) → loops ≡ first ∷ rest → SumFit count loops out operand → now ≡ count → x < first.len
-    → SumFit now rest (out + x * first.out) (operand + x * first.operand)
+pub sum_rest : (count now : ℕ) (first : SumLoop) (rest loops : List SumLoop) (out operand x : ℕ) → loops ≡ first ∷ rest → CanSum count loops out operand → now ≡ count → x < first.len
+    → CanSum now rest (out + x * first.out) (operand + x * first.operand)
 sum_rest count now first rest loops out operand x is given same lt =
-    let fit : SumFit count (first ∷ rest) out operand = subst (λ ls. SumFit count ls out operand) is given in
+    let fit : CanSum count (first ∷ rest) out operand = subst (λ ls. CanSum count ls out operand) is given in
     record {
       positive = fit.positive.1;
       out_within = rest_within count now first.len out first.out x (sum_lens rest) (sum_out_steps rest) fit.out_within same lt;
@@ -55,39 +48,30 @@ sum_rest count now first rest loops out operand x is given same lt =
       operand_apart = rest_apart first.len out first.out operand first.operand x (sum_lens rest) (sum_out_steps rest) (operand_steps rest) fit.operand_apart lt;
     }
 
-pub sum_bases : (count : ℕ) (first : SumLoop) (rest loops : List SumLoop) (out operand x : ℕ) → loops ≡ first ∷ rest → SumFit count loops out operand → x < first.len
+pub sum_bases : (count : ℕ) (first : SumLoop) (rest loops : List SumLoop) (out operand x : ℕ) → loops ≡ first ∷ rest → CanSum count loops out operand → x < first.len
     → (out + x * first.out < count) × (operand + x * first.operand < count)
 sum_bases count first rest loops out operand x is given lt =
-    let fit : SumFit count (first ∷ rest) out operand = subst (λ ls. SumFit count ls out operand) is given in (
+    let fit : CanSum count (first ∷ rest) out operand = subst (λ ls. CanSum count ls out operand) is given in (
       base_within count first.len out first.out x (sum_lens rest) (sum_out_steps rest) fit.positive.1 fit.out_within lt,
       base_within count first.len operand first.operand x (sum_lens rest) (operand_steps rest) fit.positive.1 fit.operand_within lt,
     )
 
-pub sum_turns_more : (first : SumLoop) (rest loops : List SumLoop) (out operand x : ℕ) (old now next : List ℕ) → loops ≡ first ∷ rest → SumFit (length old) loops out operand → x < first.len
+pub sum_turns_more : (first : SumLoop) (rest loops : List SumLoop) (out operand x : ℕ) (old now next : List ℕ) → loops ≡ first ∷ rest → CanSum (length old) loops out operand → x < first.len
     → IsMade (grown old (word_place operand (operand_steps loops))) (word_place out (sum_out_steps loops)) (turns_before (sum_lens rest) x) old now
     → IsMade (grown now (word_place (operand + x * first.operand) (operand_steps rest))) (word_place (out + x * first.out) (sum_out_steps rest)) (places (sum_lens rest)) now next
     → IsMade (grown old (word_place operand (operand_steps loops))) (word_place out (sum_out_steps loops)) (turns_before (sum_lens rest) (x + 1)) old next
 sum_turns_more first rest loops out operand x old now next is given lt before more =
-    let fit : SumFit (length old) (first ∷ rest) out operand = subst (λ ls. SumFit (length old) ls out operand) is given in
+    let fit : CanSum (length old) (first ∷ rest) out operand = subst (λ ls. CanSum (length old) ls out operand) is given in
     let made : IsMade (grown old (word_place operand (operand_steps (first ∷ rest)))) (word_place out (sum_out_steps (first ∷ rest))) (turns_before (sum_lens rest) x) old now = subst (λ ls. IsMade (grown old (word_place operand (operand_steps ls))) (word_place out (sum_out_steps ls)) (turns_before (sum_lens rest) x) old now) is before in
     subst (λ ls. IsMade (grown old (word_place operand (operand_steps ls))) (word_place out (sum_out_steps ls)) (turns_before (sum_lens rest) (x + 1)) old next) (sym is)
     (turns_more (grown old (word_place operand (operand_steps (first ∷ rest)))) (grown now (word_place (operand + x * first.operand) (operand_steps rest))) (word_place out (sum_out_steps (first ∷ rest))) (word_place (out + x * first.out) (sum_out_steps rest)) (sum_lens rest) x old now next made more
     (shift out first.out x (sum_out_steps rest))
     (λ w xs inside. ap (wrapping_add w) (kept_at (grown old (word_place operand (operand_steps (first ∷ rest)))) (word_place out (sum_out_steps (first ∷ rest))) operand first.operand (operand_steps rest) first.len (sum_lens rest) x old now xs made lt fit.operand_apart fit.operand_within inside)))
 
--- what a call asks for
-pub record TurnFit (count : ℕ) (loops : List Loop) (out left right : ℕ) : Type 0 where
-  pub positive : ArePositive (lens loops)
-  pub out_within : AreWithin count (lens loops) (word_place out (out_steps loops))
-  pub left_within : AreWithin count (lens loops) (word_place left (left_steps loops))
-  pub right_within : AreWithin count (lens loops) (word_place right (right_steps loops))
-  pub left_apart : AreApart (lens loops) (word_place out (out_steps loops)) (word_place left (left_steps loops))
-  pub right_apart : AreApart (lens loops) (word_place out (out_steps loops)) (word_place right (right_steps loops))
-
-pub turn_rest : (count now : ℕ) (first : Loop) (rest loops : List Loop) (out left right x : ℕ) → loops ≡ first ∷ rest → TurnFit count loops out left right → now ≡ count → x < first.len
-    → TurnFit now rest (out + x * first.out) (left + x * first.left) (right + x * first.right)
+pub turn_rest : (count now : ℕ) (first : Loop) (rest loops : List Loop) (out left right x : ℕ) → loops ≡ first ∷ rest → CanRun count loops out left right → now ≡ count → x < first.len
+    → CanRun now rest (out + x * first.out) (left + x * first.left) (right + x * first.right)
 turn_rest count now first rest loops out left right x is given same lt =
-    let fit : TurnFit count (first ∷ rest) out left right = subst (λ ls. TurnFit count ls out left right) is given in
+    let fit : CanRun count (first ∷ rest) out left right = subst (λ ls. CanRun count ls out left right) is given in
     record {
       positive = fit.positive.1;
       out_within = rest_within count now first.len out first.out x (lens rest) (out_steps rest) fit.out_within same lt;
@@ -97,21 +81,21 @@ turn_rest count now first rest loops out left right x is given same lt =
       right_apart = rest_apart first.len out first.out right first.right x (lens rest) (out_steps rest) (right_steps rest) fit.right_apart lt;
     }
 
-pub turn_bases : (count : ℕ) (first : Loop) (rest loops : List Loop) (out left right x : ℕ) → loops ≡ first ∷ rest → TurnFit count loops out left right → x < first.len
+pub turn_bases : (count : ℕ) (first : Loop) (rest loops : List Loop) (out left right x : ℕ) → loops ≡ first ∷ rest → CanRun count loops out left right → x < first.len
     → (out + x * first.out < count) × (left + x * first.left < count) × (right + x * first.right < count)
 turn_bases count first rest loops out left right x is given lt =
-    let fit : TurnFit count (first ∷ rest) out left right = subst (λ ls. TurnFit count ls out left right) is given in (
+    let fit : CanRun count (first ∷ rest) out left right = subst (λ ls. CanRun count ls out left right) is given in (
       base_within count first.len out first.out x (lens rest) (out_steps rest) fit.positive.1 fit.out_within lt,
       base_within count first.len left first.left x (lens rest) (left_steps rest) fit.positive.1 fit.left_within lt,
       base_within count first.len right first.right x (lens rest) (right_steps rest) fit.positive.1 fit.right_within lt,
     )
 
-pub turn_turns_more : (turn : Turn) (first : Loop) (rest loops : List Loop) (out left right x : ℕ) (old now next : List ℕ) → loops ≡ first ∷ rest → TurnFit (length old) loops out left right → x < first.len
+pub turn_turns_more : (turn : Turn) (first : Loop) (rest loops : List Loop) (out left right x : ℕ) (old now next : List ℕ) → loops ≡ first ∷ rest → CanRun (length old) loops out left right → x < first.len
     → IsMade (turned turn old (word_place left (left_steps loops)) (word_place right (right_steps loops))) (word_place out (out_steps loops)) (turns_before (lens rest) x) old now
     → IsMade (turned turn now (word_place (left + x * first.left) (left_steps rest)) (word_place (right + x * first.right) (right_steps rest))) (word_place (out + x * first.out) (out_steps rest)) (places (lens rest)) now next
     → IsMade (turned turn old (word_place left (left_steps loops)) (word_place right (right_steps loops))) (word_place out (out_steps loops)) (turns_before (lens rest) (x + 1)) old next
 turn_turns_more turn first rest loops out left right x old now next is given lt before more =
-    let fit : TurnFit (length old) (first ∷ rest) out left right = subst (λ ls. TurnFit (length old) ls out left right) is given in
+    let fit : CanRun (length old) (first ∷ rest) out left right = subst (λ ls. CanRun (length old) ls out left right) is given in
     let made : IsMade (turned turn old (word_place left (left_steps (first ∷ rest))) (word_place right (right_steps (first ∷ rest)))) (word_place out (out_steps (first ∷ rest))) (turns_before (lens rest) x) old now = subst (λ ls. IsMade (turned turn old (word_place left (left_steps ls)) (word_place right (right_steps ls))) (word_place out (out_steps ls)) (turns_before (lens rest) x) old now) is before in
     subst (λ ls. IsMade (turned turn old (word_place left (left_steps ls)) (word_place right (right_steps ls))) (word_place out (out_steps ls)) (turns_before (lens rest) (x + 1)) old next) (sym is)
     (turns_more (turned turn old (word_place left (left_steps (first ∷ rest))) (word_place right (right_steps (first ∷ rest)))) (turned turn now (word_place (left + x * first.left) (left_steps rest)) (word_place (right + x * first.right) (right_steps rest))) (word_place out (out_steps (first ∷ rest))) (word_place (out + x * first.out) (out_steps rest)) (lens rest) x old now next made more

@@ -19,6 +19,13 @@ pub struct SumLoop {
     pub operand: u64,
 }
 
+// Two loops, the second one inside the first.
+#[derive(Clone, Copy, Drop)]
+pub(crate) struct Rows {
+    pub(crate) outer: Loop,
+    pub(crate) along: Loop,
+}
+
 /// What becomes of two words, modulo 2^64.
 #[derive(Clone, Copy, Drop)]
 pub enum Operation {

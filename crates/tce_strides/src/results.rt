@@ -1,12 +1,10 @@
 //! Results of two operands in loops, and sums of products.
 ghost use Rattle.std.specs.Prelude.{◌≡◌, ◌^◌, ◌<◌, length};
-ghost use Rattle.tce_space.specs.Box.{places};
 ghost use Rattle.tce_space.specs.Tiling.{ArePositive};
-ghost use Rattle.tce_strides.specs.Places.{word_place, AreWithin, AreApart};
-ghost use Rattle.tce_strides.specs.Steps.{lens, out_steps, left_steps, right_steps};
-ghost use Rattle.tce_strides.specs.Turns.{IsMade, grown_by_products, computed, turned};
+ghost use Rattle.tce_strides.specs.Steps.{lens};
+ghost use Rattle.tce_strides.specs.Running.{CanRun, IsOutWithin, IsLeftWithin, IsRightWithin, IsApartFromLeft, IsApartFromRight, AreTurned, AreProductsAdded, AreComputed};
 
-use crate::loops::{Loop, Operation, Turn};
+use crate::loops::{Loop, Operation, Rows, Turn};
 use crate::runs;
 use tce_words::Words;
 
@@ -14,12 +12,12 @@ use tce_words::Words;
 /// result. No place of the result may be one of an operand.
 pub fn grow_by_products(words: &mut Words, loops: &[Loop], out: u64, left: u64, right: u64)
     requires positive { ArePositive (lens loops.now) }
-    requires out { AreWithin (length words.old) (lens loops.now) (word_place out (out_steps loops.now)) }
-    requires left { AreWithin (length words.old) (lens loops.now) (word_place left (left_steps loops.now)) }
-    requires right { AreWithin (length words.old) (lens loops.now) (word_place right (right_steps loops.now)) }
-    requires apart_from_left { AreApart (lens loops.now) (word_place out (out_steps loops.now)) (word_place left (left_steps loops.now)) }
-    requires apart_from_right { AreApart (lens loops.now) (word_place out (out_steps loops.now)) (word_place right (right_steps loops.now)) }
-    ensures { IsMade (grown_by_products words.old (word_place left (left_steps loops.now)) (word_place right (right_steps loops.now))) (word_place out (out_steps loops.now)) (places (lens loops.now)) words.old words.new }
+    requires out { IsOutWithin (length words.old) loops.now out }
+    requires left { IsLeftWithin (length words.old) loops.now left }
+    requires right { IsRightWithin (length words.old) loops.now right }
+    requires apart_from_left { IsApartFromLeft loops.now out left }
+    requires apart_from_right { IsApartFromRight loops.now out right }
+    ensures { AreProductsAdded loops.now out left right words.old words.new }
 {
     // The length's limit keeps the places within a word.
     let _count = words.len();
@@ -37,12 +35,12 @@ pub fn compute(
     right: u64,
 )
     requires positive { ArePositive (lens loops.now) }
-    requires out { AreWithin (length words.old) (lens loops.now) (word_place out (out_steps loops.now)) }
-    requires left { AreWithin (length words.old) (lens loops.now) (word_place left (left_steps loops.now)) }
-    requires right { AreWithin (length words.old) (lens loops.now) (word_place right (right_steps loops.now)) }
-    requires apart_from_left { AreApart (lens loops.now) (word_place out (out_steps loops.now)) (word_place left (left_steps loops.now)) }
-    requires apart_from_right { AreApart (lens loops.now) (word_place out (out_steps loops.now)) (word_place right (right_steps loops.now)) }
-    ensures { IsMade (computed operation words.old (word_place left (left_steps loops.now)) (word_place right (right_steps loops.now))) (word_place out (out_steps loops.now)) (places (lens loops.now)) words.old words.new }
+    requires out { IsOutWithin (length words.old) loops.now out }
+    requires left { IsLeftWithin (length words.old) loops.now left }
+    requires right { IsRightWithin (length words.old) loops.now right }
+    requires apart_from_left { IsApartFromLeft loops.now out left }
+    requires apart_from_right { IsApartFromRight loops.now out right }
+    ensures { AreComputed operation loops.now out left right words.old words.new }
 {
     // The length's limit keeps the places within a word.
     let _count = words.len();
@@ -51,18 +49,19 @@ pub fn compute(
 
 fn turns_below(words: &mut Words, turn: Turn, loops: &[Loop], out: u64, left: u64, right: u64)
     requires limit { length words.old < 2 ^ 60 }
-    requires positive { ArePositive (lens loops.now) }
-    requires out { AreWithin (length words.old) (lens loops.now) (word_place out (out_steps loops.now)) }
-    requires left { AreWithin (length words.old) (lens loops.now) (word_place left (left_steps loops.now)) }
-    requires right { AreWithin (length words.old) (lens loops.now) (word_place right (right_steps loops.now)) }
-    requires apart_from_left { AreApart (lens loops.now) (word_place out (out_steps loops.now)) (word_place left (left_steps loops.now)) }
-    requires apart_from_right { AreApart (lens loops.now) (word_place out (out_steps loops.now)) (word_place right (right_steps loops.now)) }
-    ensures { IsMade (turned turn words.old (word_place left (left_steps loops.now)) (word_place right (right_steps loops.now))) (word_place out (out_steps loops.now)) (places (lens loops.now)) words.old words.new }
+    requires run { CanRun (length words.old) loops.now out left right }
+    ensures { AreTurned turn loops.now out left right words.old words.new }
 {
     match loops {
         [] => runs::turn_once(words, turn, out, left, right),
         [only] => runs::turn_along(words, turn, *only, out, left, right),
-        [rows, along] => runs::turns_in_rows(words, turn, *rows, *along, out, left, right),
+        [outer, along] => {
+            let rows = Rows {
+                outer: *outer,
+                along: *along,
+            };
+            runs::turns_in_rows(words, turn, rows, out, left, right);
+        }
         [first, rest @ ..] => {
             for x in 0..first.len {
                 turns_below(

@@ -1,11 +1,10 @@
 //! Single turns, and innermost loops.
-ghost use Rattle.std.specs.Prelude.{◌≡◌, ◌↔◌, ℕ, ◌^◌, ◌<◌, ◌≤◌, IsTrue, length, [], ◌∷◌};
-ghost use Rattle.std.specs.List.{range_with_len, fold};
-ghost use Rattle.tce_space.specs.Box.{places};
-ghost use Rattle.tce_strides.specs.Places.{word_place, AreWithin, AreApart};
-ghost use Rattle.tce_strides.specs.Turns.{IsMade, grown, grown_by_products, operate, computed, turned};
+ghost use Rattle.std.specs.Prelude.{◌≡◌, ◌↔◌, ◌^◌, ◌<◌, IsTrue, length, [], ◌∷◌};
+ghost use Rattle.tce_strides.specs.Turns.{operate};
+ghost use Rattle.tce_strides.specs.Running.{CanRun, CanSum, IsLeftWithin, IsRightWithin, AreAdded, AreTurned, AreComputed};
+ghost use Rattle.tce_strides.specs.Rows.{AreScaled, loops_of, products_along};
 
-use crate::loops::{Loop, Operation, SumLoop, Turn};
+use crate::loops::{Loop, Operation, Rows, SumLoop, Turn};
 use tce_words::{Strided, Words};
 
 // From so many turns on a run of words pays for its call.
@@ -14,18 +13,15 @@ const LONG: u64 = 8;
 pub(crate) fn grow_once(words: &mut Words, out: u64, operand: u64)
     requires out { out < length words.old }
     requires operand { operand < length words.old }
-    ensures { IsMade (grown words.old (word_place operand [])) (word_place out []) (places []) words.old words.new }
+    ensures { AreAdded [] out operand words.old words.new }
 {
     let word = words.get(out).wrapping_add(words.get(operand));
     words.put(out, word);
 }
 
 pub(crate) fn grow_along(words: &mut Words, along: SumLoop, out: u64, operand: u64)
-    requires positive { 0 < along.len }
-    requires out { AreWithin (length words.old) (along.len ∷ []) (word_place out (along.out ∷ [])) }
-    requires operand { AreWithin (length words.old) (along.len ∷ []) (word_place operand (along.operand ∷ [])) }
-    requires apart { AreApart (along.len ∷ []) (word_place out (along.out ∷ [])) (word_place operand (along.operand ∷ [])) }
-    ensures { IsMade (grown words.old (word_place operand (along.operand ∷ []))) (word_place out (along.out ∷ [])) (places (along.len ∷ [])) words.old words.new }
+    requires run { CanSum (length words.old) (along ∷ []) out operand }
+    ensures { AreAdded (along ∷ []) out operand words.old words.new }
 {
     if along.out == 0 {
         words.sum_run(out, operand, along.operand, along.len);
@@ -49,7 +45,7 @@ pub(crate) fn turn_once(words: &mut Words, turn: Turn, out: u64, left: u64, righ
     requires out { out < length words.old }
     requires left { left < length words.old }
     requires right { right < length words.old }
-    ensures { IsMade (turned turn words.old (word_place left []) (word_place right [])) (word_place out []) (places []) words.old words.new }
+    ensures { AreTurned turn [] out left right words.old words.new }
 {
     let (left, right) = (words.get(left), words.get(right));
     let word = match turn {
@@ -70,13 +66,8 @@ pub(crate) fn turn_along(
     right: u64,
 )
     requires limit { length words.old < 2 ^ 60 }
-    requires positive { 0 < along.len }
-    requires out { AreWithin (length words.old) (along.len ∷ []) (word_place out (along.out ∷ [])) }
-    requires left { AreWithin (length words.old) (along.len ∷ []) (word_place left (along.left ∷ [])) }
-    requires right { AreWithin (length words.old) (along.len ∷ []) (word_place right (along.right ∷ [])) }
-    requires apart_from_left { AreApart (along.len ∷ []) (word_place out (along.out ∷ [])) (word_place left (along.left ∷ [])) }
-    requires apart_from_right { AreApart (along.len ∷ []) (word_place out (along.out ∷ [])) (word_place right (along.right ∷ [])) }
-    ensures { IsMade (turned turn words.old (word_place left (along.left ∷ [])) (word_place right (along.right ∷ []))) (word_place out (along.out ∷ [])) (places (along.len ∷ [])) words.old words.new }
+    requires run { CanRun (length words.old) (along ∷ []) out left right }
+    ensures { AreTurned turn (along ∷ []) out left right words.old words.new }
 {
     if along.len < LONG {
         turn_short(words, turn, along, out, left, right);
@@ -89,13 +80,8 @@ pub(crate) fn turn_along(
 #[inline]
 fn turn_short(words: &mut Words, turn: Turn, along: Loop, out: u64, left: u64, right: u64)
     requires limit { length words.old < 2 ^ 60 }
-    requires positive { 0 < along.len }
-    requires out { AreWithin (length words.old) (along.len ∷ []) (word_place out (along.out ∷ [])) }
-    requires left { AreWithin (length words.old) (along.len ∷ []) (word_place left (along.left ∷ [])) }
-    requires right { AreWithin (length words.old) (along.len ∷ []) (word_place right (along.right ∷ [])) }
-    requires apart_from_left { AreApart (along.len ∷ []) (word_place out (along.out ∷ [])) (word_place left (along.left ∷ [])) }
-    requires apart_from_right { AreApart (along.len ∷ []) (word_place out (along.out ∷ [])) (word_place right (along.right ∷ [])) }
-    ensures { IsMade (turned turn words.old (word_place left (along.left ∷ [])) (word_place right (along.right ∷ []))) (word_place out (along.out ∷ [])) (places (along.len ∷ [])) words.old words.new }
+    requires run { CanRun (length words.old) (along ∷ []) out left right }
+    ensures { AreTurned turn (along ∷ []) out left right words.old words.new }
 {
     match turn {
         Turn::Grow => grow_short(words, along, out, left, right),
@@ -107,13 +93,8 @@ fn turn_short(words: &mut Words, turn: Turn, along: Loop, out: u64, left: u64, r
 #[inline]
 fn grow_short(words: &mut Words, along: Loop, out: u64, left: u64, right: u64)
     requires limit { length words.old < 2 ^ 60 }
-    requires positive { 0 < along.len }
-    requires out { AreWithin (length words.old) (along.len ∷ []) (word_place out (along.out ∷ [])) }
-    requires left { AreWithin (length words.old) (along.len ∷ []) (word_place left (along.left ∷ [])) }
-    requires right { AreWithin (length words.old) (along.len ∷ []) (word_place right (along.right ∷ [])) }
-    requires apart_from_left { AreApart (along.len ∷ []) (word_place out (along.out ∷ [])) (word_place left (along.left ∷ [])) }
-    requires apart_from_right { AreApart (along.len ∷ []) (word_place out (along.out ∷ [])) (word_place right (along.right ∷ [])) }
-    ensures { IsMade (turned Turn.Grow words.old (word_place left (along.left ∷ [])) (word_place right (along.right ∷ []))) (word_place out (along.out ∷ [])) (places (along.len ∷ [])) words.old words.new }
+    requires run { CanRun (length words.old) (along ∷ []) out left right }
+    ensures { AreTurned Turn.Grow (along ∷ []) out left right words.old words.new }
 {
     if along.out == 0 {
         grow_at_one(words, along, out, left, right);
@@ -126,13 +107,8 @@ fn grow_short(words: &mut Words, along: Loop, out: u64, left: u64, right: u64)
 #[inline(never)]
 fn turn_long(words: &mut Words, turn: Turn, along: Loop, out: u64, left: u64, right: u64)
     requires limit { length words.old < 2 ^ 60 }
-    requires positive { 0 < along.len }
-    requires out { AreWithin (length words.old) (along.len ∷ []) (word_place out (along.out ∷ [])) }
-    requires left { AreWithin (length words.old) (along.len ∷ []) (word_place left (along.left ∷ [])) }
-    requires right { AreWithin (length words.old) (along.len ∷ []) (word_place right (along.right ∷ [])) }
-    requires apart_from_left { AreApart (along.len ∷ []) (word_place out (along.out ∷ [])) (word_place left (along.left ∷ [])) }
-    requires apart_from_right { AreApart (along.len ∷ []) (word_place out (along.out ∷ [])) (word_place right (along.right ∷ [])) }
-    ensures { IsMade (turned turn words.old (word_place left (along.left ∷ [])) (word_place right (along.right ∷ []))) (word_place out (along.out ∷ [])) (places (along.len ∷ [])) words.old words.new }
+    requires run { CanRun (length words.old) (along ∷ []) out left right }
+    ensures { AreTurned turn (along ∷ []) out left right words.old words.new }
 {
     if along.out == 0 {
         turns_at_one(words, turn, along, out, left, right);
@@ -145,9 +121,9 @@ fn turn_long(words: &mut Words, turn: Turn, along: Loop, out: u64, left: u64, ri
 #[inline]
 fn grown_along(words: &Words, along: Loop, word: u64, left: u64, right: u64) -> u64
     requires limit { length words.now < 2 ^ 60 }
-    requires left { AreWithin (length words.now) (along.len ∷ []) (word_place left (along.left ∷ [])) }
-    requires right { AreWithin (length words.now) (along.len ∷ []) (word_place right (along.right ∷ [])) }
-    ensures { result ≡ fold (λ w x. grown_by_products words.now (word_place left (along.left ∷ [])) (word_place right (along.right ∷ [])) w (x ∷ [])) word (range_with_len 0 along.len) }
+    requires left { IsLeftWithin (length words.now) (along ∷ []) left }
+    requires right { IsRightWithin (length words.now) (along ∷ []) right }
+    ensures { result ≡ products_along words.now along left right word }
 {
     let mut total = word;
     for x in 0..along.len {
@@ -162,12 +138,9 @@ fn grown_along(words: &Words, along: Loop, word: u64, left: u64, right: u64) -> 
 #[inline]
 fn grow_at_one(words: &mut Words, along: Loop, out: u64, left: u64, right: u64)
     requires limit { length words.old < 2 ^ 60 }
-    requires positive { 0 < along.len }
+    requires run { CanRun (length words.old) (along ∷ []) out left right }
     requires still { along.out ≡ 0 }
-    requires out { AreWithin (length words.old) (along.len ∷ []) (word_place out (along.out ∷ [])) }
-    requires left { AreWithin (length words.old) (along.len ∷ []) (word_place left (along.left ∷ [])) }
-    requires right { AreWithin (length words.old) (along.len ∷ []) (word_place right (along.right ∷ [])) }
-    ensures { IsMade (turned Turn.Grow words.old (word_place left (along.left ∷ [])) (word_place right (along.right ∷ []))) (word_place out (along.out ∷ [])) (places (along.len ∷ [])) words.old words.new }
+    ensures { AreTurned Turn.Grow (along ∷ []) out left right words.old words.new }
 {
     let word = grown_along(words, along, words.get(out), left, right);
     words.put(out, word);
@@ -175,12 +148,9 @@ fn grow_at_one(words: &mut Words, along: Loop, out: u64, left: u64, right: u64)
 
 fn turns_at_one(words: &mut Words, turn: Turn, along: Loop, out: u64, left: u64, right: u64)
     requires limit { length words.old < 2 ^ 60 }
-    requires positive { 0 < along.len }
+    requires run { CanRun (length words.old) (along ∷ []) out left right }
     requires still { along.out ≡ 0 }
-    requires out { AreWithin (length words.old) (along.len ∷ []) (word_place out (along.out ∷ [])) }
-    requires left { AreWithin (length words.old) (along.len ∷ []) (word_place left (along.left ∷ [])) }
-    requires right { AreWithin (length words.old) (along.len ∷ []) (word_place right (along.right ∷ [])) }
-    ensures { IsMade (turned turn words.old (word_place left (along.left ∷ [])) (word_place right (along.right ∷ []))) (word_place out (along.out ∷ [])) (places (along.len ∷ [])) words.old words.new }
+    ensures { AreTurned turn (along ∷ []) out left right words.old words.new }
 {
     match turn {
         Turn::Grow => words.dot_run(out, left, along.left, right, along.right, along.len),
@@ -197,13 +167,8 @@ fn turns_at_one(words: &mut Words, turn: Turn, along: Loop, out: u64, left: u64,
 #[inline]
 fn turn_by_turn(words: &mut Words, turn: Turn, along: Loop, out: u64, left: u64, right: u64)
     requires limit { length words.old < 2 ^ 60 }
-    requires positive { 0 < along.len }
-    requires out { AreWithin (length words.old) (along.len ∷ []) (word_place out (along.out ∷ [])) }
-    requires left { AreWithin (length words.old) (along.len ∷ []) (word_place left (along.left ∷ [])) }
-    requires right { AreWithin (length words.old) (along.len ∷ []) (word_place right (along.right ∷ [])) }
-    requires apart_from_left { AreApart (along.len ∷ []) (word_place out (along.out ∷ [])) (word_place left (along.left ∷ [])) }
-    requires apart_from_right { AreApart (along.len ∷ []) (word_place out (along.out ∷ [])) (word_place right (along.right ∷ [])) }
-    ensures { IsMade (turned turn words.old (word_place left (along.left ∷ [])) (word_place right (along.right ∷ []))) (word_place out (along.out ∷ [])) (places (along.len ∷ [])) words.old words.new }
+    requires run { CanRun (length words.old) (along ∷ []) out left right }
+    ensures { AreTurned turn (along ∷ []) out left right words.old words.new }
 {
     for x in 0..along.len {
         turn_once(
@@ -220,166 +185,126 @@ fn turn_by_turn(words: &mut Words, turn: Turn, along: Loop, out: u64, left: u64,
 pub(crate) fn turns_in_rows(
     words: &mut Words,
     turn: Turn,
-    rows: Loop,
-    along: Loop,
+    rows: Rows,
     out: u64,
     left: u64,
     right: u64,
 )
     requires limit { length words.old < 2 ^ 60 }
-    requires rows { 0 < rows.len }
-    requires positive { 0 < along.len }
-    requires out { AreWithin (length words.old) (rows.len ∷ along.len ∷ []) (word_place out (rows.out ∷ along.out ∷ [])) }
-    requires left { AreWithin (length words.old) (rows.len ∷ along.len ∷ []) (word_place left (rows.left ∷ along.left ∷ [])) }
-    requires right { AreWithin (length words.old) (rows.len ∷ along.len ∷ []) (word_place right (rows.right ∷ along.right ∷ [])) }
-    requires apart_from_left { AreApart (rows.len ∷ along.len ∷ []) (word_place out (rows.out ∷ along.out ∷ [])) (word_place left (rows.left ∷ along.left ∷ [])) }
-    requires apart_from_right { AreApart (rows.len ∷ along.len ∷ []) (word_place out (rows.out ∷ along.out ∷ [])) (word_place right (rows.right ∷ along.right ∷ [])) }
-    ensures { IsMade (turned turn words.old (word_place left (rows.left ∷ along.left ∷ [])) (word_place right (rows.right ∷ along.right ∷ []))) (word_place out (rows.out ∷ along.out ∷ [])) (places (rows.len ∷ along.len ∷ [])) words.old words.new }
+    requires run { CanRun (length words.old) (loops_of rows) out left right }
+    ensures { AreTurned turn (loops_of rows) out left right words.old words.new }
 {
     match turn {
-        Turn::Grow => grow_in_rows(words, rows, along, out, left, right),
-        Turn::Compute(_) => rows_by_one(words, turn, rows, along, out, left, right),
+        Turn::Grow => grow_in_rows(words, rows, out, left, right),
+        Turn::Compute(_) => rows_by_one(words, turn, rows, out, left, right),
     }
 }
 
 // Whether each row is long, and goes with one factor to the same words of the result.
-fn are_scaled(rows: Loop, along: Loop) -> bool
-    ensures { IsTrue result ↔ ((rows.out ≡ 0) × (along.out ≡ 1) × (along.left ≡ 0) × (along.right ≡ 1) × (8 ≤ along.len)) }
+fn are_scaled(rows: Rows) -> bool
+    ensures { IsTrue result ↔ AreScaled rows.outer rows.along }
 {
-    rows.out == 0 && along.out == 1 && along.left == 0 && along.right == 1 && LONG <= along.len
+    let Rows { outer, along } = rows;
+    outer.out == 0 && along.out == 1 && along.left == 0 && along.right == 1 && LONG <= along.len
 }
 
 // Two loops that add products.
-fn grow_in_rows(words: &mut Words, rows: Loop, along: Loop, out: u64, left: u64, right: u64)
+fn grow_in_rows(words: &mut Words, rows: Rows, out: u64, left: u64, right: u64)
     requires limit { length words.old < 2 ^ 60 }
-    requires rows { 0 < rows.len }
-    requires positive { 0 < along.len }
-    requires out { AreWithin (length words.old) (rows.len ∷ along.len ∷ []) (word_place out (rows.out ∷ along.out ∷ [])) }
-    requires left { AreWithin (length words.old) (rows.len ∷ along.len ∷ []) (word_place left (rows.left ∷ along.left ∷ [])) }
-    requires right { AreWithin (length words.old) (rows.len ∷ along.len ∷ []) (word_place right (rows.right ∷ along.right ∷ [])) }
-    requires apart_from_left { AreApart (rows.len ∷ along.len ∷ []) (word_place out (rows.out ∷ along.out ∷ [])) (word_place left (rows.left ∷ along.left ∷ [])) }
-    requires apart_from_right { AreApart (rows.len ∷ along.len ∷ []) (word_place out (rows.out ∷ along.out ∷ [])) (word_place right (rows.right ∷ along.right ∷ [])) }
-    ensures { IsMade (turned Turn.Grow words.old (word_place left (rows.left ∷ along.left ∷ [])) (word_place right (rows.right ∷ along.right ∷ []))) (word_place out (rows.out ∷ along.out ∷ [])) (places (rows.len ∷ along.len ∷ [])) words.old words.new }
+    requires run { CanRun (length words.old) (loops_of rows) out left right }
+    ensures { AreTurned Turn.Grow (loops_of rows) out left right words.old words.new }
 {
-    if are_scaled(rows, along) {
-        rows_by_four(words, rows, along, out, left, right);
+    if are_scaled(rows) {
+        rows_by_four(words, rows, out, left, right);
     } else {
-        grow_in_rows_of_left(words, rows, along, out, left, right);
+        grow_in_rows_of_left(words, rows, out, left, right);
     }
 }
 
 // The same, where the rows may be those of the left operand.
-fn grow_in_rows_of_left(words: &mut Words, rows: Loop, along: Loop, out: u64, left: u64, right: u64)
+fn grow_in_rows_of_left(words: &mut Words, rows: Rows, out: u64, left: u64, right: u64)
     requires limit { length words.old < 2 ^ 60 }
-    requires rows { 0 < rows.len }
-    requires positive { 0 < along.len }
-    requires out { AreWithin (length words.old) (rows.len ∷ along.len ∷ []) (word_place out (rows.out ∷ along.out ∷ [])) }
-    requires left { AreWithin (length words.old) (rows.len ∷ along.len ∷ []) (word_place left (rows.left ∷ along.left ∷ [])) }
-    requires right { AreWithin (length words.old) (rows.len ∷ along.len ∷ []) (word_place right (rows.right ∷ along.right ∷ [])) }
-    requires apart_from_left { AreApart (rows.len ∷ along.len ∷ []) (word_place out (rows.out ∷ along.out ∷ [])) (word_place left (rows.left ∷ along.left ∷ [])) }
-    requires apart_from_right { AreApart (rows.len ∷ along.len ∷ []) (word_place out (rows.out ∷ along.out ∷ [])) (word_place right (rows.right ∷ along.right ∷ [])) }
-    ensures { IsMade (turned Turn.Grow words.old (word_place left (rows.left ∷ along.left ∷ [])) (word_place right (rows.right ∷ along.right ∷ []))) (word_place out (rows.out ∷ along.out ∷ [])) (places (rows.len ∷ along.len ∷ [])) words.old words.new }
+    requires run { CanRun (length words.old) (loops_of rows) out left right }
+    ensures { AreTurned Turn.Grow (loops_of rows) out left right words.old words.new }
 {
-    let (swapped_rows, swapped_along) = (
-        Loop {
-            left: rows.right,
-            right: rows.left,
-            ..rows
+    let swapped = Rows {
+        outer: Loop {
+            left: rows.outer.right,
+            right: rows.outer.left,
+            ..rows.outer
         },
-        Loop {
-            left: along.right,
-            right: along.left,
-            ..along
+        along: Loop {
+            left: rows.along.right,
+            right: rows.along.left,
+            ..rows.along
         },
-    );
-    if are_scaled(swapped_rows, swapped_along) {
-        rows_by_four(words, swapped_rows, swapped_along, out, right, left);
+    };
+    if are_scaled(swapped) {
+        rows_by_four(words, swapped, out, right, left);
     } else {
-        rows_by_one(words, Turn::Grow, rows, along, out, left, right);
+        rows_by_one(words, Turn::Grow, rows, out, left, right);
     }
 }
 
 // Rows that are added with one factor each, four at once as far as they go.
-fn rows_by_four(words: &mut Words, rows: Loop, along: Loop, out: u64, left: u64, right: u64)
+fn rows_by_four(words: &mut Words, rows: Rows, out: u64, left: u64, right: u64)
     requires limit { length words.old < 2 ^ 60 }
-    requires rows { 0 < rows.len }
-    requires positive { 0 < along.len }
-    requires out { AreWithin (length words.old) (rows.len ∷ along.len ∷ []) (word_place out (rows.out ∷ along.out ∷ [])) }
-    requires left { AreWithin (length words.old) (rows.len ∷ along.len ∷ []) (word_place left (rows.left ∷ along.left ∷ [])) }
-    requires right { AreWithin (length words.old) (rows.len ∷ along.len ∷ []) (word_place right (rows.right ∷ along.right ∷ [])) }
-    requires apart_from_left { AreApart (rows.len ∷ along.len ∷ []) (word_place out (rows.out ∷ along.out ∷ [])) (word_place left (rows.left ∷ along.left ∷ [])) }
-    requires apart_from_right { AreApart (rows.len ∷ along.len ∷ []) (word_place out (rows.out ∷ along.out ∷ [])) (word_place right (rows.right ∷ along.right ∷ [])) }
-    requires still { rows.out ≡ 0 }
-    requires next_word { along.out ≡ 1 }
-    requires one_factor { along.left ≡ 0 }
-    requires one_row { along.right ≡ 1 }
-    ensures { IsMade (turned Turn.Grow words.old (word_place left (rows.left ∷ along.left ∷ [])) (word_place right (rows.right ∷ along.right ∷ []))) (word_place out (rows.out ∷ along.out ∷ [])) (places (rows.len ∷ along.len ∷ [])) words.old words.new }
+    requires run { CanRun (length words.old) (loops_of rows) out left right }
+    requires still { rows.outer.out ≡ 0 }
+    requires next_word { rows.along.out ≡ 1 }
+    requires one_factor { rows.along.left ≡ 0 }
+    requires one_row { rows.along.right ≡ 1 }
+    ensures { AreTurned Turn.Grow (loops_of rows) out left right words.old words.new }
 {
-    let fours = rows.len / 4;
+    let Rows { outer, along } = rows;
+    let fours = outer.len / 4;
     for four in 0..fours {
         let x = 4 * four;
         let factors = Strided {
-            first: left + x * rows.left,
-            step: rows.left,
+            first: left + x * outer.left,
+            step: outer.left,
         };
         let scaled = Strided {
-            first: right + x * rows.right,
-            step: rows.right,
+            first: right + x * outer.right,
+            step: outer.right,
         };
         words.mul_add_four(out, factors, scaled, along.len);
     }
-    for x in 4 * fours..rows.len {
+    for x in 4 * fours..outer.len {
         turn_along(
             words,
             Turn::Grow,
             along,
-            out + x * rows.out,
-            left + x * rows.left,
-            right + x * rows.right,
+            out + x * outer.out,
+            left + x * outer.left,
+            right + x * outer.right,
         );
     }
 }
 
 // The rows one by one.
-fn rows_by_one(
-    words: &mut Words,
-    turn: Turn,
-    rows: Loop,
-    along: Loop,
-    out: u64,
-    left: u64,
-    right: u64,
-)
+fn rows_by_one(words: &mut Words, turn: Turn, rows: Rows, out: u64, left: u64, right: u64)
     requires limit { length words.old < 2 ^ 60 }
-    requires rows { 0 < rows.len }
-    requires positive { 0 < along.len }
-    requires out { AreWithin (length words.old) (rows.len ∷ along.len ∷ []) (word_place out (rows.out ∷ along.out ∷ [])) }
-    requires left { AreWithin (length words.old) (rows.len ∷ along.len ∷ []) (word_place left (rows.left ∷ along.left ∷ [])) }
-    requires right { AreWithin (length words.old) (rows.len ∷ along.len ∷ []) (word_place right (rows.right ∷ along.right ∷ [])) }
-    requires apart_from_left { AreApart (rows.len ∷ along.len ∷ []) (word_place out (rows.out ∷ along.out ∷ [])) (word_place left (rows.left ∷ along.left ∷ [])) }
-    requires apart_from_right { AreApart (rows.len ∷ along.len ∷ []) (word_place out (rows.out ∷ along.out ∷ [])) (word_place right (rows.right ∷ along.right ∷ [])) }
-    ensures { IsMade (turned turn words.old (word_place left (rows.left ∷ along.left ∷ [])) (word_place right (rows.right ∷ along.right ∷ []))) (word_place out (rows.out ∷ along.out ∷ [])) (places (rows.len ∷ along.len ∷ [])) words.old words.new }
+    requires run { CanRun (length words.old) (loops_of rows) out left right }
+    ensures { AreTurned turn (loops_of rows) out left right words.old words.new }
 {
-    for x in 0..rows.len {
+    let Rows { outer, along } = rows;
+    for x in 0..outer.len {
         turn_along(
             words,
             turn,
             along,
-            out + x * rows.out,
-            left + x * rows.left,
-            right + x * rows.right,
+            out + x * outer.out,
+            left + x * outer.left,
+            right + x * outer.right,
         );
     }
 }
 
 fn turns_along(words: &mut Words, turn: Turn, along: Loop, out: u64, left: u64, right: u64)
+    requires run { CanRun (length words.old) (along ∷ []) out left right }
     requires moving { 0 < along.out }
-    requires out { AreWithin (length words.old) (along.len ∷ []) (word_place out (along.out ∷ [])) }
-    requires left { AreWithin (length words.old) (along.len ∷ []) (word_place left (along.left ∷ [])) }
-    requires right { AreWithin (length words.old) (along.len ∷ []) (word_place right (along.right ∷ [])) }
-    requires apart_from_left { AreApart (along.len ∷ []) (word_place out (along.out ∷ [])) (word_place left (along.left ∷ [])) }
-    requires apart_from_right { AreApart (along.len ∷ []) (word_place out (along.out ∷ [])) (word_place right (along.right ∷ [])) }
-    ensures { IsMade (turned turn words.old (word_place left (along.left ∷ [])) (word_place right (along.right ∷ []))) (word_place out (along.out ∷ [])) (places (along.len ∷ [])) words.old words.new }
+    ensures { AreTurned turn (along ∷ []) out left right words.old words.new }
 {
     match turn {
         Turn::Grow => words.mul_add_run(
@@ -403,13 +328,9 @@ fn results_along(
     left: u64,
     right: u64,
 )
+    requires run { CanRun (length words.old) (along ∷ []) out left right }
     requires moving { 0 < along.out }
-    requires out { AreWithin (length words.old) (along.len ∷ []) (word_place out (along.out ∷ [])) }
-    requires left { AreWithin (length words.old) (along.len ∷ []) (word_place left (along.left ∷ [])) }
-    requires right { AreWithin (length words.old) (along.len ∷ []) (word_place right (along.right ∷ [])) }
-    requires apart_from_left { AreApart (along.len ∷ []) (word_place out (along.out ∷ [])) (word_place left (along.left ∷ [])) }
-    requires apart_from_right { AreApart (along.len ∷ []) (word_place out (along.out ∷ [])) (word_place right (along.right ∷ [])) }
-    ensures { IsMade (computed operation words.old (word_place left (along.left ∷ [])) (word_place right (along.right ∷ []))) (word_place out (along.out ∷ [])) (places (along.len ∷ [])) words.old words.new }
+    ensures { AreComputed operation (along ∷ []) out left right words.old words.new }
 {
     let Loop {
         len,

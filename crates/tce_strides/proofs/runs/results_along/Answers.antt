@@ -8,19 +8,19 @@ use Rattle.tce_strides.proofs.Innermost.{made_by_run, at_both, run_within, run_a
 use Rattle.tce_strides.proofs.runs.results_along.Goals as goal
 
 pub mul_run-requires-clause-out : goal.mul_run-requires-clause-out
-mul_run-requires-clause-out c = run_within _ _ _ _ c.requires.out
+mul_run-requires-clause-out c = run_within _ _ _ _ c.requires.run.out_within
 
 pub mul_run-requires-clause-a : goal.mul_run-requires-clause-a
-mul_run-requires-clause-a c = run_within _ _ _ _ c.requires.left
+mul_run-requires-clause-a c = run_within _ _ _ _ c.requires.run.left_within
 
 pub mul_run-requires-clause-b : goal.mul_run-requires-clause-b
-mul_run-requires-clause-b c = run_within _ _ _ _ c.requires.right
+mul_run-requires-clause-b c = run_within _ _ _ _ c.requires.run.right_within
 
 pub mul_run-requires-clause-apart_from_a : goal.mul_run-requires-clause-apart_from_a
-mul_run-requires-clause-apart_from_a c = run_apart _ _ _ _ _ c.requires.apart_from_left
+mul_run-requires-clause-apart_from_a c = run_apart _ _ _ _ _ c.requires.run.left_apart
 
 pub mul_run-requires-clause-apart_from_b : goal.mul_run-requires-clause-apart_from_b
-mul_run-requires-clause-apart_from_b c = run_apart _ _ _ _ _ c.requires.apart_from_right
+mul_run-requires-clause-apart_from_b c = run_apart _ _ _ _ _ c.requires.run.right_apart
 
 pub returns-in-Multiply : goal.returns-in-Multiply
 returns-in-Multiply c =
@@ -31,19 +31,19 @@ returns-in-Multiply c =
     c.mul_run.ensures (λ t. at_both wrapping_mul old c.args.left along.left c.args.right along.right t))
 
 pub plus_run-requires-clause-out : goal.plus_run-requires-clause-out
-plus_run-requires-clause-out c = run_within _ _ _ _ c.requires.out
+plus_run-requires-clause-out c = run_within _ _ _ _ c.requires.run.out_within
 
 pub plus_run-requires-clause-a : goal.plus_run-requires-clause-a
-plus_run-requires-clause-a c = run_within _ _ _ _ c.requires.left
+plus_run-requires-clause-a c = run_within _ _ _ _ c.requires.run.left_within
 
 pub plus_run-requires-clause-b : goal.plus_run-requires-clause-b
-plus_run-requires-clause-b c = run_within _ _ _ _ c.requires.right
+plus_run-requires-clause-b c = run_within _ _ _ _ c.requires.run.right_within
 
 pub plus_run-requires-clause-apart_from_a : goal.plus_run-requires-clause-apart_from_a
-plus_run-requires-clause-apart_from_a c = run_apart _ _ _ _ _ c.requires.apart_from_left
+plus_run-requires-clause-apart_from_a c = run_apart _ _ _ _ _ c.requires.run.left_apart
 
 pub plus_run-requires-clause-apart_from_b : goal.plus_run-requires-clause-apart_from_b
-plus_run-requires-clause-apart_from_b c = run_apart _ _ _ _ _ c.requires.apart_from_right
+plus_run-requires-clause-apart_from_b c = run_apart _ _ _ _ _ c.requires.run.right_apart
 
 pub returns-in-Add : goal.returns-in-Add
 returns-in-Add c =
@@ -54,19 +54,19 @@ returns-in-Add c =
     c.plus_run.ensures (λ t. at_both wrapping_add old c.args.left along.left c.args.right along.right t))
 
 pub minus_run-requires-clause-out : goal.minus_run-requires-clause-out
-minus_run-requires-clause-out c = run_within _ _ _ _ c.requires.out
+minus_run-requires-clause-out c = run_within _ _ _ _ c.requires.run.out_within
 
 pub minus_run-requires-clause-a : goal.minus_run-requires-clause-a
-minus_run-requires-clause-a c = run_within _ _ _ _ c.requires.left
+minus_run-requires-clause-a c = run_within _ _ _ _ c.requires.run.left_within
 
 pub minus_run-requires-clause-b : goal.minus_run-requires-clause-b
-minus_run-requires-clause-b c = run_within _ _ _ _ c.requires.right
+minus_run-requires-clause-b c = run_within _ _ _ _ c.requires.run.right_within
 
 pub minus_run-requires-clause-apart_from_a : goal.minus_run-requires-clause-apart_from_a
-minus_run-requires-clause-apart_from_a c = run_apart _ _ _ _ _ c.requires.apart_from_left
+minus_run-requires-clause-apart_from_a c = run_apart _ _ _ _ _ c.requires.run.left_apart
 
 pub minus_run-requires-clause-apart_from_b : goal.minus_run-requires-clause-apart_from_b
-minus_run-requires-clause-apart_from_b c = run_apart _ _ _ _ _ c.requires.apart_from_right
+minus_run-requires-clause-apart_from_b c = run_apart _ _ _ _ _ c.requires.run.right_apart
 
 pub returns-in-Subtract : goal.returns-in-Subtract
 returns-in-Subtract c =

@@ -3,7 +3,7 @@ use Rattle.tce_strides.proofs.Fours.{AreRowsMade}
 use Rattle.tce_strides.proofs.runs.rows_by_four.Given as goal
 
 abbrev pub invariant-loop-four : goal.invariant-loop-four
-invariant-loop-four l = AreRowsMade l.rows l.along l.out l.left l.right (4 * l.four) l.fn.words l.words
+invariant-loop-four l = AreRowsMade l.outer l.along l.out l.left l.right (4 * l.four) l.fn.words l.words
 
 abbrev pub invariant-loop-x : goal.invariant-loop-x
-invariant-loop-x l = AreRowsMade l.rows l.along l.out l.left l.right l.x l.fn.words l.words
+invariant-loop-x l = AreRowsMade l.outer l.along l.out l.left l.right l.x l.fn.words l.words

@@ -8,19 +8,19 @@ use Rattle.tce_strides.proofs.Innermost.{made_by_run, at_both, run_within, run_a
 use Rattle.tce_strides.proofs.runs.turns_along.Goals as goal
 
 pub mul_add_run-requires-clause-out : goal.mul_add_run-requires-clause-out
-mul_add_run-requires-clause-out c = run_within _ _ _ _ c.requires.out
+mul_add_run-requires-clause-out c = run_within _ _ _ _ c.requires.run.out_within
 
 pub mul_add_run-requires-clause-a : goal.mul_add_run-requires-clause-a
-mul_add_run-requires-clause-a c = run_within _ _ _ _ c.requires.left
+mul_add_run-requires-clause-a c = run_within _ _ _ _ c.requires.run.left_within
 
 pub mul_add_run-requires-clause-b : goal.mul_add_run-requires-clause-b
-mul_add_run-requires-clause-b c = run_within _ _ _ _ c.requires.right
+mul_add_run-requires-clause-b c = run_within _ _ _ _ c.requires.run.right_within
 
 pub mul_add_run-requires-clause-apart_from_a : goal.mul_add_run-requires-clause-apart_from_a
-mul_add_run-requires-clause-apart_from_a c = run_apart _ _ _ _ _ c.requires.apart_from_left
+mul_add_run-requires-clause-apart_from_a c = run_apart _ _ _ _ _ c.requires.run.left_apart
 
 pub mul_add_run-requires-clause-apart_from_b : goal.mul_add_run-requires-clause-apart_from_b
-mul_add_run-requires-clause-apart_from_b c = run_apart _ _ _ _ _ c.requires.apart_from_right
+mul_add_run-requires-clause-apart_from_b c = run_apart _ _ _ _ _ c.requires.run.right_apart
 
 pub returns-in-Grow : goal.returns-in-Grow
 returns-in-Grow c =
