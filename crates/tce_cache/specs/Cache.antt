@@ -1,5 +1,5 @@
 -- A cache of the tiles of arrays: what it holds, and what the current words of its arrays are.
-use Rattle.std.specs.Prelude.{◌≡◌, ◌≢◌, ◌⊎◌, ℕ, ◌+◌, ◌*◌, ◌<◌, ◌≤◌, true, List, length, slice_get, slice_index, Option, is_some, Some, None}
+use Rattle.std.specs.Prelude.{◌≡◌, ◌≢◌, ◌⊎◌, ℕ, ◌+◌, ◌*◌, ◌<◌, ◌≤◌, true, List, [], length, slice_get, slice_index, Option, is_some, Some, None}
 use Rattle.std.specs.Option.{IsSomeAnd, ForSome}
 use Rattle.tce_space.specs.Limits.{max_tensors}
 use Rattle.tce_outside.specs.Files.{Files, file, bytes_before}
@@ -18,6 +18,10 @@ pub record State : Type 0 where
   pub frame_words : ℕ
   pub held : List Held
   pub touches : ℕ
+
+-- one that holds no tile
+abbrev pub empty_cache : List ArrayRef → ℕ → ℕ → ℕ → State
+empty_cache arrays at frames frame_words = record { arrays = arrays; at = at; frames = frames; frame_words = frame_words; held = []; touches = 0 }
 
 -- the array has this number
 abbrev pub IsArrayAt : List ArrayRef → ℕ → (ArrayRef → Type 0) → Type 0
@@ -71,6 +75,14 @@ pub record IsCache (c : State) : Type 0 where
 pub record IsReady (c : State) (files : Files) (words : List ℕ) : Type 0 where
   pub files_of_held : (array tile : ℕ) (h : Held) → look_up c.held array tile ≡ Some h → IsArrayAt c.arrays array (λ a. HasFile a files)
   pub clean : AreClean (stored c files) (layout c) c.held words
+
+-- where the disk tells, the array's file is there with its length
+abbrev pub IsFileThere : State → ℕ → Option Files → Type 0
+IsFileThere c array files = ForSome files (λ fs. IsArrayAt c.arrays array (λ a. HasFile a fs))
+
+-- and the cache is ready besides
+abbrev pub IsReadyFor : State → ℕ → Option Files → List ℕ → Type 0
+IsReadyFor c array files words = ForSome files (λ fs. IsReady c fs words × IsArrayAt c.arrays array (λ a. HasFile a fs))
 
 -- the frames lie among the words
 abbrev pub HasRoom : State → List ℕ → Type 0

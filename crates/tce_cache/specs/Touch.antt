@@ -1,5 +1,5 @@
 -- What a touch and a flush do.
-use Rattle.std.specs.Prelude.{◌≡◌, ℕ, ◌+◌, ◌<◌, Bool, false, ◌||◌, List, ◌∷◌, take, length, Option, Some, None, slice_get, slice_index}
+use Rattle.std.specs.Prelude.{◌≡◌, ℕ, ◌+◌, ◌<◌, Bool, false, ◌||◌, List, ◌∷◌, take, drop, map, length, Option, Some, None, slice_get, slice_index}
 use Rattle.std.specs.Option.{ForSome, option_map}
 use Rattle.tce_outside.specs.Files.{Files, file}
 use Rattle.tce_array.specs.Files.{AreBytes}
@@ -13,6 +13,10 @@ use Rattle.tce_cache.specs.Cache.{State, layout, stored, current_word, IsReady, 
 -- the cache with these held tiles and touches
 abbrev pub with_held : State → List Held → ℕ → State
 with_held c held touches = record c { held = held; touches = touches }
+
+-- the cache without the tile that was placed in front of these
+abbrev pub before_placing : State → List Held → State
+before_placing c held = with_held c (drop 1 held) c.touches
 
 -- the tile is in front, in the frame at the answered place
 pub record IsTouched (old new : State) (array tile : ℕ) (write : Bool) (answer : ℕ) : Type 0 where
@@ -46,6 +50,9 @@ AreShown c before words words' array tile at =
 abbrev pub unmarked : Held → Held
 unmarked h = record h { marked = false }
 
+abbrev pub all_unmarked : State → State
+all_unmarked c = with_held c (map unmarked c.held) c.touches
+
 -- each file has the current words
 abbrev pub AreWritten : State → Option Files → Option Files → List ℕ → Type 0
 AreWritten c before after words =
@@ -59,6 +66,14 @@ pub record IsTileWritten (c : State) (before after : Files) (words : List ℕ) (
   pub others : (b u k : ℕ) → AreOther array tile b u → k < words_of_tile (slice_get c.arrays b) → stored c after b u k ≡ stored c before b u k
   pub fronts : (i : ℕ) (a : ArrayRef) → slice_get c.arrays i ≡ Some a → option_map (front a) (file after a.file.bytes) ≡ option_map (front a) (file before a.file.bytes)
   pub bytes : (i : ℕ) (a : ArrayRef) → slice_get c.arrays i ≡ Some a → AreBytes (contents a before) → AreBytes (contents a after)
+
+abbrev pub WritesTile : State → Option Files → Option Files → List ℕ → ℕ → ℕ → ℕ → Type 0
+WritesTile c before after words array tile frame = ForSome before (λ fs. ForSome after (λ gs. IsTileWritten c fs gs words array tile frame))
+
+-- the words of the frame are those of a tile in its file
+abbrev pub IsTileRead : State → Option Files → List ℕ → ℕ → ℕ → ℕ → Type 0
+IsTileRead c before words array tile frame =
+    ForSome before (λ fs. (k : ℕ) → k < words_of_tile (slice_get c.arrays array) → slice_index words (place (layout c) frame + k) ≡ stored c fs array tile k)
 
 -- the tile is in front, in a frame that no other tile is in
 pub record IsPlaced (old new : State) (g : Held) : Type 0 where

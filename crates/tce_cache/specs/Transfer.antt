@@ -1,10 +1,11 @@
 -- Words that pass between a file and a block of words.
-use Rattle.std.specs.Prelude.{◌≡◌, ◌⊎◌, ℕ, ◌+◌, ◌<◌, ◌≤◌, List, [], length, slice_index, take, unwrap_or}
-use Rattle.std.specs.Option.{IsSomeAnd}
-use Rattle.tce_outside.specs.Files.{Files, file}
+use Rattle.std.specs.Prelude.{◌≡◌, ◌⊎◌, ℕ, ◌+◌, ◌<◌, ◌≤◌, List, [], length, slice_index, take, Option, unwrap_or}
+use Rattle.std.specs.Option.{IsSomeAnd, ForSome}
+use Rattle.tce_outside.specs.Files.{Files, file, others, bytes_before}
 use Rattle.tce_array.specs.Files.{AreBytes}
 use Rattle.tce_array.specs.Forms.{word_at, form_len, head_len}
 use Rattle.tce_cache.specs.declared.array.ArrayRef.{ArrayRef}
+use Rattle.tce_cache.specs.declared.transfer.Span.{Span}
 
 -- the bytes of an array's file
 abbrev pub contents : ArrayRef → Files → List ℕ
@@ -33,3 +34,19 @@ pub record IsWritten (a : ArrayRef) (old new : Files) (from : ℕ) (words : List
   pub written : AreWordsOf a new from words at n
   pub others : (k : ℕ) → (k < from) ⊎ (from + n ≤ k) → word_in_file a new k ≡ word_in_file a old k
   pub bytes : AreBytes (contents a old) → AreBytes (contents a new)
+
+-- ---- the same of a span of words, where the disk tells
+
+abbrev pub AreRead : ArrayRef → Option Files → Span → List ℕ → Type 0
+AreRead a before span words = ForSome before (λ fs. AreWordsOf a fs span.from words span.at span.n)
+
+abbrev pub Writes : ArrayRef → Option Files → Option Files → Span → List ℕ → Type 0
+Writes a before after span words = ForSome before (λ fs. ForSome after (λ gs. IsWritten a fs gs span.from words span.at span.n))
+
+-- all files but that of the array are the same
+abbrev pub IsSameElsewhere : ArrayRef → Option Files → Option Files → Type 0
+IsSameElsewhere a before after = others a.file.bytes after ≡ others a.file.bytes before
+
+-- the first eight bytes of the array's file are the same
+abbrev pub BeginsAsBefore : ArrayRef → Option Files → Option Files → Type 0
+BeginsAsBefore a before after = bytes_before a.file.bytes 8 after ≡ bytes_before a.file.bytes 8 before

@@ -1,12 +1,13 @@
 // A cache of tiles.
-ghost use Rattle.std.specs.Prelude.{◌≡◌, ℕ, ◌+◌, ◌*◌, ◌^◌, ◌<◌, ◌≤◌, ◌↔◌, [], length, drop, slice_get, slice_index, map, IfOk, OnOk, IsOk, IsErr, IsSome, IsTrue, Some, None};
+ghost use Rattle.std.specs.Prelude.{◌≡◌, ◌+◌, ◌*◌, ◌^◌, ◌<◌, ◌≤◌, ◌↔◌, length, slice_get, IfOk, OnOk, IsOk, IsErr, IsSome, IsTrue, Some, None};
 ghost use Rattle.std.specs.Option.{ForSome};
 ghost use Rattle.tce_outside.specs.Fault.{HasCause, TellsFaults};
-ghost use Rattle.tce_frames.specs.Held.{Held, look_up, cleaned};
+ghost use Rattle.tce_frames.specs.Held.{look_up};
+ghost use Rattle.tce_frames.specs.Frames.{held_at, HasTile, IsCleaned};
 ghost use Rattle.tce_frames.specs.Current.{place, IsSameOutside};
 
 use crate::array::ArrayRef;
-use crate::transfer::{read_words, write_words};
+use crate::transfer::{Span, read_words, write_words};
 use std::alloc::{AllocError, Global};
 use std::marker::Model;
 use tce_frames::Table;
@@ -65,9 +66,8 @@ impl Model for Cache {
 }
 
 impl Cache {
-    ghost use Rattle.tce_cache.specs.Cache.{State, IsCache, AreArrays, stored, IsArrayAt, Exists, IsWritable, IsReady, HasRoom, IsSameOutsideFrames, OnlyWritableDiffers, layout, words_of_tile};
-    ghost use Rattle.tce_cache.specs.Transfer.{HasFile};
-    ghost use Rattle.tce_cache.specs.Touch.{IsTouched, IsTileWritten, IsPlaced, KeepsArrays, AreShown, with_held, unmarked, AreWritten};
+    ghost use Rattle.tce_cache.specs.Cache.{State, IsCache, AreArrays, Exists, IsWritable, IsReady, IsReadyFor, IsFileThere, HasRoom, IsSameOutsideFrames, OnlyWritableDiffers, layout, empty_cache};
+    ghost use Rattle.tce_cache.specs.Touch.{IsTouched, IsTileRead, WritesTile, IsPlaced, KeepsArrays, AreShown, before_placing, with_held, all_unmarked, AreWritten};
 
     /// A cache that holds no tile. It has so many frames, of `frame_words` words each, of which the first stands from the
     /// word `at` on. No other call of a cache takes memory.
@@ -80,7 +80,7 @@ impl Cache {
     ) -> Result<Cache, AllocError>
         requires arrays { AreArrays arrays.now frame_words }
         requires frames { 3 ≤ frames }
-        ensures { IfOk result (λ c. c ≡ record { arrays = arrays.now; at = at; frames = frames; frame_words = frame_words; held = []; touches = 0 }) }
+        ensures { IfOk result (λ c. c ≡ empty_cache arrays.now at frames frame_words) }
     {
         // No memory has room for more.
         if frames > MAX_MEMORY {
@@ -145,8 +145,9 @@ impl Cache {
         requires frame { frame < self.now.frames }
         requires room { HasRoom self.now words.old }
         requires bounded { length words.old < 2 ^ 60 }
-        requires file { ForSome (D.files disk.old) (λ fs. IsArrayAt self.now.arrays array (λ a. HasFile a fs)) }
-        ensures read { OnOk result (ForSome (D.files disk.old) (λ fs. (k : ℕ) → k < words_of_tile (slice_get self.now.arrays array) → slice_index words.new (place (layout self.now) frame + k) ≡ stored self.now fs array tile k)) }
+        requires file { IsFileThere self.now array (D.files disk.old) }
+        ensures read { OnOk result (IsTileRead self.now (D.files disk.old) words.new
+            array tile frame) }
         ensures len { length words.new ≡ length words.old }
         ensures others { IsSameOutside (layout self.now) frame words.old words.new }
         ensures same { D.files disk.new ≡ D.files disk.old }
@@ -155,7 +156,12 @@ impl Cache {
     {
         let array = &self.arrays[array as usize];
         let n = array.shape.tile_words();
-        read_words(disk, array, n * tile, words, self.place(frame), n)?;
+        let span = Span {
+            from: n * tile,
+            at: self.place(frame),
+            n,
+        };
+        read_words(disk, array, span, words)?;
         Ok(())
     }
 
@@ -173,15 +179,21 @@ impl Cache {
         requires frame { frame < self.now.frames }
         requires room { HasRoom self.now words.now }
         requires bounded { length words.now < 2 ^ 60 }
-        requires file { ForSome (D.files disk.old) (λ fs. IsArrayAt self.now.arrays array (λ a. HasFile a fs)) }
-        ensures written { OnOk result (ForSome (D.files disk.old) (λ fs. ForSome (D.files disk.new) (λ gs. IsTileWritten self.now fs gs words.now array tile frame))) }
+        requires file { IsFileThere self.now array (D.files disk.old) }
+        ensures written { OnOk result (WritesTile self.now (D.files disk.old) (D.files disk.new)
+            words.now array tile frame) }
         ensures others { OnlyWritableDiffers self.now (D.files disk.old) (D.files disk.new) }
         ensures cause { HasCause (D.faults disk.old) (D.faults disk.new) (IsErr result) }
         ensures told { TellsFaults (D.faults disk.old) (D.faults disk.new) (IsErr result) }
     {
         let array = &self.arrays[array as usize];
         let n = array.shape.tile_words();
-        write_words(disk, array, n * tile, words, self.place(frame), n)?;
+        let span = Span {
+            from: n * tile,
+            at: self.place(frame),
+            n,
+        };
+        write_words(disk, array, span, words)?;
         Ok(())
     }
 
@@ -196,10 +208,11 @@ impl Cache {
         requires room { HasRoom self.old words.now }
         requires bounded { length words.now < 2 ^ 60 }
         requires ready { ForSome (D.files disk.old) (λ fs. IsReady self.old fs words.now) }
-        ensures cleaned { OnOk result ((array tile : ℕ) (h : Held) → look_up self.old.held array tile ≡ Some h → h.frame ≡ frame → self.new.held ≡ cleaned array tile self.old.held) }
-        ensures found { (h : Held) × (look_up self.old.held h.array h.tile ≡ Some h) × (h.frame ≡ frame) }
+        ensures cleaned { OnOk result (IsCleaned frame self.old.held self.new.held) }
+        ensures found { HasTile frame self.old.held }
         ensures same { self.new ≡ with_held self.old self.new.held self.old.touches }
-        ensures arrays { OnOk result (KeepsArrays self.old self.new (D.files disk.old) (D.files disk.new) words.now words.now) }
+        ensures arrays { OnOk result (KeepsArrays self.old self.new
+            (D.files disk.old) (D.files disk.new) words.now words.now) }
         ensures cache { IsCache self.new }
         ensures others { OnlyWritableDiffers self.old (D.files disk.old) (D.files disk.new) }
         ensures cause { HasCause (D.faults disk.old) (D.faults disk.new) (IsErr result) }
@@ -228,8 +241,10 @@ impl Cache {
         requires room { HasRoom self.old words.now }
         requires bounded { length words.now < 2 ^ 60 }
         requires ready { ForSome (D.files disk.old) (λ fs. IsReady self.old fs words.now) }
-        ensures placed { IfOk result (λ frame. IsPlaced self.old self.new (record { array = array; tile = tile; frame = frame; marked = marked })) }
-        ensures arrays { OnOk result (KeepsArrays self.old (with_held self.old (drop 1 self.new.held) self.old.touches) (D.files disk.old) (D.files disk.new) words.now words.now) }
+        ensures placed { IfOk result (λ frame.
+            IsPlaced self.old self.new (held_at array tile frame marked)) }
+        ensures arrays { OnOk result (KeepsArrays self.old (before_placing self.old self.new.held)
+            (D.files disk.old) (D.files disk.new) words.now words.now) }
         ensures same { self.new ≡ with_held self.old self.new.held self.old.touches }
         ensures cache { IsCache self.new }
         ensures others { OnlyWritableDiffers self.old (D.files disk.old) (D.files disk.new) }
@@ -245,7 +260,8 @@ impl Cache {
         Ok(oldest)
     }
 
-    // Brings a tile that is not held into a frame.
+    // Brings a tile that is not held into a frame. It stands apart, so that a touch of a held tile has no room for the buffers.
+    #[inline(never)]
     fn bring<D: Disk>(
         &mut self,
         disk: &mut D,
@@ -260,9 +276,11 @@ impl Cache {
         requires room { HasRoom self.old words.old }
         requires bounded { length words.old < 2 ^ 60 }
         requires cache { IsCache self.old }
-        requires ready { ForSome (D.files disk.old) (λ fs. IsReady self.old fs words.old × IsArrayAt self.old.arrays array (λ a. HasFile a fs)) }
-        ensures placed { IfOk result (λ frame. IsPlaced self.old self.new (record { array = array; tile = tile; frame = frame; marked = marked })) }
-        ensures arrays { OnOk result (KeepsArrays self.old self.new (D.files disk.old) (D.files disk.new) words.old words.new) }
+        requires ready { IsReadyFor self.old array (D.files disk.old) words.old }
+        ensures placed { IfOk result (λ frame.
+            IsPlaced self.old self.new (held_at array tile frame marked)) }
+        ensures arrays { OnOk result (KeepsArrays self.old self.new
+            (D.files disk.old) (D.files disk.new) words.old words.new) }
         ensures same { self.new ≡ with_held self.old self.new.held self.old.touches }
         ensures cache { IsCache self.new }
         ensures outside { IsSameOutsideFrames self.old words.old words.new }
@@ -291,11 +309,15 @@ impl Cache {
         requires writable { IsTrue write → IsWritable self.old array }
         requires room { HasRoom self.old words.old }
         requires count { self.old.touches < 2 ^ 100 }
-        requires ready { ForSome (D.files disk.old) (λ fs. IsReady self.old fs words.old × IsArrayAt self.old.arrays array (λ a. HasFile a fs)) }
-        ensures touched { IfOk result (λ answer. IsTouched self.old self.new array tile write answer) }
-        ensures shown { IfOk result (λ answer. AreShown self.old (D.files disk.old) words.old words.new array tile answer) }
-        ensures arrays { OnOk result (KeepsArrays self.old self.new (D.files disk.old) (D.files disk.new) words.old words.new) }
-        ensures held { IsSome (look_up self.old.held array tile) → IsOk result × (words.new ≡ words.old) × (D.files disk.new ≡ D.files disk.old) × (D.faults disk.new ≡ D.faults disk.old) }
+        requires ready { IsReadyFor self.old array (D.files disk.old) words.old }
+        ensures touched { IfOk result (IsTouched self.old self.new array tile write) }
+        ensures shown { IfOk result (AreShown self.old (D.files disk.old) words.old words.new
+            array tile) }
+        ensures arrays { OnOk result (KeepsArrays self.old self.new
+            (D.files disk.old) (D.files disk.new) words.old words.new) }
+        ensures held { IsSome (look_up self.old.held array tile) → IsOk result
+            × (words.new ≡ words.old)
+            × (D.files disk.new ≡ D.files disk.old) × (D.faults disk.new ≡ D.faults disk.old) }
         ensures same { self.new ≡ with_held self.old self.new.held (self.old.touches + 1) }
         ensures cache { IsCache self.new }
         ensures outside { IsSameOutsideFrames self.old words.old words.new }
@@ -322,9 +344,11 @@ impl Cache {
     pub fn flush<D: Disk>(&mut self, disk: &mut D, words: &Words) -> Result<(), Failed>
         requires room { HasRoom self.old words.now }
         requires ready { ForSome (D.files disk.old) (λ fs. IsReady self.old fs words.now) }
-        ensures flushed { OnOk result (self.new ≡ with_held self.old (map unmarked self.old.held) self.old.touches) }
-        ensures arrays { OnOk result (KeepsArrays self.old self.new (D.files disk.old) (D.files disk.new) words.now words.now) }
-        ensures written { OnOk result (AreWritten self.old (D.files disk.old) (D.files disk.new) words.now) }
+        ensures flushed { OnOk result (self.new ≡ all_unmarked self.old) }
+        ensures arrays { OnOk result (KeepsArrays self.old self.new
+            (D.files disk.old) (D.files disk.new) words.now words.now) }
+        ensures written { OnOk result (AreWritten self.old (D.files disk.old) (D.files disk.new)
+            words.now) }
         ensures same { self.new ≡ with_held self.old self.new.held self.old.touches }
         ensures cache { IsCache self.new }
         ensures others { OnlyWritableDiffers self.old (D.files disk.old) (D.files disk.new) }

@@ -1,12 +1,11 @@
 // Words between files and a block of words, in pieces.
 ghost use Rattle.std.specs.Prelude.{◌≡◌, ◌+◌, ◌*◌, ◌/◌, ◌%◌, ◌^◌, ◌<◌, ◌≤◌, length, OnOk, IsErr};
 ghost use Rattle.std.specs.Option.{ForSome};
-ghost use Rattle.tce_outside.specs.Files.{others, bytes_before};
 ghost use Rattle.tce_outside.specs.Fault.{HasCause, TellsFaults};
 ghost use Rattle.tce_space.specs.Tiling.{IsTiling, padded_words};
 ghost use Rattle.tce_array.specs.Forms.{width, word_in, word_place};
 ghost use Rattle.tce_words.specs.Load.{IsLoaded};
-ghost use Rattle.tce_cache.specs.Transfer.{HasFile, AreWordsOf, IsSameBut, IsWritten};
+ghost use Rattle.tce_cache.specs.Transfer.{HasFile, AreRead, IsSameBut, Writes, IsSameElsewhere, BeginsAsBefore};
 
 use crate::array::ArrayRef;
 use tce_array::Form;
@@ -21,6 +20,14 @@ const SHORT: usize = 4096;
 
 // So many words fit into a short buffer in every form.
 const SHORT_WORDS: u64 = 512;
+
+/// Words of an array's file, from the number `from` on, and as many of a block, from `at` on.
+#[derive(Clone, Copy)]
+pub(crate) struct Span {
+    pub(crate) from: u64,
+    pub(crate) at: u64,
+    pub(crate) n: u64,
+}
 
 // Makes the words from `at` on those of one piece.
 fn load_piece(words: &mut Words, at: u64, form: Form, piece: &[u8])
@@ -49,26 +56,24 @@ fn place_of(array: &ArrayRef, word: u64) -> u64
 fn read_piece<D: Disk>(
     disk: &mut D,
     array: &ArrayRef,
-    from: u64,
+    span: Span,
     words: &mut Words,
-    at: u64,
-    n: u64,
     piece: &mut [u8],
 ) -> Result<(), Failed>
-    requires whole { length piece.old ≡ width array.now.form * n }
+    requires whole { length piece.old ≡ width array.now.form * span.n }
     requires limits { IsTiling array.now.shape }
-    requires inside { from + n ≤ padded_words array.now.shape }
-    requires room { at + n ≤ length words.old }
-    requires file { ForSome (D.files disk.old) (λ fs. HasFile array.now fs) }
-    ensures read { OnOk result (ForSome (D.files disk.old) (λ fs. AreWordsOf array.now fs from words.new at n)) }
+    requires inside { span.from + span.n ≤ padded_words array.now.shape }
+    requires room { span.at + span.n ≤ length words.old }
+    requires file { ForSome (D.files disk.old) (HasFile array.now) }
+    ensures read { OnOk result (AreRead array.now (D.files disk.old) span words.new) }
     ensures len { length words.new ≡ length words.old }
-    ensures others { IsSameBut at n words.old words.new }
+    ensures others { IsSameBut span.at span.n words.old words.new }
     ensures same { D.files disk.new ≡ D.files disk.old }
     ensures cause { HasCause (D.faults disk.old) (D.faults disk.new) (IsErr result) }
     ensures told { TellsFaults (D.faults disk.old) (D.faults disk.new) (IsErr result) }
 {
-    disk.read_at(array.file.as_str(), place_of(array, from), piece)?;
-    load_piece(words, at, array.form, piece);
+    disk.read_at(array.file.as_str(), place_of(array, span.from), piece)?;
+    load_piece(words, span.at, array.form, piece);
     Ok(())
 }
 
@@ -76,21 +81,19 @@ fn read_piece<D: Disk>(
 fn read_through<D: Disk>(
     disk: &mut D,
     array: &ArrayRef,
-    from: u64,
+    span: Span,
     words: &mut Words,
-    at: u64,
-    n: u64,
     buffer: &mut [u8],
 ) -> Result<(), Failed>
     requires some { 8 ≤ length buffer.old }
     requires limits { IsTiling array.now.shape }
-    requires inside { from + n ≤ padded_words array.now.shape }
-    requires room { at + n ≤ length words.old }
+    requires inside { span.from + span.n ≤ padded_words array.now.shape }
+    requires room { span.at + span.n ≤ length words.old }
     requires bounded { length words.old < 2 ^ 60 }
-    requires file { ForSome (D.files disk.old) (λ fs. HasFile array.now fs) }
-    ensures read { OnOk result (ForSome (D.files disk.old) (λ fs. AreWordsOf array.now fs from words.new at n)) }
+    requires file { ForSome (D.files disk.old) (HasFile array.now) }
+    ensures read { OnOk result (AreRead array.now (D.files disk.old) span words.new) }
     ensures len { length words.new ≡ length words.old }
-    ensures others { IsSameBut at n words.old words.new }
+    ensures others { IsSameBut span.at span.n words.old words.new }
     ensures same { D.files disk.new ≡ D.files disk.old }
     ensures cause { HasCause (D.faults disk.old) (D.faults disk.new) (IsErr result) }
     ensures told { TellsFaults (D.faults disk.old) (D.faults disk.new) (IsErr result) }
@@ -98,73 +101,75 @@ fn read_through<D: Disk>(
     let width = array.form.width();
     let most = buffer.len() as u64 / 8;
     let mut done = 0;
-    while done < n {
-        let count = (n - done).min(most);
+    while done < span.n {
+        let count = (span.n - done).min(most);
+        let next = Span {
+            from: span.from + done,
+            at: span.at + done,
+            n: count,
+        };
         let piece = &mut buffer[..(width * count) as usize];
-        read_piece(disk, array, from + done, words, at + done, count, piece)?;
+        read_piece(disk, array, next, words, piece)?;
         done += count;
     }
     Ok(())
 }
 
-/// Reads `n` words of an array's file, from the number `from` on, into those from `at` on.
+/// Reads the words of a span of an array's file.
 ///
 /// Where the disk fails, these words may be anything. All others stay in every case.
 pub(crate) fn read_words<D: Disk>(
     disk: &mut D,
     array: &ArrayRef,
-    from: u64,
+    span: Span,
     words: &mut Words,
-    at: u64,
-    n: u64,
 ) -> Result<(), Failed>
     requires limits { IsTiling array.now.shape }
-    requires inside { from + n ≤ padded_words array.now.shape }
-    requires room { at + n ≤ length words.old }
+    requires inside { span.from + span.n ≤ padded_words array.now.shape }
+    requires room { span.at + span.n ≤ length words.old }
     requires bounded { length words.old < 2 ^ 60 }
-    requires file { ForSome (D.files disk.old) (λ fs. HasFile array.now fs) }
-    ensures read { OnOk result (ForSome (D.files disk.old) (λ fs. AreWordsOf array.now fs from words.new at n)) }
+    requires file { ForSome (D.files disk.old) (HasFile array.now) }
+    ensures read { OnOk result (AreRead array.now (D.files disk.old) span words.new) }
     ensures len { length words.new ≡ length words.old }
-    ensures others { IsSameBut at n words.old words.new }
+    ensures others { IsSameBut span.at span.n words.old words.new }
     ensures same { D.files disk.new ≡ D.files disk.old }
     ensures cause { HasCause (D.faults disk.old) (D.faults disk.new) (IsErr result) }
     ensures told { TellsFaults (D.faults disk.old) (D.faults disk.new) (IsErr result) }
 {
-    if n <= SHORT_WORDS {
+    if span.n <= SHORT_WORDS {
         let mut buffer = [0; SHORT];
-        return read_through(disk, array, from, words, at, n, &mut buffer);
+        return read_through(disk, array, span, words, &mut buffer);
     }
     let mut buffer = [0; PIECE];
-    read_through(disk, array, from, words, at, n, &mut buffer)
+    read_through(disk, array, span, words, &mut buffer)
 }
 
 // Writes the words of one piece.
 fn write_piece<D: Disk>(
     disk: &mut D,
     array: &ArrayRef,
-    from: u64,
+    span: Span,
     words: &Words,
-    at: u64,
-    n: u64,
     piece: &mut [u8],
 ) -> Result<(), Failed>
-    requires whole { length piece.old ≡ 8 * n }
+    requires whole { length piece.old ≡ 8 * span.n }
     requires one { array.now.form ≡ Form.One }
     requires limits { IsTiling array.now.shape }
-    requires inside { from + n ≤ padded_words array.now.shape }
-    requires room { at + n ≤ length words.now }
+    requires inside { span.from + span.n ≤ padded_words array.now.shape }
+    requires room { span.at + span.n ≤ length words.now }
     requires bounded { length words.now < 2 ^ 60 }
-    requires file { ForSome (D.files disk.old) (λ fs. HasFile array.now fs) }
-    ensures written { OnOk result (ForSome (D.files disk.old) (λ fs. ForSome (D.files disk.new) (λ gs. IsWritten array.now fs gs from words.now at n))) }
-    ensures others { others array.now.file.bytes (D.files disk.new) ≡ others array.now.file.bytes (D.files disk.old) }
-    ensures begins { bytes_before array.now.file.bytes 8 (D.files disk.new) ≡ bytes_before array.now.file.bytes 8 (D.files disk.old) }
+    requires file { ForSome (D.files disk.old) (HasFile array.now) }
+    ensures written { OnOk result (Writes array.now (D.files disk.old) (D.files disk.new)
+        span words.now) }
+    ensures others { IsSameElsewhere array.now (D.files disk.old) (D.files disk.new) }
+    ensures begins { BeginsAsBefore array.now (D.files disk.old) (D.files disk.new) }
     ensures cause { HasCause (D.faults disk.old) (D.faults disk.new) (IsErr result) }
     ensures told { TellsFaults (D.faults disk.old) (D.faults disk.new) (IsErr result) }
 {
     // The block says that each word has 64 bits.
     let _len = words.len();
-    words.store(at, piece);
-    disk.write_at(array.file.as_str(), place_of(array, from), piece)?;
+    words.store(span.at, piece);
+    disk.write_at(array.file.as_str(), place_of(array, span.from), piece)?;
     Ok(())
 }
 
@@ -172,64 +177,67 @@ fn write_piece<D: Disk>(
 fn write_through<D: Disk>(
     disk: &mut D,
     array: &ArrayRef,
-    from: u64,
+    span: Span,
     words: &Words,
-    at: u64,
-    n: u64,
     buffer: &mut [u8],
 ) -> Result<(), Failed>
     requires some { 8 ≤ length buffer.old }
     requires one { array.now.form ≡ Form.One }
     requires limits { IsTiling array.now.shape }
-    requires inside { from + n ≤ padded_words array.now.shape }
-    requires room { at + n ≤ length words.now }
+    requires inside { span.from + span.n ≤ padded_words array.now.shape }
+    requires room { span.at + span.n ≤ length words.now }
     requires bounded { length words.now < 2 ^ 60 }
-    requires file { ForSome (D.files disk.old) (λ fs. HasFile array.now fs) }
-    ensures written { OnOk result (ForSome (D.files disk.old) (λ fs. ForSome (D.files disk.new) (λ gs. IsWritten array.now fs gs from words.now at n))) }
-    ensures others { others array.now.file.bytes (D.files disk.new) ≡ others array.now.file.bytes (D.files disk.old) }
-    ensures begins { bytes_before array.now.file.bytes 8 (D.files disk.new) ≡ bytes_before array.now.file.bytes 8 (D.files disk.old) }
+    requires file { ForSome (D.files disk.old) (HasFile array.now) }
+    ensures written { OnOk result (Writes array.now (D.files disk.old) (D.files disk.new)
+        span words.now) }
+    ensures others { IsSameElsewhere array.now (D.files disk.old) (D.files disk.new) }
+    ensures begins { BeginsAsBefore array.now (D.files disk.old) (D.files disk.new) }
     ensures cause { HasCause (D.faults disk.old) (D.faults disk.new) (IsErr result) }
     ensures told { TellsFaults (D.faults disk.old) (D.faults disk.new) (IsErr result) }
 {
     let most = buffer.len() as u64 / 8;
     let mut done = 0;
-    while done < n {
-        let count = (n - done).min(most);
+    while done < span.n {
+        let count = (span.n - done).min(most);
+        let next = Span {
+            from: span.from + done,
+            at: span.at + done,
+            n: count,
+        };
         let piece = &mut buffer[..(8 * count) as usize];
-        write_piece(disk, array, from + done, words, at + done, count, piece)?;
+        write_piece(disk, array, next, words, piece)?;
         done += count;
     }
     Ok(())
 }
 
-/// Writes the `n` words from `at` on over those of an array's file from the number `from` on.
+/// Writes the words of a span to an array's file.
 ///
 /// Where the disk fails, these words of the file may be anything. Its first eight bytes and all other files stay in every
 /// case.
 pub(crate) fn write_words<D: Disk>(
     disk: &mut D,
     array: &ArrayRef,
-    from: u64,
+    span: Span,
     words: &Words,
-    at: u64,
-    n: u64,
 ) -> Result<(), Failed>
     requires one { array.now.form ≡ Form.One }
     requires limits { IsTiling array.now.shape }
-    requires inside { from + n ≤ padded_words array.now.shape }
-    requires room { at + n ≤ length words.now }
+    requires inside { span.from + span.n ≤ padded_words array.now.shape }
+    requires room { span.at + span.n ≤ length words.now }
     requires bounded { length words.now < 2 ^ 60 }
-    requires file { ForSome (D.files disk.old) (λ fs. HasFile array.now fs) }
-    ensures written { OnOk result (ForSome (D.files disk.old) (λ fs. ForSome (D.files disk.new) (λ gs. IsWritten array.now fs gs from words.now at n))) }
-    ensures others { others array.now.file.bytes (D.files disk.new) ≡ others array.now.file.bytes (D.files disk.old) }
-    ensures begins { bytes_before array.now.file.bytes 8 (D.files disk.new) ≡ bytes_before array.now.file.bytes 8 (D.files disk.old) }
+    requires file { ForSome (D.files disk.old) (HasFile array.now) }
+    ensures written { OnOk result (Writes array.now (D.files disk.old) (D.files disk.new)
+        span words.now) }
+    ensures others { IsSameElsewhere array.now (D.files disk.old) (D.files disk.new) }
+    ensures begins { BeginsAsBefore array.now (D.files disk.old) (D.files disk.new) }
     ensures cause { HasCause (D.faults disk.old) (D.faults disk.new) (IsErr result) }
     ensures told { TellsFaults (D.faults disk.old) (D.faults disk.new) (IsErr result) }
 {
-    if n <= SHORT_WORDS {
+    if span.n <= SHORT_WORDS {
         let mut buffer = [0; SHORT];
-        return write_through(disk, array, from, words, at, n, &mut buffer);
+        return write_through(disk, array, span, words, &mut buffer);
     }
     let mut buffer = [0; PIECE];
-    write_through(disk, array, from, words, at, n, &mut buffer)
+    write_through(disk, array, span, words, &mut buffer)
 }

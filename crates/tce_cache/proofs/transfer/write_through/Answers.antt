@@ -3,8 +3,8 @@ use Rattle.tce_cache.specs.Transfer.{IsWritten}
 use Rattle.tce_cache.proofs.Transfers.{told_before, written_joined}
 use Rattle.tce_cache.proofs.transfer.write_through.Goals as goal
 
-pub overflow_add-from : goal.overflow_add-from
-overflow_add-from g c = omega (arith, c.requires.limits.room, c.requires.inside, c.loop-done.invariant.done)
+pub overflow_add-next : goal.overflow_add-next
+overflow_add-next g c = omega (arith, c.requires.limits.room, c.requires.inside, c.loop-done.invariant.done)
 
 pub write_piece-requires-clause-file : goal.write_piece-requires-clause-file
 write_piece-requires-clause-file g c x told =
@@ -22,14 +22,14 @@ loop-done-preserved g c =
       counted = piece.told (search rules) ∙ before.counted;
       written = λ x told y now.
           let middle = told_before c.args.array.now.file.bytes _ _ y piece.others now in
-          written_joined c.args.array.now x middle.0 y c.args.from c.args.at c.loop-done.done c.min-count.result c.args.words.now
+          written_joined c.args.array.now x middle.0 y c.args.span.from c.args.span.at c.loop-done.done c.min-count.result c.args.words.now
           (before.written x told middle.0 middle.1) (piece.written middle.0 middle.1 y now);
     }
 
 pub returns-clause-written : goal.returns-clause-written
 returns-clause-written g c x told y now =
-    let all : c.loop-done.done ≡ c.args.n = omega (arith, c.loop-done.invariant.done, c.loop-done-test.false) in
-    subst (IsWritten c.args.array.now x y c.args.from c.args.words.now c.args.at) all (c.loop-done.invariant.written x told y now)
+    let all : c.loop-done.done ≡ c.args.span.n = omega (arith, c.loop-done.invariant.done, c.loop-done-test.false) in
+    subst (IsWritten c.args.array.now x y c.args.span.from c.args.words.now c.args.span.at) all (c.loop-done.invariant.written x told y now)
 
 pub returns-clause-told : goal.returns-clause-told
 returns-clause-told g c = λ _. c.loop-done.invariant.counted

@@ -6,8 +6,8 @@ use Rattle.tce_cache.specs.Cache.{State, IsCache}
 use Rattle.tce_cache.proofs.Tiles.{array_at, at_array, tile_room, frame_room, inside_frame, tile_read}
 use Rattle.tce_cache.proofs.cache.Cache.read_tile.Goals as goal
 
-pub overflow_mul-n : goal.overflow_mul-n
-overflow_mul-n g c =
+pub overflow_mul-span : goal.overflow_mul-span
+overflow_mul-span g c =
     let a = c.index-array.result.now in
     let here = array_at (λ (x : ArrayRef). c.args.tile < tiles x.shape) c.self.inside.arrays.items c.args.self.now.arrays c.args.array a (ap (λ (s : State). s.arrays) c.self.view_is) c.requires.exists c.index-array.ensures in
     let room = tile_room a.shape c.args.tile here.1 in
