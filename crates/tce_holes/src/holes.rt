@@ -35,7 +35,8 @@ fn unit_of(len: u64) -> u64
 // Whether none of the pieces from `first` to `last` was written.
 fn is_unwritten(written: &[bool], first: usize, last: usize) -> bool
     requires { last < length written.now }
-    ensures { IsTrue result → (k : ℕ) → first ≤ k → k ≤ last → slice_get written.now k ≡ Some false }
+    ensures { IsTrue result
+        → (k : ℕ) → first ≤ k → k ≤ last → slice_get written.now k ≡ Some false }
 {
     for k in first..last + 1 {
         if written[k] {
@@ -48,7 +49,8 @@ fn is_unwritten(written: &[bool], first: usize, last: usize) -> bool
 // The pieces from `first` to `last` are written.
 fn set_written(written: &mut Vec<bool>, first: usize, last: usize)
     requires { last < length written.old.items }
-    ensures { (k : ℕ) → slice_get written.new.items k ≡ Some false → (slice_get written.old.items k ≡ Some false) × ((k < first) ⊎ (last < k)) }
+    ensures { (k : ℕ) → slice_get written.new.items k ≡ Some false
+        → (slice_get written.old.items k ≡ Some false) × ((k < first) ⊎ (last < k)) }
 {
     for k in first..last + 1 {
         written[k] = true;

@@ -52,7 +52,8 @@ fn clear(out: &mut [u8])
 
 // Takes note of a write to a part of a file, where the holes of the file `known` are known.
 fn note_write(holes: &mut Holes, known: &str, name: &str, at: u64, n: u64)
-    ensures { (p : ℕ) → IsHole holes.new p → (known.now ≡ name.now) × IsHole holes.old p × ((p < at) ⊎ (at + n ≤ p)) }
+    ensures { (p : ℕ) → IsHole holes.new p
+        → (known.now ≡ name.now) × IsHole holes.old p × ((p < at) ⊎ (at + n ≤ p)) }
 {
     if known == name {
         holes.mark(at, n);

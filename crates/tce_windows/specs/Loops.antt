@@ -6,8 +6,9 @@ use Rattle.tce_space.specs.Box.{places}
 use Rattle.tce_space.specs.Tiling.{ArePositive}
 use Rattle.tce_tree.specs.Value.{assignment}
 use Rattle.tce_tree.specs.WellFormed.{among, is_distinct}
-use Rattle.tce_strides.specs.Places.{word_place}
-use Rattle.tce_strides.specs.Turns.{IsMade}
+use Rattle.tce_strides.specs.declared.loops.Operation.{Operation}
+use Rattle.tce_strides.specs.Places.{word_place, AreWithin, AreApart}
+use Rattle.tce_strides.specs.Turns.{IsMade, grown, grown_by_products, computed}
 use Rattle.tce_windows.specs.Windows.{steps_along}
 use Rattle.tce_windows.specs.declared.window.Window.{Window}
 
@@ -31,3 +32,27 @@ pub record AreMade (order lens : List ℕ) (word : List ℕ → ℕ → List ℕ
   pub inner : List ℕ
   pub same : IsPermutation order inner
   pub made : IsMade (word inner) (place_along out inner) (places (numbers_along order lens inner)) old new
+
+-- ---- what the calls ask of windows, and what they leave
+
+-- the places of a window are among `count` words
+abbrev pub IsWindowWithin : ℕ → List ℕ → List ℕ → Window → Type 0
+IsWindowWithin count order lens w = AreWithin count (numbers_along order lens order) (place_along w order)
+
+-- no place of one window is one of the other
+abbrev pub AreWindowsApart : List ℕ → List ℕ → Window → Window → Type 0
+AreWindowsApart order lens w other = AreApart (numbers_along order lens order) (place_along w order) (place_along other order)
+
+-- the operand's words were added
+abbrev pub HasGrown : List ℕ → List ℕ → Window → Window → List ℕ → List ℕ → Type 0
+HasGrown order lens out operand old new = AreMade order lens (λ inner. grown old (place_along operand inner)) out old new
+
+-- the products of the operands' words were added
+abbrev pub HasGrownByProducts : List ℕ → List ℕ → Window → Window → Window → List ℕ → List ℕ → Type 0
+HasGrownByProducts order lens out left right old new =
+    AreMade order lens (λ inner. grown_by_products old (place_along left inner) (place_along right inner)) out old new
+
+-- what the operation makes of the operands' words was put
+abbrev pub IsComputed : Operation → List ℕ → List ℕ → Window → Window → Window → List ℕ → List ℕ → Type 0
+IsComputed operation order lens out left right old new =
+    AreMade order lens (λ inner. computed operation old (place_along left inner) (place_along right inner)) out old new

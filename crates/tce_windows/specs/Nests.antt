@@ -1,6 +1,6 @@
 -- Loops in the sequence in which they run.
 use Rattle.std.specs.Prelude.{◌≡◌, ℕ, ◌-◌, ◌*◌, ◌<◌, ◌==◌, Bool, not, if◌then◌else◌, List, map, slice_get, slice_index, Some}
-use Rattle.std.specs.List.{All}
+use Rattle.std.specs.List.{All, filter}
 use Rattle.std.specs.List.Sorted.{IsPermutation}
 use Rattle.tce_space.specs.Limits.{max_indexes}
 use Rattle.tce_tree.specs.Value.{assignment}
@@ -41,9 +41,19 @@ sum_loop out operand x = record { len = x.len; out = slice_index out.steps x.ind
 abbrev pub pair_loop : Window → Window → Window → Axis → Loop
 pair_loop out left right x = record { len = x.len; out = slice_index out.steps x.index; left = slice_index left.steps x.index; right = slice_index right.steps x.index }
 
+abbrev pub sum_loops : Window → Window → List Axis → List SumLoop
+sum_loops out operand axes = map (sum_loop out operand) axes
+
+abbrev pub pair_loops : Window → Window → Window → List Axis → List Loop
+pair_loops out left right axes = map (pair_loop out left right) axes
+
 -- whether the window's place moves along the loop
 abbrev pub moves : Window → Axis → Bool
 moves out x = not (slice_index out.steps x.index == 0)
+
+-- the loops along which the place of the result moves
+abbrev pub moving_loops : Window → Window → Window → List Axis → List Loop
+moving_loops out left right axes = map (pair_loop out left right) (filter (moves out) axes)
 
 -- how far a window's place is moved by the last number of a loop along which that of `out` stays
 abbrev pub advanced : Window → Window → Axis → ℕ

@@ -1,8 +1,6 @@
 //! The loops of one block, over windows of one list of words.
-ghost use Rattle.std.specs.Prelude.{◌≤◌, length};
-ghost use Rattle.tce_strides.specs.Places.{AreWithin, AreApart};
-ghost use Rattle.tce_strides.specs.Turns.{grown, grown_by_products, computed};
-ghost use Rattle.tce_windows.specs.Loops.{AreLoops, AreMade, numbers_along, place_along};
+ghost use Rattle.std.specs.Prelude.{length};
+ghost use Rattle.tce_windows.specs.Loops.{AreLoops, IsWindowWithin, AreWindowsApart, HasGrown, HasGrownByProducts, IsComputed};
 ghost use Rattle.tce_windows.specs.Sequences.{IsLoopSequence};
 
 use crate::nest::{fill_pair_loops, fill_sum_loops};
@@ -26,11 +24,11 @@ pub fn grow(
 )
     requires sequence { IsLoopSequence loops.now sequence.old }
     requires loops { AreLoops loops.now lens.now }
-    requires out { AreWithin (length words.old) (numbers_along loops.now lens.now loops.now) (place_along out.now loops.now) }
-    requires operand { AreWithin (length words.old) (numbers_along loops.now lens.now loops.now) (place_along operand.now loops.now) }
-    requires apart { AreApart (numbers_along loops.now lens.now loops.now) (place_along out.now loops.now) (place_along operand.now loops.now) }
+    requires out { IsWindowWithin (length words.old) loops.now lens.now out.now }
+    requires operand { IsWindowWithin (length words.old) loops.now lens.now operand.now }
+    requires apart { AreWindowsApart loops.now lens.now out.now operand.now }
     ensures sequence { IsLoopSequence loops.now sequence.new }
-    ensures made { AreMade loops.now lens.now (λ inner. grown words.old (place_along operand.now inner)) out.now words.old words.new }
+    ensures made { HasGrown loops.now lens.now out.now operand.now words.old words.new }
 {
     sequence.begin(loops, lens);
     let count = sequence.axes.len();
@@ -53,13 +51,14 @@ pub fn grow_by_products(
 )
     requires sequence { IsLoopSequence loops.now sequence.old }
     requires loops { AreLoops loops.now lens.now }
-    requires out { AreWithin (length words.old) (numbers_along loops.now lens.now loops.now) (place_along out.now loops.now) }
-    requires left { AreWithin (length words.old) (numbers_along loops.now lens.now loops.now) (place_along left.now loops.now) }
-    requires right { AreWithin (length words.old) (numbers_along loops.now lens.now loops.now) (place_along right.now loops.now) }
-    requires apart_from_left { AreApart (numbers_along loops.now lens.now loops.now) (place_along out.now loops.now) (place_along left.now loops.now) }
-    requires apart_from_right { AreApart (numbers_along loops.now lens.now loops.now) (place_along out.now loops.now) (place_along right.now loops.now) }
+    requires out { IsWindowWithin (length words.old) loops.now lens.now out.now }
+    requires left { IsWindowWithin (length words.old) loops.now lens.now left.now }
+    requires right { IsWindowWithin (length words.old) loops.now lens.now right.now }
+    requires apart_from_left { AreWindowsApart loops.now lens.now out.now left.now }
+    requires apart_from_right { AreWindowsApart loops.now lens.now out.now right.now }
     ensures sequence { IsLoopSequence loops.now sequence.new }
-    ensures made { AreMade loops.now lens.now (λ inner. grown_by_products words.old (place_along left.now inner) (place_along right.now inner)) out.now words.old words.new }
+    ensures made { HasGrownByProducts loops.now lens.now out.now left.now right.now
+        words.old words.new }
 {
     sequence.begin(loops, lens);
     let count = sequence.axes.len();
@@ -96,13 +95,14 @@ pub fn compute(
 )
     requires sequence { IsLoopSequence loops.now sequence.old }
     requires loops { AreLoops loops.now lens.now }
-    requires out { AreWithin (length words.old) (numbers_along loops.now lens.now loops.now) (place_along out.now loops.now) }
-    requires left { AreWithin (length words.old) (numbers_along loops.now lens.now loops.now) (place_along left.now loops.now) }
-    requires right { AreWithin (length words.old) (numbers_along loops.now lens.now loops.now) (place_along right.now loops.now) }
-    requires apart_from_left { AreApart (numbers_along loops.now lens.now loops.now) (place_along out.now loops.now) (place_along left.now loops.now) }
-    requires apart_from_right { AreApart (numbers_along loops.now lens.now loops.now) (place_along out.now loops.now) (place_along right.now loops.now) }
+    requires out { IsWindowWithin (length words.old) loops.now lens.now out.now }
+    requires left { IsWindowWithin (length words.old) loops.now lens.now left.now }
+    requires right { IsWindowWithin (length words.old) loops.now lens.now right.now }
+    requires apart_from_left { AreWindowsApart loops.now lens.now out.now left.now }
+    requires apart_from_right { AreWindowsApart loops.now lens.now out.now right.now }
     ensures sequence { IsLoopSequence loops.now sequence.new }
-    ensures made { AreMade loops.now lens.now (λ inner. computed operation words.old (place_along left.now inner) (place_along right.now inner)) out.now words.old words.new }
+    ensures made { IsComputed operation loops.now lens.now out.now left.now right.now
+        words.old words.new }
 {
     // The length's limit keeps the places within a word.
     let _count = words.len();

@@ -3,7 +3,7 @@ ghost use Rattle.std.specs.Prelude.{◌≡◌, ℕ, ◌<◌, ◌≤◌, List, le
 ghost use Rattle.std.specs.List.{All};
 ghost use Rattle.tce_space.specs.Limits.{max_indexes, max_loops};
 ghost use Rattle.tce_windows.specs.Loops.{AreLoops};
-ghost use Rattle.tce_windows.specs.Nests.{ArePlaced, IsPlaced, indexes_of, with_len, pair_loop, sum_loop};
+ghost use Rattle.tce_windows.specs.Nests.{ArePlaced, IsPlaced, indexes_of, with_len, pair_loops, sum_loops};
 
 use crate::window::Window;
 use arrayvec::ArrayVec;
@@ -121,7 +121,7 @@ pub(crate) fn fill_sum_loops(
 )
     requires few { length axes.now ≤ max_loops }
     requires below { All (λ x. x.index < max_indexes) axes.now }
-    ensures { take (length axes.now) loops.new ≡ map (sum_loop out.now operand.now) axes.now }
+    ensures { take (length axes.now) loops.new ≡ sum_loops out.now operand.now axes.now }
 {
     for d in 0..axes.len() {
         let i = axes[d].index as usize;
@@ -144,7 +144,7 @@ pub(crate) fn fill_pair_loops(
 )
     requires few { length axes.now ≤ max_loops }
     requires below { All (λ x. x.index < max_indexes) axes.now }
-    ensures { take (length axes.now) loops.new ≡ map (pair_loop out.now left.now right.now) axes.now }
+    ensures { take (length axes.now) loops.new ≡ pair_loops out.now left.now right.now axes.now }
 {
     for d in 0..axes.len() {
         let i = axes[d].index as usize;

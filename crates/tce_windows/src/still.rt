@@ -1,8 +1,8 @@
 // Loops along which the place of a result stays: of what is put there, only that of their last turns counts.
-ghost use Rattle.std.specs.Prelude.{◌≡◌, ℕ, ◌+◌, ◌<◌, ◌≤◌, ◌^◌, length, map, take, sum_by};
-ghost use Rattle.std.specs.List.{All, filter};
+ghost use Rattle.std.specs.Prelude.{◌≡◌, ℕ, ◌+◌, ◌<◌, ◌≤◌, ◌^◌, length, take, sum_by};
+ghost use Rattle.std.specs.List.{All};
 ghost use Rattle.tce_space.specs.Limits.{max_indexes, max_loops};
-ghost use Rattle.tce_windows.specs.Nests.{advanced, moves, pair_loop};
+ghost use Rattle.tce_windows.specs.Nests.{advanced, moving_loops};
 
 use crate::nest::{Axis, put_pair_loop};
 use crate::window::Window;
@@ -20,7 +20,7 @@ pub(crate) fn fill_moving_loops(
     requires few { length axes.now ≤ max_loops }
     requires below { All (λ x. x.index < max_indexes) axes.now }
     ensures few { result ≤ max_loops }
-    ensures loops { take result loops.new ≡ map (pair_loop out.now left.now right.now) (filter (moves out.now) axes.now) }
+    ensures loops { take result loops.new ≡ moving_loops out.now left.now right.now axes.now }
 {
     let mut count = 0;
     for axis in axes {
