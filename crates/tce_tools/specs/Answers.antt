@@ -1,5 +1,5 @@
 -- What the calls answer, and why they refuse.
-use Rattle.std.specs.Prelude.{◌≡◌, ◌≢◌, ⊤, ℕ, ◌<◌, List, length, Option, None, Result, Ok, Err}
+use Rattle.std.specs.Prelude.{◌≡◌, ◌≢◌, ⊤, ℕ, ◌<◌, List, length, slice_index, Option, None, Result, Ok, Err}
 use Rattle.std.specs.Option.{IsSomeAnd}
 use Rattle.tce_space.specs.Box.{place, IsInside}
 use Rattle.tce_space.specs.Tiling.{Tiling, elements}
@@ -54,6 +54,13 @@ pub record IsFirstMisfit (form : Form) (s : Tiling) (element : List ℕ → ℕ)
   pub inside : k < elements s
   pub before : FitBefore form s element k
   pub misfit : (xs : List ℕ) → IsInside s.extents xs → place s.extents xs ≡ k → Fits form (element xs) → ⊥
+
+-- each of some words can be stored in four bytes; the first that cannot has this place
+abbrev pub AllNarrow : List ℕ → ℕ → Type 0
+AllNarrow words count = (k : ℕ) → k < count → Fits Narrow (slice_index words k)
+
+abbrev pub IsFirstWide : List ℕ → ℕ → Type 0
+IsFirstWide words p = (p < length words) × AllNarrow words p × (Fits Narrow (slice_index words p) → ⊥)
 
 -- an array is there, and all its elements can be stored in this form, which in eight bytes every word can
 abbrev pub HasFitting : Form → Tiling → Option (List ℕ) → Type 0

@@ -1,7 +1,8 @@
 -- Bands: elements that follow each other in row-major order, and that stand in an array file in pieces.
-use Rattle.std.specs.Prelude.{◌≡◌, ℕ, ◌+◌, ◌*◌, ◌<◌, ◌≤◌, List, length, drop, slice_index}
+use Rattle.std.specs.Prelude.{◌≡◌, ℕ, ◌+◌, ◌*◌, ◌%◌, ◌<◌, ◌≤◌, List, length, drop, get_or, slice_index}
 use Rattle.tce_space.specs.Box.{product, place, IsInside}
 use Rattle.tce_space.specs.Tiling.{Tiling, IsTiling, tile_counts, word_number, elements, padded_words}
+use Rattle.tce_tools.specs.Runs.{AreElements}
 use Rattle.tce_tools.specs.declared.band.Band.{Band}
 use Rattle.tce_tools.specs.declared.band.Behind.{Behind}
 use Rattle.tce_tools.specs.declared.shuffle.Part.{Part}
@@ -57,3 +58,17 @@ pub record IsBehind (s : Tiling) (behind : Behind) : Type 0 where
   pub tiles : behind.tiles ≡ product (drop (behind.dimension + 1) (tile_counts s))
   pub words : behind.words ≡ product (drop (behind.dimension + 1) s.edges)
   pub fits : behind.tiles * behind.words ≤ 32768
+
+-- so many steps along a dimension, from some coordinates on, stay in the array, and in the tile
+abbrev pub StaysInArray : Tiling → List ℕ → ℕ → ℕ → Type 0
+StaysInArray s xs dimension steps = get_or xs dimension 0 + steps ≤ get_or s.extents dimension 0
+
+abbrev pub StaysInTile : Tiling → List ℕ → ℕ → ℕ → Type 0
+StaysInTile s xs dimension steps = get_or xs dimension 0 % get_or s.edges dimension 0 + steps ≤ get_or s.edges dimension 0
+
+-- words that are the tiled ones of some elements are, untiled, those elements from one on, and the other way round
+abbrev pub Untiles : Tiling → Band → List ℕ → List ℕ → Type 0
+Untiles s band tiled words = (element : List ℕ → ℕ) → AreTiled s band element tiled → AreElements s element band.start words
+
+abbrev pub Tiles : Tiling → Band → List ℕ → List ℕ → Type 0
+Tiles s band words tiled = (element : List ℕ → ℕ) → AreElements s element band.start words → AreTiled s band element tiled

@@ -5,4 +5,5 @@ pub mod Runs
 pub mod Bands
 pub mod Answers
 pub mod Demo
+pub mod Told
 pub mod Laws

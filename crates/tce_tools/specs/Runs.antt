@@ -28,3 +28,7 @@ abbrev pub moved : List ℕ → ℕ → List ℕ
 moved [] k = []
 moved (x ∷ []) k = (x + k) ∷ []
 moved (x ∷ y ∷ ys) k = x ∷ moved (y ∷ ys) k
+
+-- each word is what a function gives for its place
+abbrev pub EachWordIs : List ℕ → (ℕ → ℕ) → Type 0
+EachWordIs words word_at = (k : ℕ) → k < length words → slice_index words k ≡ word_at k

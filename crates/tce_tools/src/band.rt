@@ -1,8 +1,8 @@
 // Bands: elements that stand together in a flat file, and in pieces in an array file.
-ghost use Rattle.std.specs.Prelude.{◌≡◌, ◌+◌, ◌*◌, ◌%◌, ◌<◌, ◌≤◌, false, IsTrue, length, get_or, drop};
+ghost use Rattle.std.specs.Prelude.{◌≡◌, ◌*◌, ◌%◌, ◌<◌, false, IsTrue, length, drop};
 ghost use Rattle.tce_space.specs.Box.{place, product, IsInside};
 ghost use Rattle.tce_space.specs.Tiling.{elements, padded_words, tile_words, tile_counts, word_number};
-ghost use Rattle.tce_tools.specs.Bands.{IsBand, IsBehind};
+ghost use Rattle.tce_tools.specs.Bands.{IsBand, IsBehind, StaysInArray, StaysInTile};
 
 use crate::run::{coords_at, is_row_major, word_number};
 use tce_space::Shape;
@@ -82,8 +82,8 @@ fn steps_left(shape: &Shape, coords: &[u64], dimension: usize) -> u64
     requires coords { IsInside shape.now.extents coords.now }
     requires dimension { dimension < length shape.now.extents }
     ensures some { 0 < result }
-    ensures in_array { get_or coords.now dimension 0 + result ≤ get_or shape.now.extents dimension 0 }
-    ensures in_tile { get_or coords.now dimension 0 % get_or shape.now.edges dimension 0 + result ≤ get_or shape.now.edges dimension 0 }
+    ensures in_array { StaysInArray shape.now coords.now dimension result }
+    ensures in_tile { StaysInTile shape.now coords.now dimension result }
 {
     let extent = shape.extents()[dimension];
     let edge = shape.edges()[dimension];

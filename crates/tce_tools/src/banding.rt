@@ -1,13 +1,12 @@
 // Bands of elements between files and memory.
 ghost use Rattle.std.specs.Prelude.{◌≡◌, ℕ, ◌+◌, ◌*◌, ◌<◌, ◌≤◌, List, length, Option, Some, OnOk, IsErr};
-ghost use Rattle.std.specs.Option.{ForSome};
-ghost use Rattle.tce_outside.specs.Files.{Files, file, others, bytes_before, bytes_from};
+ghost use Rattle.tce_outside.specs.Files.{Files, file, others};
 ghost use Rattle.tce_outside.specs.Fault.{HasCause, TellsFaults};
 ghost use Rattle.tce_array.specs.Forms.{width, head_len};
-ghost use Rattle.tce_tools.specs.Flat.{contents};
-ghost use Rattle.tce_tools.specs.Storage.{element_in, bare_bytes, bytes_ahead, holding_by, HasStored};
+ghost use Rattle.tce_tools.specs.Storage.{bytes_ahead};
 ghost use Rattle.tce_tools.specs.Runs.{AreElements};
 ghost use Rattle.tce_tools.specs.Bands.{IsBand, AreTiled, AreZerosBetween, KeepsOutside};
+ghost use Rattle.tce_tools.specs.Told.{HasStoredIn, AreTiledIn, AreElementsIn, KeepsBefore, KeepsFrom, holding_bare};
 
 use crate::band::Band;
 use crate::shuffle::{flatten, tile};
@@ -39,8 +38,9 @@ fn read_pieces<D: Disk>(
     requires band { IsBand shape.now band }
     requires buffer { 262144 ≤ length bytes.old }
     requires tiled { length tiled.old ≡ band.pieces * band.piece_len }
-    requires file { ForSome (D.files disk.old) (λ fs. HasStored (Storage.Array form) shape.now (file fs name.now)) }
-    ensures read { OnOk result (ForSome (D.files disk.old) (λ fs. AreTiled shape.now band (element_in (Storage.Array form) shape.now (contents fs name.now)) tiled.new)) }
+    requires file { HasStoredIn (D.files disk.old) name.now (Storage.Array form) shape.now }
+    ensures read { OnOk result
+        (AreTiledIn (D.files disk.old) name.now form shape.now band tiled.new) }
     ensures same { D.files disk.new ≡ D.files disk.old }
     ensures cause { HasCause (D.faults disk.old) (D.faults disk.new) (IsErr result) }
     ensures told { TellsFaults (D.faults disk.old) (D.faults disk.new) (IsErr result) }
@@ -74,13 +74,14 @@ fn write_pieces<D: Disk>(
     requires buffer { 262144 ≤ length bytes.old }
     requires tiled { length tiled.now ≡ band.pieces * band.piece_len }
     requires padding { AreZerosBetween shape.now band tiled.now }
-    requires file { ForSome (D.files disk.old) (λ fs. HasStored (Storage.Array form) shape.now (file fs name.now)) }
+    requires file { HasStoredIn (D.files disk.old) name.now (Storage.Array form) shape.now }
     ensures written { OnOk result ((before : Option Files) (old new : Files → List ℕ → ℕ)
-        → D.files disk.old ≡ holding_by name.now (λ fs. bare_bytes (Storage.Array form) shape.now (old fs)) before
+        → D.files disk.old ≡ holding_bare name.now (Storage.Array form) shape.now old before
         → ((fs : Files) → before ≡ Some fs → AreTiled shape.now band (new fs) tiled.now)
         → ((fs : Files) → before ≡ Some fs → KeepsOutside shape.now band (old fs) (new fs))
-        → D.files disk.new ≡ holding_by name.now (λ fs. bare_bytes (Storage.Array form) shape.now (new fs)) before) }
-    ensures ahead { bytes_before name.now (head_len form shape.now) (D.files disk.new) ≡ bytes_before name.now (head_len form shape.now) (D.files disk.old) }
+        → D.files disk.new ≡ holding_bare name.now (Storage.Array form) shape.now new before) }
+    ensures ahead { KeepsBefore name.now (head_len form shape.now)
+        (D.files disk.old) (D.files disk.new) }
     ensures others { others name.now (D.files disk.new) ≡ others name.now (D.files disk.old) }
     ensures cause { HasCause (D.faults disk.old) (D.faults disk.new) (IsErr result) }
     ensures told { TellsFaults (D.faults disk.old) (D.faults disk.new) (IsErr result) }
@@ -115,8 +116,9 @@ pub fn read_band<D: Disk>(
     requires buffer { 262144 ≤ length bytes.old }
     requires tiled { 32768 ≤ length tiled.old }
     requires words { length words.old ≡ band.len }
-    requires file { ForSome (D.files disk.old) (λ fs. HasStored storage shape.now (file fs name.now)) }
-    ensures read { OnOk result (ForSome (D.files disk.old) (λ fs. AreElements shape.now (element_in storage shape.now (contents fs name.now)) band.start words.new)) }
+    requires file { HasStoredIn (D.files disk.old) name.now storage shape.now }
+    ensures read { OnOk result
+        (AreElementsIn (D.files disk.old) name.now storage shape.now band.start words.new) }
     ensures len { length words.new ≡ band.len }
     ensures same { D.files disk.new ≡ D.files disk.old }
     ensures cause { HasCause (D.faults disk.old) (D.faults disk.new) (IsErr result) }
@@ -152,14 +154,16 @@ pub fn write_band<D: Disk>(
     requires buffer { 262144 ≤ length bytes.old }
     requires tiled { 32768 ≤ length tiled.old }
     requires words { length words.now ≡ band.len }
-    requires file { ForSome (D.files disk.old) (λ fs. HasStored storage shape.now (file fs name.now)) }
+    requires file { HasStoredIn (D.files disk.old) name.now storage shape.now }
     ensures written { OnOk result ((before : Option Files) (old new : Files → List ℕ → ℕ)
-        → D.files disk.old ≡ holding_by name.now (λ fs. bare_bytes storage shape.now (old fs)) before
+        → D.files disk.old ≡ holding_bare name.now storage shape.now old before
         → ((fs : Files) → before ≡ Some fs → AreElements shape.now (new fs) band.start words.now)
         → ((fs : Files) → before ≡ Some fs → KeepsOutside shape.now band (old fs) (new fs))
-        → D.files disk.new ≡ holding_by name.now (λ fs. bare_bytes storage shape.now (new fs)) before) }
-    ensures ahead { let at = bytes_ahead storage shape.now band.start in bytes_before name.now at (D.files disk.new) ≡ bytes_before name.now at (D.files disk.old) }
-    ensures behind { storage ≡ Storage.Flat → let end = 8 * band.start + 8 * band.len in bytes_from name.now end (D.files disk.new) ≡ bytes_from name.now end (D.files disk.old) }
+        → D.files disk.new ≡ holding_bare name.now storage shape.now new before) }
+    ensures ahead { KeepsBefore name.now (bytes_ahead storage shape.now band.start)
+        (D.files disk.old) (D.files disk.new) }
+    ensures behind { storage ≡ Storage.Flat
+        → KeepsFrom name.now (8 * band.start + 8 * band.len) (D.files disk.old) (D.files disk.new) }
     ensures others { others name.now (D.files disk.new) ≡ others name.now (D.files disk.old) }
     ensures cause { HasCause (D.faults disk.old) (D.faults disk.new) (IsErr result) }
     ensures told { TellsFaults (D.faults disk.old) (D.faults disk.new) (IsErr result) }

@@ -1,14 +1,10 @@
 // Array files in other forms.
-ghost use Rattle.std.specs.Prelude.{◌≡◌, ◌≢◌, ℕ, ◌<◌, false, IsTrue, Ok, Err, Some, None, OnOk, IfErr, IfSome, IfNone, IsErr, length, slice_index};
-ghost use Rattle.std.specs.Option.{ForSome};
-ghost use Rattle.tce_space.specs.Tiling.{elements};
-ghost use Rattle.tce_outside.specs.Files.{file, others};
+ghost use Rattle.std.specs.Prelude.{◌≡◌, ◌≢◌, ℕ, false, IsTrue, Ok, Some, None, OnOk, IfSome, IfNone, IsErr, length};
+ghost use Rattle.tce_outside.specs.Files.{others};
 ghost use Rattle.tce_outside.specs.Fault.{HasCause, TellsFaults};
-ghost use Rattle.tce_array.specs.Forms.{Fits, head_len, form_bytes};
-ghost use Rattle.tce_tools.specs.Flat.{array_element, contents};
-ghost use Rattle.tce_tools.specs.Storage.{element_in, HasStored, holding_by};
-ghost use Rattle.tce_tools.specs.NoHalf.{LeavesNoHalfOf};
-ghost use Rattle.tce_tools.specs.Answers.{FitBefore, IsFirstMisfit, IsConvertAnswer, IsOfConvert};
+ghost use Rattle.tce_array.specs.Forms.{Fits};
+ghost use Rattle.tce_tools.specs.Answers.{IsOfConvert, AllNarrow, IsFirstWide};
+ghost use Rattle.tce_tools.specs.Told.{HasStoredIn, AllFit, IsFirstMisfitIn, IsConvertAnswerTo, Converts, MayConvert, KeepsFiles, IsDiskFault};
 
 use crate::band::{LONGEST_BAND, band_at};
 use crate::banding::read_band;
@@ -29,8 +25,8 @@ fn fits_narrow(word: u64) -> bool
 
 // The first of the words that cannot be stored in four bytes.
 fn first_misfit(words: &[u64]) -> Option<usize>
-    ensures none { IfNone result ((k : ℕ) → k < length words.now → Fits Form.Narrow (slice_index words.now k)) }
-    ensures some { IfSome result (λ p. (p < length words.now) × ((k : ℕ) → k < p → Fits Form.Narrow (slice_index words.now k)) × (Fits Form.Narrow (slice_index words.now p) → ⊥)) }
+    ensures none { IfNone result (AllNarrow words.now (length words.now)) }
+    ensures some { IfSome result (IsFirstWide words.now) }
 {
     for p in 0..words.len() {
         if !fits_narrow(words[p]) {
@@ -47,9 +43,11 @@ fn find_misfit<D: Disk>(
     name: &str,
     form: Form,
 ) -> Result<Option<u64>, Failed>
-    requires { ForSome (D.files disk.old) (λ fs. HasStored (Storage.Array form) shape.now (file fs name.now)) }
-    ensures none { result ≡ Ok None → ForSome (D.files disk.old) (λ fs. FitBefore Form.Narrow shape.now (element_in (Storage.Array form) shape.now (contents fs name.now)) (elements shape.now)) }
-    ensures some { (k : ℕ) → result ≡ Ok (Some k) → ForSome (D.files disk.old) (λ fs. IsFirstMisfit Form.Narrow shape.now (element_in (Storage.Array form) shape.now (contents fs name.now)) k) }
+    requires { HasStoredIn (D.files disk.old) name.now (Storage.Array form) shape.now }
+    ensures none { result ≡ Ok None
+        → AllFit Form.Narrow (D.files disk.old) name.now form shape.now }
+    ensures some { (k : ℕ) → result ≡ Ok (Some k)
+        → IsFirstMisfitIn Form.Narrow (D.files disk.old) name.now form shape.now k }
     ensures same { D.files disk.new ≡ D.files disk.old }
     ensures cause { HasCause (D.faults disk.old) (D.faults disk.new) (IsErr result) }
     ensures told { TellsFaults (D.faults disk.old) (D.faults disk.new) (IsErr result) }
@@ -88,9 +86,11 @@ fn misfit_for<D: Disk>(
     form: Form,
     wanted: Form,
 ) -> Result<Option<u64>, Failed>
-    requires { ForSome (D.files disk.old) (λ fs. HasStored (Storage.Array form) shape.now (file fs name.now)) }
-    ensures none { result ≡ Ok None → wanted ≡ Form.Narrow → ForSome (D.files disk.old) (λ fs. FitBefore wanted shape.now (element_in (Storage.Array form) shape.now (contents fs name.now)) (elements shape.now)) }
-    ensures some { (k : ℕ) → result ≡ Ok (Some k) → (wanted ≡ Form.Narrow) × ForSome (D.files disk.old) (λ fs. IsFirstMisfit wanted shape.now (element_in (Storage.Array form) shape.now (contents fs name.now)) k) }
+    requires { HasStoredIn (D.files disk.old) name.now (Storage.Array form) shape.now }
+    ensures none { result ≡ Ok None → wanted ≡ Form.Narrow
+        → AllFit wanted (D.files disk.old) name.now form shape.now }
+    ensures some { (k : ℕ) → result ≡ Ok (Some k) → (wanted ≡ Form.Narrow)
+        × IsFirstMisfitIn wanted (D.files disk.old) name.now form shape.now k }
     ensures same { D.files disk.new ≡ D.files disk.old }
     ensures cause { HasCause (D.faults disk.old) (D.faults disk.new) (IsErr result) }
     ensures told { TellsFaults (D.faults disk.old) (D.faults disk.new) (IsErr result) }
@@ -117,14 +117,16 @@ pub fn convert<D: Disk>(
     to: &str,
 ) -> Result<(), ToolFault>
     requires { array.now ≢ to.now }
-    ensures converted { OnOk result (D.files disk.new ≡ holding_by to.now (λ fs. form_bytes form shape.now (array_element shape.now (contents fs array.now))) (D.files disk.old)) }
-    ensures answer { ForSome (D.files disk.old) (λ fs. IsConvertAnswer form shape.now (file fs array.now) result) }
+    ensures converted { OnOk result
+        (Converts array.now form to.now shape.now (D.files disk.old) (D.files disk.new)) }
+    ensures answer { IsConvertAnswerTo (D.files disk.old) array.now form shape.now result }
     ensures own { IsOfConvert form result }
-    ensures refused { IfErr result (λ fault. fault ≢ ToolFault.Disk → D.files disk.new ≡ D.files disk.old) }
-    ensures no_half { LeavesNoHalfOf to.now (head_len form shape.now) (λ fs. form_bytes form shape.now (array_element shape.now (contents fs array.now))) (D.files disk.old) (D.files disk.new) }
+    ensures refused { KeepsFiles result (D.files disk.old) (D.files disk.new) }
+    ensures no_half { MayConvert array.now form to.now shape.now
+        (D.files disk.old) (D.files disk.new) }
     ensures others { others to.now (D.files disk.new) ≡ others to.now (D.files disk.old) }
-    ensures cause { HasCause (D.faults disk.old) (D.faults disk.new) (result ≡ Err ToolFault.Disk) }
-    ensures told { TellsFaults (D.faults disk.old) (D.faults disk.new) (result ≡ Err ToolFault.Disk) }
+    ensures cause { HasCause (D.faults disk.old) (D.faults disk.new) (IsDiskFault result) }
+    ensures told { TellsFaults (D.faults disk.old) (D.faults disk.new) (IsDiskFault result) }
 {
     let found = match open(disk, array, shape) {
         Ok(found) => found,

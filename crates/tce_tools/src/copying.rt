@@ -1,11 +1,8 @@
 // The elements of one file, stored in another.
 ghost use Rattle.std.specs.Prelude.{◌≡◌, ◌≢◌, OnOk, IsErrOf};
-ghost use Rattle.std.specs.Option.{ForSome};
-ghost use Rattle.tce_outside.specs.Files.{file, others};
+ghost use Rattle.tce_outside.specs.Files.{others};
 ghost use Rattle.tce_outside.specs.Fault.{HasCause, TellsFaults};
-ghost use Rattle.tce_tools.specs.Flat.{contents};
-ghost use Rattle.tce_tools.specs.Storage.{element_in, bare_bytes, stored_bytes, last_written, HasStored, holding_by};
-ghost use Rattle.tce_tools.specs.NoHalf.{LeavesNoHalfOf};
+ghost use Rattle.tce_tools.specs.Told.{HasFailed, HasStoredIn, Copies, CopiesBare, MayCopy};
 
 use crate::band::{LONGEST_BAND, band_at};
 use crate::banding::{read_band, write_band};
@@ -24,13 +21,15 @@ fn copy_elements<D: Disk>(
     to: Storage,
 ) -> Result<(), OutFault>
     requires names { source.now ≢ target.now }
-    requires source { ForSome (D.files disk.old) (λ fs. HasStored from shape.now (file fs source.now)) }
-    ensures copied { OnOk result (D.files disk.new ≡ holding_by target.now (λ fs. bare_bytes to shape.now (element_in from shape.now (contents fs source.now))) (D.files disk.old)) }
+    requires source { HasStoredIn (D.files disk.old) source.now from shape.now }
+    ensures copied { OnOk result
+        (CopiesBare source.now from target.now to shape.now (D.files disk.old) (D.files disk.new)) }
     ensures memory { IsErrOf result OutFault.Memory → D.files disk.new ≡ D.files disk.old }
-    ensures no_half { LeavesNoHalfOf target.now (last_written to shape.now) (λ fs. stored_bytes to shape.now (element_in from shape.now (contents fs source.now))) (D.files disk.old) (D.files disk.new) }
+    ensures no_half { MayCopy source.now from target.now to shape.now
+        (D.files disk.old) (D.files disk.new) }
     ensures others { others target.now (D.files disk.new) ≡ others target.now (D.files disk.old) }
-    ensures cause { HasCause (D.faults disk.old) (D.faults disk.new) (IsErrOf result OutFault.Failed) }
-    ensures told { TellsFaults (D.faults disk.old) (D.faults disk.new) (IsErrOf result OutFault.Failed) }
+    ensures cause { HasCause (D.faults disk.old) (D.faults disk.new) (HasFailed result) }
+    ensures told { TellsFaults (D.faults disk.old) (D.faults disk.new) (HasFailed result) }
 {
     make(disk, target, to, shape)?;
     let mut bytes = [0; 8 * LONGEST_BAND];
@@ -79,13 +78,15 @@ pub fn copy<D: Disk>(
     to: Storage,
 ) -> Result<(), OutFault>
     requires names { source.now ≢ target.now }
-    requires source { ForSome (D.files disk.old) (λ fs. HasStored from shape.now (file fs source.now)) }
-    ensures copied { OnOk result (D.files disk.new ≡ holding_by target.now (λ fs. stored_bytes to shape.now (element_in from shape.now (contents fs source.now))) (D.files disk.old)) }
+    requires source { HasStoredIn (D.files disk.old) source.now from shape.now }
+    ensures copied { OnOk result
+        (Copies source.now from target.now to shape.now (D.files disk.old) (D.files disk.new)) }
     ensures memory { IsErrOf result OutFault.Memory → D.files disk.new ≡ D.files disk.old }
-    ensures no_half { LeavesNoHalfOf target.now (last_written to shape.now) (λ fs. stored_bytes to shape.now (element_in from shape.now (contents fs source.now))) (D.files disk.old) (D.files disk.new) }
+    ensures no_half { MayCopy source.now from target.now to shape.now
+        (D.files disk.old) (D.files disk.new) }
     ensures others { others target.now (D.files disk.new) ≡ others target.now (D.files disk.old) }
-    ensures cause { HasCause (D.faults disk.old) (D.faults disk.new) (IsErrOf result OutFault.Failed) }
-    ensures told { TellsFaults (D.faults disk.old) (D.faults disk.new) (IsErrOf result OutFault.Failed) }
+    ensures cause { HasCause (D.faults disk.old) (D.faults disk.new) (HasFailed result) }
+    ensures told { TellsFaults (D.faults disk.old) (D.faults disk.new) (HasFailed result) }
 {
     let _limits = shape.elements();
     copy_elements(disk, shape, source, from, target, to)?;

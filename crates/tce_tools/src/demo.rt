@@ -1,13 +1,11 @@
 // The data of the demonstration.
 ghost use Rattle.std.specs.Prelude.{◌≡◌, ℕ, ◌+◌, ◌<◌, ◌≤◌, length, slice_index, OnOk, IfOk, IsErrOf};
 ghost use Rattle.tce_space.specs.Tiling.{elements};
-ghost use Rattle.tce_outside.specs.Files.{others, holding};
+ghost use Rattle.tce_outside.specs.Files.{others};
 ghost use Rattle.tce_outside.specs.Fault.{HasCause, TellsFaults};
-ghost use Rattle.tce_array.specs.Forms.{head_len, array_bytes};
 ghost use Rattle.std.specs.String.{string_bytes};
-ghost use Rattle.tce_tools.specs.Storage.{bare_bytes};
-ghost use Rattle.tce_tools.specs.NoHalf.{LeavesNoHalfOf};
-ghost use Rattle.tce_tools.specs.Demo.{drawn, digit, demo_element, range_line, demo_text};
+ghost use Rattle.tce_tools.specs.Demo.{drawn, digit, range_line, demo_text};
+ghost use Rattle.tce_tools.specs.Told.{HasFailed, Draws, DrawsBare, MayDraw};
 
 use crate::band::{LONGEST_BAND, band_at};
 use crate::banding::write_band;
@@ -77,13 +75,14 @@ fn draw(x: u64, digits: &mut [u64]) -> u64
 fn demo_elements<D: Disk>(disk: &mut D, shape: &Shape, array: &str, x: u64) -> Result<u64, OutFault>
     requires low { 1 ≤ x }
     requires high { x ≤ 2147483646 }
-    ensures made { OnOk result (D.files disk.new ≡ holding array.now (bare_bytes (Storage.Array Form.One) shape.now (demo_element shape.now x)) (D.files disk.old)) }
+    ensures made { OnOk result
+        (DrawsBare array.now shape.now x (D.files disk.old) (D.files disk.new)) }
     ensures last { IfOk result (λ number. number ≡ drawn x (elements shape.now)) }
     ensures memory { IsErrOf result OutFault.Memory → D.files disk.new ≡ D.files disk.old }
-    ensures no_half { LeavesNoHalfOf array.now (head_len Form.One shape.now) (λ _. array_bytes shape.now (demo_element shape.now x)) (D.files disk.old) (D.files disk.new) }
+    ensures no_half { MayDraw array.now shape.now x (D.files disk.old) (D.files disk.new) }
     ensures others { others array.now (D.files disk.new) ≡ others array.now (D.files disk.old) }
-    ensures cause { HasCause (D.faults disk.old) (D.faults disk.new) (IsErrOf result OutFault.Failed) }
-    ensures told { TellsFaults (D.faults disk.old) (D.faults disk.new) (IsErrOf result OutFault.Failed) }
+    ensures cause { HasCause (D.faults disk.old) (D.faults disk.new) (HasFailed result) }
+    ensures told { TellsFaults (D.faults disk.old) (D.faults disk.new) (HasFailed result) }
 {
     make(disk, array, Storage::Array(Form::One), shape)?;
     let mut bytes = [0; 8 * LONGEST_BAND];
@@ -127,13 +126,13 @@ pub fn demo_array<D: Disk>(
 ) -> Result<u64, OutFault>
     requires low { 1 ≤ x }
     requires high { x ≤ 2147483646 }
-    ensures made { OnOk result (D.files disk.new ≡ holding array.now (array_bytes shape.now (demo_element shape.now x)) (D.files disk.old)) }
+    ensures made { OnOk result (Draws array.now shape.now x (D.files disk.old) (D.files disk.new)) }
     ensures last { IfOk result (λ number. number ≡ drawn x (elements shape.now)) }
     ensures memory { IsErrOf result OutFault.Memory → D.files disk.new ≡ D.files disk.old }
-    ensures no_half { LeavesNoHalfOf array.now (head_len Form.One shape.now) (λ _. array_bytes shape.now (demo_element shape.now x)) (D.files disk.old) (D.files disk.new) }
+    ensures no_half { MayDraw array.now shape.now x (D.files disk.old) (D.files disk.new) }
     ensures others { others array.now (D.files disk.new) ≡ others array.now (D.files disk.old) }
-    ensures cause { HasCause (D.faults disk.old) (D.faults disk.new) (IsErrOf result OutFault.Failed) }
-    ensures told { TellsFaults (D.faults disk.old) (D.faults disk.new) (IsErrOf result OutFault.Failed) }
+    ensures cause { HasCause (D.faults disk.old) (D.faults disk.new) (HasFailed result) }
+    ensures told { TellsFaults (D.faults disk.old) (D.faults disk.new) (HasFailed result) }
 {
     let _limits = shape.elements();
     let number = demo_elements(disk, shape, array, x)?;

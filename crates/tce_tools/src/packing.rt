@@ -1,13 +1,9 @@
 // Array files from flat files, and back.
-ghost use Rattle.std.specs.Prelude.{◌≡◌, ◌≢◌, Err, OnOk, IfErr};
-ghost use Rattle.std.specs.Option.{ForSome};
-ghost use Rattle.tce_outside.specs.Files.{file, others};
+ghost use Rattle.std.specs.Prelude.{◌≡◌, ◌≢◌, OnOk};
+ghost use Rattle.tce_outside.specs.Files.{others};
 ghost use Rattle.tce_outside.specs.Fault.{HasCause, TellsFaults};
-ghost use Rattle.tce_array.specs.Forms.{head_len, array_bytes};
-ghost use Rattle.tce_tools.specs.Flat.{flat_bytes, flat_element, array_element, contents};
-ghost use Rattle.tce_tools.specs.Storage.{holding_by};
-ghost use Rattle.tce_tools.specs.NoHalf.{LeavesNoHalfOf};
-ghost use Rattle.tce_tools.specs.Answers.{IsPackAnswer, IsUnpackAnswer, IsOfPack, IsOfUnpack};
+ghost use Rattle.tce_tools.specs.Answers.{IsOfPack, IsOfUnpack};
+ghost use Rattle.tce_tools.specs.Told.{IsPackAnswerTo, IsUnpackAnswerTo, Packs, Unpacks, MayPack, MayUnpack, KeepsFiles, IsDiskFault};
 
 use crate::copying::copy;
 use crate::fault::ToolFault;
@@ -24,14 +20,15 @@ use tce_space::Shape;
 #[tactic(auto, using(crate::proofs::NoHalf::same_left))]
 pub fn pack<D: Disk>(disk: &mut D, shape: &Shape, flat: &str, array: &str) -> Result<(), ToolFault>
     requires { flat.now ≢ array.now }
-    ensures packed { OnOk result (D.files disk.new ≡ holding_by array.now (λ fs. array_bytes shape.now (flat_element shape.now (contents fs flat.now))) (D.files disk.old)) }
-    ensures answer { ForSome (D.files disk.old) (λ fs. IsPackAnswer shape.now (file fs flat.now) result) }
+    ensures packed { OnOk result
+        (Packs flat.now array.now shape.now (D.files disk.old) (D.files disk.new)) }
+    ensures answer { IsPackAnswerTo (D.files disk.old) flat.now shape.now result }
     ensures own { IsOfPack result }
-    ensures refused { IfErr result (λ fault. fault ≢ ToolFault.Disk → D.files disk.new ≡ D.files disk.old) }
-    ensures no_half { LeavesNoHalfOf array.now (head_len Form.One shape.now) (λ fs. array_bytes shape.now (flat_element shape.now (contents fs flat.now))) (D.files disk.old) (D.files disk.new) }
+    ensures refused { KeepsFiles result (D.files disk.old) (D.files disk.new) }
+    ensures no_half { MayPack flat.now array.now shape.now (D.files disk.old) (D.files disk.new) }
     ensures others { others array.now (D.files disk.new) ≡ others array.now (D.files disk.old) }
-    ensures cause { HasCause (D.faults disk.old) (D.faults disk.new) (result ≡ Err ToolFault.Disk) }
-    ensures told { TellsFaults (D.faults disk.old) (D.faults disk.new) (result ≡ Err ToolFault.Disk) }
+    ensures cause { HasCause (D.faults disk.old) (D.faults disk.new) (IsDiskFault result) }
+    ensures told { TellsFaults (D.faults disk.old) (D.faults disk.new) (IsDiskFault result) }
 {
     let Ok(size) = disk.size(flat) else {
         return Err(ToolFault::Disk);
@@ -69,14 +66,15 @@ pub fn unpack<D: Disk>(
     flat: &str,
 ) -> Result<(), ToolFault>
     requires { array.now ≢ flat.now }
-    ensures unpacked { OnOk result (D.files disk.new ≡ holding_by flat.now (λ fs. flat_bytes shape.now (array_element shape.now (contents fs array.now))) (D.files disk.old)) }
-    ensures answer { ForSome (D.files disk.old) (λ fs. IsUnpackAnswer shape.now (file fs array.now) result) }
+    ensures unpacked { OnOk result
+        (Unpacks array.now flat.now shape.now (D.files disk.old) (D.files disk.new)) }
+    ensures answer { IsUnpackAnswerTo (D.files disk.old) array.now shape.now result }
     ensures own { IsOfUnpack result }
-    ensures refused { IfErr result (λ fault. fault ≢ ToolFault.Disk → D.files disk.new ≡ D.files disk.old) }
-    ensures no_half { LeavesNoHalfOf flat.now 262144 (λ fs. flat_bytes shape.now (array_element shape.now (contents fs array.now))) (D.files disk.old) (D.files disk.new) }
+    ensures refused { KeepsFiles result (D.files disk.old) (D.files disk.new) }
+    ensures no_half { MayUnpack array.now flat.now shape.now (D.files disk.old) (D.files disk.new) }
     ensures others { others flat.now (D.files disk.new) ≡ others flat.now (D.files disk.old) }
-    ensures cause { HasCause (D.faults disk.old) (D.faults disk.new) (result ≡ Err ToolFault.Disk) }
-    ensures told { TellsFaults (D.faults disk.old) (D.faults disk.new) (result ≡ Err ToolFault.Disk) }
+    ensures cause { HasCause (D.faults disk.old) (D.faults disk.new) (IsDiskFault result) }
+    ensures told { TellsFaults (D.faults disk.old) (D.faults disk.new) (IsDiskFault result) }
 {
     let form = match open(disk, array, shape) {
         Ok(form) => form,

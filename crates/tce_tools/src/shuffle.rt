@@ -1,7 +1,6 @@
 // The elements of a band, between row-major order and the order of an array file.
-ghost use Rattle.std.specs.Prelude.{◌≡◌, ℕ, ◌+◌, ◌*◌, ◌<◌, ◌≤◌, List, length, replicate};
-ghost use Rattle.tce_tools.specs.Runs.{AreElements};
-ghost use Rattle.tce_tools.specs.Bands.{IsBand, IsPart, AreTiled, AreZerosBetween};
+ghost use Rattle.std.specs.Prelude.{◌≡◌, ◌+◌, ◌*◌, ◌<◌, ◌≤◌, length, replicate};
+ghost use Rattle.tce_tools.specs.Bands.{IsBand, IsPart, AreZerosBetween, Untiles, Tiles};
 
 use crate::band::Band;
 use crate::run::run_at;
@@ -38,7 +37,7 @@ pub fn flatten(shape: &Shape, band: Band, tiled: &[u64], words: &mut [u64])
     requires band { IsBand shape.now band }
     requires tiled { length tiled.now ≡ band.pieces * band.piece_len }
     requires words { length words.old ≡ band.len }
-    ensures { (element : List ℕ → ℕ) → AreTiled shape.now band element tiled.now → AreElements shape.now element band.start words.new }
+    ensures { Untiles shape.now band tiled.now words.new }
 {
     let mut done = 0;
     while done < band.len {
@@ -61,7 +60,7 @@ pub fn tile(shape: &Shape, band: Band, words: &[u64], tiled: &mut [u64])
     requires band { IsBand shape.now band }
     requires words { length words.now ≡ band.len }
     requires tiled { length tiled.old ≡ band.pieces * band.piece_len }
-    ensures elements { (element : List ℕ → ℕ) → AreElements shape.now element band.start words.now → AreTiled shape.now band element tiled.new }
+    ensures elements { Tiles shape.now band words.now tiled.new }
     ensures padding { AreZerosBetween shape.now band tiled.new }
 {
     clear(tiled);

@@ -1,9 +1,9 @@
 // The two ways in which a file stores the elements of an array.
 ghost use Rattle.std.specs.Prelude.{◌≡◌, ℕ, List, Option, OnOk, IsErr, IsErrOf};
-ghost use Rattle.std.specs.Option.{ForSome};
-ghost use Rattle.tce_outside.specs.Files.{Files, file, others, holding, bytes_from, IsKeptOrZeros};
+ghost use Rattle.tce_outside.specs.Files.{Files, others, IsKeptOrZeros};
 ghost use Rattle.tce_outside.specs.Fault.{HasCause, TellsFaults};
-ghost use Rattle.tce_tools.specs.Storage.{start_len, bare_bytes, stored_bytes, holding_by, HasStored};
+ghost use Rattle.tce_tools.specs.Storage.{start_len};
+ghost use Rattle.tce_tools.specs.Told.{HasFailed, HasStoredIn, MakesZeros, KeepsFrom, holding_bare, holding_whole};
 
 use tce_array::{Form, form_len, write_head};
 use tce_outside::{Disk, Failed, OutFault};
@@ -28,12 +28,13 @@ pub fn make<D: Disk>(
     storage: Storage,
     shape: &Shape,
 ) -> Result<(), OutFault>
-    ensures made { OnOk result (D.files disk.new ≡ holding name.now (bare_bytes storage shape.now (λ _. 0)) (D.files disk.old)) }
+    ensures made { OnOk result
+        (MakesZeros name.now storage shape.now (D.files disk.old) (D.files disk.new)) }
     ensures memory { IsErrOf result OutFault.Memory → D.files disk.new ≡ D.files disk.old }
     ensures zeros { IsKeptOrZeros name.now (D.files disk.old) (D.files disk.new) }
     ensures others { others name.now (D.files disk.new) ≡ others name.now (D.files disk.old) }
-    ensures cause { HasCause (D.faults disk.old) (D.faults disk.new) (IsErrOf result OutFault.Failed) }
-    ensures told { TellsFaults (D.faults disk.old) (D.faults disk.new) (IsErrOf result OutFault.Failed) }
+    ensures cause { HasCause (D.faults disk.old) (D.faults disk.new) (HasFailed result) }
+    ensures told { TellsFaults (D.faults disk.old) (D.faults disk.new) (HasFailed result) }
 {
     match storage {
         Storage::Flat => disk.make(name, 8 * shape.elements()),
@@ -51,11 +52,12 @@ pub fn write_start<D: Disk>(
     storage: Storage,
     shape: &Shape,
 ) -> Result<(), Failed>
-    requires { ForSome (D.files disk.old) (λ fs. HasStored storage shape.now (file fs name.now)) }
+    requires { HasStoredIn (D.files disk.old) name.now storage shape.now }
     ensures written { OnOk result ((before : Option Files) (element : Files → List ℕ → ℕ)
-        → D.files disk.old ≡ holding_by name.now (λ fs. bare_bytes storage shape.now (element fs)) before
-        → D.files disk.new ≡ holding_by name.now (λ fs. stored_bytes storage shape.now (element fs)) before) }
-    ensures behind { bytes_from name.now (start_len storage shape.now) (D.files disk.new) ≡ bytes_from name.now (start_len storage shape.now) (D.files disk.old) }
+        → D.files disk.old ≡ holding_bare name.now storage shape.now element before
+        → D.files disk.new ≡ holding_whole name.now storage shape.now element before) }
+    ensures behind { KeepsFrom name.now (start_len storage shape.now)
+        (D.files disk.old) (D.files disk.new) }
     ensures others { others name.now (D.files disk.new) ≡ others name.now (D.files disk.old) }
     ensures cause { HasCause (D.faults disk.old) (D.faults disk.new) (IsErr result) }
     ensures told { TellsFaults (D.faults disk.old) (D.faults disk.new) (IsErr result) }

@@ -1,11 +1,8 @@
 // The sum of an array's elements.
 ghost use Rattle.std.specs.Prelude.{◌≡◌, IfOk, IsErr};
-ghost use Rattle.std.specs.Option.{ForSome, IsSomeAnd};
 ghost use Rattle.tce_base.specs.Word.{wrapping_sum};
-ghost use Rattle.tce_outside.specs.Files.{file};
 ghost use Rattle.tce_outside.specs.Fault.{HasCause, TellsFaults};
-ghost use Rattle.tce_array.specs.Forms.{IsForm, cell};
-ghost use Rattle.tce_tools.specs.Flat.{in_order, contents};
+ghost use Rattle.tce_tools.specs.Told.{HasFormIn, IsSumOf};
 
 use crate::band::{LONGEST_BAND, band_at};
 use crate::banding::read_band;
@@ -32,8 +29,8 @@ pub fn cell_sum<D: Disk>(
     shape: &Shape,
     array: &str,
 ) -> Result<u64, Failed>
-    requires { ForSome (D.files disk.old) (λ fs. IsSomeAnd (file fs array.now) (IsForm form shape.now)) }
-    ensures sum { IfOk result (λ n. ForSome (D.files disk.old) (λ fs. n ≡ wrapping_sum (in_order shape.now (cell form shape.now (contents fs array.now))))) }
+    requires { HasFormIn (D.files disk.old) array.now form shape.now }
+    ensures sum { IfOk result (IsSumOf (D.files disk.old) array.now form shape.now) }
     ensures same { D.files disk.new ≡ D.files disk.old }
     ensures cause { HasCause (D.faults disk.old) (D.faults disk.new) (IsErr result) }
     ensures told { TellsFaults (D.faults disk.old) (D.faults disk.new) (IsErr result) }

@@ -1,13 +1,12 @@
 // Words between files and memory.
-ghost use Rattle.std.specs.Prelude.{◌≡◌, ℕ, ◌+◌, ◌*◌, ◌<◌, ◌≤◌, length, slice_index, drop, OnOk, IsErr};
+ghost use Rattle.std.specs.Prelude.{◌≡◌, ◌+◌, ◌*◌, ◌≤◌, length, drop, OnOk, IsErr};
 ghost use Rattle.std.specs.List.{flat_map};
-ghost use Rattle.std.specs.Option.{ForSome};
 ghost use Rattle.tce_base.specs.Word.{word_bytes, word_of_bytes, widened};
-ghost use Rattle.tce_outside.specs.Files.{file, written, others, bytes_before, bytes_from};
+ghost use Rattle.tce_outside.specs.Files.{file, written, others};
 ghost use Rattle.tce_outside.specs.Fault.{HasCause, TellsFaults};
 ghost use Rattle.tce_array.specs.Forms.{width, word_in};
-ghost use Rattle.tce_tools.specs.Flat.{contents};
-ghost use Rattle.tce_tools.specs.Storage.{HasWords};
+ghost use Rattle.tce_tools.specs.Told.{HasWordsIn, AreWordsIn, WritesWords, KeepsBefore, KeepsFrom};
+ghost use Rattle.tce_tools.specs.Runs.{EachWordIs};
 
 use byteorder::{ByteOrder, LittleEndian};
 use tce_array::Form;
@@ -27,7 +26,7 @@ fn widened(number: u32) -> u64
 // The words of signed numbers of four bytes each.
 fn decode_narrow(bytes: &[u8], words: &mut [u64])
     requires { length bytes.now ≡ 4 * length words.old }
-    ensures { (k : ℕ) → k < length words.new → slice_index words.new k ≡ widened (word_of_bytes 4 (drop (4 * k) bytes.now)) }
+    ensures { EachWordIs words.new (λ k. widened (word_of_bytes 4 (drop (4 * k) bytes.now))) }
 {
     for k in 0..words.len() {
         words[k] = widened(LittleEndian::read_u32(&bytes[4 * k..]));
@@ -37,7 +36,7 @@ fn decode_narrow(bytes: &[u8], words: &mut [u64])
 // The words that are stored so.
 fn decode(form: Form, bytes: &[u8], words: &mut [u64])
     requires { length bytes.now ≡ width form * length words.old }
-    ensures { (k : ℕ) → k < length words.new → slice_index words.new k ≡ word_in form (drop (width form * k) bytes.now) }
+    ensures { EachWordIs words.new (λ k. word_in form (drop (width form * k) bytes.now)) }
 {
     match form {
         Form::One => LittleEndian::read_u64_into(bytes, words),
@@ -78,8 +77,8 @@ pub fn read_words<D: Disk>(
     words: &mut [u64],
 ) -> Result<(), Failed>
     requires buffer { width form * length words.old ≤ length bytes.old }
-    requires file { ForSome (D.files disk.old) (λ fs. HasWords form at (length words.old) (file fs name.now)) }
-    ensures read { OnOk result (ForSome (D.files disk.old) (λ fs. (k : ℕ) → k < length words.new → slice_index words.new k ≡ word_in form (drop (at + width form * k) (contents fs name.now)))) }
+    requires file { HasWordsIn (D.files disk.old) name.now form at (length words.old) }
+    ensures read { OnOk result (AreWordsIn (D.files disk.old) name.now form at words.new) }
     ensures same { D.files disk.new ≡ D.files disk.old }
     ensures cause { HasCause (D.faults disk.old) (D.faults disk.new) (IsErr result) }
     ensures told { TellsFaults (D.faults disk.old) (D.faults disk.new) (IsErr result) }
@@ -100,10 +99,12 @@ pub fn write_words<D: Disk>(
     words: &[u64],
 ) -> Result<(), Failed>
     requires buffer { width form * length words.now ≤ length bytes.old }
-    requires file { ForSome (D.files disk.old) (λ fs. HasWords form at (length words.now) (file fs name.now)) }
-    ensures written { OnOk result (D.files disk.new ≡ written name.now at (flat_map (word_bytes (width form)) words.now) (D.files disk.old)) }
-    ensures before { bytes_before name.now at (D.files disk.new) ≡ bytes_before name.now at (D.files disk.old) }
-    ensures behind { let end = at + width form * length words.now in bytes_from name.now end (D.files disk.new) ≡ bytes_from name.now end (D.files disk.old) }
+    requires file { HasWordsIn (D.files disk.old) name.now form at (length words.now) }
+    ensures written { OnOk result
+        (WritesWords name.now form at words.now (D.files disk.old) (D.files disk.new)) }
+    ensures before { KeepsBefore name.now at (D.files disk.old) (D.files disk.new) }
+    ensures behind { KeepsFrom name.now (at + width form * length words.now)
+        (D.files disk.old) (D.files disk.new) }
     ensures others { others name.now (D.files disk.new) ≡ others name.now (D.files disk.old) }
     ensures cause { HasCause (D.faults disk.old) (D.faults disk.new) (IsErr result) }
     ensures told { TellsFaults (D.faults disk.old) (D.faults disk.new) (IsErr result) }
