@@ -6,4 +6,5 @@ pub mod Bands
 pub mod Answers
 pub mod Demo
 pub mod Told
+pub mod ElementFiles
 pub mod Laws

@@ -10,17 +10,14 @@ use Rattle.tce_outside.specs.Files.{Files, file, holding, written, bytes_before,
 use Rattle.tce_array.specs.declared.form.Form.{Form}
 use Rattle.tce_array.specs.declared.form.Form.TheVariants.{One}
 use Rattle.tce_array.specs.Forms.{IsForm, width, word_in, cell, head_len, array_bytes, form_bytes}
-use Rattle.tce_tools.specs.declared.band.Band.{Band}
 use Rattle.tce_tools.specs.declared.fault.ToolFault.{ToolFault}
 use Rattle.tce_tools.specs.declared.fault.ToolFault.TheVariants.{Disk}
 use Rattle.tce_tools.specs.declared.storage.Storage.{Storage}
 use Rattle.tce_tools.specs.declared.storage.Storage.TheVariants.{Array}
 use Rattle.tce_tools.specs.Answers.{FitBefore, IsFirstMisfit, IsPackAnswer, IsUnpackAnswer, IsConvertAnswer}
-use Rattle.tce_tools.specs.Bands.{AreTiled}
 use Rattle.tce_tools.specs.Demo.{demo_element}
 use Rattle.tce_tools.specs.Flat.{in_order, contents, flat_bytes, flat_element, array_element}
 use Rattle.tce_tools.specs.NoHalf.{LeavesNoHalfOf}
-use Rattle.tce_tools.specs.Runs.{AreElements}
 use Rattle.tce_tools.specs.Storage.{element_in, bare_bytes, stored_bytes, last_written, holding_by, HasStored, HasWords}
 
 -- the call answers that the device failed
@@ -43,14 +40,6 @@ HasWordsIn told name form at count = ForSome told (λ fs. HasWords form at count
 abbrev pub AreWordsIn : Option Files → List ℕ → Form → ℕ → List ℕ → Type 0
 AreWordsIn told name form at words =
     ForSome told (λ fs. (k : ℕ) → k < length words → slice_index words k ≡ word_in form (drop (at + width form * k) (contents fs name)))
-
--- the words of the pieces are the elements of the array file
-abbrev pub AreTiledIn : Option Files → List ℕ → Form → Tiling → Band → List ℕ → Type 0
-AreTiledIn told name form s band tiled = ForSome told (λ fs. AreTiled s band (element_in (Array form) s (contents fs name)) tiled)
-
--- the values are the elements of the file from one on, in row-major order
-abbrev pub AreElementsIn : Option Files → List ℕ → Storage → Tiling → ℕ → List ℕ → Type 0
-AreElementsIn told name storage s from values = ForSome told (λ fs. AreElements s (element_in storage s (contents fs name)) from values)
 
 -- the number is the sum of all elements of the array file
 abbrev pub IsSumOf : Option Files → List ℕ → Form → Tiling → ℕ → Type 0

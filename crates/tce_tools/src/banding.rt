@@ -3,14 +3,13 @@ ghost use Rattle.std.specs.Prelude.{◌≡◌, ℕ, ◌+◌, ◌*◌, ◌<◌, �
 ghost use Rattle.tce_outside.specs.Files.{Files, file, others};
 ghost use Rattle.tce_outside.specs.Fault.{HasCause, TellsFaults};
 ghost use Rattle.tce_array.specs.Forms.{width, head_len};
-ghost use Rattle.tce_tools.specs.Storage.{bytes_ahead};
 ghost use Rattle.tce_tools.specs.Runs.{AreElements};
 ghost use Rattle.tce_tools.specs.Bands.{IsBand, AreTiled, AreZerosBetween, KeepsOutside};
-ghost use Rattle.tce_tools.specs.Told.{HasStoredIn, AreTiledIn, AreElementsIn, KeepsBefore, KeepsFrom, holding_bare};
+ghost use Rattle.tce_tools.specs.ElementFiles.{IsThere, IsArrayThere, AreElementsIn, AreTiledIn, bare_file, bare_array, KeepsAhead, KeepsBehind, KeepsHead, OthersStay};
 
 use crate::band::Band;
 use crate::shuffle::{flatten, tile};
-use crate::storage::Storage;
+use crate::storage::{ElementFile, Storage};
 use crate::transfer::{read_words, write_words};
 use tce_array::Form;
 use tce_outside::{Disk, Failed};
@@ -28,19 +27,17 @@ fn piece_place(form: Form, shape: &Shape, band: Band, piece: u64) -> u64
 // Reads the pieces of a band, one after the other.
 fn read_pieces<D: Disk>(
     disk: &mut D,
-    name: &str,
+    file: &ElementFile,
     form: Form,
-    shape: &Shape,
     band: Band,
     bytes: &mut [u8],
     tiled: &mut [u64],
 ) -> Result<(), Failed>
-    requires band { IsBand shape.now band }
+    requires band { IsBand file.now.shape.now band }
     requires buffer { 262144 ≤ length bytes.old }
     requires tiled { length tiled.old ≡ band.pieces * band.piece_len }
-    requires file { HasStoredIn (D.files disk.old) name.now (Storage.Array form) shape.now }
-    ensures read { OnOk result
-        (AreTiledIn (D.files disk.old) name.now form shape.now band tiled.new) }
+    requires file { IsArrayThere (D.files disk.old) file.now form }
+    ensures read { OnOk result (AreTiledIn (D.files disk.old) file.now form band tiled.new) }
     ensures same { D.files disk.new ≡ D.files disk.old }
     ensures cause { HasCause (D.faults disk.old) (D.faults disk.new) (IsErr result) }
     ensures told { TellsFaults (D.faults disk.old) (D.faults disk.new) (IsErr result) }
@@ -50,9 +47,9 @@ fn read_pieces<D: Disk>(
         let words = &mut tiled[from..from + band.piece_len as usize];
         read_words(
             disk,
-            name,
+            file.name,
             form,
-            piece_place(form, shape, band, piece),
+            piece_place(form, file.shape, band, piece),
             bytes,
             words,
         )?;
@@ -63,26 +60,24 @@ fn read_pieces<D: Disk>(
 // Writes the pieces of a band, one after the other, to a file whose head is not yet there.
 fn write_pieces<D: Disk>(
     disk: &mut D,
-    name: &str,
+    file: &ElementFile,
     form: Form,
-    shape: &Shape,
     band: Band,
     bytes: &mut [u8],
     tiled: &[u64],
 ) -> Result<(), Failed>
-    requires band { IsBand shape.now band }
+    requires band { IsBand file.now.shape.now band }
     requires buffer { 262144 ≤ length bytes.old }
     requires tiled { length tiled.now ≡ band.pieces * band.piece_len }
-    requires padding { AreZerosBetween shape.now band tiled.now }
-    requires file { HasStoredIn (D.files disk.old) name.now (Storage.Array form) shape.now }
+    requires padding { AreZerosBetween file.now.shape.now band tiled.now }
+    requires file { IsArrayThere (D.files disk.old) file.now form }
     ensures written { OnOk result ((before : Option Files) (old new : Files → List ℕ → ℕ)
-        → D.files disk.old ≡ holding_bare name.now (Storage.Array form) shape.now old before
-        → ((fs : Files) → before ≡ Some fs → AreTiled shape.now band (new fs) tiled.now)
-        → ((fs : Files) → before ≡ Some fs → KeepsOutside shape.now band (old fs) (new fs))
-        → D.files disk.new ≡ holding_bare name.now (Storage.Array form) shape.now new before) }
-    ensures ahead { KeepsBefore name.now (head_len form shape.now)
-        (D.files disk.old) (D.files disk.new) }
-    ensures others { others name.now (D.files disk.new) ≡ others name.now (D.files disk.old) }
+        → D.files disk.old ≡ bare_array file.now form old before
+        → ((fs : Files) → before ≡ Some fs → AreTiled file.now.shape.now band (new fs) tiled.now)
+        → ((fs : Files) → before ≡ Some fs → KeepsOutside file.now.shape.now band (old fs) (new fs))
+        → D.files disk.new ≡ bare_array file.now form new before) }
+    ensures ahead { KeepsHead file.now form (D.files disk.old) (D.files disk.new) }
+    ensures others { OthersStay file.now (D.files disk.old) (D.files disk.new) }
     ensures cause { HasCause (D.faults disk.old) (D.faults disk.new) (IsErr result) }
     ensures told { TellsFaults (D.faults disk.old) (D.faults disk.new) (IsErr result) }
 {
@@ -91,9 +86,9 @@ fn write_pieces<D: Disk>(
         let words = &tiled[from..from + band.piece_len as usize];
         write_words(
             disk,
-            name,
+            file.name,
             form,
-            piece_place(form, shape, band, piece),
+            piece_place(form, file.shape, band, piece),
             bytes,
             words,
         )?;
@@ -104,32 +99,29 @@ fn write_pieces<D: Disk>(
 /// Reads the elements of a band into `words`. `tiled` is room for the words of its pieces.
 pub fn read_band<D: Disk>(
     disk: &mut D,
-    name: &str,
-    storage: Storage,
-    shape: &Shape,
+    file: &ElementFile,
     band: Band,
     bytes: &mut [u8],
     tiled: &mut [u64],
     words: &mut [u64],
 ) -> Result<(), Failed>
-    requires band { IsBand shape.now band }
+    requires band { IsBand file.now.shape.now band }
     requires buffer { 262144 ≤ length bytes.old }
     requires tiled { 32768 ≤ length tiled.old }
     requires words { length words.old ≡ band.len }
-    requires file { HasStoredIn (D.files disk.old) name.now storage shape.now }
-    ensures read { OnOk result
-        (AreElementsIn (D.files disk.old) name.now storage shape.now band.start words.new) }
+    requires file { IsThere (D.files disk.old) file.now }
+    ensures read { OnOk result (AreElementsIn (D.files disk.old) file.now band.start words.new) }
     ensures len { length words.new ≡ band.len }
     ensures same { D.files disk.new ≡ D.files disk.old }
     ensures cause { HasCause (D.faults disk.old) (D.faults disk.new) (IsErr result) }
     ensures told { TellsFaults (D.faults disk.old) (D.faults disk.new) (IsErr result) }
 {
-    match storage {
-        Storage::Flat => read_words(disk, name, Form::One, 8 * band.start, bytes, words)?,
+    match file.storage {
+        Storage::Flat => read_words(disk, file.name, Form::One, 8 * band.start, bytes, words)?,
         Storage::Array(form) => {
             let pieces = &mut tiled[..(band.pieces * band.piece_len) as usize];
-            read_pieces(disk, name, form, shape, band, bytes, pieces)?;
-            flatten(shape, band, pieces, words);
+            read_pieces(disk, file, form, band, bytes, pieces)?;
+            flatten(file.shape, band, pieces, words);
         }
     }
     Ok(())
@@ -142,38 +134,35 @@ pub fn read_band<D: Disk>(
 /// before all elements behind them stays in every case, and so does in a flat file what stands behind the band.
 pub fn write_band<D: Disk>(
     disk: &mut D,
-    name: &str,
-    storage: Storage,
-    shape: &Shape,
+    file: &ElementFile,
     band: Band,
     bytes: &mut [u8],
     tiled: &mut [u64],
     words: &[u64],
 ) -> Result<(), Failed>
-    requires band { IsBand shape.now band }
+    requires band { IsBand file.now.shape.now band }
     requires buffer { 262144 ≤ length bytes.old }
     requires tiled { 32768 ≤ length tiled.old }
     requires words { length words.now ≡ band.len }
-    requires file { HasStoredIn (D.files disk.old) name.now storage shape.now }
+    requires file { IsThere (D.files disk.old) file.now }
     ensures written { OnOk result ((before : Option Files) (old new : Files → List ℕ → ℕ)
-        → D.files disk.old ≡ holding_bare name.now storage shape.now old before
-        → ((fs : Files) → before ≡ Some fs → AreElements shape.now (new fs) band.start words.now)
-        → ((fs : Files) → before ≡ Some fs → KeepsOutside shape.now band (old fs) (new fs))
-        → D.files disk.new ≡ holding_bare name.now storage shape.now new before) }
-    ensures ahead { KeepsBefore name.now (bytes_ahead storage shape.now band.start)
-        (D.files disk.old) (D.files disk.new) }
-    ensures behind { storage ≡ Storage.Flat
-        → KeepsFrom name.now (8 * band.start + 8 * band.len) (D.files disk.old) (D.files disk.new) }
-    ensures others { others name.now (D.files disk.new) ≡ others name.now (D.files disk.old) }
+        → D.files disk.old ≡ bare_file file.now old before
+        → ((fs : Files) → before ≡ Some fs
+        → AreElements file.now.shape.now (new fs) band.start words.now)
+        → ((fs : Files) → before ≡ Some fs → KeepsOutside file.now.shape.now band (old fs) (new fs))
+        → D.files disk.new ≡ bare_file file.now new before) }
+    ensures ahead { KeepsAhead file.now band (D.files disk.old) (D.files disk.new) }
+    ensures behind { KeepsBehind file.now band (D.files disk.old) (D.files disk.new) }
+    ensures others { OthersStay file.now (D.files disk.old) (D.files disk.new) }
     ensures cause { HasCause (D.faults disk.old) (D.faults disk.new) (IsErr result) }
     ensures told { TellsFaults (D.faults disk.old) (D.faults disk.new) (IsErr result) }
 {
-    match storage {
-        Storage::Flat => write_words(disk, name, Form::One, 8 * band.start, bytes, words)?,
+    match file.storage {
+        Storage::Flat => write_words(disk, file.name, Form::One, 8 * band.start, bytes, words)?,
         Storage::Array(form) => {
             let pieces = &mut tiled[..(band.pieces * band.piece_len) as usize];
-            tile(shape, band, words, pieces);
-            write_pieces(disk, name, form, shape, band, bytes, pieces)?;
+            tile(file.shape, band, words, pieces);
+            write_pieces(disk, file, form, band, bytes, pieces)?;
         }
     }
     Ok(())

@@ -10,7 +10,7 @@ use crate::band::{LONGEST_BAND, band_at};
 use crate::banding::read_band;
 use crate::copying::copy;
 use crate::fault::ToolFault;
-use crate::storage::Storage;
+use crate::storage::{ElementFile, Storage};
 use tce_array::{ArrayFault, Form, open};
 use tce_outside::{Disk, Failed, OutFault};
 use tce_space::Shape;
@@ -55,21 +55,17 @@ fn find_misfit<D: Disk>(
     let mut bytes = [0; 8 * LONGEST_BAND];
     let mut tiled = [0; LONGEST_BAND];
     let mut buffer = [0; LONGEST_BAND];
+    let read = ElementFile {
+        name,
+        storage: Storage::Array(form),
+        shape,
+    };
     let elements = shape.elements();
     let mut done = 0;
     while done < elements {
         let band = band_at(shape, done);
         let words = &mut buffer[..band.len as usize];
-        read_band(
-            disk,
-            name,
-            Storage::Array(form),
-            shape,
-            band,
-            &mut bytes,
-            &mut tiled,
-            words,
-        )?;
+        read_band(disk, &read, band, &mut bytes, &mut tiled, words)?;
         if let Some(place) = first_misfit(words) {
             return Ok(Some(done + place as u64));
         }

@@ -6,7 +6,7 @@ ghost use Rattle.tce_tools.specs.Told.{HasFailed, HasStoredIn, Copies, CopiesBar
 
 use crate::band::{LONGEST_BAND, band_at};
 use crate::banding::{read_band, write_band};
-use crate::storage::{Storage, make, write_start};
+use crate::storage::{ElementFile, Storage, make, write_start};
 use tce_outside::{Disk, Failed, OutFault};
 use tce_space::Shape;
 
@@ -35,31 +35,35 @@ fn copy_elements<D: Disk>(
     let mut bytes = [0; 8 * LONGEST_BAND];
     let mut tiled = [0; LONGEST_BAND];
     let mut buffer = [0; LONGEST_BAND];
+    let read = ElementFile {
+        name: source,
+        storage: from,
+        shape,
+    };
+    let made = ElementFile {
+        name: target,
+        storage: to,
+        shape,
+    };
     let elements = shape.elements();
     let first = band_at(shape, 0);
     let mut done = first.len;
     while done < elements {
         let band = band_at(shape, done);
         let words = &mut buffer[..band.len as usize];
-        let Ok(()) = read_band(
-            disk, source, from, shape, band, &mut bytes, &mut tiled, words,
-        ) else {
+        let Ok(()) = read_band(disk, &read, band, &mut bytes, &mut tiled, words) else {
             return Err(OutFault::Failed);
         };
-        let Ok(()) = write_band(disk, target, to, shape, band, &mut bytes, &mut tiled, words) else {
+        let Ok(()) = write_band(disk, &made, band, &mut bytes, &mut tiled, words) else {
             return Err(OutFault::Failed);
         };
         done += band.len;
     }
     let start = &mut buffer[..first.len as usize];
-    let Ok(()) = read_band(
-        disk, source, from, shape, first, &mut bytes, &mut tiled, start,
-    ) else {
+    let Ok(()) = read_band(disk, &read, first, &mut bytes, &mut tiled, start) else {
         return Err(OutFault::Failed);
     };
-    let Ok(()) = write_band(
-        disk, target, to, shape, first, &mut bytes, &mut tiled, start,
-    ) else {
+    let Ok(()) = write_band(disk, &made, first, &mut bytes, &mut tiled, start) else {
         return Err(OutFault::Failed);
     };
     Ok(())

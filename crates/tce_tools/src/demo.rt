@@ -9,7 +9,7 @@ ghost use Rattle.tce_tools.specs.Told.{HasFailed, Draws, DrawsBare, MayDraw};
 
 use crate::band::{LONGEST_BAND, band_at};
 use crate::banding::write_band;
-use crate::storage::{Storage, make, write_start};
+use crate::storage::{ElementFile, Storage, make, write_start};
 use std::alloc::{AllocError, Global};
 use tce_array::Form;
 use tce_outside::{Disk, Failed, OutFault};
@@ -88,6 +88,11 @@ fn demo_elements<D: Disk>(disk: &mut D, shape: &Shape, array: &str, x: u64) -> R
     let mut bytes = [0; 8 * LONGEST_BAND];
     let mut tiled = [0; LONGEST_BAND];
     let mut buffer = [0; LONGEST_BAND];
+    let made = ElementFile {
+        name: array,
+        storage: Storage::Array(Form::One),
+        shape,
+    };
     let elements = shape.elements();
     let mut number = x;
     let mut done = 0;
@@ -95,16 +100,7 @@ fn demo_elements<D: Disk>(disk: &mut D, shape: &Shape, array: &str, x: u64) -> R
         let band = band_at(shape, done);
         let digits = &mut buffer[..band.len as usize];
         number = draw(number, digits);
-        let Ok(()) = write_band(
-            disk,
-            array,
-            Storage::Array(Form::One),
-            shape,
-            band,
-            &mut bytes,
-            &mut tiled,
-            digits,
-        ) else {
+        let Ok(()) = write_band(disk, &made, band, &mut bytes, &mut tiled, digits) else {
             return Err(OutFault::Failed);
         };
         done += band.len;

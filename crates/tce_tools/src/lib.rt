@@ -30,6 +30,6 @@ pub use fault::ToolFault;
 pub use laws::flat_files_hold_their_elements;
 pub use packing::{pack, unpack};
 pub use run::{coords_at, is_row_major};
-pub use storage::{Storage, write_start};
+pub use storage::{ElementFile, Storage, write_start};
 pub use sum::cell_sum;
 pub use transfer::{read_words, write_words};

@@ -18,6 +18,17 @@ pub enum Storage {
     Array(Form),
 }
 
+/// A file that stores the elements of an array.
+#[derive(Clone, Copy)]
+pub struct ElementFile<'a> {
+    /// The name of the file.
+    pub name: &'a str,
+    /// How it stores the elements.
+    pub storage: Storage,
+    /// The shape of the array.
+    pub shape: &'a Shape,
+}
+
 /// Puts a file of zeros, as long as one of elements that is stored so, in the place of whatever has this name.
 ///
 /// For want of memory no file changes; where the disk fails, the file of this name is as it was, has zeros alone, or is

@@ -6,7 +6,7 @@ ghost use Rattle.tce_tools.specs.Told.{HasFormIn, IsSumOf};
 
 use crate::band::{LONGEST_BAND, band_at};
 use crate::banding::read_band;
-use crate::storage::Storage;
+use crate::storage::{ElementFile, Storage};
 use tce_array::Form;
 use tce_outside::{Disk, Failed};
 use tce_space::Shape;
@@ -38,22 +38,18 @@ pub fn cell_sum<D: Disk>(
     let mut bytes = [0; 8 * LONGEST_BAND];
     let mut tiled = [0; LONGEST_BAND];
     let mut buffer = [0; LONGEST_BAND];
+    let read = ElementFile {
+        name: array,
+        storage: Storage::Array(form),
+        shape,
+    };
     let elements = shape.elements();
     let mut done = 0;
     let mut total: u64 = 0;
     while done < elements {
         let band = band_at(shape, done);
         let words = &mut buffer[..band.len as usize];
-        read_band(
-            disk,
-            array,
-            Storage::Array(form),
-            shape,
-            band,
-            &mut bytes,
-            &mut tiled,
-            words,
-        )?;
+        read_band(disk, &read, band, &mut bytes, &mut tiled, words)?;
         total = total.wrapping_add(sum_of(words));
         done += band.len;
     }

@@ -15,7 +15,7 @@ loop-piece-preserved g c =
     let len = length-take-le (t * n + n - t * n) (drop (t * n) c.loop-piece.tiled) (omega (arith, room, all, long, c.requires.tiled)) in
     record {
       read = λ x told.
-          piece_read c.args.form c.args.shape.now c.args.band (contents x c.args.name.now) c.loop-piece.tiled c.read_words.new.words t c.piece_place.result (omega (arith, c.read_words.auto.words, len)) (omega (arith, room, all, c.requires.tiled)) c.piece_place.ensures
+          piece_read c.args.form c.args.file.now.shape.now c.args.band (contents x c.args.file.now.name.now) c.loop-piece.tiled c.read_words.new.words t c.piece_place.result (omega (arith, c.read_words.auto.words, len)) (omega (arith, room, all, c.requires.tiled)) c.piece_place.ensures
           (c.in_ok-read_words.ensures.read x (c.loop-piece.invariant.files ∙ told)) (c.loop-piece.invariant.read x told);
       files = c.in_ok-read_words.ensures.same ∙ c.loop-piece.invariant.files;
       later = omega (arith, c.in_ok-read_words.ensures.cause.later, c.loop-piece.invariant.later);

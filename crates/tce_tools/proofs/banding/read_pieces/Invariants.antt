@@ -10,7 +10,7 @@ use Rattle.tce_tools.proofs.banding.read_pieces.Given as goal
 
 abbrev pub invariant-loop-piece : goal.invariant-loop-piece
 invariant-loop-piece g l = record {
-  read : ForSome (g.D.Disk.files l.fn.disk) (λ fs. (xs : List ℕ) → IsInside l.shape.extents xs → (index : ℕ) → IsAt l.band (word_number l.shape xs) index → index < l.piece * l.band.piece_len → slice_index l.tiled index ≡ element_in (Array l.form) l.shape (contents fs l.name) xs);
+  read : ForSome (g.D.Disk.files l.fn.disk) (λ fs. (xs : List ℕ) → IsInside l.file.shape.now.extents xs → (index : ℕ) → IsAt l.band (word_number l.file.shape.now xs) index → index < l.piece * l.band.piece_len → slice_index l.tiled index ≡ element_in (Array l.form) l.file.shape.now (contents fs l.file.name.now) xs);
   files : g.D.Disk.files l.disk ≡ g.D.Disk.files l.fn.disk;
   later : g.D.Disk.faults l.fn.disk ≤ g.D.Disk.faults l.disk;
   counted : g.D.Disk.faults l.disk ≡ g.D.Disk.faults l.fn.disk;

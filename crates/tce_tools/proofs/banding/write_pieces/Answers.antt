@@ -14,7 +14,7 @@ use Rattle.tce_tools.proofs.banding.write_pieces.Goals as goal
 pub loop-piece-init : goal.loop-piece-init
 loop-piece-init g c = record {
   written = λ before old new is values keeps.
-      held_told before _ c.args.name.now (λ fs. bare_bytes (Array c.args.form) c.args.shape.now (old fs)) _ is (λ fs was. no_pieces c.args.form c.args.shape.now c.args.band (old fs) (new fs) c.requires.band (keeps fs was));
+      held_told before _ c.args.file.now.name.now (λ fs. bare_bytes (Array c.args.form) c.args.file.now.shape.now (old fs)) _ is (λ fs was. no_pieces c.args.form c.args.file.now.shape.now c.args.band (old fs) (new fs) c.requires.band (keeps fs was));
   ahead = refl;
   there = c.requires.file;
   others = refl;
@@ -24,7 +24,7 @@ loop-piece-init g c = record {
 
 pub loop-piece-preserved : goal.loop-piece-preserved
 loop-piece-preserved g c =
-    let s : Tiling = c.args.shape.now in
+    let s : Tiling = c.args.file.now.shape.now in
     let n : ℕ = c.args.band.piece_len in
     let t : ℕ = c.loop-piece.piece in
     let room : t * n + n ≤ length c.args.tiled.now = omega (arith, piece_room c.args.band t c.loop-piece-test.true, c.requires.tiled) in
@@ -32,11 +32,11 @@ loop-piece-preserved g c =
     let copy = copy_of (t * n) n (t * n + n - t * n) c.args.tiled.now vs refl (omega arith) room in
     record {
       written = λ before old new is values keeps.
-          held_written before _ _ c.args.name.now (λ fs. bare_bytes (Array c.args.form) s (after_pieces s c.args.band (old fs) (new fs) t)) (λ fs. bare_bytes (Array c.args.form) s (after_pieces s c.args.band (old fs) (new fs) (t + 1))) c.piece_place.result (flat_map (word_bytes (width c.args.form)) vs)
+          held_written before _ _ c.args.file.now.name.now (λ fs. bare_bytes (Array c.args.form) s (after_pieces s c.args.band (old fs) (new fs) t)) (λ fs. bare_bytes (Array c.args.form) s (after_pieces s c.args.band (old fs) (new fs) (t + 1))) c.piece_place.result (flat_map (word_bytes (width c.args.form)) vs)
           (c.loop-piece.invariant.written before old new is values keeps) c.in_ok-write_words.ensures.written
           (λ fs was. piece_bare c.args.form s c.args.band (old fs) (new fs) c.args.tiled.now vs t c.piece_place.result c.requires.band c.loop-piece-test.true copy (values fs was) (keeps fs was) c.requires.padding c.piece_place.ensures);
-      ahead = shorter_before c.args.name.now (head_len c.args.form s) c.piece_place.result _ _ (omega (arith, c.piece_place.ensures)) c.write_words.ensures.before ∙ c.loop-piece.invariant.ahead;
-      there = still_stored _ _ c.args.name.now (Array c.args.form) s c.piece_place.result (flat_map (word_bytes (width c.args.form)) vs) c.in_ok-write_words.ensures.written c.loop-piece.invariant.there
+      ahead = shorter_before c.args.file.now.name.now (head_len c.args.form s) c.piece_place.result _ _ (omega (arith, c.piece_place.ensures)) c.write_words.ensures.before ∙ c.loop-piece.invariant.ahead;
+      there = still_stored _ _ c.args.file.now.name.now (Array c.args.form) s c.piece_place.result (flat_map (word_bytes (width c.args.form)) vs) c.in_ok-write_words.ensures.written c.loop-piece.invariant.there
           (piece_bytes_fit c.args.form s c.args.band t c.piece_place.result vs c.requires.band c.loop-piece-test.true copy.len c.piece_place.ensures);
       others = c.in_ok-write_words.ensures.others ∙ c.loop-piece.invariant.others;
       later = omega (arith, c.in_ok-write_words.ensures.cause.later, c.loop-piece.invariant.later);
@@ -45,12 +45,12 @@ loop-piece-preserved g c =
 
 pub returns-in_err-write_words-clause-ahead : goal.returns-in_err-write_words-clause-ahead
 returns-in_err-write_words-clause-ahead g c =
-    shorter_before c.args.name.now (head_len c.args.form c.args.shape.now) c.piece_place.result _ _ (omega (arith, c.piece_place.ensures)) c.write_words.ensures.before ∙ c.loop-piece.invariant.ahead
+    shorter_before c.args.file.now.name.now (head_len c.args.form c.args.file.now.shape.now) c.piece_place.result _ _ (omega (arith, c.piece_place.ensures)) c.write_words.ensures.before ∙ c.loop-piece.invariant.ahead
 
 pub returns-clause-written : goal.returns-clause-written
 returns-clause-written g c = λ before old new is values keeps.
-    held_told before _ c.args.name.now (λ fs. bare_bytes (Array c.args.form) c.args.shape.now (after_pieces c.args.shape.now c.args.band (old fs) (new fs) c.loop-piece.piece)) _ (c.loop-piece.invariant.written before old new is values keeps)
-    (λ fs was. all_pieces c.args.form c.args.shape.now c.args.band (old fs) (new fs) c.loop-piece.piece c.requires.band (keeps fs was) (omega (arith, c.loop-piece-test.false)))
+    held_told before _ c.args.file.now.name.now (λ fs. bare_bytes (Array c.args.form) c.args.file.now.shape.now (after_pieces c.args.file.now.shape.now c.args.band (old fs) (new fs) c.loop-piece.piece)) _ (c.loop-piece.invariant.written before old new is values keeps)
+    (λ fs was. all_pieces c.args.form c.args.file.now.shape.now c.args.band (old fs) (new fs) c.loop-piece.piece c.requires.band (keeps fs was) (omega (arith, c.loop-piece-test.false)))
 
 pub returns-clause-told : goal.returns-clause-told
 returns-clause-told g c = λ _. c.loop-piece.invariant.counted

@@ -10,7 +10,7 @@ use Rattle.tce_tools.proofs.conversion.find_misfit.Given as goal
 abbrev pub invariant-loop-done : goal.invariant-loop-done
 invariant-loop-done g l = record {
   done : l.done ≤ l.elements;
-  fits : ForSome (g.D.Disk.files l.fn.disk) (λ fs. FitBefore Narrow l.shape (element_in (Array l.form) l.shape (contents fs l.name)) l.done);
+  fits : ForSome (g.D.Disk.files l.fn.disk) (λ fs. FitBefore Narrow l.shape (element_in (Array l.fn.form) l.shape (contents fs l.name)) l.done);
   files : g.D.Disk.files l.disk ≡ g.D.Disk.files l.fn.disk;
   later : g.D.Disk.faults l.fn.disk ≤ g.D.Disk.faults l.disk;
   counted : g.D.Disk.faults l.disk ≡ g.D.Disk.faults l.fn.disk;

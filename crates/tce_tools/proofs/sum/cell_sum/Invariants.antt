@@ -8,7 +8,7 @@ use Rattle.tce_tools.proofs.sum.cell_sum.Given as goal
 abbrev pub invariant-loop-done : goal.invariant-loop-done
 invariant-loop-done g l = record {
   done : l.done ≤ l.elements;
-  sum : ForSome (g.D.Disk.files l.fn.disk) (λ fs. l.total ≡ wrapping_sum (take l.done (in_order l.shape (cell l.form l.shape (contents fs l.array)))));
+  sum : ForSome (g.D.Disk.files l.fn.disk) (λ fs. l.total ≡ wrapping_sum (take l.done (in_order l.shape (cell l.fn.form l.shape (contents fs l.array)))));
   files : g.D.Disk.files l.disk ≡ g.D.Disk.files l.fn.disk;
   later : g.D.Disk.faults l.fn.disk ≤ g.D.Disk.faults l.disk;
   counted : g.D.Disk.faults l.disk ≡ g.D.Disk.faults l.fn.disk;
