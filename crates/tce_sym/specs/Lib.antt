@@ -4,3 +4,5 @@ pub mod Laws
 pub mod Lines
 pub mod Cells
 pub mod TileRows
+pub mod Told
+pub mod Sources

@@ -1,5 +1,5 @@
 -- Words of an array file that stand together in a row of a tile, and the elements among them.
-use Rattle.std.specs.Prelude.{◌≡◌, ℕ, ◌+◌, ◌*◌, ◌<◌, ◌≤◌, List, slice_index}
+use Rattle.std.specs.Prelude.{◌≡◌, ℕ, ◌+◌, ◌-◌, ◌*◌, ◌<◌, ◌≤◌, List, length, get_or, slice_index}
 use Rattle.tce_space.specs.Box.{place, IsInside}
 use Rattle.tce_space.specs.Tiling.{Tiling, joined, tile_counts, tile_words, word_number}
 use Rattle.tce_tools.specs.Runs.{moved}
@@ -26,3 +26,7 @@ pub record IsTileRow (s : Tiling) (word : ℕ) (row : TileRow) : Type 0 where
 pub record AreWords (s : Tiling) (element : List ℕ → ℕ) (from count : ℕ) (words : List ℕ) : Type 0 where
   pub elements : (k : ℕ) → k < count → (xs : List ℕ) → IsInside s.extents xs → word_number s xs ≡ from + k → slice_index words k ≡ element xs
   pub padding : (k : ℕ) → k < count → ((xs : List ℕ) → IsInside s.extents xs → word_number s xs ≡ from + k → ⊥) → slice_index words k ≡ 0
+
+-- so many steps along the last dimension, if there are any, reach the end of the array
+abbrev pub ReachesEnd : List ℕ → List ℕ → ℕ → Type 0
+ReachesEnd extents xs steps = 0 < steps → get_or xs (length extents - 1) 0 + steps ≡ get_or extents (length extents - 1) 0

@@ -1,18 +1,15 @@
 // Whole arrays from stored elements.
-ghost use Rattle.std.specs.Prelude.{◌≡◌, ◌≢◌, ◌+◌, ◌*◌, ◌<◌, ◌≤◌, ◌^◌, length, replicate, OnOk, IsErr, IsErrOf};
-ghost use Rattle.std.specs.Option.{ForSome, IsSomeAnd};
+ghost use Rattle.std.specs.Prelude.{◌≡◌, ◌≢◌, ◌+◌, ◌<◌, ◌≤◌, ◌^◌, length, replicate, OnOk, IsErr, IsErrOf};
 ghost use Rattle.tce_space.specs.Limits.{max_array_words};
 ghost use Rattle.tce_space.specs.Tiling.{padded_words};
 ghost use Rattle.tce_outside.specs.Files.{file, others};
 ghost use Rattle.tce_outside.specs.Fault.{HasCause, TellsFaults};
-ghost use Rattle.tce_array.specs.Forms.{head_len, array_bytes};
-ghost use Rattle.tce_tools.specs.Flat.{contents};
-ghost use Rattle.tce_tools.specs.Storage.{bare_bytes, holding_by};
-ghost use Rattle.tce_tools.specs.NoHalf.{LeavesNoHalfOf};
-ghost use Rattle.tce_sym.specs.Storage.{AreRight, IsStored, full_cell, stored_count};
-ghost use Rattle.tce_sym.specs.Lines.{HasRoom, AreHeld};
-ghost use Rattle.tce_sym.specs.Cells.{AreTriangles, AreOf};
-ghost use Rattle.tce_sym.specs.TileRows.{AreWords};
+ghost use Rattle.tce_tools.specs.Told.{HasFailed};
+ghost use Rattle.tce_sym.specs.Storage.{AreRight};
+ghost use Rattle.tce_sym.specs.Lines.{HasRoomAt};
+ghost use Rattle.tce_sym.specs.Cells.{AreTriangles};
+ghost use Rattle.tce_sym.specs.Told.{IsStoredIn, HasStoredWords, AreHeldOf, Expands, ExpandsBare, MayExpand};
+ghost use Rattle.tce_sym.specs.Sources.{HasRightPositions, HasItsTriangles, HasItsCount, IsStoredFor, HasRoomFor, AreHeldFor, AreWordsFor};
 
 use crate::cells::{Triangles, triangles_of};
 use crate::lines::{Grid, Layout};
@@ -48,10 +45,10 @@ fn hold_words<D: Disk>(
     grid: &Grid,
     lines: &mut [u64],
 ) -> Result<(), Failed>
-    requires room { HasRoom grid.now.layout grid.now (length lines.old) }
+    requires room { HasRoomAt grid.now lines.old }
     requires count { grid.now.count ≤ max_array_words }
-    requires file { ForSome (D.files disk.old) (λ fs. IsSomeAnd (file fs packed.now) (λ bytes. length bytes ≡ 32 + 8 * grid.now.count)) }
-    ensures held { OnOk result (ForSome (D.files disk.old) (λ fs. AreHeld grid.now.layout grid.now (contents fs packed.now) lines.new)) }
+    requires file { HasStoredWords (D.files disk.old) packed.now grid.now.count }
+    ensures held { OnOk result (AreHeldOf (D.files disk.old) packed.now grid.now lines.new) }
     ensures same { D.files disk.new ≡ D.files disk.old }
     ensures cause { HasCause (D.faults disk.old) (D.faults disk.new) (IsErr result) }
     ensures told { TellsFaults (D.faults disk.old) (D.faults disk.new) (IsErr result) }
@@ -81,18 +78,19 @@ fn read_piece<D: Disk>(
     start: u64,
     words: &mut [u64],
 ) -> Result<(), Failed>
-    requires right { AreRight source.now.shape.now.extents source.now.s.now }
+    requires right { HasRightPositions source.now }
     requires inside { start + length words.old ≤ padded_words source.now.shape.now }
     requires few { length words.old ≤ 8192 }
     requires fits { start + length words.old < 2 ^ 64 }
-    requires file { ForSome (D.files disk.old) (λ fs. IsSomeAnd (file fs source.now.packed.now) (λ bytes. IsStored source.now.shape.now.extents source.now.s.now bytes)) }
+    requires file { IsStoredFor (D.files disk.old) source.now }
     requires triangles { AreTriangles source.now.triangles.now }
-    requires of { AreOf source.now.shape.now.extents source.now.s.now source.now.triangles.now }
-    requires count { source.now.triangles.now.count ≡ stored_count source.now.shape.now.extents source.now.s.now }
-    requires room { HasRoom source.now.triangles.now.slots.grid.layout source.now.triangles.now.slots.grid (length lines.old) }
-    requires lines { ForSome (D.files disk.old) (λ fs. AreHeld source.now.triangles.now.slots.grid.layout source.now.triangles.now.slots.grid (contents fs source.now.packed.now) lines.old) }
-    ensures read { OnOk result (ForSome (D.files disk.old) (λ fs. AreWords source.now.shape.now (full_cell source.now.shape.now.extents source.now.s.now (contents fs source.now.packed.now)) start (length words.old) words.new)) }
-    ensures lines { OnOk result (ForSome (D.files disk.old) (λ fs. AreHeld source.now.triangles.now.slots.grid.layout source.now.triangles.now.slots.grid (contents fs source.now.packed.now) lines.new)) }
+    requires of { HasItsTriangles source.now }
+    requires count { HasItsCount source.now }
+    requires room { HasRoomFor source.now lines.old }
+    requires lines { AreHeldFor (D.files disk.old) source.now lines.old }
+    ensures read { OnOk result
+        (AreWordsFor (D.files disk.old) source.now start (length words.old) words.new) }
+    ensures lines { OnOk result (AreHeldFor (D.files disk.old) source.now lines.new) }
     ensures len { length words.new ≡ length words.old }
     ensures same { D.files disk.new ≡ D.files disk.old }
     ensures cause { HasCause (D.faults disk.old) (D.faults disk.new) (IsErr result) }
@@ -126,13 +124,15 @@ fn expand_elements<D: Disk>(
     requires names { packed.now ≢ array.now }
     requires some { 32 ≤ length lines.old }
     requires right { AreRight shape.now.extents s.now }
-    requires file { ForSome (D.files disk.old) (λ fs. IsSomeAnd (file fs packed.now) (λ bytes. IsStored shape.now.extents s.now bytes)) }
-    ensures made { OnOk result (D.files disk.new ≡ holding_by array.now (λ fs. bare_bytes (Storage.Array Form.One) shape.now (full_cell shape.now.extents s.now (contents fs packed.now))) (D.files disk.old)) }
+    requires file { IsStoredIn (D.files disk.old) packed.now shape.now.extents s.now }
+    ensures made { OnOk result
+        (ExpandsBare packed.now s.now array.now shape.now (D.files disk.old) (D.files disk.new)) }
     ensures memory { IsErrOf result OutFault.Memory → D.files disk.new ≡ D.files disk.old }
-    ensures no_half { LeavesNoHalfOf array.now (head_len Form.One shape.now) (λ fs. array_bytes shape.now (full_cell shape.now.extents s.now (contents fs packed.now))) (D.files disk.old) (D.files disk.new) }
+    ensures no_half { MayExpand packed.now s.now array.now shape.now
+        (D.files disk.old) (D.files disk.new) }
     ensures others { others array.now (D.files disk.new) ≡ others array.now (D.files disk.old) }
-    ensures cause { HasCause (D.faults disk.old) (D.faults disk.new) (IsErrOf result OutFault.Failed) }
-    ensures told { TellsFaults (D.faults disk.old) (D.faults disk.new) (IsErrOf result OutFault.Failed) }
+    ensures cause { HasCause (D.faults disk.old) (D.faults disk.new) (HasFailed result) }
+    ensures told { TellsFaults (D.faults disk.old) (D.faults disk.new) (HasFailed result) }
 {
     let triangles = triangles_of(shape, s, lines.len());
     let Ok(()) = hold_words(disk, packed, &triangles.slots.grid, lines) else {
@@ -180,13 +180,15 @@ pub fn expand<D: Disk>(
 ) -> Result<(), OutFault>
     requires names { packed.now ≢ array.now }
     requires right { AreRight shape.now.extents s.now }
-    requires file { ForSome (D.files disk.old) (λ fs. IsSomeAnd (file fs packed.now) (λ bytes. IsStored shape.now.extents s.now bytes)) }
-    ensures expanded { OnOk result (D.files disk.new ≡ holding_by array.now (λ fs. array_bytes shape.now (full_cell shape.now.extents s.now (contents fs packed.now))) (D.files disk.old)) }
+    requires file { IsStoredIn (D.files disk.old) packed.now shape.now.extents s.now }
+    ensures expanded { OnOk result
+        (Expands packed.now s.now array.now shape.now (D.files disk.old) (D.files disk.new)) }
     ensures memory { IsErrOf result OutFault.Memory → D.files disk.new ≡ D.files disk.old }
-    ensures no_half { LeavesNoHalfOf array.now (head_len Form.One shape.now) (λ fs. array_bytes shape.now (full_cell shape.now.extents s.now (contents fs packed.now))) (D.files disk.old) (D.files disk.new) }
+    ensures no_half { MayExpand packed.now s.now array.now shape.now
+        (D.files disk.old) (D.files disk.new) }
     ensures others { others array.now (D.files disk.new) ≡ others array.now (D.files disk.old) }
-    ensures cause { HasCause (D.faults disk.old) (D.faults disk.new) (IsErrOf result OutFault.Failed) }
-    ensures told { TellsFaults (D.faults disk.old) (D.faults disk.new) (IsErrOf result OutFault.Failed) }
+    ensures cause { HasCause (D.faults disk.old) (D.faults disk.new) (HasFailed result) }
+    ensures told { TellsFaults (D.faults disk.old) (D.faults disk.new) (HasFailed result) }
 {
     let mut lines = [0; SHORT_LINES];
     expand_through(disk, shape, s, packed, array, &mut lines)
@@ -206,13 +208,15 @@ pub fn expand_through<D: Disk>(
     requires names { packed.now ≢ array.now }
     requires some { 32 ≤ length lines.old }
     requires right { AreRight shape.now.extents s.now }
-    requires file { ForSome (D.files disk.old) (λ fs. IsSomeAnd (file fs packed.now) (λ bytes. IsStored shape.now.extents s.now bytes)) }
-    ensures expanded { OnOk result (D.files disk.new ≡ holding_by array.now (λ fs. array_bytes shape.now (full_cell shape.now.extents s.now (contents fs packed.now))) (D.files disk.old)) }
+    requires file { IsStoredIn (D.files disk.old) packed.now shape.now.extents s.now }
+    ensures expanded { OnOk result
+        (Expands packed.now s.now array.now shape.now (D.files disk.old) (D.files disk.new)) }
     ensures memory { IsErrOf result OutFault.Memory → D.files disk.new ≡ D.files disk.old }
-    ensures no_half { LeavesNoHalfOf array.now (head_len Form.One shape.now) (λ fs. array_bytes shape.now (full_cell shape.now.extents s.now (contents fs packed.now))) (D.files disk.old) (D.files disk.new) }
+    ensures no_half { MayExpand packed.now s.now array.now shape.now
+        (D.files disk.old) (D.files disk.new) }
     ensures others { others array.now (D.files disk.new) ≡ others array.now (D.files disk.old) }
-    ensures cause { HasCause (D.faults disk.old) (D.faults disk.new) (IsErrOf result OutFault.Failed) }
-    ensures told { TellsFaults (D.faults disk.old) (D.faults disk.new) (IsErrOf result OutFault.Failed) }
+    ensures cause { HasCause (D.faults disk.old) (D.faults disk.new) (HasFailed result) }
+    ensures told { TellsFaults (D.faults disk.old) (D.faults disk.new) (HasFailed result) }
 {
     let _limits = shape.elements();
     expand_elements(disk, shape, s, packed, array, lines)?;

@@ -1,13 +1,11 @@
 // Lines of stored words, held in memory: the words from one place on, each line in a slot of its own. Slots stand side by
 // side, and the words of a line below each other, so that words of neighbouring slots are neighbours.
-ghost use Rattle.std.specs.Prelude.{◌≡◌, ℕ, ◌+◌, ◌*◌, ◌<◌, ◌≤◌, List, length, slice_index, IfOk, OnOk, IsErr};
-ghost use Rattle.std.specs.Option.{ForSome, IsSomeAnd};
+ghost use Rattle.std.specs.Prelude.{◌≡◌, ◌+◌, ◌<◌, ◌≤◌, length, IfOk, OnOk, IsErr};
 ghost use Rattle.tce_space.specs.Limits.{max_array_words};
 ghost use Rattle.tce_outside.specs.Files.{file};
 ghost use Rattle.tce_outside.specs.Fault.{HasCause, TellsFaults};
-ghost use Rattle.tce_tools.specs.Flat.{contents};
-ghost use Rattle.tce_sym.specs.Storage.{stored_word};
-ghost use Rattle.tce_sym.specs.Lines.{IsGrid, IsWanted, AreLines};
+ghost use Rattle.tce_sym.specs.Lines.{IsGrid, IsWanted, HasLine, IsHeldWord, PutsWords};
+ghost use Rattle.tce_sym.specs.Told.{HasStoredWords, IsStoredWord, AreLinesOf};
 
 use tce_array::Form;
 use tce_outside::{Disk, Failed};
@@ -75,9 +73,8 @@ fn put_line(grid: &Grid, lines: &mut [u64], slot: usize, start: u64, words: &[u6
     requires slot { slot ≤ grid.now.last }
     requires start { start ≤ max_array_words }
     requires short { length words.now ≤ grid.now.line }
-    requires whole { (k : ℕ) → k < grid.now.line → start + k < grid.now.count → k < length words.now }
-    ensures { (bytes : List ℕ) → AreLines grid.now bytes lines.old
-        → ((k : ℕ) → k < length words.now → slice_index words.now k ≡ stored_word bytes (start + k)) → AreLines grid.now bytes lines.new }
+    requires whole { HasLine grid.now start words.now }
+    ensures { PutsWords grid.now start words.now lines.old lines.new }
 {
     lines[slot] = 0;
     for k in 0..words.len() {
@@ -92,9 +89,8 @@ fn put_lines(grid: &Grid, lines: &mut [u64], wanted: Wanted, start: u64, words: 
     requires slot { wanted.slot ≤ grid.now.last }
     requires start { start + length words.now ≤ grid.now.count }
     requires count { grid.now.count ≤ max_array_words }
-    requires whole { (k : ℕ) → k < grid.now.line → start + k < grid.now.count → k < length words.now }
-    ensures { (bytes : List ℕ) → AreLines grid.now bytes lines.old
-        → ((k : ℕ) → k < length words.now → slice_index words.now k ≡ stored_word bytes (start + k)) → AreLines grid.now bytes lines.new }
+    requires whole { HasLine grid.now start words.now }
+    ensures { PutsWords grid.now start words.now lines.old lines.new }
 {
     let first = grid.line.min(words.len());
     put_line(grid, lines, wanted.slot, start, &words[..first]);
@@ -128,10 +124,10 @@ fn read_few<D: Disk>(
     requires grid { IsGrid grid.now (length lines.old) }
     requires wanted { IsWanted grid.now wanted }
     requires span { wanted.span ≤ 256 }
-    requires file { ForSome (D.files disk.old) (λ fs. IsSomeAnd (file fs packed.now) (λ bytes. length bytes ≡ 32 + 8 * grid.now.count)) }
-    requires lines { ForSome (D.files disk.old) (λ fs. AreLines grid.now (contents fs packed.now) lines.old) }
-    ensures word { IfOk result (λ word. ForSome (D.files disk.old) (λ fs. word ≡ stored_word (contents fs packed.now) wanted.place)) }
-    ensures lines { OnOk result (ForSome (D.files disk.old) (λ fs. AreLines grid.now (contents fs packed.now) lines.new)) }
+    requires file { HasStoredWords (D.files disk.old) packed.now grid.now.count }
+    requires lines { AreLinesOf (D.files disk.old) packed.now grid.now lines.old }
+    ensures word { IfOk result (IsStoredWord (D.files disk.old) packed.now wanted.place) }
+    ensures lines { OnOk result (AreLinesOf (D.files disk.old) packed.now grid.now lines.new) }
     ensures same { D.files disk.new ≡ D.files disk.old }
     ensures cause { HasCause (D.faults disk.old) (D.faults disk.new) (IsErr result) }
     ensures told { TellsFaults (D.faults disk.old) (D.faults disk.new) (IsErr result) }
@@ -163,10 +159,10 @@ fn read_many<D: Disk>(
     requires grid { IsGrid grid.now (length lines.old) }
     requires wanted { IsWanted grid.now wanted }
     requires span { wanted.span ≤ 2048 }
-    requires file { ForSome (D.files disk.old) (λ fs. IsSomeAnd (file fs packed.now) (λ bytes. length bytes ≡ 32 + 8 * grid.now.count)) }
-    requires lines { ForSome (D.files disk.old) (λ fs. AreLines grid.now (contents fs packed.now) lines.old) }
-    ensures word { IfOk result (λ word. ForSome (D.files disk.old) (λ fs. word ≡ stored_word (contents fs packed.now) wanted.place)) }
-    ensures lines { OnOk result (ForSome (D.files disk.old) (λ fs. AreLines grid.now (contents fs packed.now) lines.new)) }
+    requires file { HasStoredWords (D.files disk.old) packed.now grid.now.count }
+    requires lines { AreLinesOf (D.files disk.old) packed.now grid.now lines.old }
+    ensures word { IfOk result (IsStoredWord (D.files disk.old) packed.now wanted.place) }
+    ensures lines { OnOk result (AreLinesOf (D.files disk.old) packed.now grid.now lines.new) }
     ensures same { D.files disk.new ≡ D.files disk.old }
     ensures cause { HasCause (D.faults disk.old) (D.faults disk.new) (IsErr result) }
     ensures told { TellsFaults (D.faults disk.old) (D.faults disk.new) (IsErr result) }
@@ -197,10 +193,10 @@ pub fn read_word<D: Disk>(
 ) -> Result<u64, Failed>
     requires grid { IsGrid grid.now (length lines.old) }
     requires wanted { IsWanted grid.now wanted }
-    requires file { ForSome (D.files disk.old) (λ fs. IsSomeAnd (file fs packed.now) (λ bytes. length bytes ≡ 32 + 8 * grid.now.count)) }
-    requires lines { ForSome (D.files disk.old) (λ fs. AreLines grid.now (contents fs packed.now) lines.old) }
-    ensures word { IfOk result (λ word. ForSome (D.files disk.old) (λ fs. word ≡ stored_word (contents fs packed.now) wanted.place)) }
-    ensures lines { OnOk result (ForSome (D.files disk.old) (λ fs. AreLines grid.now (contents fs packed.now) lines.new)) }
+    requires file { HasStoredWords (D.files disk.old) packed.now grid.now.count }
+    requires lines { AreLinesOf (D.files disk.old) packed.now grid.now lines.old }
+    ensures word { IfOk result (IsStoredWord (D.files disk.old) packed.now wanted.place) }
+    ensures lines { OnOk result (AreLinesOf (D.files disk.old) packed.now grid.now lines.new) }
     ensures same { D.files disk.new ≡ D.files disk.old }
     ensures cause { HasCause (D.faults disk.old) (D.faults disk.new) (IsErr result) }
     ensures told { TellsFaults (D.faults disk.old) (D.faults disk.new) (IsErr result) }
@@ -219,7 +215,7 @@ pub fn held_word(grid: &Grid, lines: &[u64], slot: usize, place: u64) -> Option<
     requires slot { slot ≤ grid.now.last }
     requires place { place < grid.now.count }
     requires count { grid.now.count ≤ max_array_words }
-    ensures { (bytes : List ℕ) → AreLines grid.now bytes lines.now → ForSome result (λ word. word ≡ stored_word bytes place) }
+    ensures { IsHeldWord grid.now lines.now place result }
 {
     let mark = lines[slot];
     if 0 < mark && mark <= place + 1 && place + 1 - mark < grid.line as u64 {

@@ -1,11 +1,10 @@
 // Opening files of stored elements.
-ghost use Rattle.std.specs.Prelude.{◌≡◌, ◌+◌, ◌<◌, ◌≤◌, false, IsTrue, length, take, codes, Err, IfOk, IfErr, IsErr, MatchOption};
-ghost use Rattle.std.specs.Option.{ForSome, IsSomeAnd};
-ghost use Rattle.tce_outside.specs.Files.{file};
+ghost use Rattle.std.specs.Prelude.{◌≡◌, ◌+◌, ◌<◌, ◌≤◌, false, IsTrue, length, take, codes, IfOk, IfErr, IsErr, MatchOption};
 ghost use Rattle.tce_outside.specs.Fault.{HasCause, TellsFaults};
 ghost use Rattle.tce_array.specs.Faults.{DifferFirst};
-ghost use Rattle.tce_sym.specs.Storage.{AreRight, IsHead, IsStored, number_at};
-ghost use Rattle.tce_sym.specs.Faults.{ArePositions, IsWrongAt, IsFault, IsOnlyAnswer};
+ghost use Rattle.tce_sym.specs.Storage.{AreRight, IsHead, number_at};
+ghost use Rattle.tce_sym.specs.Faults.{ArePositions, IsWrongAt};
+ghost use Rattle.tce_sym.specs.Told.{IsStoredIn, IsFaultOf, IsOnlyAnswerTo, IsDiskFault};
 
 use crate::fault::SymFault;
 use crate::symmetry::{Symmetry, stored_count};
@@ -21,7 +20,7 @@ const MARK: &[u8] = b"TCSYMM01";
 // The first place at which two texts of one length differ.
 fn first_difference(found: &[u8], expected: &[u8]) -> Option<usize>
     requires { length found.now ≡ length expected.now }
-    ensures { MatchOption result (found.now ≡ expected.now) (λ p. DifferFirst found.now expected.now p) }
+    ensures { MatchOption result (found.now ≡ expected.now) (DifferFirst found.now expected.now) }
 {
     for i in 0..found.len() {
         if found[i] != expected[i] {
@@ -86,12 +85,12 @@ fn read_head(shape: &Shape, head: &[u8]) -> Result<Symmetry, u64>
 /// No file changes. Nothing is sized by what the file says of itself: at most the head is read, and no memory taken.
 pub fn open_sym<D: Disk>(disk: &mut D, name: &str, shape: &Shape) -> Result<Symmetry, SymFault>
     ensures right { IfOk result (λ s. AreRight shape.now.extents s) }
-    ensures opened { IfOk result (λ s. ForSome (D.files disk.old) (λ fs. IsSomeAnd (file fs name.now) (λ bytes. IsStored shape.now.extents s bytes))) }
-    ensures fault { IfErr result (λ fault. ForSome (D.files disk.old) (λ fs. IsFault shape.now.extents (file fs name.now) fault)) }
-    ensures exact { ForSome (D.files disk.old) (λ fs. IsOnlyAnswer shape.now.extents (file fs name.now) result) }
+    ensures opened { IfOk result (IsStoredIn (D.files disk.old) name.now shape.now.extents) }
+    ensures fault { IfErr result (IsFaultOf (D.files disk.old) name.now shape.now.extents) }
+    ensures exact { IsOnlyAnswerTo (D.files disk.old) name.now shape.now.extents result }
     ensures same { D.files disk.new ≡ D.files disk.old }
-    ensures cause { HasCause (D.faults disk.old) (D.faults disk.new) (result ≡ Err SymFault.Disk) }
-    ensures told { TellsFaults (D.faults disk.old) (D.faults disk.new) (result ≡ Err SymFault.Disk) }
+    ensures cause { HasCause (D.faults disk.old) (D.faults disk.new) (IsDiskFault result) }
+    ensures told { TellsFaults (D.faults disk.old) (D.faults disk.new) (IsDiskFault result) }
 {
     let Ok(size) = disk.size(name) else {
         return Err(SymFault::Disk);

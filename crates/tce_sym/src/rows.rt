@@ -1,13 +1,13 @@
 // Rows: elements that follow each other along the last dimension.
-ghost use Rattle.std.specs.Prelude.{◌≡◌, ℕ, ◌+◌, ◌*◌, ◌<◌, ◌≤◌, ◌^◌, Bool, IsTrue, false, length, replicate, slice_index, OnOk, IsErr};
-ghost use Rattle.std.specs.Option.{ForSome, IsSomeAnd};
+ghost use Rattle.std.specs.Prelude.{◌≡◌, ℕ, ◌+◌, ◌<◌, ◌≤◌, ◌^◌, Bool, IsTrue, false, length, replicate, slice_index, OnOk, IsErr};
 ghost use Rattle.tce_space.specs.Box.{IsInside};
 ghost use Rattle.tce_outside.specs.Files.{file};
 ghost use Rattle.tce_outside.specs.Fault.{HasCause, TellsFaults};
-ghost use Rattle.tce_tools.specs.Flat.{contents};
-ghost use Rattle.tce_sym.specs.Storage.{AreRight, IsPair, stored_word, turned};
-ghost use Rattle.tce_sym.specs.Lines.{HasRoom, AreHeld};
-ghost use Rattle.tce_sym.specs.Cells.{AreTriangles, IsAmong, IsPairOf, IsWalkOf, IsMirroredWalkOf, cell_of, mirror, moved_pair, pair_place};
+ghost use Rattle.tce_tools.specs.Runs.{EachWordIs};
+ghost use Rattle.tce_sym.specs.Storage.{AreRight, IsPair, turned};
+ghost use Rattle.tce_sym.specs.Lines.{HasRoomAt};
+ghost use Rattle.tce_sym.specs.Cells.{AreTriangles, IsAmong, IsPairOf, IsWalkOf, IsMirroredWalkOf, moved_pair, IsUpper, IsLower, IsMirrored, IsStoredPair, IsFirstPairOf, IsAlongSecond, IsAlongOther};
+ghost use Rattle.tce_sym.specs.Told.{HasStoredWords, AreHeldOf, AreStoredOf, AreMirroredOf, AreCellsOf};
 
 use crate::cells::{Pair, Triangles};
 use crate::symmetry::{Symmetry, at_others, pairs, signed};
@@ -49,9 +49,9 @@ fn row_at(shape: &Shape, s: &Symmetry, coords: &[u64]) -> Row
 pub fn row_of(shape: &Shape, s: &Symmetry, row: &TileRow) -> Row
     requires right { AreRight shape.now.extents s.now }
     requires inside { 0 < row.now.used → IsInside shape.now.extents row.now.coords.items }
-    ensures pair { 0 < row.now.used → IsPairOf shape.now.extents s.now row.now.coords.items result.pair }
-    ensures second { 0 < row.now.used → IsTrue result.is_second → s.now.second + 1 ≡ length row.now.coords.items }
-    ensures other { 0 < row.now.used → result.is_second ≡ false → s.now.second + 1 < length row.now.coords.items }
+    ensures pair { IsFirstPairOf shape.now.extents s.now row.now result.pair }
+    ensures second { IsAlongSecond s.now row.now result.is_second }
+    ensures other { IsAlongOther s.now row.now result.is_second }
 {
     if row.used == 0 {
         return Row {
@@ -93,8 +93,8 @@ fn moved_row(row: &Row, steps: usize) -> Row
 // How many elements from the first on are mirrored: their second coordinate is the lower one.
 fn mirrored_len(row: &Row, len: usize) -> usize
     ensures within { result ≤ len }
-    ensures mirrored { (k : ℕ) → k < result → (moved_pair row.now k).second < (moved_pair row.now k).first }
-    ensures others { (k : ℕ) → result ≤ k → k < len → (moved_pair row.now k).first ≤ (moved_pair row.now k).second }
+    ensures mirrored { (k : ℕ) → k < result → IsMirrored (moved_pair row.now k) }
+    ensures others { (k : ℕ) → result ≤ k → k < len → IsUpper (moved_pair row.now k) }
 {
     let below = row.pair.first.saturating_sub(row.pair.second);
     if row.is_second {
@@ -105,11 +105,11 @@ fn mirrored_len(row: &Row, len: usize) -> usize
 
 // How many elements from the first on are 0 between equal coordinates, where no element is mirrored.
 fn diagonal_len(negated: bool, row: &Row, len: usize) -> usize
-    requires { (k : ℕ) → k < len → (moved_pair row.now k).first ≤ (moved_pair row.now k).second }
+    requires { (k : ℕ) → k < len → IsUpper (moved_pair row.now k) }
     ensures within { result ≤ len }
     ensures negated { 0 < result → IsTrue negated }
-    ensures diagonal { (k : ℕ) → k < result → (moved_pair row.now k).second ≤ (moved_pair row.now k).first }
-    ensures others { (k : ℕ) → result ≤ k → k < len → IsPair negated (moved_pair row.now k).first (moved_pair row.now k).second }
+    ensures diagonal { (k : ℕ) → k < result → IsLower (moved_pair row.now k) }
+    ensures others { (k : ℕ) → result ≤ k → k < len → IsStoredPair negated (moved_pair row.now k) }
 {
     if !negated || row.pair.first < row.pair.second {
         return 0;
@@ -174,7 +174,7 @@ fn mirrored_walk(triangles: &Triangles, row: &Row) -> Walk
 
 // Turns the signs of words, if they are to be.
 fn turn(negated: bool, words: &mut [u64])
-    ensures { (k : ℕ) → k < length words.new → slice_index words.new k ≡ turned negated (slice_index words.old k) }
+    ensures { EachWordIs words.new (λ k. turned negated (slice_index words.old k)) }
 {
     for k in 0..words.len() {
         words[k] = signed(negated, words[k]);
@@ -199,13 +199,16 @@ fn read_stored<D: Disk>(
 ) -> Result<(), Failed>
     requires triangles { AreTriangles triangles.now }
     requires among { (k : ℕ) → k < length words.old → IsAmong triangles.now (moved_pair row.now k) }
-    requires stored { (k : ℕ) → k < length words.old → IsPair triangles.now.negated (moved_pair row.now k).first (moved_pair row.now k).second }
+    requires stored { (k : ℕ) → k < length words.old
+        → IsStoredPair triangles.now.negated (moved_pair row.now k) }
     requires few { length words.old ≤ 8192 }
-    requires file { ForSome (D.files disk.old) (λ fs. IsSomeAnd (file fs packed.now) (λ bytes. length bytes ≡ 32 + 8 * triangles.now.count)) }
-    requires room { HasRoom triangles.now.slots.grid.layout triangles.now.slots.grid (length lines.old) }
-    requires lines { ForSome (D.files disk.old) (λ fs. AreHeld triangles.now.slots.grid.layout triangles.now.slots.grid (contents fs packed.now) lines.old) }
-    ensures read { OnOk result (ForSome (D.files disk.old) (λ fs. (k : ℕ) → k < length words.new → slice_index words.new k ≡ stored_word (contents fs packed.now) (pair_place triangles.now (moved_pair row.now k)))) }
-    ensures lines { OnOk result (ForSome (D.files disk.old) (λ fs. AreHeld triangles.now.slots.grid.layout triangles.now.slots.grid (contents fs packed.now) lines.new)) }
+    requires file { HasStoredWords (D.files disk.old) packed.now triangles.now.count }
+    requires room { HasRoomAt triangles.now.slots.grid lines.old }
+    requires lines { AreHeldOf (D.files disk.old) packed.now triangles.now.slots.grid lines.old }
+    ensures read { OnOk result
+        (AreStoredOf (D.files disk.old) packed.now triangles.now row.now words.new) }
+    ensures lines { OnOk result
+        (AreHeldOf (D.files disk.old) packed.now triangles.now.slots.grid lines.new) }
     ensures same { D.files disk.new ≡ D.files disk.old }
     ensures cause { HasCause (D.faults disk.old) (D.faults disk.new) (IsErr result) }
     ensures told { TellsFaults (D.faults disk.old) (D.faults disk.new) (IsErr result) }
@@ -229,13 +232,15 @@ fn read_mirrored<D: Disk>(
 ) -> Result<(), Failed>
     requires triangles { AreTriangles triangles.now }
     requires among { (k : ℕ) → k < length words.old → IsAmong triangles.now (moved_pair row.now k) }
-    requires mirrored { (k : ℕ) → k < length words.old → (moved_pair row.now k).second < (moved_pair row.now k).first }
+    requires mirrored { (k : ℕ) → k < length words.old → IsMirrored (moved_pair row.now k) }
     requires few { length words.old ≤ 8192 }
-    requires file { ForSome (D.files disk.old) (λ fs. IsSomeAnd (file fs packed.now) (λ bytes. length bytes ≡ 32 + 8 * triangles.now.count)) }
-    requires room { HasRoom triangles.now.slots.grid.layout triangles.now.slots.grid (length lines.old) }
-    requires lines { ForSome (D.files disk.old) (λ fs. AreHeld triangles.now.slots.grid.layout triangles.now.slots.grid (contents fs packed.now) lines.old) }
-    ensures read { OnOk result (ForSome (D.files disk.old) (λ fs. (k : ℕ) → k < length words.new → slice_index words.new k ≡ turned triangles.now.negated (stored_word (contents fs packed.now) (pair_place triangles.now (mirror (moved_pair row.now k)))))) }
-    ensures lines { OnOk result (ForSome (D.files disk.old) (λ fs. AreHeld triangles.now.slots.grid.layout triangles.now.slots.grid (contents fs packed.now) lines.new)) }
+    requires file { HasStoredWords (D.files disk.old) packed.now triangles.now.count }
+    requires room { HasRoomAt triangles.now.slots.grid lines.old }
+    requires lines { AreHeldOf (D.files disk.old) packed.now triangles.now.slots.grid lines.old }
+    ensures read { OnOk result
+        (AreMirroredOf (D.files disk.old) packed.now triangles.now row.now words.new) }
+    ensures lines { OnOk result
+        (AreHeldOf (D.files disk.old) packed.now triangles.now.slots.grid lines.new) }
     ensures same { D.files disk.new ≡ D.files disk.old }
     ensures cause { HasCause (D.faults disk.old) (D.faults disk.new) (IsErr result) }
     ensures told { TellsFaults (D.faults disk.old) (D.faults disk.new) (IsErr result) }
@@ -260,13 +265,15 @@ fn read_others<D: Disk>(
 ) -> Result<(), Failed>
     requires triangles { AreTriangles triangles.now }
     requires among { (k : ℕ) → k < length words.old → IsAmong triangles.now (moved_pair row.now k) }
-    requires others { (k : ℕ) → k < length words.old → (moved_pair row.now k).first ≤ (moved_pair row.now k).second }
+    requires others { (k : ℕ) → k < length words.old → IsUpper (moved_pair row.now k) }
     requires few { length words.old ≤ 8192 }
-    requires file { ForSome (D.files disk.old) (λ fs. IsSomeAnd (file fs packed.now) (λ bytes. length bytes ≡ 32 + 8 * triangles.now.count)) }
-    requires room { HasRoom triangles.now.slots.grid.layout triangles.now.slots.grid (length lines.old) }
-    requires lines { ForSome (D.files disk.old) (λ fs. AreHeld triangles.now.slots.grid.layout triangles.now.slots.grid (contents fs packed.now) lines.old) }
-    ensures read { OnOk result (ForSome (D.files disk.old) (λ fs. (k : ℕ) → k < length words.new → slice_index words.new k ≡ cell_of triangles.now (contents fs packed.now) (moved_pair row.now k))) }
-    ensures lines { OnOk result (ForSome (D.files disk.old) (λ fs. AreHeld triangles.now.slots.grid.layout triangles.now.slots.grid (contents fs packed.now) lines.new)) }
+    requires file { HasStoredWords (D.files disk.old) packed.now triangles.now.count }
+    requires room { HasRoomAt triangles.now.slots.grid lines.old }
+    requires lines { AreHeldOf (D.files disk.old) packed.now triangles.now.slots.grid lines.old }
+    ensures read { OnOk result
+        (AreCellsOf (D.files disk.old) packed.now triangles.now row.now words.new) }
+    ensures lines { OnOk result
+        (AreHeldOf (D.files disk.old) packed.now triangles.now.slots.grid lines.new) }
     ensures same { D.files disk.new ≡ D.files disk.old }
     ensures cause { HasCause (D.faults disk.old) (D.faults disk.new) (IsErr result) }
     ensures told { TellsFaults (D.faults disk.old) (D.faults disk.new) (IsErr result) }
@@ -294,11 +301,13 @@ pub fn read_row<D: Disk>(
     requires triangles { AreTriangles triangles.now }
     requires among { (k : ℕ) → k < length words.old → IsAmong triangles.now (moved_pair row.now k) }
     requires few { length words.old ≤ 8192 }
-    requires file { ForSome (D.files disk.old) (λ fs. IsSomeAnd (file fs packed.now) (λ bytes. length bytes ≡ 32 + 8 * triangles.now.count)) }
-    requires room { HasRoom triangles.now.slots.grid.layout triangles.now.slots.grid (length lines.old) }
-    requires lines { ForSome (D.files disk.old) (λ fs. AreHeld triangles.now.slots.grid.layout triangles.now.slots.grid (contents fs packed.now) lines.old) }
-    ensures read { OnOk result (ForSome (D.files disk.old) (λ fs. (k : ℕ) → k < length words.new → slice_index words.new k ≡ cell_of triangles.now (contents fs packed.now) (moved_pair row.now k))) }
-    ensures lines { OnOk result (ForSome (D.files disk.old) (λ fs. AreHeld triangles.now.slots.grid.layout triangles.now.slots.grid (contents fs packed.now) lines.new)) }
+    requires file { HasStoredWords (D.files disk.old) packed.now triangles.now.count }
+    requires room { HasRoomAt triangles.now.slots.grid lines.old }
+    requires lines { AreHeldOf (D.files disk.old) packed.now triangles.now.slots.grid lines.old }
+    ensures read { OnOk result
+        (AreCellsOf (D.files disk.old) packed.now triangles.now row.now words.new) }
+    ensures lines { OnOk result
+        (AreHeldOf (D.files disk.old) packed.now triangles.now.slots.grid lines.new) }
     ensures same { D.files disk.new ≡ D.files disk.old }
     ensures cause { HasCause (D.faults disk.old) (D.faults disk.new) (IsErr result) }
     ensures told { TellsFaults (D.faults disk.old) (D.faults disk.new) (IsErr result) }

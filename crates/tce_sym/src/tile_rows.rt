@@ -1,9 +1,9 @@
 // Rows of tiles: words that follow each other in an array file, along the last dimension.
-ghost use Rattle.std.specs.Prelude.{◌≡◌, ◌+◌, ◌-◌, ◌<◌, ◌≤◌, length, get_or};
+ghost use Rattle.std.specs.Prelude.{◌≡◌, ◌<◌, ◌≤◌, length};
 ghost use Rattle.tce_space.specs.Box.{IsInside};
 ghost use Rattle.tce_space.specs.Tiling.{IsTiling, elements, padded_words};
 ghost use Rattle.tce_tools.specs.Runs.{IsRowMajor};
-ghost use Rattle.tce_sym.specs.TileRows.{IsWordOf, IsTileRow};
+ghost use Rattle.tce_sym.specs.TileRows.{IsWordOf, IsTileRow, ReachesEnd};
 
 use crate::symmetry::push_all;
 use arrayvec::ArrayVec;
@@ -48,7 +48,7 @@ fn elements_left(extents: &[u64], coords: &[u64]) -> u64
     requires rank { length coords.now ≡ length extents.now }
     requires some { 0 < length extents.now }
     ensures inside { 0 < result → IsInside extents.now coords.now }
-    ensures row { 0 < result → get_or coords.now (length extents.now - 1) 0 + result ≡ get_or extents.now (length extents.now - 1) 0 }
+    ensures row { ReachesEnd extents.now coords.now result }
     ensures outside { result ≡ 0 → IsInside extents.now coords.now → ⊥ }
 {
     for d in 0..extents.len() {

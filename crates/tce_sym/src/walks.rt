@@ -1,12 +1,10 @@
 // Stored words that are wanted one after the other, and the slots for their lines.
-ghost use Rattle.std.specs.Prelude.{◌≡◌, ℕ, ◌+◌, ◌*◌, ◌<◌, ◌≤◌, ◌^◌, List, length, slice_index, OnOk, IsErr};
-ghost use Rattle.std.specs.Option.{ForSome, IsSomeAnd};
+ghost use Rattle.std.specs.Prelude.{◌≡◌, ℕ, ◌<◌, ◌≤◌, ◌^◌, List, length, OnOk, IsErr};
 ghost use Rattle.tce_space.specs.Limits.{max_array_words};
 ghost use Rattle.tce_outside.specs.Files.{file};
 ghost use Rattle.tce_outside.specs.Fault.{HasCause, TellsFaults};
-ghost use Rattle.tce_tools.specs.Flat.{contents};
-ghost use Rattle.tce_sym.specs.Storage.{stored_word};
-ghost use Rattle.tce_sym.specs.Lines.{IsGrid, IsWanted, AreLines, HasRoom, AreHeld, walk_place};
+ghost use Rattle.tce_sym.specs.Lines.{IsGrid, IsWanted, AreLines, walk_place, HasRoomAt, WalkedBelow};
+ghost use Rattle.tce_sym.specs.Told.{HasStoredWords, AreLinesOf, AreHeldOf, AreWalked};
 
 use crate::lines::{Grid, Layout, WINDOW, Wanted, held_word, read_word};
 use crate::whole::{gather, gather_across};
@@ -126,8 +124,7 @@ fn held(grid: &Grid, lines: &[u64], walk: &Walk, words: &mut [u64], from: usize)
     requires from { from ≤ length words.old }
     ensures within { (from ≤ result) × (result ≤ length words.new) }
     ensures held { (bytes : List ℕ) → AreLines grid.now bytes lines.now
-        → ((k : ℕ) → k < from → slice_index words.old k ≡ stored_word bytes (walk_place walk.now k))
-        → (k : ℕ) → k < result → slice_index words.new k ≡ stored_word bytes (walk_place walk.now k) }
+        → WalkedBelow walk.now bytes from words.old → WalkedBelow walk.now bytes result words.new }
 {
     let mut done = from;
     while done < words.len() {
@@ -155,10 +152,10 @@ fn read_lines<D: Disk>(
     requires count { grid.now.count ≤ max_array_words }
     requires places { (k : ℕ) → k < length words.old → walk_place walk.now k < grid.now.count }
     requires few { length words.old ≤ 8192 }
-    requires file { ForSome (D.files disk.old) (λ fs. IsSomeAnd (file fs packed.now) (λ bytes. length bytes ≡ 32 + 8 * grid.now.count)) }
-    requires lines { ForSome (D.files disk.old) (λ fs. AreLines grid.now (contents fs packed.now) lines.old) }
-    ensures read { OnOk result (ForSome (D.files disk.old) (λ fs. (k : ℕ) → k < length words.new → slice_index words.new k ≡ stored_word (contents fs packed.now) (walk_place walk.now k))) }
-    ensures lines { OnOk result (ForSome (D.files disk.old) (λ fs. AreLines grid.now (contents fs packed.now) lines.new)) }
+    requires file { HasStoredWords (D.files disk.old) packed.now grid.now.count }
+    requires lines { AreLinesOf (D.files disk.old) packed.now grid.now lines.old }
+    ensures read { OnOk result (AreWalked (D.files disk.old) packed.now walk.now words.new) }
+    ensures lines { OnOk result (AreLinesOf (D.files disk.old) packed.now grid.now lines.new) }
     ensures same { D.files disk.new ≡ D.files disk.old }
     ensures cause { HasCause (D.faults disk.old) (D.faults disk.new) (IsErr result) }
     ensures told { TellsFaults (D.faults disk.old) (D.faults disk.new) (IsErr result) }
@@ -182,14 +179,14 @@ pub fn read_walk<D: Disk>(
     walk: &Walk,
     words: &mut [u64],
 ) -> Result<(), Failed>
-    requires room { HasRoom grid.now.layout grid.now (length lines.old) }
+    requires room { HasRoomAt grid.now lines.old }
     requires count { grid.now.count ≤ max_array_words }
     requires places { (k : ℕ) → k < length words.old → walk_place walk.now k < grid.now.count }
     requires few { length words.old ≤ 8192 }
-    requires file { ForSome (D.files disk.old) (λ fs. IsSomeAnd (file fs packed.now) (λ bytes. length bytes ≡ 32 + 8 * grid.now.count)) }
-    requires lines { ForSome (D.files disk.old) (λ fs. AreHeld grid.now.layout grid.now (contents fs packed.now) lines.old) }
-    ensures read { OnOk result (ForSome (D.files disk.old) (λ fs. (k : ℕ) → k < length words.new → slice_index words.new k ≡ stored_word (contents fs packed.now) (walk_place walk.now k))) }
-    ensures lines { OnOk result (ForSome (D.files disk.old) (λ fs. AreHeld grid.now.layout grid.now (contents fs packed.now) lines.new)) }
+    requires file { HasStoredWords (D.files disk.old) packed.now grid.now.count }
+    requires lines { AreHeldOf (D.files disk.old) packed.now grid.now lines.old }
+    ensures read { OnOk result (AreWalked (D.files disk.old) packed.now walk.now words.new) }
+    ensures lines { OnOk result (AreHeldOf (D.files disk.old) packed.now grid.now lines.new) }
     ensures same { D.files disk.new ≡ D.files disk.old }
     ensures cause { HasCause (D.faults disk.old) (D.faults disk.new) (IsErr result) }
     ensures told { TellsFaults (D.faults disk.old) (D.faults disk.new) (IsErr result) }

@@ -1,11 +1,11 @@
 // All stored words in memory: one after the other, or those of one pair side by side.
-ghost use Rattle.std.specs.Prelude.{◌≡◌, ◌≢◌, ◌⊎◌, ℕ, ◌+◌, ◌*◌, ◌/◌, ◌%◌, ◌<◌, ◌≤◌, ◌^◌, length, slice_index, IfOk, OnOk, IsErr};
-ghost use Rattle.std.specs.Option.{ForSome, IsSomeAnd};
+ghost use Rattle.std.specs.Prelude.{◌≡◌, ℕ, ◌+◌, ◌*◌, ◌/◌, ◌%◌, ◌<◌, ◌≤◌, ◌^◌, length, slice_index, IfOk, OnOk, IsErr};
 ghost use Rattle.tce_space.specs.Limits.{max_array_words};
 ghost use Rattle.tce_outside.specs.Files.{file};
 ghost use Rattle.tce_outside.specs.Fault.{HasCause, TellsFaults};
-ghost use Rattle.tce_tools.specs.Flat.{contents};
-ghost use Rattle.tce_sym.specs.Lines.{AreWhole, ArePairs, IsAcross, walk_place};
+ghost use Rattle.tce_tools.specs.Runs.{EachWordIs};
+ghost use Rattle.tce_sym.specs.Lines.{IsAcross, walk_place, ArePut, KeepsOtherWords, walk_across};
+ghost use Rattle.tce_sym.specs.Told.{HasStoredWords, AreWholeOf, ArePairsOf, AddPairs};
 
 use crate::lines::{Grid, WINDOW};
 use crate::walks::{Walk, place_at};
@@ -25,8 +25,8 @@ pub fn read_whole<D: Disk>(
 ) -> Result<(), Failed>
     requires room { grid.now.count ≤ length lines.old }
     requires count { grid.now.count ≤ max_array_words }
-    requires file { ForSome (D.files disk.old) (λ fs. IsSomeAnd (file fs packed.now) (λ bytes. length bytes ≡ 32 + 8 * grid.now.count)) }
-    ensures read { OnOk result (ForSome (D.files disk.old) (λ fs. AreWhole grid.now (contents fs packed.now) lines.new)) }
+    requires file { HasStoredWords (D.files disk.old) packed.now grid.now.count }
+    ensures read { OnOk result (AreWholeOf (D.files disk.old) packed.now grid.now lines.new) }
     ensures same { D.files disk.new ≡ D.files disk.old }
     ensures cause { HasCause (D.faults disk.old) (D.faults disk.new) (IsErr result) }
     ensures told { TellsFaults (D.faults disk.old) (D.faults disk.new) (IsErr result) }
@@ -47,8 +47,8 @@ fn put_across(grid: &Grid, lines: &mut [u64], from: u64, outer: u64, words: &[u6
     requires room { IsAcross grid.now (length lines.old) }
     requires outer { outer < grid.now.others }
     requires pairs { from + length words.now ≤ grid.now.pairs }
-    ensures put { (k : ℕ) → k < length words.now → slice_index lines.new ((from + k) * grid.now.pitch + outer) ≡ slice_index words.now k }
-    ensures kept { (other pair : ℕ) → other < grid.now.pitch → (other ≢ outer) ⊎ (pair < from) → slice_index lines.new (pair * grid.now.pitch + other) ≡ slice_index lines.old (pair * grid.now.pitch + other) }
+    ensures put { ArePut grid.now outer from words.now lines.new }
+    ensures kept { KeepsOtherWords grid.now outer from lines.old lines.new }
 {
     for k in 0..words.len() {
         lines[(from as usize + k) * grid.pitch + outer as usize] = words[k];
@@ -66,9 +66,10 @@ fn read_strip<D: Disk>(
     requires room { IsAcross grid.now (length lines.old) }
     requires count { grid.now.count ≤ max_array_words }
     requires from { from < grid.now.pairs }
-    requires file { ForSome (D.files disk.old) (λ fs. IsSomeAnd (file fs packed.now) (λ bytes. length bytes ≡ 32 + 8 * grid.now.count)) }
+    requires file { HasStoredWords (D.files disk.old) packed.now grid.now.count }
     ensures some { IfOk result (λ len. (0 < len) × (from + len ≤ grid.now.pairs)) }
-    ensures read { IfOk result (λ len. ForSome (D.files disk.old) (λ fs. ArePairs grid.now from (contents fs packed.now) lines.old → ArePairs grid.now (from + len) (contents fs packed.now) lines.new)) }
+    ensures read { IfOk result
+        (λ len. AddPairs (D.files disk.old) packed.now grid.now from len lines.old lines.new) }
     ensures same { D.files disk.new ≡ D.files disk.old }
     ensures cause { HasCause (D.faults disk.old) (D.faults disk.new) (IsErr result) }
     ensures told { TellsFaults (D.faults disk.old) (D.faults disk.new) (IsErr result) }
@@ -100,8 +101,8 @@ pub fn read_across<D: Disk>(
 ) -> Result<(), Failed>
     requires room { IsAcross grid.now (length lines.old) }
     requires count { grid.now.count ≤ max_array_words }
-    requires file { ForSome (D.files disk.old) (λ fs. IsSomeAnd (file fs packed.now) (λ bytes. length bytes ≡ 32 + 8 * grid.now.count)) }
-    ensures read { OnOk result (ForSome (D.files disk.old) (λ fs. ArePairs grid.now grid.now.pairs (contents fs packed.now) lines.new)) }
+    requires file { HasStoredWords (D.files disk.old) packed.now grid.now.count }
+    ensures read { OnOk result (ArePairsOf (D.files disk.old) packed.now grid.now lines.new) }
     ensures same { D.files disk.new ≡ D.files disk.old }
     ensures cause { HasCause (D.faults disk.old) (D.faults disk.new) (IsErr result) }
     ensures told { TellsFaults (D.faults disk.old) (D.faults disk.new) (IsErr result) }
@@ -117,7 +118,7 @@ pub fn read_across<D: Disk>(
 // Copies words that follow each other.
 fn copy_words(lines: &[u64], at: usize, words: &mut [u64])
     requires { at + length words.old ≤ length lines.now }
-    ensures { (k : ℕ) → k < length words.new → slice_index words.new k ≡ slice_index lines.now (at + k) }
+    ensures { EachWordIs words.new (λ k. slice_index lines.now (at + k)) }
 {
     words.copy_from_slice(&lines[at..at + words.len()]);
 }
@@ -128,7 +129,7 @@ pub fn gather(grid: &Grid, lines: &[u64], walk: &Walk, words: &mut [u64])
     requires count { grid.now.count ≤ max_array_words }
     requires places { (k : ℕ) → k < length words.old → walk_place walk.now k < grid.now.count }
     requires few { length words.old ≤ 8192 }
-    ensures { (k : ℕ) → k < length words.new → slice_index words.new k ≡ slice_index lines.now (walk_place walk.now k) }
+    ensures { EachWordIs words.new (λ k. slice_index lines.now (walk_place walk.now k)) }
 {
     if walk.step == 1 && !walk.grows && !words.is_empty() {
         copy_words(lines, walk.place as usize, words);
@@ -156,7 +157,7 @@ pub fn gather_across(grid: &Grid, lines: &[u64], walk: &Walk, words: &mut [u64])
     requires count { grid.now.count ≤ max_array_words }
     requires places { (k : ℕ) → k < length words.old → walk_place walk.now k < grid.now.count }
     requires few { length words.old ≤ 8192 }
-    ensures { (k : ℕ) → k < length words.new → let place = walk_place walk.now k in slice_index words.new k ≡ slice_index lines.now (place % grid.now.pairs * grid.now.pitch + place / grid.now.pairs) }
+    ensures { EachWordIs words.new (λ k. slice_index lines.now (walk_across grid.now walk.now k)) }
 {
     if walk.step == grid.pairs && !walk.grows && !words.is_empty() {
         copy_words(lines, across_at(grid, walk.place), words);
