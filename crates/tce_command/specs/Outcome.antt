@@ -46,3 +46,16 @@ GrewWithin text before after = (k : ℕ) × Grew (take k text) before after
 pub record HasErrorLine (names : LineNames) (status : Status) (before after : Option (List ℕ)) (faults faults_after : ℕ) : Type 0 where
   pub part : GrewWithin (line_over names status) before after
   pub whole : IsRefusal status → Grew (line_over names status) before after ⊎ Rose faults faults_after
+
+-- the line of the status, whatever lines name, is put; and where a text is that line, it is
+abbrev pub PutsStatus : {K : Type 0} → Status → (K → Option (List ℕ)) → (K → ℕ) → K → K → Type 0
+PutsStatus status bytes faults before after =
+    (names : LineNames) → HasErrorLine names status (bytes before) (bytes after) (faults before) (faults after)
+
+abbrev pub PutsLine : {K : Type 0} → List ℕ → Status → Status → (K → Option (List ℕ)) → (K → ℕ) → K → K → Type 0
+PutsLine line due status bytes faults before after =
+    (names : LineNames) → line ≡ line_over names due → HasErrorLine names status (bytes before) (bytes after) (faults before) (faults after)
+
+-- the report is put whole, the sink failed behind a part of it, or there was no memory for it
+abbrev pub IsReported : Status → Type 0
+IsReported status = (status ≡ Done) ⊎ ((status ≡ SinkFault) ⊎ (status ≡ WantOfMemory))

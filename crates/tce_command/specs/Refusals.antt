@@ -1,8 +1,9 @@
 -- Refusals that come in the place of others, and refusals that users cannot tell apart.
-use Rattle.std.specs.Prelude.{◌≡◌, ◌⊎◌, ⊤, ℕ, List, Result, Ok, Err}
+use Rattle.std.specs.Prelude.{◌≡◌, ◌⊎◌, ⊤, ℕ, List, Result, Ok, Err, ◌≢◌, Option}
 use Rattle.tce_command.specs.Report.{status_of, code_of, error_text}
 use Rattle.tce_command.specs.declared.refusal.Refusal.{Refusal}
 use Rattle.tce_command.specs.declared.refusal.Refusal.TheVariants.{Missing, Disk, Memory}
+use Rattle.tce_outside.specs.Files.{Files}
 
 -- the refusal names this file, or this tensor
 abbrev pub NamesFile : List ℕ → Refusal → Type 0
@@ -28,3 +29,10 @@ IsRefusedAs due (Err refusal) = IsFree refusal ⊎ SameRefusal refusal due
 abbrev pub IsGranted : {A : Type 0} → Result A Refusal → Type 0
 IsGranted (Ok answer) = ⊤
 IsGranted (Err refusal) = IsFree refusal
+
+-- the files are as they were, unless the disk failed; or it is known which of the two is so
+abbrev pub SameUnlessDisk : Option Files → Option Files → Refusal → Type 0
+SameUnlessDisk before after refusal = refusal ≢ Disk → after ≡ before
+
+abbrev pub SameOrDisk : Option Files → Option Files → Refusal → Type 0
+SameOrDisk before after refusal = (refusal ≡ Disk) ⊎ (after ≡ before)

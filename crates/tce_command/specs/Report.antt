@@ -1,5 +1,5 @@
 -- The exit status of each status, and the line of each refusal.
-use Rattle.std.specs.Prelude.{⊤, ℕ, Bool, true, false, if◌then◌else◌, nat_lt, List, [], ◌∷◌, ◌++◌, codes}
+use Rattle.std.specs.Prelude.{⊤, ℕ, Bool, true, false, if◌then◌else◌, nat_lt, List, [], ◌∷◌, ◌++◌, codes, ◌≡◌, Option, MatchOption}
 use Rattle.std.specs.Fmt.{decimal}
 use Rattle.std.specs.List.{All}
 use Rattle.tce_space.specs.Space.{IndexSpace, IsDeclared}
@@ -299,3 +299,14 @@ refusal_line refusal = error_text (status_of refusal)
 abbrev pub ending_of : CommandRefusal → Status
 ending_of (commands.Common refusal) = status_of refusal
 ending_of (commands.Certificate flaw line) = CertRefused (trouble_of flaw)
+
+-- what is wrong with the text of a certificate, or with its plan; nothing where only memory is wanting, or the plan is accepted
+abbrev pub IsFlawOfText : CertFault → Option CertFlaw → Type 0
+IsFlawOfText fault found = MatchOption found (fault ≡ certs.Memory) (λ flaw. trouble_of flaw ≡ troubles.Text fault)
+
+abbrev pub IsFlawOfPlan : Verdict → Option CertFlaw → Type 0
+IsFlawOfPlan verdict found = MatchOption found (verdict ≡ verdicts.Accepted) (λ flaw. trouble_of flaw ≡ troubles.Verdict verdict)
+
+-- the text of a flaw
+abbrev pub flaw_text : IndexSpace → CertFlaw → List ℕ
+flaw_text space flaw = trouble_text space (trouble_of flaw)

@@ -180,7 +180,8 @@ fn tree_text(fault: &TreeFault) -> Line
 
 // The line of a file that is no array.
 fn array_line(tensor: &Name, trouble: ArrayTrouble) -> Line
-    ensures { result.bytes ≡ reports.error_text (Status.ArrayRefused tensor.now (reports.fault_of trouble)) }
+    ensures { result.bytes
+        ≡ reports.error_text (Status.ArrayRefused tensor.now (reports.fault_of trouble)) }
 {
     let mut line = named("error 4: ", tensor, ".tca: ");
     line.push_str(array_text(trouble).as_str());

@@ -1,7 +1,7 @@
 // Numbers as decimal words.
-ghost use Rattle.std.specs.Prelude.{◌≡◌, ◌≢◌, ◌<◌, ◌^◌, ℕ, MatchOption};
+ghost use Rattle.std.specs.Prelude.{◌≡◌};
 ghost use Rattle.std.specs.Fmt.{decimal};
-ghost use Rattle.tce_command.specs.Number.{starts_as_number};
+ghost use Rattle.tce_command.specs.Number.{starts_as_number, ReadsNumber};
 
 use std::str;
 
@@ -20,7 +20,7 @@ fn starts_as_number(digits: &[u8]) -> bool
 ///
 /// Any other text gives `None`: one without digits, with another byte or with a number that is too large.
 pub fn read_number(digits: &[u8]) -> Option<u64>
-    ensures { MatchOption result ((n : ℕ) → n < 2 ^ 64 → digits.now ≢ decimal n) (λ n. digits.now ≡ decimal n) }
+    ensures { ReadsNumber digits.now result }
 {
     if !starts_as_number(digits) {
         return None;

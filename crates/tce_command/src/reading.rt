@@ -1,12 +1,9 @@
 // Commands from their words.
-ghost use Rattle.std.specs.Prelude.{◌≡◌, ◌≤◌, ◌≢◌, ℕ, List, [], ◌∷◌, length, map, codes, IsTrue, MatchOption};
+ghost use Rattle.std.specs.Prelude.{◌≡◌, ◌≤◌, ◌≢◌, List, [], ◌∷◌, length, map, codes, IsTrue, MatchOption};
 ghost use Rattle.std.specs.String.{string_bytes};
 ghost use Rattle.std.specs.List.{list_all};
-ghost use Rattle.std.specs.Fmt.{decimal};
-ghost use Rattle.tce_array.specs.declared.form.Form.{Form as FormOfFile};
-ghost use Rattle.tce_array.specs.Forms.{width};
-ghost use Rattle.tce_command.specs.Command.{is_file_byte, is_file_word, IsBetween, IsCommand, IsNoCommand, NamesSpec};
-ghost use Rattle.tce_command.specs.CommandCode.{command_of};
+ghost use Rattle.tce_command.specs.Command.{is_file_byte, is_file_word, IsCommand, IsNoCommand, NamesSpec};
+ghost use Rattle.tce_command.specs.CommandCode.{command_of, ReadsBetween, ReadsCommand, ReadsForm};
 
 use crate::command::Command;
 use crate::number::read_number;
@@ -20,7 +17,8 @@ const MAX_EXTENT: u64 = 32;
 
 /// Reads the words of a command. `None` exactly where they are those of no command.
 pub fn read_command(words: &[String]) -> Option<Command<'_>>
-    ensures { MatchOption result (IsNoCommand (map string_bytes words.now)) (λ command. IsCommand (map string_bytes words.now) (command_of command)) }
+    ensures { MatchOption result (IsNoCommand (map string_bytes words.now))
+        (λ command. IsCommand (map string_bytes words.now) (command_of command)) }
 {
     match words {
         [verb, spec] => read_plan(verb.as_str(), spec.as_str()),
@@ -38,7 +36,7 @@ pub fn read_command(words: &[String]) -> Option<Command<'_>>
 }
 
 fn read_plan<'a>(verb: &str, spec: &'a str) -> Option<Command<'a>>
-    ensures { MatchOption result (IsNoCommand (verb.now ∷ spec.now ∷ [])) (λ command. IsCommand (verb.now ∷ spec.now ∷ []) (command_of command)) }
+    ensures { ReadsCommand (verb.now ∷ spec.now ∷ []) result }
 {
     if verb != "plan" || !may_name_file(".tce", spec) {
         return None;
@@ -47,7 +45,7 @@ fn read_plan<'a>(verb: &str, spec: &'a str) -> Option<Command<'a>>
 }
 
 fn read_with_one<'a>(verb: &str, spec: &'a str, last: &'a str) -> Option<Command<'a>>
-    ensures { MatchOption result (IsNoCommand (verb.now ∷ spec.now ∷ last.now ∷ [])) (λ command. IsCommand (verb.now ∷ spec.now ∷ last.now ∷ []) (command_of command)) }
+    ensures { ReadsCommand (verb.now ∷ spec.now ∷ last.now ∷ []) result }
 {
     if !may_name_file(".tce", spec) {
         return None;
@@ -78,7 +76,7 @@ fn read_with_one<'a>(verb: &str, spec: &'a str, last: &'a str) -> Option<Command
 
 fn read_expand<'a>(spec: &'a str, tensor: &'a str) -> Option<Command<'a>>
     requires { NamesSpec spec.now }
-    ensures { MatchOption result (IsNoCommand (codes "expand" ∷ spec.now ∷ tensor.now ∷ [])) (λ command. IsCommand (codes "expand" ∷ spec.now ∷ tensor.now ∷ []) (command_of command)) }
+    ensures { ReadsCommand (codes "expand" ∷ spec.now ∷ tensor.now ∷ []) result }
 {
     if !is_name(tensor.as_bytes()) {
         return None;
@@ -88,7 +86,7 @@ fn read_expand<'a>(spec: &'a str, tensor: &'a str) -> Option<Command<'a>>
 
 // A number from the least to the most.
 fn read_between(digits: &[u8], least: u64, most: u64) -> Option<u64>
-    ensures { MatchOption result ((n : ℕ) → IsBetween least most n → digits.now ≢ decimal n) (λ n. IsBetween least most n × (digits.now ≡ decimal n)) }
+    ensures { ReadsBetween least most digits.now result }
 {
     let number = read_number(digits)?;
     if number < least || number > most {
@@ -103,7 +101,7 @@ fn read_with_three<'a>(
     second: &'a str,
     last: &'a str,
 ) -> Option<Command<'a>>
-    ensures { MatchOption result (IsNoCommand (verb.now ∷ first.now ∷ second.now ∷ last.now ∷ [])) (λ command. IsCommand (verb.now ∷ first.now ∷ second.now ∷ last.now ∷ []) (command_of command)) }
+    ensures { ReadsCommand (verb.now ∷ first.now ∷ second.now ∷ last.now ∷ []) result }
 {
     if verb == "demo" {
         read_demo(first.as_bytes(), second.as_bytes(), last.as_bytes())
@@ -117,7 +115,7 @@ fn read_with_three<'a>(
 }
 
 fn read_demo<'a>(seed: &[u8], v: &[u8], o: &[u8]) -> Option<Command<'a>>
-    ensures { MatchOption result (IsNoCommand (codes "demo" ∷ seed.now ∷ v.now ∷ o.now ∷ [])) (λ command. IsCommand (codes "demo" ∷ seed.now ∷ v.now ∷ o.now ∷ []) (command_of command)) }
+    ensures { ReadsCommand (codes "demo" ∷ seed.now ∷ v.now ∷ o.now ∷ []) result }
 {
     let seed = read_between(seed, 1, MAX_SEED)?;
     let v = read_between(v, 1, MAX_EXTENT)?;
@@ -126,7 +124,7 @@ fn read_demo<'a>(seed: &[u8], v: &[u8], o: &[u8]) -> Option<Command<'a>>
 }
 
 fn read_einsum<'a>(text: &'a str, path: &'a str, spec: &'a str) -> Option<Command<'a>>
-    ensures { MatchOption result (IsNoCommand (codes "einsum" ∷ text.now ∷ path.now ∷ spec.now ∷ [])) (λ command. IsCommand (codes "einsum" ∷ text.now ∷ path.now ∷ spec.now ∷ []) (command_of command)) }
+    ensures { ReadsCommand (codes "einsum" ∷ text.now ∷ path.now ∷ spec.now ∷ []) result }
 {
     if !may_name_file(".tce", spec) {
         return None;
@@ -135,7 +133,7 @@ fn read_einsum<'a>(text: &'a str, path: &'a str, spec: &'a str) -> Option<Comman
 }
 
 fn read_spill<'a>(spec: &'a str, budget: &[u8], limit: &[u8]) -> Option<Command<'a>>
-    ensures { MatchOption result (IsNoCommand (codes "spill" ∷ spec.now ∷ budget.now ∷ limit.now ∷ [])) (λ command. IsCommand (codes "spill" ∷ spec.now ∷ budget.now ∷ limit.now ∷ []) (command_of command)) }
+    ensures { ReadsCommand (codes "spill" ∷ spec.now ∷ budget.now ∷ limit.now ∷ []) result }
 {
     if !may_name_file(".tce", spec) {
         return None;
@@ -158,7 +156,7 @@ fn read_on_tensor<'a>(
     requires demo { verb.now ≢ codes "demo" }
     requires einsum { verb.now ≢ codes "einsum" }
     requires spill { verb.now ≢ codes "spill" }
-    ensures { MatchOption result (IsNoCommand (verb.now ∷ spec.now ∷ tensor.now ∷ last.now ∷ [])) (λ command. IsCommand (verb.now ∷ spec.now ∷ tensor.now ∷ last.now ∷ []) (command_of command)) }
+    ensures { ReadsCommand (verb.now ∷ spec.now ∷ tensor.now ∷ last.now ∷ []) result }
 {
     if !may_name_file(".tce", spec) || !is_name(tensor.as_bytes()) {
         return None;
@@ -182,7 +180,7 @@ fn read_on_tensor<'a>(
 
 // The form of the second version with this number of bytes for each element.
 fn read_form(word: &str) -> Option<Form>
-    ensures { MatchOption result ((form : FormOfFile) → form ≢ Form.One → word.now ≢ decimal (width form)) (λ form. (form ≢ Form.One) × (word.now ≡ decimal (width form))) }
+    ensures { ReadsForm word.now result }
 {
     if word == "4" {
         Some(Form::Narrow)

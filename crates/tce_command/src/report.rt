@@ -1,9 +1,9 @@
 // What is put on the sink.
-ghost use Rattle.std.specs.Prelude.{◌≡◌, ◌⊎◌};
+ghost use Rattle.std.specs.Prelude.{◌≡◌};
 ghost use Rattle.tce_outside.specs.Fault.{HasCause};
-ghost use Rattle.tce_command.specs.Outcome.{Grew, GrewWithin, HasErrorLine, HasLine, IsKept};
-ghost use Rattle.tce_command.specs.CommandRefusals.{HasNames};
-ghost use Rattle.tce_command.specs.Report.{IsWellFormed, LineNames, ending_of, line_over};
+ghost use Rattle.tce_command.specs.Outcome.{Grew, GrewWithin, HasLine, IsKept, IsReported, PutsLine, PutsStatus};
+ghost use Rattle.tce_command.specs.CommandRefusals.{PutsRefusal};
+ghost use Rattle.tce_command.specs.Report.{IsWellFormed, ending_of};
 
 use crate::line::words_line;
 use crate::{CommandRefusal, Status};
@@ -15,7 +15,7 @@ use tce_outside::{OutFault, Sink};
 pub fn refuse<K: Sink>(refusal: CommandRefusal, out: &mut K) -> Status
     ensures kept { IsKept (ending_of refusal) result }
     ensures well_formed { IsWellFormed result }
-    ensures line { (names : LineNames) → HasNames names refusal → HasErrorLine names result (K.bytes out.old) (K.bytes out.new) (K.faults out.old) (K.faults out.new) }
+    ensures line { PutsRefusal refusal result K.bytes K.faults out.old out.new }
     ensures cause { HasCause (K.faults out.old) (K.faults out.new) ⊥ }
 {
     match refusal {
@@ -34,7 +34,7 @@ pub fn refuse<K: Sink>(refusal: CommandRefusal, out: &mut K) -> Status
 pub fn refuse_words<K: Sink>(out: &mut K) -> Status
     ensures kept { IsKept Status.BadWords result }
     ensures well_formed { IsWellFormed result }
-    ensures line { (names : LineNames) → HasErrorLine names result (K.bytes out.old) (K.bytes out.new) (K.faults out.old) (K.faults out.new) }
+    ensures line { PutsStatus result K.bytes K.faults out.old out.new }
     ensures cause { HasCause (K.faults out.old) (K.faults out.new) ⊥ }
 {
     let line = words_line();
@@ -47,7 +47,7 @@ fn put_line<K: Sink>(status: Status, line: &str, out: &mut K) -> Status
     requires well_formed { IsWellFormed status }
     ensures kept { IsKept status result }
     ensures well_formed { IsWellFormed result }
-    ensures line { (names : LineNames) → line.now ≡ line_over names status → HasErrorLine names result (K.bytes out.old) (K.bytes out.new) (K.faults out.old) (K.faults out.new) }
+    ensures line { PutsLine line.now status result K.bytes K.faults out.old out.new }
     ensures cause { HasCause (K.faults out.old) (K.faults out.new) ⊥ }
 {
     match out.put(line.as_bytes()) {
@@ -62,9 +62,10 @@ fn put_line<K: Sink>(status: Status, line: &str, out: &mut K) -> Status
 /// Puts the report of a finished command, and gives the status that the command ends with.
 pub fn finish<K: Sink>(report: &[u8], out: &mut K) -> Status
     ensures done { result ≡ Status.Done → Grew report.now (K.bytes out.old) (K.bytes out.new) }
-    ensures failed { result ≡ Status.SinkFault → GrewWithin report.now (K.bytes out.old) (K.bytes out.new) }
+    ensures failed { result ≡ Status.SinkFault
+        → GrewWithin report.now (K.bytes out.old) (K.bytes out.new) }
     ensures memory { result ≡ Status.WantOfMemory → K.bytes out.new ≡ K.bytes out.old }
-    ensures cases { (result ≡ Status.Done) ⊎ ((result ≡ Status.SinkFault) ⊎ (result ≡ Status.WantOfMemory)) }
+    ensures cases { IsReported result }
     ensures well_formed { IsWellFormed result }
     ensures cause { HasCause (K.faults out.old) (K.faults out.new) (result ≡ Status.SinkFault) }
 {

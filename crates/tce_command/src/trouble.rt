@@ -1,6 +1,6 @@
 // What is wrong with array files, certificates, einsum texts, trees that are cut and files of stored pairs.
-ghost use Rattle.std.specs.Prelude.{◌≡◌, MatchOption};
-ghost use Rattle.tce_command.specs.Report.{fault_of, trouble_of};
+ghost use Rattle.std.specs.Prelude.{◌≡◌};
+ghost use Rattle.tce_command.specs.Report.{fault_of, trouble_of, IsFlawOfPlan, IsFlawOfText};
 
 use tce_array::ArrayFault;
 use tce_cert::CertFault;
@@ -63,7 +63,7 @@ pub enum CertFlaw {
 impl CertFlaw {
     /// What is wrong with a text that is not read, or `None` where memory was wanting.
     pub fn of_text(fault: CertFault) -> Option<Self>
-        ensures { MatchOption result (fault ≡ CertFault.Memory) (λ flaw. trouble_of flaw ≡ CertTrouble.Text fault) }
+        ensures { IsFlawOfText fault result }
     {
         match fault {
             CertFault::BadText(line) => Some(CertFlaw::BadText(line)),
@@ -74,7 +74,7 @@ impl CertFlaw {
 
     /// What is wrong with a plan, or `None` where it is accepted.
     pub fn of_plan(verdict: Verdict) -> Option<Self>
-        ensures { MatchOption result (verdict ≡ Verdict.Accepted) (λ flaw. trouble_of flaw ≡ CertTrouble.Verdict verdict) }
+        ensures { IsFlawOfPlan verdict result }
     {
         match verdict {
             Verdict::Accepted => None,

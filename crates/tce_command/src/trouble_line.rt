@@ -1,5 +1,5 @@
 // The lines of refused certificates. They take no memory.
-ghost use Rattle.std.specs.Prelude.{◌≡◌, ◌+◌, ◌*◌, ◌≤◌, ◌++◌, length, codes, All};
+ghost use Rattle.std.specs.Prelude.{◌≡◌, ◌+◌, ◌*◌, ◌≤◌, ◌++◌, length, All};
 ghost use Rattle.tce_space.specs.Limits.{max_loops};
 ghost use Rattle.tce_space.specs.Space.{IsDeclared};
 ghost use Rattle.tce_report.specs.NodeLine.{set_text};
@@ -24,7 +24,7 @@ type LongText = ArrayString<4700>;
 
 pub(crate) fn trouble_line(space: &Space, flaw: &CertFlaw) -> TroubleLine
     requires { reports.NamesDeclared space.now (reports.trouble_of flaw.now) }
-    ensures { result.text.bytes ≡ codes "error 7: " ++ reports.trouble_text space.now (reports.trouble_of flaw.now) ++ codes "\n" }
+    ensures { result.text.bytes ≡ reports.cert_line space.now (reports.trouble_of flaw.now) }
 {
     let mut line = LongText::new();
     line.push_str("error 7: ");
@@ -37,7 +37,7 @@ pub(crate) fn trouble_line(space: &Space, flaw: &CertFlaw) -> TroubleLine
 fn push_flaw(line: &mut LongText, space: &Space, flaw: &CertFlaw)
     requires declared { reports.NamesDeclared space.now (reports.trouble_of flaw.now) }
     requires room { length line.old.bytes ≤ 9 }
-    ensures text { line.new.bytes ≡ line.old.bytes ++ reports.trouble_text space.now (reports.trouble_of flaw.now) }
+    ensures text { line.new.bytes ≡ line.old.bytes ++ reports.flaw_text space.now flaw.now }
     ensures room { length line.new.bytes ≤ 4690 }
 {
     match flaw {
@@ -77,7 +77,8 @@ fn push_step(
     requires fused { IsDeclared space.now fused }
     requires classes { All (IsDeclared space.now) classes.now }
     requires room { length line.old.bytes ≤ 9 }
-    ensures text { line.new.bytes ≡ line.old.bytes ++ reports.step_text space.now v fused classes.now cost }
+    ensures text { line.new.bytes
+        ≡ line.old.bytes ++ reports.step_text space.now v fused classes.now cost }
     ensures room { length line.new.bytes ≤ 4690 }
 {
     line.push_str(numbered("node ", v as u128, ": fused ").as_str());
