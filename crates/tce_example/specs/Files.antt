@@ -1,8 +1,8 @@
 -- The six files of the demonstration.
-use Rattle.std.specs.Prelude.{◌≡◌, ◌≢◌, ℕ, zero, suc, ◌≤◌, ◌<◌, List, [], ◌∷◌, codes, Option}
+use Rattle.std.specs.Prelude.{◌≡◌, ◌≢◌, ℕ, zero, suc, ◌≤◌, ◌<◌, List, [], ◌∷◌, codes, Option, OnOk, Result}
 use Rattle.std.specs.List.{AllByRecursion}
 use Rattle.std.specs.Option.{option_map}
-use Rattle.tce_outside.specs.Files.{Files, file, with_file}
+use Rattle.tce_outside.specs.Files.{Files, file, with_file, others}
 use Rattle.tce_space.specs.Tiling.{elements}
 use Rattle.tce_array.specs.declared.form.Form.TheVariants.{One}
 use Rattle.tce_array.specs.Forms.{head_len, array_bytes}
@@ -69,3 +69,14 @@ with_input s seed text files = with_operands s seed (with_file files (codes "dem
 
 abbrev pub with_demo : Specification → ℕ → List ℕ → Files → Files
 with_demo s seed text files = with_result s (with_input s seed text files)
+
+-- a call that answers no fault put the array of a tensor, or those of the operands, in the place of their files
+abbrev pub PutsArray : {A E : Type 0} → Specification → ℕ → ℕ → Option Files → Option Files → Result A E → Type 0
+PutsArray s t x before after result = OnOk result (after ≡ option_map (with_array s t x) before)
+
+abbrev pub PutsOperands : {A E : Type 0} → Specification → ℕ → Option Files → Option Files → Result A E → Type 0
+PutsOperands s seed before after result = OnOk result (after ≡ option_map (with_operands s seed) before)
+
+-- no file but that of the tensor differs
+abbrev pub OnlyArrayDiffers : Specification → ℕ → Option Files → Option Files → Type 0
+OnlyArrayDiffers s t before after = others (file_of s t) after ≡ others (file_of s t) before

@@ -1,3 +1,4 @@
 pub mod Specification
 pub mod Files
+pub mod Input
 pub mod Laws

@@ -1,12 +1,11 @@
 // What is run: a specification, and the arrays of its operands.
-ghost use Rattle.std.specs.Prelude.{◌≡◌, ◌≤◌, ◌<◌, OnOk, IfOk, IsErrOf};
-ghost use Rattle.std.specs.Option.{option_map};
+ghost use Rattle.std.specs.Prelude.{◌≡◌, ◌≤◌, ◌<◌, IfOk, IsErrOf};
 ghost use Rattle.tce_outside.specs.Files.{others};
 ghost use Rattle.tce_outside.specs.Fault.{HasCause, TellsFaults};
-ghost use Rattle.tce_tensors.specs.TensorFiles.{file_of as file_name};
 ghost use Rattle.tce_tools.specs.Demo.{demo_text};
 ghost use Rattle.tce_example.specs.Specification.{IsDemo, demo_specification};
-ghost use Rattle.tce_example.specs.Files.{IsSeed, DemoOthersStay, LeavesArray, LeavesOperands, with_array, number_after, with_operands, with_input};
+ghost use Rattle.tce_example.specs.Files.{IsSeed, DemoOthersStay, LeavesArray, LeavesOperands, number_after, OnlyArrayDiffers, PutsArray, PutsOperands};
+ghost use Rattle.tce_example.specs.Input.{PutsInput};
 
 use std::alloc::{AllocError, Global};
 use tce_outside::{Disk, OutFault};
@@ -44,14 +43,16 @@ fn write_array<D: Disk>(disk: &mut D, spec: &Spec, t: u8, number: u64) -> Result
     requires spec { IsDemo spec.now }
     requires number { IsSeed number }
     requires operand { t < 4 }
-    ensures written { OnOk result (D.files disk.new ≡ option_map (with_array spec.now t number) (D.files disk.old)) }
+    ensures written { PutsArray spec.now t number (D.files disk.old) (D.files disk.new) result }
     ensures last { IfOk result (λ last. last ≡ number_after spec.now t number) }
     ensures seed { IfOk result IsSeed }
     ensures no_half { LeavesArray spec.now t number (D.files disk.old) (D.files disk.new) }
-    ensures alone { others (file_name spec.now t) (D.files disk.new) ≡ others (file_name spec.now t) (D.files disk.old) }
+    ensures alone { OnlyArrayDiffers spec.now t (D.files disk.old) (D.files disk.new) }
     ensures others { DemoOthersStay (D.files disk.old) (D.files disk.new) }
-    ensures cause { HasCause (D.faults disk.old) (D.faults disk.new) (IsErrOf result OutFault.Failed) }
-    ensures told { TellsFaults (D.faults disk.old) (D.faults disk.new) (IsErrOf result OutFault.Failed) }
+    ensures cause { HasCause (D.faults disk.old) (D.faults disk.new)
+        (IsErrOf result OutFault.Failed) }
+    ensures told { TellsFaults (D.faults disk.old) (D.faults disk.new)
+        (IsErrOf result OutFault.Failed) }
 {
     let file = file_of(spec, t);
     demo_array(disk, &spec.tensor(t).shape, file.as_str(), number)
@@ -61,11 +62,13 @@ fn write_array<D: Disk>(disk: &mut D, spec: &Spec, t: u8, number: u64) -> Result
 fn write_operands<D: Disk>(disk: &mut D, spec: &Spec, seed: u64) -> Result<(), OutFault>
     requires spec { IsDemo spec.now }
     requires seed { IsSeed seed }
-    ensures written { OnOk result (D.files disk.new ≡ option_map (with_operands spec.now seed) (D.files disk.old)) }
+    ensures written { PutsOperands spec.now seed (D.files disk.old) (D.files disk.new) result }
     ensures no_half { LeavesOperands spec.now seed (D.files disk.old) (D.files disk.new) }
     ensures others { DemoOthersStay (D.files disk.old) (D.files disk.new) }
-    ensures cause { HasCause (D.faults disk.old) (D.faults disk.new) (IsErrOf result OutFault.Failed) }
-    ensures told { TellsFaults (D.faults disk.old) (D.faults disk.new) (IsErrOf result OutFault.Failed) }
+    ensures cause { HasCause (D.faults disk.old) (D.faults disk.new)
+        (IsErrOf result OutFault.Failed) }
+    ensures told { TellsFaults (D.faults disk.old) (D.faults disk.new)
+        (IsErrOf result OutFault.Failed) }
 {
     let number = write_array(disk, spec, 0, seed)?;
     let number = write_array(disk, spec, 1, number)?;
@@ -78,11 +81,13 @@ fn write_operands<D: Disk>(disk: &mut D, spec: &Spec, seed: u64) -> Result<(), O
 pub fn write_input<D: Disk>(disk: &mut D, example: &Example, seed: u64) -> Result<(), OutFault>
     requires spec { IsDemo example.now.spec }
     requires seed { IsSeed seed }
-    ensures written { OnOk result (D.files disk.new ≡ option_map (with_input example.now.spec seed example.now.text.items) (D.files disk.old)) }
+    ensures written { PutsInput example.now seed (D.files disk.old) (D.files disk.new) result }
     ensures no_half { LeavesOperands example.now.spec seed (D.files disk.old) (D.files disk.new) }
     ensures others { DemoOthersStay (D.files disk.old) (D.files disk.new) }
-    ensures cause { HasCause (D.faults disk.old) (D.faults disk.new) (IsErrOf result OutFault.Failed) }
-    ensures told { TellsFaults (D.faults disk.old) (D.faults disk.new) (IsErrOf result OutFault.Failed) }
+    ensures cause { HasCause (D.faults disk.old) (D.faults disk.new)
+        (IsErrOf result OutFault.Failed) }
+    ensures told { TellsFaults (D.faults disk.old) (D.faults disk.new)
+        (IsErrOf result OutFault.Failed) }
 {
     write_file(disk, "demo.tce", &example.text)?;
     write_operands(disk, &example.spec, seed)
