@@ -1,5 +1,6 @@
 -- Why the command is refused, by the first cause in order: the specification, the budget, the memory for intermediates, the first operand that is refused.
-use Rattle.std.specs.Prelude.{◌≡◌, ◌⊎◌, ⊤, ℕ, ◌<◌, ◌≤◌, List}
+use Rattle.std.specs.Prelude.{◌≡◌, ◌⊎◌, ⊤, ℕ, ◌<◌, ◌≤◌, List, Option}
+use Rattle.std.specs.Option.{ForSome}
 use Rattle.tce_space.specs.Limits.{max_memory}
 use Rattle.tce_outside.specs.Files.{Files, file}
 use Rattle.tce_array.specs.declared.fault.ArrayFault.{ArrayFault}
@@ -38,3 +39,7 @@ abbrev pub IsRunRefusal : Files → List ℕ → ℕ → Refusal → Type 0
 IsRunRefusal files spec budget refusal =
     IsSourceRefusal spec (file files spec) refusal
     ⊎ ((s : Specification) × HasSpecification files spec s × IsJobRefusal files s budget refusal)
+
+-- and the same of a disk that may tell its files
+abbrev pub IsRunRefusalIfTold : Option Files → List ℕ → ℕ → Refusal → Type 0
+IsRunRefusalIfTold told spec budget refusal = ForSome told (λ files. IsRunRefusal files spec budget refusal)

@@ -1,11 +1,11 @@
 // The command.
-ghost use Rattle.std.specs.Prelude.{◌≡◌, ◌⊎◌, ◌≤◌, Err, IfOk, IfErr};
-ghost use Rattle.std.specs.Option.{ForSome};
+ghost use Rattle.std.specs.Prelude.{◌≡◌, ◌≤◌, Err, IfOk, IfErr};
 ghost use Rattle.tce_space.specs.Limits.{max_memory};
 ghost use Rattle.tce_outside.specs.Fault.{HasCause, TellsFaults};
 ghost use Rattle.tce_command.specs.Command.{NamesSpec};
+ghost use Rattle.tce_command.specs.Refusals.{SameOrDisk};
 ghost use Rattle.tce_run.specs.Done.{IsRun, IsRoomLeft, OnlyResultDiffers};
-ghost use Rattle.tce_run.specs.Refusals.{IsRunRefusal};
+ghost use Rattle.tce_run.specs.Refusals.{IsRunRefusalIfTold};
 
 use crate::refusals::refusal_of;
 use std::alloc::Global;
@@ -31,10 +31,12 @@ pub fn run<D: Disk, R: Room>(
 ) -> Result<Vec<u8>, Refusal>
     requires spec { NamesSpec spec.now }
     requires budget { budget ≤ max_memory }
-    ensures done { IfOk result (λ report. IsRun (D.files disk.old) (D.files disk.new) (R.takings room.old) (R.takings room.new) spec.now budget report.items) }
-    ensures refused { IfErr result (λ refusal. ForSome (D.files disk.old) (λ files. IsRunRefusal files spec.now budget refusal)) }
-    ensures unchanged { IfErr result (λ refusal. (refusal ≡ Refusal.Disk) ⊎ (D.files disk.new ≡ D.files disk.old)) }
-    ensures takings { IfErr result (λ refusal. IsRoomLeft refusal (D.files disk.old) (R.takings room.old) (R.takings room.new) spec.now budget) }
+    ensures done { IfOk result (λ report. IsRun (D.files disk.old) (D.files disk.new)
+        (R.takings room.old) (R.takings room.new) spec.now budget report.items) }
+    ensures refused { IfErr result (IsRunRefusalIfTold (D.files disk.old) spec.now budget) }
+    ensures unchanged { IfErr result (SameOrDisk (D.files disk.old) (D.files disk.new)) }
+    ensures takings { IfErr result (λ refusal. IsRoomLeft refusal (D.files disk.old)
+        (R.takings room.old) (R.takings room.new) spec.now budget) }
     ensures others { OnlyResultDiffers spec.now (D.files disk.old) (D.files disk.new) }
     ensures cause { HasCause (D.faults disk.old) (D.faults disk.new) (result ≡ Err Refusal.Disk) }
     ensures told { TellsFaults (D.faults disk.old) (D.faults disk.new) (result ≡ Err Refusal.Disk) }
