@@ -1,6 +1,7 @@
-pub mod Firsts
-pub mod Joints
-pub mod FromTables
-pub mod Verdicts
-pub mod Tops
 pub mod Covering
+pub mod Firsts
+pub mod FromTables
+pub mod Joints
+pub mod RunParts
+pub mod Tops
+pub mod Verdicts

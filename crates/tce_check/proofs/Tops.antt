@@ -1,14 +1,12 @@
 -- Loops that rows put at the top, which show a conflict where they cross.
-use Rattle.std.proofs.Common.{◌≡◌, ℕ, ◌+◌, ◌<◌, Bool, true, false, not, ◌&&◌, ◌||◌, List, [], ◌∷◌, ◌++◌, length, get_or, inl, inr, arith, ◌∙◌, sym, ap, subst}
+use Rattle.std.proofs.Common.{◌≡◌, ℕ, Bool, true, false, not, ◌&&◌, ◌||◌, List, ◌∷◌, inl, inr, arith, ◌∙◌, sym, ap}
 use Rattle.std.specs.Prelude.{IsTrue}
-use Rattle.std.proofs.lemmas.Bool.{cases_Bool, cases_eq, both_ways}
-use Rattle.std.proofs.lemmas.List.{get_or_append_left, get_or_push}
-use Rattle.std.proofs.lemmas.List.Elements.{at_read}
+use Rattle.std.proofs.lemmas.Bool.{cases_Bool, both_ways}
 use Rattle.tce_space.specs.IndexSet.{IsWithin, has}
 use Rattle.tce_states.specs.Relation.{Relation, above, joined, HasNoConflict}
 use Rattle.tce_states.specs.Row.{Row}
 use Rattle.tce_check.specs.declared.ends.Ends.{Ends}
-use Rattle.tce_check.specs.Ends.{IsTopOf, AreEnds, HaveEnds, DoCross, HaveConflict}
+use Rattle.tce_check.specs.Ends.{IsTopOf, AreEnds, DoCross, HaveConflict}
 
 module _ (loops : ℕ) (r s : Relation) (a b : ℕ) (left : IsTopOf loops r a) (right : IsTopOf loops s b) (quiet : HasNoConflict loops (joined r s)) where
   in_right : (x y : Bool) → y ≡ true → (x || y) ≡ true
@@ -93,22 +91,3 @@ pub crossing_ends : (left right : Ends) (a b : ℕ) → ((loops : ℕ) (x : Row)
     → ((loops : ℕ) (y : Row) → AreEnds loops y right → IsTopOf loops (above y.classes) b) → DoCross a b → HaveConflict left right
 crossing_ends left right a b here there crossing loops x y ends other quiet =
     tops_do_not_cross loops (above x.classes) (above y.classes) a b (here loops x ends) (there loops y other) quiet crossing.0 crossing.1
-
--- the ends of one more row
-pub ends_further : (loops n : ℕ) (rows : List Row) (old new : List Ends) (x : Row) (last : Ends) → new ≡ old ++ last ∷ [] → length old ≡ n → n < length rows
-    → x ≡ get_or rows n x → AreEnds loops x last → ((k : ℕ) (y : Row) (e : Ends) → k < n → AreEnds loops (get_or rows k y) (get_or old k e))
-    → (k : ℕ) (y : Row) (e : Ends) → k < n + 1 → AreEnds loops (get_or rows k y) (get_or new k e)
-ends_further loops n rows old new x last grown count low is ends each k y e inside = elim (cases_eq k n) [
-  | inl at ↦
-      subst (λ m. AreEnds loops (get_or rows m y) (get_or new m e)) (sym at)
-      (subst (AreEnds loops (get_or rows n y)) (sym (ap (λ l. get_or l n e) grown ∙ get_or_push old last e n count))
-      (at_read rows (λ (z : Row). AreEnds loops z last) n x low is ends y))
-  | inr other ↦
-      let before : k < n = omega (arith, inside, other) in
-      let within : k < length old = omega (arith, before, count) in
-      subst (AreEnds loops (get_or rows k y)) (sym (ap (λ l. get_or l k e) grown ∙ get_or_append_left old (last ∷ []) e k within)) (each k y e before)
-]
-
--- ends that are listed, at a place
-pub ends_at : (loops k : ℕ) (rows : List Row) (ends : List Ends) (x : Row) (e : Ends) → HaveEnds loops rows ends → k < length rows → x ≡ get_or rows k x → e ≡ get_or ends k e → AreEnds loops x e
-ends_at loops k rows ends x e have low is at = subst (λ (z : Row). AreEnds loops z e) (sym is) (subst (AreEnds loops (get_or rows k x)) (sym at) (have.each k x e low))

@@ -1,25 +1,35 @@
 -- Parts of a node's loops that rows put above all others, by which conflicts are told.
-use Rattle.std.specs.Prelude.{◌≡◌, ℕ, ◌<◌, List, length, slice_index_or, IsTrue, false}
+use Rattle.std.specs.Prelude.{◌≡◌, ℕ, ◌+◌, ◌<◌, ◌≤◌, List, length, slice_index_or, IsTrue, false}
 use Rattle.tce_space.specs.IndexSet.{IsWithin, has}
 use Rattle.tce_states.specs.Relation.{Relation, above, HasNoConflict}
 use Rattle.tce_states.specs.Row.{Row, rows_joined}
 use Rattle.tce_check.specs.declared.ends.Ends.{Ends}
+use Rattle.tce_check.specs.declared.runs.Run.{Run}
 
 -- these loops are above all others
 pub record IsTopOf (loops : ℕ) (r : Relation) (top : ℕ) : Type 0 where
   pub within : IsWithin top loops
   pub upper : (i j : ℕ) → IsTrue (has top i) → IsTrue (has loops j) → has top j ≡ false → IsTrue (r i j)
 
--- two such parts of the row, and its cost
+-- two such parts of the row
 pub record AreEnds (loops : ℕ) (row : Row) (ends : Ends) : Type 0 where
   pub least : IsTopOf loops (above row.classes) ends.least
   pub largest : IsTopOf loops (above row.classes) ends.largest
-  pub cost : ends.cost ≡ row.cost
 
--- each row has its ends at its place
-pub record HaveEnds (loops : ℕ) (rows : List Row) (ends : List Ends) : Type 0 where
-  pub count : length ends ≡ length rows
-  pub each : (k : ℕ) (x : Row) (e : Ends) → k < length rows → AreEnds loops (slice_index_or rows k x) (slice_index_or ends k e)
+-- the ends are those of each row from a place on up to a later one
+pub record IsRun (loops : ℕ) (rows : List Row) (place : ℕ) (run : Run) : Type 0 where
+  pub later : place < run.until
+  pub inside : run.until ≤ length rows
+  pub each : (k : ℕ) (x : Row) → place ≤ k → k < run.until → AreEnds loops (slice_index_or rows k x) run.ends
+
+-- each row has a run at its place
+pub record AreRuns (loops : ℕ) (rows : List Row) (runs : List Run) : Type 0 where
+  pub count : length rows ≤ length runs
+  pub each : (k : ℕ) (r : Run) → k < length rows → IsRun loops rows k (slice_index_or runs k r)
+
+-- what is a run wherever the first one is and the next one is behind it
+abbrev pub IsLonger : Run → Run → Run → Type 0
+IsLonger first next run = (loops k : ℕ) (rows : List Row) → IsRun loops rows k first → IsRun loops rows (k + 1) next → IsRun loops rows k run
 
 -- each of two parts has a member that the other lacks
 abbrev pub DoCross : ℕ → ℕ → Type 0

@@ -4,50 +4,51 @@ ghost use Rattle.tce_space.specs.Limits.{cost_limit, max_volume};
 ghost use Rattle.tce_tree.specs.ContractionTree.{operations, node_loops};
 ghost use Rattle.tce_states.specs.Cover.{StepsCovered};
 ghost use Rattle.tce_nesting.specs.Choices.{AreChoices};
-ghost use Rattle.tce_check.specs.Ends.{AreEnds, HaveEnds};
+ghost use Rattle.tce_check.specs.Ends.{AreRuns};
 ghost use Rattle.tce_check.specs.Verdict.{WhereJoined};
 ghost use Rattle.tce_check.specs.Joint.{IsBound};
 
-use crate::ends::{BLOCK, Ends, ends_of, ends_of_all, have_conflict};
+use crate::ends::{ends_of, have_conflict};
+use crate::runs::{BLOCK, Run, runs_of};
 use crate::steps::Node;
 use tce_nesting::Row;
 
 impl<'a> Node<'a> {
-    // Whether the ends of two rows show that no step from them needs a row, or else some row stands for each.
-    fn covers_pair(&self, left: &Row, own: &Ends, right: &Row, other: &Ends) -> bool
+    // Whether some row stands for each step from two rows.
+    fn covers_pair(&self, left: &Row, right: &Row) -> bool
         requires inside { self.now.number < operations self.now.tree.now }
         requires choices { AreChoices self.now.space.now self.now.tree.now self.now.number self.now.choices.now }
         requires sizes { All (λ choice. choice.size ≤ max_volume) self.now.choices.now }
         requires bound { IsBound self.now.outer self.now.rows.now self.now.bound }
         requires left { left.now.cost < cost_limit }
         requires right { right.now.cost < cost_limit }
-        requires own { AreEnds (node_loops self.now.tree.now self.now.number) left.now own.now }
-        requires other { AreEnds (node_loops self.now.tree.now self.now.number) right.now other.now }
         ensures { IsTrue result → WhereJoined self.now.tree.now self.now.number
             (StepsCovered self.now.space.now self.now.tree.now self.now.outer self.now.number self.now.rows.now) left.now right.now }
     {
-        if have_conflict(own, other) {
-            return true;
-        }
         self.first_uncovered_step(left, right).is_none()
     }
 
-    // The same of one left row and each of the right ones.
-    fn covers_with(&self, left: &Row, rights: &[Row], ends: &[Ends]) -> bool
+    // Whether of one left row and each of the right ones the ends show that no step from them needs a row, or else some row stands for each.
+    fn covers_with(&self, left: &Row, rights: &[Row], runs: &[Run]) -> bool
         requires inside { self.now.number < operations self.now.tree.now }
         requires choices { AreChoices self.now.space.now self.now.tree.now self.now.number self.now.choices.now }
         requires sizes { All (λ choice. choice.size ≤ max_volume) self.now.choices.now }
         requires bound { IsBound self.now.outer self.now.rows.now self.now.bound }
         requires left { left.now.cost < cost_limit }
         requires rights { All (λ row. row.cost < cost_limit) rights.now }
-        requires ends { HaveEnds (node_loops self.now.tree.now self.now.number) rights.now ends.now }
+        requires runs { AreRuns (node_loops self.now.tree.now self.now.number) rights.now runs.now }
         ensures { IsTrue result → All (WhereJoined self.now.tree.now self.now.number
             (StepsCovered self.now.space.now self.now.tree.now self.now.outer self.now.number self.now.rows.now) left.now) rights.now }
     {
         let own = ends_of(left, self.tree.loops(self.number));
         let mut place = 0;
-        for right in rights {
-            if !self.covers_pair(left, &own, right, &ends[place]) {
+        while place < rights.len() {
+            let run = runs[place];
+            if have_conflict(&own, &run.ends) {
+                place = run.until;
+                continue;
+            }
+            if !self.covers_pair(left, &rights[place]) {
                 return false;
             }
             place += 1;
@@ -57,7 +58,7 @@ impl<'a> Node<'a> {
 
     // The same of each left row and each of a few right ones.
     fn covers_few(&self, lefts: &[Row], rights: &[Row]) -> bool
-        requires few { length rights.now ≤ 256 }
+        requires few { length rights.now ≤ 1024 }
         requires inside { self.now.number < operations self.now.tree.now }
         requires choices { AreChoices self.now.space.now self.now.tree.now self.now.number self.now.choices.now }
         requires sizes { All (λ choice. choice.size ≤ max_volume) self.now.choices.now }
@@ -67,9 +68,9 @@ impl<'a> Node<'a> {
         ensures { IsTrue result → All (λ left. All (WhereJoined self.now.tree.now self.now.number
             (StepsCovered self.now.space.now self.now.tree.now self.now.outer self.now.number self.now.rows.now) left) rights.now) lefts.now }
     {
-        let ends = ends_of_all(rights, self.tree.loops(self.number));
+        let runs = runs_of(rights, self.tree.loops(self.number));
         for left in lefts {
-            if !self.covers_with(left, rights, ends.as_slice()) {
+            if !self.covers_with(left, rights, &runs) {
                 return false;
             }
         }

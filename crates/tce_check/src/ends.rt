@@ -1,21 +1,16 @@
 // The ends of rows, by which most pairs that have a conflict are told before they are joined.
-ghost use Rattle.std.specs.Prelude.{◌≤◌, length, IsTrue};
+ghost use Rattle.std.specs.Prelude.{IsTrue};
 ghost use Rattle.tce_states.specs.Relation.{above};
-ghost use Rattle.tce_check.specs.Ends.{IsTopOf, AreEnds, HaveEnds, DoCross, HaveConflict};
+ghost use Rattle.tce_check.specs.Ends.{IsTopOf, AreEnds, DoCross, HaveConflict};
 
-use arrayvec::ArrayVec;
 use tce_nesting::{Nesting, Row};
 use tce_space::IndexSet;
 
-// The ends of so many rows are kept at once.
-pub(crate) const BLOCK: usize = 256;
-
-// The least and the largest part of a node's loops that a row puts above all others of them, and its cost.
+// The least and the largest part of a node's loops that a row puts above all others of them.
 #[derive(Clone, Copy, Default)]
 pub(crate) struct Ends {
     pub(crate) least: IndexSet,
     pub(crate) largest: IndexSet,
-    pub(crate) cost: u128,
 }
 
 // The ends of a row.
@@ -25,7 +20,6 @@ pub(crate) fn ends_of(row: &Row, loops: IndexSet) -> Ends
     Ends {
         least: least_top(&row.classes, loops),
         largest: largest_top(&row.classes, loops),
-        cost: row.cost,
     }
 }
 
@@ -53,18 +47,6 @@ fn largest_top(classes: &Nesting, loops: IndexSet) -> IndexSet
         top = reached;
     }
     top
-}
-
-// The ends of each row.
-pub(crate) fn ends_of_all(rows: &[Row], loops: IndexSet) -> ArrayVec<Ends, 256>
-    requires { length rows.now ≤ 256 }
-    ensures { HaveEnds loops rows.now result.items }
-{
-    let mut ends = ArrayVec::<Ends, 256>::new();
-    for row in rows {
-        ends.push(ends_of(row, loops));
-    }
-    ends
 }
 
 // Whether two rows are seen to have a conflict.

@@ -9,6 +9,7 @@ mod joint;
 mod operands;
 mod root;
 mod rules;
+mod runs;
 mod steps;
 mod tables;
 mod verdict;

@@ -1,14 +1,29 @@
-use Rattle.std.proofs.Common.{arith}
+use Rattle.std.proofs.Common.{arith, subst}
 use Rattle.tce_states.specs.Cover.{StepsCovered}
 use Rattle.tce_check.specs.Verdict.{WhereJoined}
+use Rattle.tce_check.specs.Ends.{AreEnds}
+use Rattle.tce_tree.specs.ContractionTree.{node_loops}
 use Rattle.tce_check.proofs.Firsts.{one_more}
+use Rattle.tce_check.proofs.RunParts.{run_at, run_skipped}
 use Rattle.tce_check.proofs.steps.Node.covers_with.Goals as goal
 
-pub loop-right-preserved : goal.loop-right-preserved
-loop-right-preserved c =
+pub loop-place-preserved-then-have_conflict : goal.loop-place-preserved-then-have_conflict
+loop-place-preserved-then-have_conflict c =
     let node = c.args.self.now in
-    record {
-      place = omega arith;
-      before = one_more (WhereJoined node.tree.now node.number (StepsCovered node.space.now node.tree.now node.outer node.number node.rows.now) c.args.left.now)
-          c.args.rights.now c.loop-right.right-index c.right-item.result c.loop-right-test.true c.right-item.is c.loop-right.invariant.before (c.covers_pair.ensures c.if-not-covers_pair.false);
-    }
+    let loops = node_loops node.tree.now node.number in
+    let run = c.index-runs-place.result in
+    let is = run_at loops c.loop-place.place c.args.rights.now c.args.runs.now run c.requires.runs c.loop-place-test.true c.index-runs-place.is in
+    run_skipped node.tree.now node.number c.loop-place.place (StepsCovered node.space.now node.tree.now node.outer node.number node.rows.now) c.args.rights.now c.args.left.now c.ends_of-own.result run
+    (subst (λ o. AreEnds o c.args.left.now c.ends_of-own.result) c.loops.ensures.value c.ends_of-own.ensures) is (c.have_conflict.ensures c.if-have_conflict.true) c.loop-place.invariant
+
+pub loop-place-smaller-then-have_conflict : goal.loop-place-smaller-then-have_conflict
+loop-place-smaller-then-have_conflict c =
+    let node = c.args.self.now in
+    let is = run_at (node_loops node.tree.now node.number) c.loop-place.place c.args.rights.now c.args.runs.now c.index-runs-place.result c.requires.runs c.loop-place-test.true c.index-runs-place.is in
+    omega (arith, is.later, is.inside)
+
+pub loop-place-preserved : goal.loop-place-preserved
+loop-place-preserved c =
+    let node = c.args.self.now in
+    one_more (WhereJoined node.tree.now node.number (StepsCovered node.space.now node.tree.now node.outer node.number node.rows.now) c.args.left.now)
+    c.args.rights.now c.loop-place.place c.index-rights-place.result c.loop-place-test.true c.index-rights-place.is c.loop-place.invariant (c.covers_pair.ensures c.if-not-covers_pair.false)
