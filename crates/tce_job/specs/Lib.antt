@@ -1,3 +1,4 @@
 pub mod Refusals
 pub mod Prepared
 pub mod Run
+pub mod Told

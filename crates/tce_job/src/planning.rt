@@ -1,12 +1,12 @@
 // What a run tests before it takes its memory: the budget, the memory for intermediates, and the operands.
 ghost use Rattle.std.specs.Prelude.{◌≡◌, ◌≢◌, ◌≤◌, Err, IfOk, IfErr, OnOk};
-ghost use Rattle.std.specs.Option.{ForSome};
 ghost use Rattle.tce_space.specs.Limits.{max_memory};
 ghost use Rattle.tce_outside.specs.Fault.{HasCause, TellsFaults};
 ghost use Rattle.tce_array.specs.declared.fault.ArrayFault.TheVariants as array_fault;
 ghost use Rattle.tce_search.specs.LeastPlan.{IsLeastPlan};
-ghost use Rattle.tce_tensors.specs.Opened.{AreOpened, operand_count};
-ghost use Rattle.tce_job.specs.Refusals.{IsAffordable, IsCause, MayBeRefused, IsOpeningFault, IsFaultOf};
+ghost use Rattle.tce_job.specs.declared.fault.JobFault.{JobFault as Fault};
+ghost use Rattle.tce_job.specs.Refusals.{IsAffordable, IsCause, IsOpeningFault, IsFaultOf};
+ghost use Rattle.tce_job.specs.Told.{IsLeastPlanOf, AreOpenedIn, IsRefusalOf};
 
 use crate::fault::JobFault;
 use std::alloc::Global;
@@ -59,11 +59,11 @@ fn fault_of(refused: Refused) -> JobFault
 ///
 /// It is refused with `Array` and the first operand by first use that is refused, or with `Disk`.
 pub fn opened_forms<D: Disk>(spec: &Spec, disk: &mut D) -> Result<Forms, JobFault>
-    ensures opened { IfOk result (λ forms. ForSome (D.files disk.old) (λ files. AreOpened files spec.now forms.0 (operand_count spec.now))) }
+    ensures opened { IfOk result (λ forms. AreOpenedIn (D.files disk.old) spec.now forms.0) }
     ensures refused { IfErr result (IsOpeningFault (D.files disk.old) spec.now) }
     ensures same { D.files disk.new ≡ D.files disk.old }
-    ensures cause { HasCause (D.faults disk.old) (D.faults disk.new) (result ≡ Err JobFault.Disk) }
-    ensures quiet { TellsFaults (D.faults disk.old) (D.faults disk.new) (result ≡ Err JobFault.Disk) }
+    ensures cause { HasCause (D.faults disk.old) (D.faults disk.new) (result ≡ Err Fault.Disk) }
+    ensures quiet { TellsFaults (D.faults disk.old) (D.faults disk.new) (result ≡ Err Fault.Disk) }
 {
     match open_operands(spec, disk) {
         Ok(forms) => Ok(forms),
@@ -78,14 +78,14 @@ pub fn tested<D: Disk>(
     budget: u64,
     disk: &mut D,
 ) -> Result<(Plan, Forms), JobFault>
-    ensures plan { IfOk result (λ pair. IsLeastPlan spec.now.declarations.space spec.now.tree pair.0) }
+    ensures plan { IfOk result (λ pair. IsLeastPlanOf spec.now pair.0) }
     ensures small { IfOk result (λ pair. pair.0.memory ≤ max_memory) }
     ensures affordable { OnOk result (IsAffordable spec.now budget) }
-    ensures opened { IfOk result (λ pair. ForSome (D.files disk.old) (λ files. AreOpened files spec.now pair.1.0 (operand_count spec.now))) }
-    ensures refused { IfErr result (IsCause (MayBeRefused (D.files disk.old) spec.now) spec.now budget) }
+    ensures opened { IfOk result (λ pair. AreOpenedIn (D.files disk.old) spec.now pair.1.0) }
+    ensures refused { IfErr result (IsRefusalOf (D.files disk.old) spec.now budget) }
     ensures same { D.files disk.new ≡ D.files disk.old }
-    ensures cause { HasCause (D.faults disk.old) (D.faults disk.new) (result ≡ Err JobFault.Disk) }
-    ensures quiet { TellsFaults (D.faults disk.old) (D.faults disk.new) (result ≡ Err JobFault.Disk) }
+    ensures cause { HasCause (D.faults disk.old) (D.faults disk.new) (result ≡ Err Fault.Disk) }
+    ensures quiet { TellsFaults (D.faults disk.old) (D.faults disk.new) (result ≡ Err Fault.Disk) }
 {
     let plan = affordable_plan(alloc, spec, budget)?;
     let forms = opened_forms(spec, disk)?;

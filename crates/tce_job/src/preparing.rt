@@ -1,17 +1,15 @@
 // A run by a plan, up to the file of its result.
-ghost use Rattle.std.specs.Prelude.{◌≡◌, ◌⊎◌, ◌≤◌, ◌++◌, ◌∷◌, [], Err, IfOk, IfErr, OnOk, OnErr};
-ghost use Rattle.std.specs.Option.{ForSome};
+ghost use Rattle.std.specs.Prelude.{◌≡◌, ◌≤◌, Err, IfOk, IfErr, OnOk, OnErr};
 ghost use Rattle.tce_space.specs.Limits.{max_memory};
-ghost use Rattle.tce_outside.specs.Files.{holding, others};
+ghost use Rattle.tce_outside.specs.Files.{others};
 ghost use Rattle.tce_outside.specs.Fault.{HasCause, TellsFaults};
-ghost use Rattle.tce_tensors.specs.TensorFiles.{file_of};
 ghost use Rattle.tce_tensors.specs.Takings.{least_budget};
-ghost use Rattle.tce_tensors.specs.Laws.{made_result, LeavesNoHalfResult};
-ghost use Rattle.tce_tensors.specs.Opened.{AreOpened, operand_count};
+ghost use Rattle.tce_tensors.specs.Laws.{LeavesNoHalfResult};
 ghost use Rattle.tce_job.specs.declared.fault.JobFault.{JobFault as Fault};
 ghost use Rattle.tce_job.specs.Refusals.{IsFree};
-ghost use Rattle.tce_job.specs.Prepared.{IsCarriedPlan, IsPrepared, IsEmptyCache, IsReport, MayHaveTaken, taking_of};
+ghost use Rattle.tce_job.specs.Prepared.{IsCarriedPlan, IsPrepared, IsEmptyCache, IsReport};
 ghost use Rattle.tce_job.specs.Run.{IsBegun};
+ghost use Rattle.tce_job.specs.Told.{AreOpenedIn, FailsOrKeeps, MakesResult, ResultAlone, Takes, MayTake};
 
 use crate::bytes::Bytes;
 use crate::fault::JobFault;
@@ -84,7 +82,8 @@ fn take_memory<R: Room>(
     requires small { plan.memory ≤ max_memory }
     ensures prepared { IfOk result (IsPrepared spec.now budget forms.now.0) }
     ensures plan { IfOk result (λ p. p.plan ≡ plan) }
-    ensures taken { OnOk result (R.takings room.new ≡ R.takings room.old ++ taking_of spec.now budget plan ∷ []) }
+    ensures taken { OnOk result
+        (Takes spec.now budget plan (R.takings room.old) (R.takings room.new)) }
     ensures refused { OnErr result (R.takings room.new ≡ R.takings room.old) }
 {
     let memory = plan.memory as u64;
@@ -105,11 +104,11 @@ fn take_memory<R: Room>(
 
 // Makes the file of the result, of zeros: its head comes when all its elements are there.
 fn make_result<D: Disk>(spec: &Spec, disk: &mut D) -> Result<(), JobFault>
-    ensures made { OnOk result (D.files disk.new ≡ holding (file_of spec.now spec.now.result) (made_result spec.now) (D.files disk.old)) }
+    ensures made { OnOk result (MakesResult spec.now (D.files disk.old) (D.files disk.new)) }
     ensures free { IfErr result IsFree }
-    ensures unchanged { IfErr result (λ fault. (fault ≡ Fault.Disk) ⊎ (D.files disk.new ≡ D.files disk.old)) }
+    ensures unchanged { FailsOrKeeps result (D.files disk.old) (D.files disk.new) }
     ensures no_half { LeavesNoHalfResult spec.now (D.files disk.old) (D.files disk.new) }
-    ensures others { others (file_of spec.now spec.now.result) (D.files disk.new) ≡ others (file_of spec.now spec.now.result) (D.files disk.old) }
+    ensures others { ResultAlone spec.now (D.files disk.old) (D.files disk.new) }
     ensures cause { HasCause (D.faults disk.old) (D.faults disk.new) (result ≡ Err Fault.Disk) }
     ensures quiet { TellsFaults (D.faults disk.old) (D.faults disk.new) (result ≡ Err Fault.Disk) }
 {
@@ -143,17 +142,19 @@ pub fn begin<D: Disk, R: Room>(
     requires limit { budget ≤ max_memory }
     requires plan { IsCarriedPlan spec.now.declarations.space spec.now.tree plan }
     requires small { plan.memory ≤ max_memory }
-    requires opened { ForSome (D.files disk.old) (λ files. AreOpened files spec.now forms.now.0 (operand_count spec.now)) }
+    requires opened { AreOpenedIn (D.files disk.old) spec.now forms.now.0 }
     ensures begun { IfOk result (IsBegun spec.now (D.files disk.new)) }
     ensures prepared { IfOk result (IsPrepared spec.now budget forms.now.0) }
     ensures plan { IfOk result (λ p. p.plan ≡ plan) }
-    ensures made { OnOk result (D.files disk.new ≡ holding (file_of spec.now spec.now.result) (made_result spec.now) (D.files disk.old)) }
-    ensures taken { OnOk result (R.takings room.new ≡ R.takings room.old ++ taking_of spec.now budget plan ∷ []) }
+    ensures made { OnOk result (MakesResult spec.now (D.files disk.old) (D.files disk.new)) }
+    ensures taken { OnOk result
+        (Takes spec.now budget plan (R.takings room.old) (R.takings room.new)) }
     ensures free { IfErr result IsFree }
-    ensures unchanged { IfErr result (λ fault. (fault ≡ Fault.Disk) ⊎ (D.files disk.new ≡ D.files disk.old)) }
+    ensures unchanged { FailsOrKeeps result (D.files disk.old) (D.files disk.new) }
     ensures no_half { LeavesNoHalfResult spec.now (D.files disk.old) (D.files disk.new) }
-    ensures takings { OnErr result (MayHaveTaken spec.now budget plan (R.takings room.old) (R.takings room.new)) }
-    ensures others { others (file_of spec.now spec.now.result) (D.files disk.new) ≡ others (file_of spec.now spec.now.result) (D.files disk.old) }
+    ensures takings { MayTake result spec.now budget plan
+        (R.takings room.old) (R.takings room.new) }
+    ensures others { ResultAlone spec.now (D.files disk.old) (D.files disk.new) }
     ensures cause { HasCause (D.faults disk.old) (D.faults disk.new) (result ≡ Err Fault.Disk) }
     ensures quiet { TellsFaults (D.faults disk.old) (D.faults disk.new) (result ≡ Err Fault.Disk) }
 {

@@ -1,20 +1,15 @@
 // A whole run: what it prepares, its code, and the result in its file.
-ghost use Rattle.std.specs.Prelude.{◌≡◌, ◌⊎◌, ◌≤◌, ◌++◌, ◌∷◌, [], IfOk, IfErr, OnOk, OnErr, IsErr, Err};
-ghost use Rattle.std.specs.Option.{ForSome, option_map};
+ghost use Rattle.std.specs.Prelude.{◌≡◌, ◌⊎◌, ◌≤◌, IfOk, IfErr, OnOk, IsErr, Err};
 ghost use Rattle.tce_space.specs.Limits.{max_memory};
 ghost use Rattle.tce_outside.specs.Files.{others};
 ghost use Rattle.tce_outside.specs.Fault.{HasCause, TellsFaults};
-ghost use Rattle.tce_tensors.specs.TensorFiles.{file_of};
-ghost use Rattle.tce_tensors.specs.ResultBytes.{with_result};
 ghost use Rattle.tce_tensors.specs.Laws.{LeavesNoHalfResult};
 ghost use Rattle.tce_tensors.specs.Takings.{least_budget};
-ghost use Rattle.tce_code.specs.Program.{program_of};
-ghost use Rattle.tce_walk.specs.Touches.{touch_bound};
-ghost use Rattle.tce_tensors.specs.Opened.{AreOpened, operand_count};
 ghost use Rattle.tce_job.specs.declared.fault.JobFault.{JobFault as Fault};
-ghost use Rattle.tce_job.specs.Refusals.{IsCause, MayBeRefused, MustBeRefused, CanRun, IsFree, IsRefusedAs, IsGranted};
-ghost use Rattle.tce_job.specs.Prepared.{IsCarriedPlan, IsReport, MayHaveTaken, IsRoomLeft, taking_of};
-ghost use Rattle.tce_job.specs.Run.{IsBegun, IsReported};
+ghost use Rattle.tce_job.specs.Refusals.{IsFree};
+ghost use Rattle.tce_job.specs.Prepared.{IsCarriedPlan, IsReport};
+ghost use Rattle.tce_job.specs.Run.{IsBegun};
+ghost use Rattle.tce_job.specs.Told.{AreOpenedIn, CanRunIn, IsRefusalOf, RefusesExactly, GrantsAble, FailsOrKeeps, WritesResult, ResultAlone, Takes, MayTake, Reports, LeavesRoom, TouchesWithin};
 
 use crate::fault::JobFault;
 use crate::planning::tested;
@@ -41,11 +36,11 @@ pub fn run_prepared<D: Disk>(
     disk: &mut D,
 ) -> Result<(), Failed>
     requires { IsBegun spec.now (D.files disk.old) prepared.old }
-    ensures told { OnOk result (D.files disk.new ≡ option_map (with_result spec.now) (D.files disk.old)) }
+    ensures told { OnOk result (WritesResult spec.now (D.files disk.old) (D.files disk.new)) }
     ensures no_half { LeavesNoHalfResult spec.now (D.files disk.old) (D.files disk.new) }
     ensures report { prepared.new.report ≡ prepared.old.report }
-    ensures touches { OnOk result (prepared.new.cache.touches ≤ touch_bound spec.now.declarations.space spec.now.tree (program_of prepared.old.code)) }
-    ensures others { others (file_of spec.now spec.now.result) (D.files disk.new) ≡ others (file_of spec.now spec.now.result) (D.files disk.old) }
+    ensures touches { OnOk result (TouchesWithin spec.now prepared.old prepared.new) }
+    ensures others { ResultAlone spec.now (D.files disk.old) (D.files disk.new) }
     ensures cause { HasCause (D.faults disk.old) (D.faults disk.new) (IsErr result) }
     ensures quiet { TellsFaults (D.faults disk.old) (D.faults disk.new) (IsErr result) }
 {
@@ -89,15 +84,17 @@ pub fn run_by<D: Disk, R: Room>(
     requires limit { budget ≤ max_memory }
     requires plan { IsCarriedPlan spec.now.declarations.space spec.now.tree plan }
     requires small { plan.memory ≤ max_memory }
-    requires opened { ForSome (D.files disk.old) (λ files. AreOpened files spec.now forms.now.0 (operand_count spec.now)) }
-    ensures told { OnOk result (D.files disk.new ≡ option_map (with_result spec.now) (D.files disk.old)) }
+    requires opened { AreOpenedIn (D.files disk.old) spec.now forms.now.0 }
+    ensures told { OnOk result (WritesResult spec.now (D.files disk.old) (D.files disk.new)) }
     ensures report { IfOk result (IsReport spec.now budget plan) }
-    ensures taken { OnOk result (R.takings room.new ≡ R.takings room.old ++ taking_of spec.now budget plan ∷ []) }
+    ensures taken { OnOk result
+        (Takes spec.now budget plan (R.takings room.old) (R.takings room.new)) }
     ensures free { IfErr result IsFree }
-    ensures unchanged { IfErr result (λ fault. (fault ≡ Fault.Disk) ⊎ (D.files disk.new ≡ D.files disk.old)) }
+    ensures unchanged { FailsOrKeeps result (D.files disk.old) (D.files disk.new) }
     ensures no_half { LeavesNoHalfResult spec.now (D.files disk.old) (D.files disk.new) }
-    ensures takings { OnErr result (MayHaveTaken spec.now budget plan (R.takings room.old) (R.takings room.new)) }
-    ensures others { others (file_of spec.now spec.now.result) (D.files disk.new) ≡ others (file_of spec.now spec.now.result) (D.files disk.old) }
+    ensures takings { MayTake result spec.now budget plan
+        (R.takings room.old) (R.takings room.new) }
+    ensures others { ResultAlone spec.now (D.files disk.old) (D.files disk.new) }
     ensures cause { HasCause (D.faults disk.old) (D.faults disk.new) (result ≡ Err Fault.Disk) }
     ensures quiet { TellsFaults (D.faults disk.old) (D.faults disk.new) (result ≡ Err Fault.Disk) }
 {
@@ -127,25 +124,26 @@ pub fn run_job<D: Disk, R: Room>(
     room: &mut R,
 ) -> Result<RunReport, JobFault>
     requires { budget ≤ max_memory }
-    ensures told { OnOk result (D.files disk.new ≡ option_map (with_result spec.now) (D.files disk.old)) }
-    ensures reported { IfOk result (IsReported spec.now budget (R.takings room.old) (R.takings room.new)) }
-    ensures able { OnOk result (ForSome (D.files disk.old) (λ files. CanRun files spec.now budget)) }
+    ensures told { OnOk result (WritesResult spec.now (D.files disk.old) (D.files disk.new)) }
+    ensures reported { Reports result spec.now budget (R.takings room.old) (R.takings room.new) }
+    ensures able { OnOk result (CanRunIn (D.files disk.old) spec.now budget) }
 
     // Words are taken only where the run can be run.
-    ensures tested { (R.takings room.new ≡ R.takings room.old) ⊎ ForSome (D.files disk.old) (λ files. CanRun files spec.now budget) }
+    ensures tested { (R.takings room.new ≡ R.takings room.old)
+        ⊎ CanRunIn (D.files disk.old) spec.now budget }
 
     // Why a run is refused, and that it is refused so wherever there is a cause.
-    ensures refused { IfErr result (IsCause (MayBeRefused (D.files disk.old) spec.now) spec.now budget) }
-    ensures exactly { (due : Fault) → (IsFree due → ⊥) → IsCause (MustBeRefused (D.files disk.old) spec.now) spec.now budget due → IsRefusedAs due result }
-    ensures granted { ForSome (D.files disk.old) (λ files. CanRun files spec.now budget → IsGranted result) }
+    ensures refused { IfErr result (IsRefusalOf (D.files disk.old) spec.now budget) }
+    ensures exactly { RefusesExactly (D.files disk.old) spec.now budget result }
+    ensures granted { GrantsAble (D.files disk.old) spec.now budget result }
     ensures cause { HasCause (D.faults disk.old) (D.faults disk.new) (result ≡ Err Fault.Disk) }
     ensures quiet { TellsFaults (D.faults disk.old) (D.faults disk.new) (result ≡ Err Fault.Disk) }
 
     // What a refused run leaves.
-    ensures unchanged { IfErr result (λ fault. (fault ≡ Fault.Disk) ⊎ (D.files disk.new ≡ D.files disk.old)) }
+    ensures unchanged { FailsOrKeeps result (D.files disk.old) (D.files disk.new) }
     ensures no_half { LeavesNoHalfResult spec.now (D.files disk.old) (D.files disk.new) }
-    ensures takings { IfErr result (λ fault. IsRoomLeft fault spec.now budget (R.takings room.old) (R.takings room.new)) }
-    ensures others { others (file_of spec.now spec.now.result) (D.files disk.new) ≡ others (file_of spec.now spec.now.result) (D.files disk.old) }
+    ensures takings { LeavesRoom result spec.now budget (R.takings room.old) (R.takings room.new) }
+    ensures others { ResultAlone spec.now (D.files disk.old) (D.files disk.new) }
 {
     let (plan, forms) = tested(alloc, spec, budget, disk)?;
     let report = run_by(alloc, spec, budget, &forms, plan, disk, room)?;
