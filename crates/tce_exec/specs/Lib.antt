@@ -11,3 +11,4 @@ pub mod Windows
 pub mod Positions
 pub mod Plans
 pub mod Evaluations
+pub mod TailBlocks

@@ -9,16 +9,21 @@ use Rattle.tce_windows.specs.Sequences.{IsLoopSequence}
 use Rattle.tce_exec.specs.Blocks.{loops_of}
 use Rattle.tce_exec.specs.Positions.{IsPosition}
 use Rattle.tce_exec.specs.Windows.{AreSteps}
+use Rattle.tce_exec.specs.declared.plan.Nest.{Nest}
 use Rattle.tce_exec.specs.declared.plan.Plan.{Plan}
 use Rattle.tce_exec.specs.declared.plan.Kept.{Kept}
 
--- the cuts of its tail's loops, a sequence of them, and the steps of its windows
+-- a sequence of a tail's loops, and the steps of its windows
+pub record IsNest (p : Places) (tail : Tail) (nest : Nest) : Type 0 where
+  pub sequence_is : IsLoopSequence (loops_of tail) nest.sequence
+  pub steps_are : AreSteps p tail nest.windows
+
+-- the cuts of its tail's loops, and the nest of them
 pub record IsPlan (p : Places) (plan : Plan) : Type 0 where
   pub cuts_are : All IsCut plan.cuts.items
   pub extents_are : extents_of plan.cuts.items ≡ map (extent_at p.space) (loops_of plan.tail)
   pub edges_are : edges_of plan.cuts.items ≡ map (edge_at p.space) (loops_of plan.tail)
-  pub sequence_is : IsLoopSequence (loops_of plan.tail) plan.sequence
-  pub steps_are : AreSteps p plan.tail plan.windows
+  pub nest_is : IsNest p plan.tail plan.nest
 
 -- it is that of this tail
 pub record IsPlanFor (p : Places) (tail : Tail) (plan : Plan) : Type 0 where

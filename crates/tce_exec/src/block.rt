@@ -1,35 +1,24 @@
 // One block of a tail.
-ghost use Rattle.std.specs.Prelude.{◌≡◌, ◌≢◌, ◌+◌, ◌≤◌, ◌^◌, ℕ, OnOk, IsErr, Some, None, slice_index};
-ghost use Rattle.tce_outside.specs.Fault.{HasCause, TellsFaults};
+ghost use Rattle.std.specs.Prelude.{◌≡◌, ◌≢◌, ◌+◌, ◌≤◌, ◌^◌, ℕ, OnOk, IsErr, Some, None};
 ghost use Rattle.tce_tree.specs.FlatTree.{right_of};
-ghost use Rattle.tce_block.specs.Cuts.{part_of};
-ghost use Rattle.tce_walk.specs.Parts.{after_part};
 ghost use Rattle.tce_strides.specs.Turns.{operate};
-ghost use Rattle.tce_walk.specs.Machine.{assignment_of, IsTailAt};
-ghost use Rattle.tce_workspace.specs.Workspace.{workspace, setting_in};
 ghost use Rattle.tce_workspace.specs.Prepared.{IsPrepared};
 ghost use Rattle.tce_workspace.specs.Operands.{combined};
-ghost use Rattle.tce_workspace.specs.Steps.{IsKept, IsChanged};
-ghost use Rattle.tce_windows.specs.Sequences.{IsLoopSequence};
-ghost use Rattle.tce_windows.specs.Turns.{turns_of};
-ghost use Rattle.tce_exec.specs.Blocks.{IsBlockOf, AreOutside, loops_of};
-ghost use Rattle.tce_exec.specs.Positions.{IsPosition};
-ghost use Rattle.tce_exec.specs.Windows.{AreSteps};
+ghost use Rattle.tce_workspace.specs.Storages.{work_of, IsSame, Keeps, Changes, FailsByDisk, TellsOfDisk};
+ghost use Rattle.tce_exec.specs.Blocks.{IsBlockOf};
+ghost use Rattle.tce_exec.specs.Evaluations.{places_of};
+ghost use Rattle.tce_exec.specs.Plans.{IsNest};
+ghost use Rattle.tce_exec.specs.Positions.{IsPosition, numbers_of};
+ghost use Rattle.tce_exec.specs.TailBlocks.{part_in, first_in, after_block, IsInTail, KeepsAround};
 
+use crate::plan::Nest;
 use crate::position::Position;
-use crate::steps::Windows;
-use crate::turns::{begin_block, compute_turns, grow_turns, grow_turns_by_products};
-use crate::windows::{node_window, pair_windows, sum_windows};
-use tce_block::Block;
-use tce_cache::Cache;
+use crate::turns::{TailBlock, begin_block, compute_turns, grow_turns, grow_turns_by_products};
+use crate::windows::{Pairing, node_window, pair_windows, sum_windows};
 use tce_outside::{Disk, Failed};
-use tce_space::Numbers;
 use tce_strides::Operation;
 use tce_tree::{Kind, Operand};
-use tce_walk::Tail;
-use tce_windows::LoopSequence;
-use tce_words::Words;
-use tce_workspace::Evaluation;
+use tce_workspace::{Evaluation, Storage};
 
 // What a node with two operands computes.
 fn operation_of(kind: Kind) -> Operation
@@ -47,205 +36,166 @@ fn operation_of(kind: Kind) -> Operation
 // A block of a sum's loops.
 fn run_sum<D: Disk>(
     evaluation: &Evaluation,
-    words: &mut Words,
-    cache: &mut Cache,
-    disk: &mut D,
-    tail: &Tail,
-    numbers: &Numbers,
-    block: &Block,
+    store: &mut Storage<'_, D>,
+    at: &TailBlock,
     first: &Position,
-    sequence: &mut LoopSequence,
-    windows: &mut Windows,
+    nest: &mut Nest,
 ) -> Result<(), Failed>
-    requires prepared { IsPrepared (workspace evaluation.now words.old cache.old (D.files disk.old)) }
+    requires prepared { IsPrepared (work_of D.files evaluation.now store.old) }
     requires position { IsPosition evaluation.now.space.now first.now }
-    requires tail { IsTailAt (setting_in (workspace evaluation.now words.old cache.old (D.files disk.old))) tail.now (assignment_of numbers.now) }
-    requires block { IsBlockOf evaluation.now.space.now tail.now (part_of block.now) }
-    requires sum { right_of evaluation.now.tree.now tail.now.node ≡ None }
-    requires few { cache.old.touches + 3 ≤ 2 ^ 100 }
-    requires first { slice_index first.now.numbers ≡ (turns_of (loops_of tail.now) (assignment_of numbers.now) (part_of block.now)).first }
-    requires sequence { IsLoopSequence (loops_of tail.now) sequence.old }
-    requires steps { AreSteps (workspace evaluation.now words.old cache.old (D.files disk.old)).places tail.now windows.old }
-    ensures changed { OnOk result (let w = workspace evaluation.now words.old cache.old (D.files disk.old) in
-        IsChanged (after_part (setting_in w) tail.now (assignment_of numbers.now) (part_of block.now)) 3 w (workspace evaluation.now words.new cache.new (D.files disk.new))) }
-    ensures kept { IsKept (workspace evaluation.now words.old cache.old (D.files disk.old)) (workspace evaluation.now words.new cache.new (D.files disk.new)) }
-    ensures sequence { OnOk result (IsLoopSequence (loops_of tail.now) sequence.new) }
-    ensures steps { OnOk result (AreSteps (workspace evaluation.now words.new cache.new (D.files disk.new)).places tail.now windows.new) }
-    ensures cause { HasCause (D.faults disk.old) (D.faults disk.new) (IsErr result) }
-    ensures told { TellsFaults (D.faults disk.old) (D.faults disk.new) (IsErr result) }
+    requires tail { IsInTail D.files evaluation.now store.old at.now }
+    requires block { IsBlockOf evaluation.now.space.now at.now.tail.now (part_in at.now) }
+    requires sum { right_of evaluation.now.tree.now at.now.tail.now.node ≡ None }
+    requires few { store.old.cache.now.touches + 3 ≤ 2 ^ 100 }
+    requires first { numbers_of first.now ≡ first_in at.now }
+    requires nest { IsNest (places_of evaluation.now) at.now.tail.now nest.old }
+    ensures changed { OnOk result (Changes (after_block D.files evaluation.now store.old at.now) 3
+        D.files evaluation.now store.old store.new) }
+    ensures kept { Keeps D.files evaluation.now store.old store.new }
+    ensures nest { OnOk result (IsNest (places_of evaluation.now) at.now.tail.now nest.new) }
+    ensures same { IsSame store.old store.new }
+    ensures cause { FailsByDisk D.faults store.old store.new (IsErr result) }
+    ensures told { TellsOfDisk D.faults store.old store.new (IsErr result) }
 {
     let _indexes = evaluation.space.index_count();
     let _nodes = evaluation.tree.count();
-    sum_windows(evaluation, words, cache, disk, tail.node, first, windows)?;
+    sum_windows(evaluation, store, at.tail.node, first, &mut nest.windows)?;
     // All words are below 2^64.
-    let _len = words.len();
-    grow_turns(words, sequence, tail, block, &windows.out, &windows.left);
+    let _len = store.words.len();
+    grow_turns(store.words, &mut nest.sequence, at, &nest.windows);
     Ok(())
 }
 
 // A block of the loops of a node with two operands.
 fn run_pair<D: Disk>(
     evaluation: &Evaluation,
-    words: &mut Words,
-    cache: &mut Cache,
-    disk: &mut D,
-    tail: &Tail,
+    store: &mut Storage<'_, D>,
+    at: &TailBlock,
     right: &Operand,
-    numbers: &Numbers,
-    block: &Block,
     first: &Position,
-    sequence: &mut LoopSequence,
-    windows: &mut Windows,
+    nest: &mut Nest,
 ) -> Result<(), Failed>
-    requires prepared { IsPrepared (workspace evaluation.now words.old cache.old (D.files disk.old)) }
+    requires prepared { IsPrepared (work_of D.files evaluation.now store.old) }
     requires position { IsPosition evaluation.now.space.now first.now }
-    requires tail { IsTailAt (setting_in (workspace evaluation.now words.old cache.old (D.files disk.old))) tail.now (assignment_of numbers.now) }
-    requires block { IsBlockOf evaluation.now.space.now tail.now (part_of block.now) }
-    requires right { right_of evaluation.now.tree.now tail.now.node ≡ Some right.now }
-    requires alone { tail.now.sum ≡ None }
-    requires few { cache.old.touches + 3 ≤ 2 ^ 100 }
-    requires first { slice_index first.now.numbers ≡ (turns_of (loops_of tail.now) (assignment_of numbers.now) (part_of block.now)).first }
-    requires sequence { IsLoopSequence (loops_of tail.now) sequence.old }
-    requires steps { AreSteps (workspace evaluation.now words.old cache.old (D.files disk.old)).places tail.now windows.old }
-    ensures changed { OnOk result (let w = workspace evaluation.now words.old cache.old (D.files disk.old) in
-        IsChanged (after_part (setting_in w) tail.now (assignment_of numbers.now) (part_of block.now)) 3 w (workspace evaluation.now words.new cache.new (D.files disk.new))) }
-    ensures kept { IsKept (workspace evaluation.now words.old cache.old (D.files disk.old)) (workspace evaluation.now words.new cache.new (D.files disk.new)) }
-    ensures sequence { OnOk result (IsLoopSequence (loops_of tail.now) sequence.new) }
-    ensures steps { OnOk result (AreSteps (workspace evaluation.now words.new cache.new (D.files disk.new)).places tail.now windows.new) }
-    ensures cause { HasCause (D.faults disk.old) (D.faults disk.new) (IsErr result) }
-    ensures told { TellsFaults (D.faults disk.old) (D.faults disk.new) (IsErr result) }
+    requires tail { IsInTail D.files evaluation.now store.old at.now }
+    requires block { IsBlockOf evaluation.now.space.now at.now.tail.now (part_in at.now) }
+    requires right { right_of evaluation.now.tree.now at.now.tail.now.node ≡ Some right.now }
+    requires alone { at.now.tail.now.sum ≡ None }
+    requires few { store.old.cache.now.touches + 3 ≤ 2 ^ 100 }
+    requires first { numbers_of first.now ≡ first_in at.now }
+    requires nest { IsNest (places_of evaluation.now) at.now.tail.now nest.old }
+    ensures changed { OnOk result (Changes (after_block D.files evaluation.now store.old at.now) 3
+        D.files evaluation.now store.old store.new) }
+    ensures kept { Keeps D.files evaluation.now store.old store.new }
+    ensures nest { OnOk result (IsNest (places_of evaluation.now) at.now.tail.now nest.new) }
+    ensures same { IsSame store.old store.new }
+    ensures cause { FailsByDisk D.faults store.old store.new (IsErr result) }
+    ensures told { TellsOfDisk D.faults store.old store.new (IsErr result) }
 {
     let _indexes = evaluation.space.index_count();
     let _nodes = evaluation.tree.count();
-    pair_windows(
-        evaluation, words, cache, disk, tail.node, right, tail.node, first, windows,
-    )?;
+    let node = at.tail.node;
+    let pairing = Pairing { right, out: node };
+    pair_windows(evaluation, store, node, &pairing, first, &mut nest.windows)?;
     // All words are below 2^64.
-    let _len = words.len();
-    let operation = operation_of(evaluation.tree.kind(tail.node));
+    let _len = store.words.len();
+    let operation = operation_of(evaluation.tree.kind(node));
+    let windows = &nest.windows;
     compute_turns(
-        words,
+        store.words,
         operation,
-        sequence,
-        tail,
-        block,
+        &mut nest.sequence,
+        at,
         &windows.out,
-        &windows.left,
-        &windows.right,
+        windows,
     );
     Ok(())
 }
 
-// A block of the loops of a product and of the sum that takes it.
+// A block of the loops of a product and of the sum that takes it, to whose places the results go.
 fn run_joined<D: Disk>(
     evaluation: &Evaluation,
-    words: &mut Words,
-    cache: &mut Cache,
-    disk: &mut D,
-    tail: &Tail,
-    right: &Operand,
-    sum: u8,
-    numbers: &Numbers,
-    block: &Block,
+    store: &mut Storage<'_, D>,
+    at: &TailBlock,
+    pairing: &Pairing,
     first: &Position,
-    sequence: &mut LoopSequence,
-    windows: &mut Windows,
+    nest: &mut Nest,
 ) -> Result<(), Failed>
-    requires prepared { IsPrepared (workspace evaluation.now words.old cache.old (D.files disk.old)) }
+    requires prepared { IsPrepared (work_of D.files evaluation.now store.old) }
     requires position { IsPosition evaluation.now.space.now first.now }
-    requires tail { IsTailAt (setting_in (workspace evaluation.now words.old cache.old (D.files disk.old))) tail.now (assignment_of numbers.now) }
-    requires block { IsBlockOf evaluation.now.space.now tail.now (part_of block.now) }
-    requires right { right_of evaluation.now.tree.now tail.now.node ≡ Some right.now }
-    requires joined { tail.now.sum ≡ Some sum }
-    requires few { cache.old.touches + 3 ≤ 2 ^ 100 }
-    requires first { slice_index first.now.numbers ≡ (turns_of (loops_of tail.now) (assignment_of numbers.now) (part_of block.now)).first }
-    requires sequence { IsLoopSequence (loops_of tail.now) sequence.old }
-    requires steps { AreSteps (workspace evaluation.now words.old cache.old (D.files disk.old)).places tail.now windows.old }
-    ensures changed { OnOk result (let w = workspace evaluation.now words.old cache.old (D.files disk.old) in
-        IsChanged (after_part (setting_in w) tail.now (assignment_of numbers.now) (part_of block.now)) 3 w (workspace evaluation.now words.new cache.new (D.files disk.new))) }
-    ensures kept { IsKept (workspace evaluation.now words.old cache.old (D.files disk.old)) (workspace evaluation.now words.new cache.new (D.files disk.new)) }
-    ensures sequence { OnOk result (IsLoopSequence (loops_of tail.now) sequence.new) }
-    ensures steps { OnOk result (AreSteps (workspace evaluation.now words.new cache.new (D.files disk.new)).places tail.now windows.new) }
-    ensures cause { HasCause (D.faults disk.old) (D.faults disk.new) (IsErr result) }
-    ensures told { TellsFaults (D.faults disk.old) (D.faults disk.new) (IsErr result) }
+    requires tail { IsInTail D.files evaluation.now store.old at.now }
+    requires block { IsBlockOf evaluation.now.space.now at.now.tail.now (part_in at.now) }
+    requires right { right_of evaluation.now.tree.now at.now.tail.now.node
+        ≡ Some pairing.now.right.now }
+    requires joined { at.now.tail.now.sum ≡ Some pairing.now.out }
+    requires few { store.old.cache.now.touches + 3 ≤ 2 ^ 100 }
+    requires first { numbers_of first.now ≡ first_in at.now }
+    requires nest { IsNest (places_of evaluation.now) at.now.tail.now nest.old }
+    ensures changed { OnOk result (Changes (after_block D.files evaluation.now store.old at.now) 3
+        D.files evaluation.now store.old store.new) }
+    ensures kept { Keeps D.files evaluation.now store.old store.new }
+    ensures nest { OnOk result (IsNest (places_of evaluation.now) at.now.tail.now nest.new) }
+    ensures same { IsSame store.old store.new }
+    ensures cause { FailsByDisk D.faults store.old store.new (IsErr result) }
+    ensures told { TellsOfDisk D.faults store.old store.new (IsErr result) }
 {
     let _indexes = evaluation.space.index_count();
     let _nodes = evaluation.tree.count();
-    pair_windows(
-        evaluation, words, cache, disk, tail.node, right, sum, first, windows,
-    )?;
-    node_window(evaluation, words, tail.node, first, &mut windows.own);
+    let node = at.tail.node;
+    pair_windows(evaluation, store, node, pairing, first, &mut nest.windows)?;
+    node_window(evaluation, store.words, node, first, &mut nest.windows.own);
     // All words are below 2^64, before and after the products are put.
-    let _len = words.len();
+    let _len = store.words.len();
+    let windows = &nest.windows;
     compute_turns(
-        words,
+        store.words,
         Operation::Multiply,
-        sequence,
-        tail,
-        block,
+        &mut nest.sequence,
+        at,
         &windows.own,
-        &windows.left,
-        &windows.right,
+        windows,
     );
-    let _later = words.len();
-    grow_turns_by_products(
-        words,
-        sequence,
-        tail,
-        block,
-        &windows.out,
-        &windows.left,
-        &windows.right,
-    );
+    let _later = store.words.len();
+    grow_turns_by_products(store.words, &mut nest.sequence, at, &nest.windows);
     Ok(())
 }
 
-/// Runs one block of a tail, with at most three touches. What the windows were before does not matter.
+/// Runs one block of a tail, with at most three touches. Where the windows began before does not matter.
 pub(crate) fn run_block<D: Disk>(
     evaluation: &Evaluation,
-    words: &mut Words,
-    cache: &mut Cache,
-    disk: &mut D,
-    tail: &Tail,
-    numbers: &Numbers,
-    block: &Block,
+    store: &mut Storage<'_, D>,
+    at: &TailBlock,
     first: &mut Position,
-    sequence: &mut LoopSequence,
-    windows: &mut Windows,
+    nest: &mut Nest,
 ) -> Result<(), Failed>
-    requires prepared { IsPrepared (workspace evaluation.now words.old cache.old (D.files disk.old)) }
+    requires prepared { IsPrepared (work_of D.files evaluation.now store.old) }
     requires position { IsPosition evaluation.now.space.now first.old }
-    requires tail { IsTailAt (setting_in (workspace evaluation.now words.old cache.old (D.files disk.old))) tail.now (assignment_of numbers.now) }
-    requires block { IsBlockOf evaluation.now.space.now tail.now (part_of block.now) }
-    requires few { cache.old.touches + 3 ≤ 2 ^ 100 }
-    requires others { AreOutside (loops_of tail.now) (assignment_of numbers.now) (slice_index first.old.numbers) }
-    requires sequence { IsLoopSequence (loops_of tail.now) sequence.old }
-    requires steps { AreSteps (workspace evaluation.now words.old cache.old (D.files disk.old)).places tail.now windows.old }
-    ensures changed { OnOk result (let w = workspace evaluation.now words.old cache.old (D.files disk.old) in
-        IsChanged (after_part (setting_in w) tail.now (assignment_of numbers.now) (part_of block.now)) 3 w (workspace evaluation.now words.new cache.new (D.files disk.new))) }
-    ensures kept { IsKept (workspace evaluation.now words.old cache.old (D.files disk.old)) (workspace evaluation.now words.new cache.new (D.files disk.new)) }
-    ensures sequence { OnOk result (IsLoopSequence (loops_of tail.now) sequence.new) }
-    ensures steps { OnOk result (AreSteps (workspace evaluation.now words.new cache.new (D.files disk.new)).places tail.now windows.new) }
-    ensures others { AreOutside (loops_of tail.now) (assignment_of numbers.now) (slice_index first.new.numbers) }
+    requires tail { IsInTail D.files evaluation.now store.old at.now }
+    requires block { IsBlockOf evaluation.now.space.now at.now.tail.now (part_in at.now) }
+    requires few { store.old.cache.now.touches + 3 ≤ 2 ^ 100 }
+    requires others { KeepsAround at.now (numbers_of first.old) }
+    requires nest { IsNest (places_of evaluation.now) at.now.tail.now nest.old }
+    ensures changed { OnOk result (Changes (after_block D.files evaluation.now store.old at.now) 3
+        D.files evaluation.now store.old store.new) }
+    ensures kept { Keeps D.files evaluation.now store.old store.new }
+    ensures nest { OnOk result (IsNest (places_of evaluation.now) at.now.tail.now nest.new) }
+    ensures others { KeepsAround at.now (numbers_of first.new) }
     ensures position { IsPosition evaluation.now.space.now first.new }
-    ensures cause { HasCause (D.faults disk.old) (D.faults disk.new) (IsErr result) }
-    ensures told { TellsFaults (D.faults disk.old) (D.faults disk.new) (IsErr result) }
+    ensures same { IsSame store.old store.new }
+    ensures cause { FailsByDisk D.faults store.old store.new (IsErr result) }
+    ensures told { TellsOfDisk D.faults store.old store.new (IsErr result) }
 {
     let _indexes = evaluation.space.index_count();
     let _nodes = evaluation.tree.count();
-    begin_block(evaluation.space, first, tail, block);
-    let Some(right) = evaluation.tree.right(tail.node) else {
-        return run_sum(
-            evaluation, words, cache, disk, tail, numbers, block, first, sequence, windows,
-        );
+    begin_block(evaluation.space, first, at.tail, at.block);
+    let Some(right) = evaluation.tree.right(at.tail.node) else {
+        return run_sum(evaluation, store, at, first, nest);
     };
-    match tail.sum {
-        None => run_pair(
-            evaluation, words, cache, disk, tail, right, numbers, block, first, sequence, windows,
-        ),
-        Some(sum) => run_joined(
-            evaluation, words, cache, disk, tail, right, sum, numbers, block, first, sequence,
-            windows,
-        ),
+    match at.tail.sum {
+        None => run_pair(evaluation, store, at, right, first, nest),
+        Some(sum) => {
+            let pairing = Pairing { right, out: sum };
+            run_joined(evaluation, store, at, &pairing, first, nest)
+        }
     }
 }

@@ -1,5 +1,6 @@
 //! Runs loop code over the words of a run, tiles in frames, and a disk.
 //!
+//! A run is an evaluation, which says what is evaluated, over a storage, which lends the words, the cache and the disk.
 //! The loops of a tail are cut at the edges of their indexes. For each block the tiles of its operands and of its result
 //! are touched, at most three, and then the loops of the block run over their words, which stay where they are meanwhile.
 //! `specs/Windows.antt` says where these words stand, and `specs/Blocks.antt` what the blocks of a tail are.

@@ -20,15 +20,21 @@ use tce_walk::Tail;
 use tce_windows::LoopSequence;
 use tce_workspace::Evaluation;
 
-/// How the loops of a tail are cut, in which sequence they run, and the steps of its windows.
+/// In which sequence the loops of a tail run in a block, and the windows of its operands and places.
+#[derive(Drop)]
+pub(crate) struct Nest {
+    pub windows: Windows,
+    pub sequence: LoopSequence,
+}
+
+/// How the loops of a tail are cut, and the nest that runs each block.
 #[derive(Drop)]
 pub(crate) struct Plan {
     // Whether the plan is that of its tail.
     pub made: bool,
     pub tail: Tail,
     pub cuts: ArrayVec<Cut, MAX_LOOPS>,
-    pub windows: Windows,
-    pub sequence: LoopSequence,
+    pub nest: Nest,
 }
 
 // The same loops in a list of their own.
@@ -58,25 +64,27 @@ impl Plan {
                 sum: None,
             },
             cuts: ArrayVec::new(),
-            windows,
-            sequence,
+            nest: Nest { windows, sequence },
         }
     }
 
     /// Becomes the plan of a tail, where it is that of another one.
     pub(crate) fn turn_to(&mut self, evaluation: &Evaluation, cache: &Cache, tail: &Tail)
         requires before { IsTrue self.old.made → IsPlan (places_of evaluation.now) self.old }
-        requires steps { CanStep (places_of evaluation.now) evaluation.now.result.now.tensor cache.now tail.now }
-        requires declared { All (λ i. i < length evaluation.now.space.now.indexes) (loops_of tail.now) }
-        requires loops { AreLoops (loops_of tail.now) (map (edge_at evaluation.now.space.now) (loops_of tail.now)) }
+        requires steps { CanStep (places_of evaluation.now)
+            evaluation.now.result.now.tensor cache.now tail.now }
+        requires declared { All (λ i. i < length evaluation.now.space.now.indexes)
+            (loops_of tail.now) }
+        requires loops { AreLoops (loops_of tail.now)
+            (map (edge_at evaluation.now.space.now) (loops_of tail.now)) }
         ensures { IsPlanFor (places_of evaluation.now) tail.now self.new }
     {
         if self.made && self.tail == *tail {
             return;
         }
         self.cuts = cuts_of(evaluation.space, tail.loops.0.as_slice());
-        set_steps(evaluation, cache, tail, &mut self.windows);
-        self.sequence = sequence_of(tail, &self.cuts, &self.windows);
+        set_steps(evaluation, cache, tail, &mut self.nest.windows);
+        self.nest.sequence = sequence_of(tail, &self.cuts, &self.nest.windows);
         self.tail = Tail {
             loops: LoopOrder(copied(tail.loops.0.as_slice())),
             node: tail.node,

@@ -106,7 +106,8 @@ impl Position {
         requires position { IsPosition space.now self.old }
         requires known { All (λ i. i < max_indexes) loops.now }
         requires each { length from.now ≡ length loops.now }
-        ensures numbers { slice_index self.new.numbers ≡ (λ i. if among loops.now i then assignment loops.now from.now i else slice_index self.old.numbers i) }
+        ensures numbers { slice_index self.new.numbers
+            ≡ (λ i. if among loops.now i then assignment loops.now from.now i else slice_index self.old.numbers i) }
         ensures position { IsPosition space.now self.new }
     {
         for d in (0..loops.len()).rev() {
@@ -119,8 +120,10 @@ impl Position {
         requires position { IsPosition _space.now self.now }
         requires known { All (λ i. i < max_indexes) indexes.now }
         requires tiling { IsTiling (shape_over _space.now indexes.now) }
-        requires inside { IsInside (shape_over _space.now indexes.now).extents (map (slice_index self.now.numbers) indexes.now) }
-        ensures { IsElementAt (shape_over _space.now indexes.now) (map (slice_index self.now.numbers) indexes.now) result.tile result.place }
+        requires inside { IsInside (shape_over _space.now indexes.now).extents
+            (map (slice_index self.now.numbers) indexes.now) }
+        ensures { IsElementAt (shape_over _space.now indexes.now)
+            (map (slice_index self.now.numbers) indexes.now) result.tile result.place }
     {
         let mut tile = 0;
         let mut place = 0;

@@ -9,9 +9,9 @@ ghost use Rattle.tce_code.specs.Plan.{plan_of};
 ghost use Rattle.tce_code.specs.Program.{program_of};
 ghost use Rattle.tce_walk.specs.Touches.{touch_bound};
 ghost use Rattle.tce_walk.specs.Run.{IsCodeOf};
-ghost use Rattle.tce_workspace.specs.Workspace.{workspace};
 ghost use Rattle.tce_workspace.specs.Prepared.{IsPrepared};
 ghost use Rattle.tce_workspace.specs.Steps.{IsKept};
+ghost use Rattle.tce_workspace.specs.Storages.{work_of, Keeps, FailsByDisk, TellsOfDisk};
 ghost use Rattle.tce_exec.specs.Evaluations.{places_of};
 ghost use Rattle.tce_exec.specs.Plans.{AreKept};
 ghost use Rattle.tce_exec.specs.Run.{workspace_of, IsZero, IsRun};
@@ -26,26 +26,27 @@ use tce_space::Space;
 use tce_tree::{Fusion, Leaf, Orders, Tree};
 use tce_walk::run_program;
 use tce_words::Words;
-use tce_workspace::Evaluation;
+use tce_workspace::{Evaluation, Storage};
 
 // Runs the code of its tree on a runner.
 fn run_on<D: Disk>(runner: &mut Runner<'_, D>, code: &Code) -> Result<(), Failed>
-    requires code { IsCodeOf runner.old.evaluation.tree.now runner.old.evaluation.fusion.now.0.items code.now }
-    requires prepared { IsPrepared (workspace runner.old.evaluation runner.old.words.now runner.old.cache.now (D.files runner.old.disk.now)) }
+    requires code { IsCodeOf runner.old.evaluation.tree.now
+        runner.old.evaluation.fusion.now.0.items code.now }
+    requires prepared { IsPrepared (work_of D.files runner.old.evaluation runner.old.store) }
     requires working { runner.old.failed ≡ false }
     requires right { AreKept (places_of runner.old.evaluation) runner.old.kept }
     requires distinct { IsTrue (is_distinct runner.old.evaluation.result.now.indexes.items) }
-    requires zero { IsZero (workspace runner.old.evaluation runner.old.words.now runner.old.cache.now (D.files runner.old.disk.now)) }
-    requires few { runner.old.cache.now.touches + touch_bound runner.old.evaluation.space.now runner.old.evaluation.tree.now (program_of code.now) ≤ 2 ^ 100 }
-    ensures run { OnOk result (IsRun (workspace runner.old.evaluation runner.old.words.now runner.old.cache.now (D.files runner.old.disk.now))
-        (workspace runner.old.evaluation runner.new.words.now runner.new.cache.now (D.files runner.new.disk.now)) code.now) }
-    ensures kept { IsKept (workspace runner.old.evaluation runner.old.words.now runner.old.cache.now (D.files runner.old.disk.now))
-        (workspace runner.old.evaluation runner.new.words.now runner.new.cache.now (D.files runner.new.disk.now)) }
-    ensures words { runner.new.words.ghost_name ≡ runner.old.words.ghost_name }
-    ensures cache { runner.new.cache.ghost_name ≡ runner.old.cache.ghost_name }
-    ensures disk { runner.new.disk.ghost_name ≡ runner.old.disk.ghost_name }
-    ensures cause { HasCause (D.faults runner.old.disk.now) (D.faults runner.new.disk.now) (IsErr result) }
-    ensures told { TellsFaults (D.faults runner.old.disk.now) (D.faults runner.new.disk.now) (IsErr result) }
+    requires zero { IsZero (work_of D.files runner.old.evaluation runner.old.store) }
+    requires few { runner.old.store.cache.now.touches
+        + touch_bound runner.old.evaluation.space.now runner.old.evaluation.tree.now (program_of code.now) ≤ 2 ^ 100 }
+    ensures run { OnOk result (IsRun (work_of D.files runner.old.evaluation runner.old.store)
+        (work_of D.files runner.old.evaluation runner.new.store) code.now) }
+    ensures kept { Keeps D.files runner.old.evaluation runner.old.store runner.new.store }
+    ensures words { runner.new.store.words.ghost_name ≡ runner.old.store.words.ghost_name }
+    ensures cache { runner.new.store.cache.ghost_name ≡ runner.old.store.cache.ghost_name }
+    ensures disk { runner.new.store.disk.ghost_name ≡ runner.old.store.disk.ghost_name }
+    ensures cause { FailsByDisk D.faults runner.old.store runner.new.store (IsErr result) }
+    ensures told { TellsOfDisk D.faults runner.old.store runner.new.store (IsErr result) }
 {
     let evaluation = runner.evaluation;
     let _nodes = evaluation.tree.count();
@@ -71,14 +72,20 @@ pub fn run_code<D: Disk>(
     disk: &mut D,
 ) -> Result<(), Failed>
     requires orders { OrdersFit tree.now (lists_of orders.now.0.items) }
-    requires code { IsCodeFor tree.now (plan_of fusion.now.0.items (lists_of orders.now.0.items)) code.now }
-    requires prepared { IsPrepared (workspace_of space.now tree.now fusion.now.0.items layout.now.0.items output.now words.old cache.old (D.files disk.old)) }
+    requires code { IsCodeFor tree.now
+        (plan_of fusion.now.0.items (lists_of orders.now.0.items)) code.now }
+    requires prepared { IsPrepared (workspace_of space.now tree.now
+        fusion.now.0.items layout.now.0.items output.now words.old cache.old (D.files disk.old)) }
     requires distinct { IsTrue (is_distinct output.now.indexes.items) }
-    requires zero { IsZero (workspace_of space.now tree.now fusion.now.0.items layout.now.0.items output.now words.old cache.old (D.files disk.old)) }
-    requires few { cache.old.touches + touch_bound space.now tree.now (program_of code.now) ≤ 2 ^ 100 }
-    ensures run { OnOk result (IsRun (workspace_of space.now tree.now fusion.now.0.items layout.now.0.items output.now words.old cache.old (D.files disk.old))
+    requires zero { IsZero (workspace_of space.now tree.now
+        fusion.now.0.items layout.now.0.items output.now words.old cache.old (D.files disk.old)) }
+    requires few { cache.old.touches
+        + touch_bound space.now tree.now (program_of code.now) ≤ 2 ^ 100 }
+    ensures run { OnOk result (IsRun (workspace_of space.now tree.now
+        fusion.now.0.items layout.now.0.items output.now words.old cache.old (D.files disk.old))
         (workspace_of space.now tree.now fusion.now.0.items layout.now.0.items output.now words.new cache.new (D.files disk.new)) code.now) }
-    ensures kept { IsKept (workspace_of space.now tree.now fusion.now.0.items layout.now.0.items output.now words.old cache.old (D.files disk.old))
+    ensures kept { IsKept (workspace_of space.now tree.now
+        fusion.now.0.items layout.now.0.items output.now words.old cache.old (D.files disk.old))
         (workspace_of space.now tree.now fusion.now.0.items layout.now.0.items output.now words.new cache.new (D.files disk.new)) }
     ensures cause { HasCause (D.faults disk.old) (D.faults disk.new) (IsErr result) }
     ensures told { TellsFaults (D.faults disk.old) (D.faults disk.new) (IsErr result) }
@@ -92,18 +99,18 @@ pub fn run_code<D: Disk>(
     };
     let mut runner = Runner {
         evaluation,
-        words,
-        cache,
-        disk,
+        store: Storage { words, cache, disk },
         kept: Kept::new(space),
         failed: false,
     };
     let answer = run_on(&mut runner, code);
     let Runner {
         evaluation: _,
-        words: _,
-        cache: _,
-        disk: _,
+        store: Storage {
+            words: _,
+            cache: _,
+            disk: _,
+        },
         kept: _,
         failed: _,
     } = runner;

@@ -2,11 +2,10 @@
 ghost use Rattle.std.specs.Prelude.{◌≡◌, ◌+◌, ◌<◌, All};
 ghost use Rattle.tce_space.specs.Limits.{max_indexes};
 ghost use Rattle.tce_tree.specs.ContractionTree.{operations};
-ghost use Rattle.tce_layout.specs.Layout.{IsLayout, slot_at};
 ghost use Rattle.tce_operands.specs.Laws.{HasShape};
-ghost use Rattle.tce_workspace.specs.Workspace.{shape_over};
+ghost use Rattle.tce_workspace.specs.Evaluations.{IsLaid, slot_of};
 ghost use Rattle.tce_exec.specs.Windows.{AreTensorSteps, AreOperandSteps, ArePlaceSteps, AreSteps, HasSteps, CanStep};
-ghost use Rattle.tce_exec.specs.Evaluations.{places_of};
+ghost use Rattle.tce_exec.specs.Evaluations.{places_of, shape_of};
 
 use crate::tile_steps;
 use tce_cache::Cache;
@@ -45,8 +44,9 @@ impl Windows {
 // Gives a window the steps of a tensor's tiles.
 fn set_leaf_steps(evaluation: &Evaluation, cache: &Cache, leaf: &Leaf, window: &mut Window)
     requires known { All (λ i. i < max_indexes) leaf.now.indexes.items }
-    requires stored { HasShape cache.now leaf.now.tensor (shape_over evaluation.now.space.now leaf.now.indexes.items) }
-    ensures { AreTensorSteps (shape_over evaluation.now.space.now leaf.now.indexes.items) leaf.now.indexes.items window.new.steps }
+    requires stored { HasShape cache.now leaf.now.tensor (shape_of evaluation.now leaf.now) }
+    ensures { AreTensorSteps (shape_of evaluation.now leaf.now)
+        leaf.now.indexes.items window.new.steps }
 {
     let shape = &cache.array(leaf.tensor).shape;
     window.steps = tile_steps(shape, leaf.indexes.as_slice());
@@ -54,9 +54,9 @@ fn set_leaf_steps(evaluation: &Evaluation, cache: &Cache, leaf: &Leaf, window: &
 
 // Gives a window the steps of an inner node's slot.
 fn set_node_steps(evaluation: &Evaluation, v: u8, window: &mut Window)
-    requires laid { IsLayout evaluation.now.space.now evaluation.now.tree.now evaluation.now.fusion.now.0.items evaluation.now.layout.now.0.items }
+    requires laid { IsLaid evaluation.now }
     requires inner { v + 1 < operations evaluation.now.tree.now }
-    ensures { window.new.steps ≡ (slot_at evaluation.now.layout.now.0.items v).steps }
+    ensures { window.new.steps ≡ (slot_of evaluation.now v).steps }
 {
     let slot = &evaluation.layout.0[v as usize];
     window.steps = slot.steps;
@@ -64,7 +64,7 @@ fn set_node_steps(evaluation: &Evaluation, v: u8, window: &mut Window)
 
 // Gives a window the steps of an operand.
 fn set_operand_steps(evaluation: &Evaluation, cache: &Cache, operand: &Operand, window: &mut Window)
-    requires laid { IsLayout evaluation.now.space.now evaluation.now.tree.now evaluation.now.fusion.now.0.items evaluation.now.layout.now.0.items }
+    requires laid { IsLaid evaluation.now }
     requires known { HasSteps (places_of evaluation.now) cache.now operand.now }
     ensures { AreOperandSteps (places_of evaluation.now) operand.now window.new.steps }
 {
@@ -77,10 +77,11 @@ fn set_operand_steps(evaluation: &Evaluation, cache: &Cache, operand: &Operand, 
 
 // Gives a window the steps of a node's places.
 fn set_place_steps(evaluation: &Evaluation, cache: &Cache, v: u8, window: &mut Window)
-    requires laid { IsLayout evaluation.now.space.now evaluation.now.tree.now evaluation.now.fusion.now.0.items evaluation.now.layout.now.0.items }
+    requires laid { IsLaid evaluation.now }
     requires node { v < operations evaluation.now.tree.now }
     requires known { All (λ i. i < max_indexes) evaluation.now.result.now.indexes.items }
-    requires stored { HasShape cache.now evaluation.now.result.now.tensor (shape_over evaluation.now.space.now evaluation.now.result.now.indexes.items) }
+    requires stored { HasShape cache.now evaluation.now.result.now.tensor
+        (shape_of evaluation.now evaluation.now.result.now) }
     ensures { ArePlaceSteps (places_of evaluation.now) v window.new.steps }
 {
     let count = evaluation.tree.count();
@@ -93,7 +94,8 @@ fn set_place_steps(evaluation: &Evaluation, cache: &Cache, v: u8, window: &mut W
 
 /// Gives the windows the steps of a tail's operands and places. Where they begin, each block says.
 pub(crate) fn set_steps(evaluation: &Evaluation, cache: &Cache, tail: &Tail, windows: &mut Windows)
-    requires { CanStep (places_of evaluation.now) evaluation.now.result.now.tensor cache.now tail.now }
+    requires { CanStep (places_of evaluation.now)
+        evaluation.now.result.now.tensor cache.now tail.now }
     ensures { AreSteps (places_of evaluation.now) tail.now windows.new }
 {
     let node = tail.node;

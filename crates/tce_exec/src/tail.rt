@@ -1,71 +1,62 @@
 // Whole tails.
 ghost use Rattle.std.specs.Prelude.{◌≡◌, ◌+◌, ◌≤◌, ◌^◌, slice_index, OnOk, IsErr};
-ghost use Rattle.tce_outside.specs.Fault.{HasCause, TellsFaults};
-ghost use Rattle.tce_code.specs.Execution.{exec};
-ghost use Rattle.tce_walk.specs.Machine.{assignment_of, tail_program, touches_of_tail, IsTailAt};
-ghost use Rattle.tce_workspace.specs.Workspace.{workspace, setting_in};
+ghost use Rattle.tce_walk.specs.Machine.{assignment_of, touches_of_tail, IsTailAt};
 ghost use Rattle.tce_workspace.specs.Prepared.{IsPrepared};
-ghost use Rattle.tce_workspace.specs.Steps.{IsKept, IsChanged};
+ghost use Rattle.tce_workspace.specs.Storages.{work_of, setting_of, IsSame, Keeps, Changes, FailsByDisk, TellsOfDisk};
 ghost use Rattle.tce_exec.specs.Evaluations.{places_of};
 ghost use Rattle.tce_exec.specs.Positions.{IsPosition};
 ghost use Rattle.tce_exec.specs.Plans.{IsPlanFor, AreKept};
+ghost use Rattle.tce_exec.specs.TailBlocks.{after_tail};
 
 use crate::block::run_block;
 use crate::plan::{Kept, Plan};
 use crate::position::Position;
+use crate::turns::TailBlock;
 use tce_block::{Block, Blocks};
-use tce_cache::Cache;
 use tce_outside::{Disk, Failed};
 use tce_space::Numbers;
 use tce_walk::Tail;
-use tce_words::Words;
-use tce_workspace::Evaluation;
+use tce_workspace::{Evaluation, Storage};
 
 // Runs the blocks of a tail, from the numbers of the loops round it on.
 fn run_blocks<D: Disk>(
     evaluation: &Evaluation,
-    words: &mut Words,
-    cache: &mut Cache,
-    disk: &mut D,
+    store: &mut Storage<'_, D>,
     tail: &Tail,
     numbers: &Numbers,
     first: &mut Position,
     plan: &mut Plan,
 ) -> Result<(), Failed>
-    requires prepared { IsPrepared (workspace evaluation.now words.old cache.old (D.files disk.old)) }
-    requires tail { IsTailAt (setting_in (workspace evaluation.now words.old cache.old (D.files disk.old))) tail.now (assignment_of numbers.now) }
-    requires few { cache.old.touches + touches_of_tail evaluation.now.space.now tail.now ≤ 2 ^ 100 }
+    requires prepared { IsPrepared (work_of D.files evaluation.now store.old) }
+    requires tail { IsTailAt (setting_of D.files evaluation.now store.old)
+        tail.now (assignment_of numbers.now) }
+    requires few { store.old.cache.now.touches
+        + touches_of_tail evaluation.now.space.now tail.now ≤ 2 ^ 100 }
     requires position { IsPosition evaluation.now.space.now first.old }
     requires outside { slice_index first.old.numbers ≡ slice_index numbers.now }
     requires plan { IsPlanFor (places_of evaluation.now) tail.now plan.old }
-    ensures changed { OnOk result (let w = workspace evaluation.now words.old cache.old (D.files disk.old) in
-        IsChanged (λ state. exec (setting_in w) (tail_program evaluation.now.tree.now tail.now) state (assignment_of numbers.now)) (touches_of_tail evaluation.now.space.now tail.now)
-        w (workspace evaluation.now words.new cache.new (D.files disk.new))) }
-    ensures kept { IsKept (workspace evaluation.now words.old cache.old (D.files disk.old)) (workspace evaluation.now words.new cache.new (D.files disk.new)) }
+    ensures changed { OnOk result (Changes
+        (after_tail D.files evaluation.now store.old tail.now numbers.now) (touches_of_tail evaluation.now.space.now tail.now) D.files evaluation.now store.old store.new) }
+    ensures kept { Keeps D.files evaluation.now store.old store.new }
     ensures position { OnOk result (IsPosition evaluation.now.space.now first.new) }
     ensures plan { OnOk result (IsPlanFor (places_of evaluation.now) tail.now plan.new) }
-    ensures cause { HasCause (D.faults disk.old) (D.faults disk.new) (IsErr result) }
-    ensures told { TellsFaults (D.faults disk.old) (D.faults disk.new) (IsErr result) }
+    ensures same { IsSame store.old store.new }
+    ensures cause { FailsByDisk D.faults store.old store.new (IsErr result) }
+    ensures told { TellsOfDisk D.faults store.old store.new (IsErr result) }
 {
     // The limits of spaces, trees and words.
     let _indexes = evaluation.space.index_count();
     let _nodes = evaluation.tree.count();
-    let _len = words.len();
+    let _len = store.words.len();
     let mut blocks = Blocks::new(&plan.cuts);
     let mut block = Block::default();
     while blocks.next_in(&mut block) {
-        run_block(
-            evaluation,
-            words,
-            cache,
-            disk,
+        let at = TailBlock {
             tail,
             numbers,
-            &block,
-            first,
-            &mut plan.sequence,
-            &mut plan.windows,
-        )?;
+            block: &block,
+        };
+        run_block(evaluation, store, &at, first, &mut plan.nest)?;
     }
     Ok(())
 }
@@ -75,39 +66,30 @@ fn run_blocks<D: Disk>(
 /// The blocks are those into which the edges of the loops' ranges cut them.
 pub(crate) fn run_tail<D: Disk>(
     evaluation: &Evaluation,
-    words: &mut Words,
-    cache: &mut Cache,
-    disk: &mut D,
+    store: &mut Storage<'_, D>,
     tail: &Tail,
     numbers: &Numbers,
     kept: &mut Kept,
 ) -> Result<(), Failed>
-    requires prepared { IsPrepared (workspace evaluation.now words.old cache.old (D.files disk.old)) }
-    requires tail { IsTailAt (setting_in (workspace evaluation.now words.old cache.old (D.files disk.old))) tail.now (assignment_of numbers.now) }
-    requires few { cache.old.touches + touches_of_tail evaluation.now.space.now tail.now ≤ 2 ^ 100 }
+    requires prepared { IsPrepared (work_of D.files evaluation.now store.old) }
+    requires tail { IsTailAt (setting_of D.files evaluation.now store.old)
+        tail.now (assignment_of numbers.now) }
+    requires few { store.old.cache.now.touches
+        + touches_of_tail evaluation.now.space.now tail.now ≤ 2 ^ 100 }
     requires right { AreKept (places_of evaluation.now) kept.old }
-    ensures changed { OnOk result (let w = workspace evaluation.now words.old cache.old (D.files disk.old) in
-        IsChanged (λ state. exec (setting_in w) (tail_program evaluation.now.tree.now tail.now) state (assignment_of numbers.now)) (touches_of_tail evaluation.now.space.now tail.now)
-        w (workspace evaluation.now words.new cache.new (D.files disk.new))) }
-    ensures kept { IsKept (workspace evaluation.now words.old cache.old (D.files disk.old)) (workspace evaluation.now words.new cache.new (D.files disk.new)) }
+    ensures changed { OnOk result (Changes
+        (after_tail D.files evaluation.now store.old tail.now numbers.now) (touches_of_tail evaluation.now.space.now tail.now) D.files evaluation.now store.old store.new) }
+    ensures kept { Keeps D.files evaluation.now store.old store.new }
     ensures right { OnOk result (AreKept (places_of evaluation.now) kept.new) }
-    ensures cause { HasCause (D.faults disk.old) (D.faults disk.new) (IsErr result) }
-    ensures told { TellsFaults (D.faults disk.old) (D.faults disk.new) (IsErr result) }
+    ensures same { IsSame store.old store.new }
+    ensures cause { FailsByDisk D.faults store.old store.new (IsErr result) }
+    ensures told { TellsOfDisk D.faults store.old store.new (IsErr result) }
 {
     let _indexes = evaluation.space.index_count();
     let _nodes = evaluation.tree.count();
     let plan = &mut kept.plans[(tail.node % 8) as usize];
-    plan.turn_to(evaluation, cache, tail);
+    plan.turn_to(evaluation, store.cache, tail);
     kept.position.go_to(evaluation.space, numbers);
-    run_blocks(
-        evaluation,
-        words,
-        cache,
-        disk,
-        tail,
-        numbers,
-        &mut kept.position,
-        plan,
-    )?;
+    run_blocks(evaluation, store, tail, numbers, &mut kept.position, plan)?;
     Ok(())
 }

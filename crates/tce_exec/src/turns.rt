@@ -7,50 +7,61 @@ ghost use Rattle.tce_windows.specs.Sequences.{IsLoopSequence};
 ghost use Rattle.tce_windows.specs.Turns.{turns_of};
 ghost use Rattle.tce_exec.specs.Blocks.{loops_of, IsWithin, HaveNone};
 ghost use Rattle.tce_exec.specs.Positions.{IsPosition};
+ghost use Rattle.tce_exec.specs.TailBlocks.{part_in};
 
 use crate::position::Position;
+use crate::steps::Windows;
 use tce_block::Block;
-use tce_space::Space;
+use tce_space::{Numbers, Space};
 use tce_strides::Operation;
 use tce_walk::Tail;
 use tce_windows::{LoopSequence, Window, compute, grow, grow_by_products};
 use tce_words::Words;
+
+/// One block of a tail, at the numbers of the loops round it.
+#[derive(Clone, Copy)]
+pub(crate) struct TailBlock<'a> {
+    pub tail: &'a Tail,
+    pub numbers: &'a Numbers,
+    pub block: &'a Block,
+}
 
 /// Gives the loops their numbers at the first turn of a block, among those of all indexes.
 pub(crate) fn begin_block(space: &Space, first: &mut Position, tail: &Tail, block: &Block)
     requires position { IsPosition space.now first.old }
     requires loops { AreLoops (loops_of tail.now) (part_of block.now).len }
     requires each { length (part_of block.now).from ≡ length (loops_of tail.now) }
-    ensures numbers { slice_index first.new.numbers ≡ (turns_of (loops_of tail.now) (slice_index first.old.numbers) (part_of block.now)).first }
+    ensures numbers { slice_index first.new.numbers
+        ≡ (turns_of (loops_of tail.now) (slice_index first.old.numbers) (part_of block.now)).first }
     ensures position { IsPosition space.now first.new }
 {
     first.begin(space, tail.loops.0.as_slice(), block.from.as_slice());
 }
 
-/// Adds the operand's words to the result's.
+/// Adds the left words to the result's.
 pub(crate) fn grow_turns(
     words: &mut Words,
     sequence: &mut LoopSequence,
-    tail: &Tail,
-    block: &Block,
-    out: &Window,
-    operand: &Window,
+    at: &TailBlock,
+    windows: &Windows,
 )
-    requires loops { AreLoops (loops_of tail.now) (part_of block.now).len }
-    requires sequence { IsLoopSequence (loops_of tail.now) sequence.old }
-    requires out { IsWithin (length words.old) tail.now (part_of block.now) out.now }
-    requires operand { IsWithin (length words.old) tail.now (part_of block.now) operand.now }
-    requires apart { HaveNone tail.now (part_of block.now) out.now operand.now }
-    ensures sequence { IsLoopSequence (loops_of tail.now) sequence.new }
-    ensures made { AreMade (loops_of tail.now) (part_of block.now).len (λ inner. grown words.old (place_along operand.now inner)) out.now words.old words.new }
+    requires loops { AreLoops (loops_of at.now.tail.now) (part_in at.now).len }
+    requires sequence { IsLoopSequence (loops_of at.now.tail.now) sequence.old }
+    requires out { IsWithin (length words.old) at.now.tail.now (part_in at.now) windows.now.out }
+    requires operand { IsWithin (length words.old) at.now.tail.now
+        (part_in at.now) windows.now.left }
+    requires apart { HaveNone at.now.tail.now (part_in at.now) windows.now.out windows.now.left }
+    ensures sequence { IsLoopSequence (loops_of at.now.tail.now) sequence.new }
+    ensures made { AreMade (loops_of at.now.tail.now) (part_in at.now).len
+        (λ inner. grown words.old (place_along windows.now.left inner)) windows.now.out words.old words.new }
 {
     grow(
         words,
         sequence,
-        tail.loops.0.as_slice(),
-        block.len.as_slice(),
-        out,
-        operand,
+        at.tail.loops.0.as_slice(),
+        at.block.len.as_slice(),
+        &windows.out,
+        &windows.left,
     );
 }
 
@@ -58,62 +69,68 @@ pub(crate) fn grow_turns(
 pub(crate) fn grow_turns_by_products(
     words: &mut Words,
     sequence: &mut LoopSequence,
-    tail: &Tail,
-    block: &Block,
-    out: &Window,
-    left: &Window,
-    right: &Window,
+    at: &TailBlock,
+    windows: &Windows,
 )
-    requires loops { AreLoops (loops_of tail.now) (part_of block.now).len }
-    requires sequence { IsLoopSequence (loops_of tail.now) sequence.old }
-    requires out { IsWithin (length words.old) tail.now (part_of block.now) out.now }
-    requires left { IsWithin (length words.old) tail.now (part_of block.now) left.now }
-    requires right { IsWithin (length words.old) tail.now (part_of block.now) right.now }
-    requires apart_from_left { HaveNone tail.now (part_of block.now) out.now left.now }
-    requires apart_from_right { HaveNone tail.now (part_of block.now) out.now right.now }
-    ensures sequence { IsLoopSequence (loops_of tail.now) sequence.new }
-    ensures made { AreMade (loops_of tail.now) (part_of block.now).len (λ inner. grown_by_products words.old (place_along left.now inner) (place_along right.now inner)) out.now words.old words.new }
+    requires loops { AreLoops (loops_of at.now.tail.now) (part_in at.now).len }
+    requires sequence { IsLoopSequence (loops_of at.now.tail.now) sequence.old }
+    requires out { IsWithin (length words.old) at.now.tail.now (part_in at.now) windows.now.out }
+    requires left { IsWithin (length words.old) at.now.tail.now
+        (part_in at.now) windows.now.left }
+    requires right { IsWithin (length words.old) at.now.tail.now
+        (part_in at.now) windows.now.right }
+    requires apart_from_left { HaveNone at.now.tail.now (part_in at.now)
+        windows.now.out windows.now.left }
+    requires apart_from_right { HaveNone at.now.tail.now (part_in at.now)
+        windows.now.out windows.now.right }
+    ensures sequence { IsLoopSequence (loops_of at.now.tail.now) sequence.new }
+    ensures made { AreMade (loops_of at.now.tail.now) (part_in at.now).len
+        (λ inner. grown_by_products words.old (place_along windows.now.left inner) (place_along windows.now.right inner))
+        windows.now.out words.old words.new }
 {
     grow_by_products(
         words,
         sequence,
-        tail.loops.0.as_slice(),
-        block.len.as_slice(),
-        out,
-        left,
-        right,
+        at.tail.loops.0.as_slice(),
+        at.block.len.as_slice(),
+        &windows.out,
+        &windows.left,
+        &windows.right,
     );
 }
 
-/// Puts what the operation makes of the operands' words.
+/// Puts what the operation makes of the operands' words into the words of `out`.
 pub(crate) fn compute_turns(
     words: &mut Words,
     operation: Operation,
     sequence: &mut LoopSequence,
-    tail: &Tail,
-    block: &Block,
+    at: &TailBlock,
     out: &Window,
-    left: &Window,
-    right: &Window,
+    windows: &Windows,
 )
-    requires loops { AreLoops (loops_of tail.now) (part_of block.now).len }
-    requires sequence { IsLoopSequence (loops_of tail.now) sequence.old }
-    requires out { IsWithin (length words.old) tail.now (part_of block.now) out.now }
-    requires left { IsWithin (length words.old) tail.now (part_of block.now) left.now }
-    requires right { IsWithin (length words.old) tail.now (part_of block.now) right.now }
-    requires apart_from_left { HaveNone tail.now (part_of block.now) out.now left.now }
-    requires apart_from_right { HaveNone tail.now (part_of block.now) out.now right.now }
-    ensures sequence { IsLoopSequence (loops_of tail.now) sequence.new }
-    ensures made { AreMade (loops_of tail.now) (part_of block.now).len (λ inner. computed operation words.old (place_along left.now inner) (place_along right.now inner)) out.now words.old words.new }
+    requires loops { AreLoops (loops_of at.now.tail.now) (part_in at.now).len }
+    requires sequence { IsLoopSequence (loops_of at.now.tail.now) sequence.old }
+    requires out { IsWithin (length words.old) at.now.tail.now (part_in at.now) out.now }
+    requires left { IsWithin (length words.old) at.now.tail.now
+        (part_in at.now) windows.now.left }
+    requires right { IsWithin (length words.old) at.now.tail.now
+        (part_in at.now) windows.now.right }
+    requires apart_from_left { HaveNone at.now.tail.now (part_in at.now) out.now windows.now.left }
+    requires apart_from_right { HaveNone at.now.tail.now (part_in at.now)
+        out.now windows.now.right }
+    ensures sequence { IsLoopSequence (loops_of at.now.tail.now) sequence.new }
+    ensures made { AreMade (loops_of at.now.tail.now) (part_in at.now).len
+        (λ inner. computed operation words.old (place_along windows.now.left inner) (place_along windows.now.right inner))
+        out.now words.old words.new }
 {
     compute(
         words,
         operation,
         sequence,
-        tail.loops.0.as_slice(),
-        block.len.as_slice(),
+        at.tail.loops.0.as_slice(),
+        at.block.len.as_slice(),
         out,
-        left,
-        right,
+        &windows.left,
+        &windows.right,
     );
 }

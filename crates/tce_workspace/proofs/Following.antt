@@ -8,6 +8,8 @@ use Rattle.tce_cache.specs.Touch.{with_held}
 use Rattle.tce_code.specs.Execution.{State}
 use Rattle.tce_workspace.specs.Workspace.{Workspace, state_in}
 use Rattle.tce_workspace.specs.Steps.{IsKept, IsContinued, IsRead, IsChanged}
+use Rattle.tce_workspace.specs.Storages.{IsSame}
+use Rattle.tce_workspace.specs.declared.storage.Storage.{Storage}
 use Rattle.tce_workspace.proofs.Workspaces.{touched_to}
 
 -- what is told before and after is told in between
@@ -99,3 +101,7 @@ changed_twice n m l f g x y z le k i j = record {
   few = omega (arith, le, i.few, j.few);
   continued = continued_on x y z k i.continued j.continued;
 }
+
+-- two calls lend the same
+pub same_on : {D : Type 0} (x y z : Storage D) → IsSame x y → IsSame y z → IsSame x z
+same_on x y z h k = (k.0 ∙ h.0, k.1 ∙ h.1, k.2 ∙ h.2)

@@ -3,4 +3,6 @@ pub mod Prepared
 pub mod Steps
 pub mod Elements
 pub mod Operands
+pub mod Evaluations
+pub mod Storages
 pub mod Laws

@@ -4,7 +4,8 @@ use Rattle.tce_block.specs.Cuts.{part_of}
 use Rattle.tce_block.specs.Parts.{Part}
 use Rattle.tce_walk.specs.Machine.{assignment_of}
 use Rattle.tce_windows.specs.declared.window.Window.{Window}
-use Rattle.tce_workspace.specs.Workspace.{Workspace, workspace}
+use Rattle.tce_workspace.specs.Workspace.{Workspace}
+use Rattle.tce_workspace.specs.Storages.{work_of}
 use Rattle.tce_exec.proofs.Turning.{IsAtBlock, block_loops}
 use Rattle.tce_exec.proofs.Asking.{node_at_first, sum_at_first, own_slot}
 use Rattle.tce_exec.proofs.Stepping.{joined_steps}
@@ -13,214 +14,217 @@ use Rattle.tce_exec.proofs.block.run_joined.Goals as goal
 
 pub pair_windows-requires-clause-node : goal.pair_windows-requires-clause-node
 pair_windows-requires-clause-node g c =
-    let x : Workspace = workspace c.args.evaluation.now c.args.words.now c.args.cache.now (g.D.Disk.files c.args.disk.now) in
-    let a : Assignment = assignment_of c.args.numbers.now in
-    let part : Part = part_of c.args.block.now in
-    let h : IsAtBlock x c.args.tail.now a part = record { space = c.index_count-indexes.ensures.limits; tree = c.count-nodes.ensures.kept; prepared = c.requires.prepared; tail_is = c.requires.tail; block = c.requires.block } in
-    node_at_first x c.args.tail.now a part (slice_index c.args.first.now.numbers) h c.requires.first
+    let x : Workspace = work_of g.D.Disk.files c.args.evaluation.now c.args.store.now in
+    let a : Assignment = assignment_of c.args.at.now.numbers.now in
+    let part : Part = part_of c.args.at.now.block.now in
+    let h : IsAtBlock x c.args.at.now.tail.now a part = record { space = c.index_count-indexes.ensures.limits; tree = c.count-nodes.ensures.kept; prepared = c.requires.prepared; tail_is = c.requires.tail; block = c.requires.block } in
+    node_at_first x c.args.at.now.tail.now a part (slice_index c.args.first.now.numbers) h c.requires.first
 
 pub pair_windows-requires-clause-place : goal.pair_windows-requires-clause-place
 pair_windows-requires-clause-place g c =
-    let x : Workspace = workspace c.args.evaluation.now c.args.words.now c.args.cache.now (g.D.Disk.files c.args.disk.now) in
-    let a : Assignment = assignment_of c.args.numbers.now in
-    let part : Part = part_of c.args.block.now in
-    let h : IsAtBlock x c.args.tail.now a part = record { space = c.index_count-indexes.ensures.limits; tree = c.count-nodes.ensures.kept; prepared = c.requires.prepared; tail_is = c.requires.tail; block = c.requires.block } in
-    sum_at_first x c.args.tail.now a part c.args.sum (slice_index c.args.first.now.numbers) h c.requires.joined c.requires.first
+    let x : Workspace = work_of g.D.Disk.files c.args.evaluation.now c.args.store.now in
+    let a : Assignment = assignment_of c.args.at.now.numbers.now in
+    let part : Part = part_of c.args.at.now.block.now in
+    let h : IsAtBlock x c.args.at.now.tail.now a part = record { space = c.index_count-indexes.ensures.limits; tree = c.count-nodes.ensures.kept; prepared = c.requires.prepared; tail_is = c.requires.tail; block = c.requires.block } in
+    sum_at_first x c.args.at.now.tail.now a part c.args.pairing.now.out (slice_index c.args.first.now.numbers) h c.requires.joined c.requires.first
 
 pub node_window-requires-clause-inner : goal.node_window-requires-clause-inner
 node_window-requires-clause-inner g c =
-    let x : Workspace = workspace c.args.evaluation.now c.args.words.now c.args.cache.now (g.D.Disk.files c.args.disk.now) in
-    let a : Assignment = assignment_of c.args.numbers.now in
-    let part : Part = part_of c.args.block.now in
-    let h : IsAtBlock x c.args.tail.now a part = record { space = c.index_count-indexes.ensures.limits; tree = c.count-nodes.ensures.kept; prepared = c.requires.prepared; tail_is = c.requires.tail; block = c.requires.block } in
-    own_slot x c.args.tail.now a part c.args.sum (slice_index c.args.first.now.numbers) h c.requires.joined c.requires.first
+    let x : Workspace = work_of g.D.Disk.files c.args.evaluation.now c.args.store.now in
+    let a : Assignment = assignment_of c.args.at.now.numbers.now in
+    let part : Part = part_of c.args.at.now.block.now in
+    let h : IsAtBlock x c.args.at.now.tail.now a part = record { space = c.index_count-indexes.ensures.limits; tree = c.count-nodes.ensures.kept; prepared = c.requires.prepared; tail_is = c.requires.tail; block = c.requires.block } in
+    own_slot x c.args.at.now.tail.now a part c.args.pairing.now.out (slice_index c.args.first.now.numbers) h c.requires.joined c.requires.first
 
 pub node_window-requires-clause-room : goal.node_window-requires-clause-room
 node_window-requires-clause-room g c =
-    let y : Workspace = workspace c.args.evaluation.now c.pair_windows.new.words c.pair_windows.new.cache (g.D.Disk.files c.pair_windows.new.disk) in
+    let y : Workspace = work_of g.D.Disk.files c.args.evaluation.now c.pair_windows.new.store in
     omega (arith, c.in_ok-pair_windows.ensures.read.prepared.before, c.in_ok-pair_windows.ensures.read.prepared.room)
 
 pub compute_turns-requires-clause-loops : goal.compute_turns-requires-clause-loops
 compute_turns-requires-clause-loops g c =
-    let x : Workspace = workspace c.args.evaluation.now c.args.words.now c.args.cache.now (g.D.Disk.files c.args.disk.now) in
-    let a : Assignment = assignment_of c.args.numbers.now in
-    let part : Part = part_of c.args.block.now in
-    let h : IsAtBlock x c.args.tail.now a part = record { space = c.index_count-indexes.ensures.limits; tree = c.count-nodes.ensures.kept; prepared = c.requires.prepared; tail_is = c.requires.tail; block = c.requires.block } in
-    block_loops x c.args.tail.now a part h
+    let x : Workspace = work_of g.D.Disk.files c.args.evaluation.now c.args.store.now in
+    let a : Assignment = assignment_of c.args.at.now.numbers.now in
+    let part : Part = part_of c.args.at.now.block.now in
+    let h : IsAtBlock x c.args.at.now.tail.now a part = record { space = c.index_count-indexes.ensures.limits; tree = c.count-nodes.ensures.kept; prepared = c.requires.prepared; tail_is = c.requires.tail; block = c.requires.block } in
+    block_loops x c.args.at.now.tail.now a part h
 
 pub compute_turns-requires-clause-out : goal.compute_turns-requires-clause-out
 compute_turns-requires-clause-out g c =
-    let x : Workspace = workspace c.args.evaluation.now c.args.words.now c.args.cache.now (g.D.Disk.files c.args.disk.now) in
-    let y : Workspace = workspace c.args.evaluation.now c.pair_windows.new.words c.pair_windows.new.cache (g.D.Disk.files c.pair_windows.new.disk) in
-    let a : Assignment = assignment_of c.args.numbers.now in
-    let part : Part = part_of c.args.block.now in
-    let h : IsAtBlock x c.args.tail.now a part = record { space = c.index_count-indexes.ensures.limits; tree = c.count-nodes.ensures.kept; prepared = c.requires.prepared; tail_is = c.requires.tail; block = c.requires.block } in
-    let ready = operands_ready x y c.args.tail.now a part c.args.right.now c.args.sum (slice_index c.args.first.now.numbers) c.pair_windows.new.windows h c.in_ok-pair_windows.ensures.kept c.in_ok-pair_windows.ensures.read
+    let x : Workspace = work_of g.D.Disk.files c.args.evaluation.now c.args.store.now in
+    let y : Workspace = work_of g.D.Disk.files c.args.evaluation.now c.pair_windows.new.store in
+    let a : Assignment = assignment_of c.args.at.now.numbers.now in
+    let part : Part = part_of c.args.at.now.block.now in
+    let h : IsAtBlock x c.args.at.now.tail.now a part = record { space = c.index_count-indexes.ensures.limits; tree = c.count-nodes.ensures.kept; prepared = c.requires.prepared; tail_is = c.requires.tail; block = c.requires.block } in
+    let ready = operands_ready x y c.args.at.now.tail.now a part c.args.pairing.now.right.now c.args.pairing.now.out (slice_index c.args.first.now.numbers) c.pair_windows.new.windows h c.in_ok-pair_windows.ensures.kept c.in_ok-pair_windows.ensures.read
     c.requires.first c.requires.right c.in_ok-pair_windows.ensures.windows in
-    let own = slot_places_ready y c.args.tail.now a part c.args.right.now c.args.sum (slice_index c.args.first.now.numbers) c.pair_windows.new.windows.left c.pair_windows.new.windows.right c.node_window.new.window ready
+    let own = slot_places_ready y c.args.at.now.tail.now a part c.args.pairing.now.right.now c.args.pairing.now.out (slice_index c.args.first.now.numbers) c.pair_windows.new.windows.left c.pair_windows.new.windows.right c.node_window.new.window ready
     c.requires.first c.requires.joined c.node_window.ensures in
     own.out_is
 
 pub compute_turns-requires-clause-left : goal.compute_turns-requires-clause-left
 compute_turns-requires-clause-left g c =
-    let x : Workspace = workspace c.args.evaluation.now c.args.words.now c.args.cache.now (g.D.Disk.files c.args.disk.now) in
-    let y : Workspace = workspace c.args.evaluation.now c.pair_windows.new.words c.pair_windows.new.cache (g.D.Disk.files c.pair_windows.new.disk) in
-    let a : Assignment = assignment_of c.args.numbers.now in
-    let part : Part = part_of c.args.block.now in
-    let h : IsAtBlock x c.args.tail.now a part = record { space = c.index_count-indexes.ensures.limits; tree = c.count-nodes.ensures.kept; prepared = c.requires.prepared; tail_is = c.requires.tail; block = c.requires.block } in
-    let ready = operands_ready x y c.args.tail.now a part c.args.right.now c.args.sum (slice_index c.args.first.now.numbers) c.pair_windows.new.windows h c.in_ok-pair_windows.ensures.kept c.in_ok-pair_windows.ensures.read
+    let x : Workspace = work_of g.D.Disk.files c.args.evaluation.now c.args.store.now in
+    let y : Workspace = work_of g.D.Disk.files c.args.evaluation.now c.pair_windows.new.store in
+    let a : Assignment = assignment_of c.args.at.now.numbers.now in
+    let part : Part = part_of c.args.at.now.block.now in
+    let h : IsAtBlock x c.args.at.now.tail.now a part = record { space = c.index_count-indexes.ensures.limits; tree = c.count-nodes.ensures.kept; prepared = c.requires.prepared; tail_is = c.requires.tail; block = c.requires.block } in
+    let ready = operands_ready x y c.args.at.now.tail.now a part c.args.pairing.now.right.now c.args.pairing.now.out (slice_index c.args.first.now.numbers) c.pair_windows.new.windows h c.in_ok-pair_windows.ensures.kept c.in_ok-pair_windows.ensures.read
     c.requires.first c.requires.right c.in_ok-pair_windows.ensures.windows in
     ready.left_in
 
 pub compute_turns-requires-clause-right : goal.compute_turns-requires-clause-right
 compute_turns-requires-clause-right g c =
-    let x : Workspace = workspace c.args.evaluation.now c.args.words.now c.args.cache.now (g.D.Disk.files c.args.disk.now) in
-    let y : Workspace = workspace c.args.evaluation.now c.pair_windows.new.words c.pair_windows.new.cache (g.D.Disk.files c.pair_windows.new.disk) in
-    let a : Assignment = assignment_of c.args.numbers.now in
-    let part : Part = part_of c.args.block.now in
-    let h : IsAtBlock x c.args.tail.now a part = record { space = c.index_count-indexes.ensures.limits; tree = c.count-nodes.ensures.kept; prepared = c.requires.prepared; tail_is = c.requires.tail; block = c.requires.block } in
-    let ready = operands_ready x y c.args.tail.now a part c.args.right.now c.args.sum (slice_index c.args.first.now.numbers) c.pair_windows.new.windows h c.in_ok-pair_windows.ensures.kept c.in_ok-pair_windows.ensures.read
+    let x : Workspace = work_of g.D.Disk.files c.args.evaluation.now c.args.store.now in
+    let y : Workspace = work_of g.D.Disk.files c.args.evaluation.now c.pair_windows.new.store in
+    let a : Assignment = assignment_of c.args.at.now.numbers.now in
+    let part : Part = part_of c.args.at.now.block.now in
+    let h : IsAtBlock x c.args.at.now.tail.now a part = record { space = c.index_count-indexes.ensures.limits; tree = c.count-nodes.ensures.kept; prepared = c.requires.prepared; tail_is = c.requires.tail; block = c.requires.block } in
+    let ready = operands_ready x y c.args.at.now.tail.now a part c.args.pairing.now.right.now c.args.pairing.now.out (slice_index c.args.first.now.numbers) c.pair_windows.new.windows h c.in_ok-pair_windows.ensures.kept c.in_ok-pair_windows.ensures.read
     c.requires.first c.requires.right c.in_ok-pair_windows.ensures.windows in
     ready.right_in
 
 pub compute_turns-requires-clause-apart_from_left : goal.compute_turns-requires-clause-apart_from_left
 compute_turns-requires-clause-apart_from_left g c =
-    let x : Workspace = workspace c.args.evaluation.now c.args.words.now c.args.cache.now (g.D.Disk.files c.args.disk.now) in
-    let y : Workspace = workspace c.args.evaluation.now c.pair_windows.new.words c.pair_windows.new.cache (g.D.Disk.files c.pair_windows.new.disk) in
-    let a : Assignment = assignment_of c.args.numbers.now in
-    let part : Part = part_of c.args.block.now in
-    let h : IsAtBlock x c.args.tail.now a part = record { space = c.index_count-indexes.ensures.limits; tree = c.count-nodes.ensures.kept; prepared = c.requires.prepared; tail_is = c.requires.tail; block = c.requires.block } in
-    let ready = operands_ready x y c.args.tail.now a part c.args.right.now c.args.sum (slice_index c.args.first.now.numbers) c.pair_windows.new.windows h c.in_ok-pair_windows.ensures.kept c.in_ok-pair_windows.ensures.read
+    let x : Workspace = work_of g.D.Disk.files c.args.evaluation.now c.args.store.now in
+    let y : Workspace = work_of g.D.Disk.files c.args.evaluation.now c.pair_windows.new.store in
+    let a : Assignment = assignment_of c.args.at.now.numbers.now in
+    let part : Part = part_of c.args.at.now.block.now in
+    let h : IsAtBlock x c.args.at.now.tail.now a part = record { space = c.index_count-indexes.ensures.limits; tree = c.count-nodes.ensures.kept; prepared = c.requires.prepared; tail_is = c.requires.tail; block = c.requires.block } in
+    let ready = operands_ready x y c.args.at.now.tail.now a part c.args.pairing.now.right.now c.args.pairing.now.out (slice_index c.args.first.now.numbers) c.pair_windows.new.windows h c.in_ok-pair_windows.ensures.kept c.in_ok-pair_windows.ensures.read
     c.requires.first c.requires.right c.in_ok-pair_windows.ensures.windows in
-    let own = slot_places_ready y c.args.tail.now a part c.args.right.now c.args.sum (slice_index c.args.first.now.numbers) c.pair_windows.new.windows.left c.pair_windows.new.windows.right c.node_window.new.window ready
+    let own = slot_places_ready y c.args.at.now.tail.now a part c.args.pairing.now.right.now c.args.pairing.now.out (slice_index c.args.first.now.numbers) c.pair_windows.new.windows.left c.pair_windows.new.windows.right c.node_window.new.window ready
     c.requires.first c.requires.joined c.node_window.ensures in
     own.from_left
 
 pub compute_turns-requires-clause-apart_from_right : goal.compute_turns-requires-clause-apart_from_right
 compute_turns-requires-clause-apart_from_right g c =
-    let x : Workspace = workspace c.args.evaluation.now c.args.words.now c.args.cache.now (g.D.Disk.files c.args.disk.now) in
-    let y : Workspace = workspace c.args.evaluation.now c.pair_windows.new.words c.pair_windows.new.cache (g.D.Disk.files c.pair_windows.new.disk) in
-    let a : Assignment = assignment_of c.args.numbers.now in
-    let part : Part = part_of c.args.block.now in
-    let h : IsAtBlock x c.args.tail.now a part = record { space = c.index_count-indexes.ensures.limits; tree = c.count-nodes.ensures.kept; prepared = c.requires.prepared; tail_is = c.requires.tail; block = c.requires.block } in
-    let ready = operands_ready x y c.args.tail.now a part c.args.right.now c.args.sum (slice_index c.args.first.now.numbers) c.pair_windows.new.windows h c.in_ok-pair_windows.ensures.kept c.in_ok-pair_windows.ensures.read
+    let x : Workspace = work_of g.D.Disk.files c.args.evaluation.now c.args.store.now in
+    let y : Workspace = work_of g.D.Disk.files c.args.evaluation.now c.pair_windows.new.store in
+    let a : Assignment = assignment_of c.args.at.now.numbers.now in
+    let part : Part = part_of c.args.at.now.block.now in
+    let h : IsAtBlock x c.args.at.now.tail.now a part = record { space = c.index_count-indexes.ensures.limits; tree = c.count-nodes.ensures.kept; prepared = c.requires.prepared; tail_is = c.requires.tail; block = c.requires.block } in
+    let ready = operands_ready x y c.args.at.now.tail.now a part c.args.pairing.now.right.now c.args.pairing.now.out (slice_index c.args.first.now.numbers) c.pair_windows.new.windows h c.in_ok-pair_windows.ensures.kept c.in_ok-pair_windows.ensures.read
     c.requires.first c.requires.right c.in_ok-pair_windows.ensures.windows in
-    let own = slot_places_ready y c.args.tail.now a part c.args.right.now c.args.sum (slice_index c.args.first.now.numbers) c.pair_windows.new.windows.left c.pair_windows.new.windows.right c.node_window.new.window ready
+    let own = slot_places_ready y c.args.at.now.tail.now a part c.args.pairing.now.right.now c.args.pairing.now.out (slice_index c.args.first.now.numbers) c.pair_windows.new.windows.left c.pair_windows.new.windows.right c.node_window.new.window ready
     c.requires.first c.requires.joined c.node_window.ensures in
     own.from_right
 
 pub grow_turns_by_products-requires-clause-loops : goal.grow_turns_by_products-requires-clause-loops
 grow_turns_by_products-requires-clause-loops g c =
-    let x : Workspace = workspace c.args.evaluation.now c.args.words.now c.args.cache.now (g.D.Disk.files c.args.disk.now) in
-    let a : Assignment = assignment_of c.args.numbers.now in
-    let part : Part = part_of c.args.block.now in
-    let h : IsAtBlock x c.args.tail.now a part = record { space = c.index_count-indexes.ensures.limits; tree = c.count-nodes.ensures.kept; prepared = c.requires.prepared; tail_is = c.requires.tail; block = c.requires.block } in
-    block_loops x c.args.tail.now a part h
+    let x : Workspace = work_of g.D.Disk.files c.args.evaluation.now c.args.store.now in
+    let a : Assignment = assignment_of c.args.at.now.numbers.now in
+    let part : Part = part_of c.args.at.now.block.now in
+    let h : IsAtBlock x c.args.at.now.tail.now a part = record { space = c.index_count-indexes.ensures.limits; tree = c.count-nodes.ensures.kept; prepared = c.requires.prepared; tail_is = c.requires.tail; block = c.requires.block } in
+    block_loops x c.args.at.now.tail.now a part h
 
 pub grow_turns_by_products-requires-clause-out : goal.grow_turns_by_products-requires-clause-out
 grow_turns_by_products-requires-clause-out g c =
-    let x : Workspace = workspace c.args.evaluation.now c.args.words.now c.args.cache.now (g.D.Disk.files c.args.disk.now) in
-    let y : Workspace = workspace c.args.evaluation.now c.pair_windows.new.words c.pair_windows.new.cache (g.D.Disk.files c.pair_windows.new.disk) in
-    let a : Assignment = assignment_of c.args.numbers.now in
-    let part : Part = part_of c.args.block.now in
-    let h : IsAtBlock x c.args.tail.now a part = record { space = c.index_count-indexes.ensures.limits; tree = c.count-nodes.ensures.kept; prepared = c.requires.prepared; tail_is = c.requires.tail; block = c.requires.block } in
-    let ready = operands_ready x y c.args.tail.now a part c.args.right.now c.args.sum (slice_index c.args.first.now.numbers) c.pair_windows.new.windows h c.in_ok-pair_windows.ensures.kept c.in_ok-pair_windows.ensures.read
+    let x : Workspace = work_of g.D.Disk.files c.args.evaluation.now c.args.store.now in
+    let y : Workspace = work_of g.D.Disk.files c.args.evaluation.now c.pair_windows.new.store in
+    let a : Assignment = assignment_of c.args.at.now.numbers.now in
+    let part : Part = part_of c.args.at.now.block.now in
+    let h : IsAtBlock x c.args.at.now.tail.now a part = record { space = c.index_count-indexes.ensures.limits; tree = c.count-nodes.ensures.kept; prepared = c.requires.prepared; tail_is = c.requires.tail; block = c.requires.block } in
+    let ready = operands_ready x y c.args.at.now.tail.now a part c.args.pairing.now.right.now c.args.pairing.now.out (slice_index c.args.first.now.numbers) c.pair_windows.new.windows h c.in_ok-pair_windows.ensures.kept c.in_ok-pair_windows.ensures.read
     c.requires.first c.requires.right c.in_ok-pair_windows.ensures.windows in
-    let places = sum_places_ready y c.args.tail.now a part c.args.right.now c.args.sum (slice_index c.args.first.now.numbers) c.pair_windows.new.windows ready c.requires.first c.requires.joined
+    let places = sum_places_ready y c.args.at.now.tail.now a part c.args.pairing.now.right.now c.args.pairing.now.out (slice_index c.args.first.now.numbers) c.pair_windows.new.windows ready c.requires.first c.requires.joined
     c.in_ok-pair_windows.ensures.windows in
-    within_later y.words c.compute_turns.new.words _ _ _ c.node_window.new.window c.args.tail.now part c.pair_windows.new.windows.out c.compute_turns.ensures.made places.out_is
+    within_later y.words c.compute_turns.new.words _ _ _ c.node_window.new.window c.args.at.now.tail.now part c.pair_windows.new.windows.out c.compute_turns.ensures.made places.out_is
 
 pub grow_turns_by_products-requires-clause-left : goal.grow_turns_by_products-requires-clause-left
 grow_turns_by_products-requires-clause-left g c =
-    let x : Workspace = workspace c.args.evaluation.now c.args.words.now c.args.cache.now (g.D.Disk.files c.args.disk.now) in
-    let y : Workspace = workspace c.args.evaluation.now c.pair_windows.new.words c.pair_windows.new.cache (g.D.Disk.files c.pair_windows.new.disk) in
-    let a : Assignment = assignment_of c.args.numbers.now in
-    let part : Part = part_of c.args.block.now in
-    let h : IsAtBlock x c.args.tail.now a part = record { space = c.index_count-indexes.ensures.limits; tree = c.count-nodes.ensures.kept; prepared = c.requires.prepared; tail_is = c.requires.tail; block = c.requires.block } in
-    let ready = operands_ready x y c.args.tail.now a part c.args.right.now c.args.sum (slice_index c.args.first.now.numbers) c.pair_windows.new.windows h c.in_ok-pair_windows.ensures.kept c.in_ok-pair_windows.ensures.read
+    let x : Workspace = work_of g.D.Disk.files c.args.evaluation.now c.args.store.now in
+    let y : Workspace = work_of g.D.Disk.files c.args.evaluation.now c.pair_windows.new.store in
+    let a : Assignment = assignment_of c.args.at.now.numbers.now in
+    let part : Part = part_of c.args.at.now.block.now in
+    let h : IsAtBlock x c.args.at.now.tail.now a part = record { space = c.index_count-indexes.ensures.limits; tree = c.count-nodes.ensures.kept; prepared = c.requires.prepared; tail_is = c.requires.tail; block = c.requires.block } in
+    let ready = operands_ready x y c.args.at.now.tail.now a part c.args.pairing.now.right.now c.args.pairing.now.out (slice_index c.args.first.now.numbers) c.pair_windows.new.windows h c.in_ok-pair_windows.ensures.kept c.in_ok-pair_windows.ensures.read
     c.requires.first c.requires.right c.in_ok-pair_windows.ensures.windows in
-    within_later y.words c.compute_turns.new.words _ _ _ c.node_window.new.window c.args.tail.now part c.pair_windows.new.windows.left c.compute_turns.ensures.made ready.left_in
+    within_later y.words c.compute_turns.new.words _ _ _ c.node_window.new.window c.args.at.now.tail.now part c.pair_windows.new.windows.left c.compute_turns.ensures.made ready.left_in
 
 pub grow_turns_by_products-requires-clause-right : goal.grow_turns_by_products-requires-clause-right
 grow_turns_by_products-requires-clause-right g c =
-    let x : Workspace = workspace c.args.evaluation.now c.args.words.now c.args.cache.now (g.D.Disk.files c.args.disk.now) in
-    let y : Workspace = workspace c.args.evaluation.now c.pair_windows.new.words c.pair_windows.new.cache (g.D.Disk.files c.pair_windows.new.disk) in
-    let a : Assignment = assignment_of c.args.numbers.now in
-    let part : Part = part_of c.args.block.now in
-    let h : IsAtBlock x c.args.tail.now a part = record { space = c.index_count-indexes.ensures.limits; tree = c.count-nodes.ensures.kept; prepared = c.requires.prepared; tail_is = c.requires.tail; block = c.requires.block } in
-    let ready = operands_ready x y c.args.tail.now a part c.args.right.now c.args.sum (slice_index c.args.first.now.numbers) c.pair_windows.new.windows h c.in_ok-pair_windows.ensures.kept c.in_ok-pair_windows.ensures.read
+    let x : Workspace = work_of g.D.Disk.files c.args.evaluation.now c.args.store.now in
+    let y : Workspace = work_of g.D.Disk.files c.args.evaluation.now c.pair_windows.new.store in
+    let a : Assignment = assignment_of c.args.at.now.numbers.now in
+    let part : Part = part_of c.args.at.now.block.now in
+    let h : IsAtBlock x c.args.at.now.tail.now a part = record { space = c.index_count-indexes.ensures.limits; tree = c.count-nodes.ensures.kept; prepared = c.requires.prepared; tail_is = c.requires.tail; block = c.requires.block } in
+    let ready = operands_ready x y c.args.at.now.tail.now a part c.args.pairing.now.right.now c.args.pairing.now.out (slice_index c.args.first.now.numbers) c.pair_windows.new.windows h c.in_ok-pair_windows.ensures.kept c.in_ok-pair_windows.ensures.read
     c.requires.first c.requires.right c.in_ok-pair_windows.ensures.windows in
-    within_later y.words c.compute_turns.new.words _ _ _ c.node_window.new.window c.args.tail.now part c.pair_windows.new.windows.right c.compute_turns.ensures.made ready.right_in
+    within_later y.words c.compute_turns.new.words _ _ _ c.node_window.new.window c.args.at.now.tail.now part c.pair_windows.new.windows.right c.compute_turns.ensures.made ready.right_in
 
 pub grow_turns_by_products-requires-clause-apart_from_left : goal.grow_turns_by_products-requires-clause-apart_from_left
 grow_turns_by_products-requires-clause-apart_from_left g c =
-    let x : Workspace = workspace c.args.evaluation.now c.args.words.now c.args.cache.now (g.D.Disk.files c.args.disk.now) in
-    let y : Workspace = workspace c.args.evaluation.now c.pair_windows.new.words c.pair_windows.new.cache (g.D.Disk.files c.pair_windows.new.disk) in
-    let a : Assignment = assignment_of c.args.numbers.now in
-    let part : Part = part_of c.args.block.now in
-    let h : IsAtBlock x c.args.tail.now a part = record { space = c.index_count-indexes.ensures.limits; tree = c.count-nodes.ensures.kept; prepared = c.requires.prepared; tail_is = c.requires.tail; block = c.requires.block } in
-    let ready = operands_ready x y c.args.tail.now a part c.args.right.now c.args.sum (slice_index c.args.first.now.numbers) c.pair_windows.new.windows h c.in_ok-pair_windows.ensures.kept c.in_ok-pair_windows.ensures.read
+    let x : Workspace = work_of g.D.Disk.files c.args.evaluation.now c.args.store.now in
+    let y : Workspace = work_of g.D.Disk.files c.args.evaluation.now c.pair_windows.new.store in
+    let a : Assignment = assignment_of c.args.at.now.numbers.now in
+    let part : Part = part_of c.args.at.now.block.now in
+    let h : IsAtBlock x c.args.at.now.tail.now a part = record { space = c.index_count-indexes.ensures.limits; tree = c.count-nodes.ensures.kept; prepared = c.requires.prepared; tail_is = c.requires.tail; block = c.requires.block } in
+    let ready = operands_ready x y c.args.at.now.tail.now a part c.args.pairing.now.right.now c.args.pairing.now.out (slice_index c.args.first.now.numbers) c.pair_windows.new.windows h c.in_ok-pair_windows.ensures.kept c.in_ok-pair_windows.ensures.read
     c.requires.first c.requires.right c.in_ok-pair_windows.ensures.windows in
-    let places = sum_places_ready y c.args.tail.now a part c.args.right.now c.args.sum (slice_index c.args.first.now.numbers) c.pair_windows.new.windows ready c.requires.first c.requires.joined
+    let places = sum_places_ready y c.args.at.now.tail.now a part c.args.pairing.now.right.now c.args.pairing.now.out (slice_index c.args.first.now.numbers) c.pair_windows.new.windows ready c.requires.first c.requires.joined
     c.in_ok-pair_windows.ensures.windows in
     places.from_left
 
 pub grow_turns_by_products-requires-clause-apart_from_right : goal.grow_turns_by_products-requires-clause-apart_from_right
 grow_turns_by_products-requires-clause-apart_from_right g c =
-    let x : Workspace = workspace c.args.evaluation.now c.args.words.now c.args.cache.now (g.D.Disk.files c.args.disk.now) in
-    let y : Workspace = workspace c.args.evaluation.now c.pair_windows.new.words c.pair_windows.new.cache (g.D.Disk.files c.pair_windows.new.disk) in
-    let a : Assignment = assignment_of c.args.numbers.now in
-    let part : Part = part_of c.args.block.now in
-    let h : IsAtBlock x c.args.tail.now a part = record { space = c.index_count-indexes.ensures.limits; tree = c.count-nodes.ensures.kept; prepared = c.requires.prepared; tail_is = c.requires.tail; block = c.requires.block } in
-    let ready = operands_ready x y c.args.tail.now a part c.args.right.now c.args.sum (slice_index c.args.first.now.numbers) c.pair_windows.new.windows h c.in_ok-pair_windows.ensures.kept c.in_ok-pair_windows.ensures.read
+    let x : Workspace = work_of g.D.Disk.files c.args.evaluation.now c.args.store.now in
+    let y : Workspace = work_of g.D.Disk.files c.args.evaluation.now c.pair_windows.new.store in
+    let a : Assignment = assignment_of c.args.at.now.numbers.now in
+    let part : Part = part_of c.args.at.now.block.now in
+    let h : IsAtBlock x c.args.at.now.tail.now a part = record { space = c.index_count-indexes.ensures.limits; tree = c.count-nodes.ensures.kept; prepared = c.requires.prepared; tail_is = c.requires.tail; block = c.requires.block } in
+    let ready = operands_ready x y c.args.at.now.tail.now a part c.args.pairing.now.right.now c.args.pairing.now.out (slice_index c.args.first.now.numbers) c.pair_windows.new.windows h c.in_ok-pair_windows.ensures.kept c.in_ok-pair_windows.ensures.read
     c.requires.first c.requires.right c.in_ok-pair_windows.ensures.windows in
-    let places = sum_places_ready y c.args.tail.now a part c.args.right.now c.args.sum (slice_index c.args.first.now.numbers) c.pair_windows.new.windows ready c.requires.first c.requires.joined
+    let places = sum_places_ready y c.args.at.now.tail.now a part c.args.pairing.now.right.now c.args.pairing.now.out (slice_index c.args.first.now.numbers) c.pair_windows.new.windows ready c.requires.first c.requires.joined
     c.in_ok-pair_windows.ensures.windows in
     places.from_right
 
 pub returns-clause-changed : goal.returns-clause-changed
 returns-clause-changed g c =
-    let x : Workspace = workspace c.args.evaluation.now c.args.words.now c.args.cache.now (g.D.Disk.files c.args.disk.now) in
-    let y : Workspace = workspace c.args.evaluation.now c.pair_windows.new.words c.pair_windows.new.cache (g.D.Disk.files c.pair_windows.new.disk) in
-    let a : Assignment = assignment_of c.args.numbers.now in
-    let part : Part = part_of c.args.block.now in
-    let h : IsAtBlock x c.args.tail.now a part = record { space = c.index_count-indexes.ensures.limits; tree = c.count-nodes.ensures.kept; prepared = c.requires.prepared; tail_is = c.requires.tail; block = c.requires.block } in
-    let ready = operands_ready x y c.args.tail.now a part c.args.right.now c.args.sum (slice_index c.args.first.now.numbers) c.pair_windows.new.windows h c.in_ok-pair_windows.ensures.kept c.in_ok-pair_windows.ensures.read
+    let x : Workspace = work_of g.D.Disk.files c.args.evaluation.now c.args.store.now in
+    let y : Workspace = work_of g.D.Disk.files c.args.evaluation.now c.pair_windows.new.store in
+    let a : Assignment = assignment_of c.args.at.now.numbers.now in
+    let part : Part = part_of c.args.at.now.block.now in
+    let h : IsAtBlock x c.args.at.now.tail.now a part = record { space = c.index_count-indexes.ensures.limits; tree = c.count-nodes.ensures.kept; prepared = c.requires.prepared; tail_is = c.requires.tail; block = c.requires.block } in
+    let ready = operands_ready x y c.args.at.now.tail.now a part c.args.pairing.now.right.now c.args.pairing.now.out (slice_index c.args.first.now.numbers) c.pair_windows.new.windows h c.in_ok-pair_windows.ensures.kept c.in_ok-pair_windows.ensures.read
     c.requires.first c.requires.right c.in_ok-pair_windows.ensures.windows in
-    let places = sum_places_ready y c.args.tail.now a part c.args.right.now c.args.sum (slice_index c.args.first.now.numbers) c.pair_windows.new.windows ready c.requires.first c.requires.joined
+    let places = sum_places_ready y c.args.at.now.tail.now a part c.args.pairing.now.right.now c.args.pairing.now.out (slice_index c.args.first.now.numbers) c.pair_windows.new.windows ready c.requires.first c.requires.joined
     c.in_ok-pair_windows.ensures.windows in
-    let own = slot_places_ready y c.args.tail.now a part c.args.right.now c.args.sum (slice_index c.args.first.now.numbers) c.pair_windows.new.windows.left c.pair_windows.new.windows.right c.node_window.new.window ready
+    let own = slot_places_ready y c.args.at.now.tail.now a part c.args.pairing.now.right.now c.args.pairing.now.out (slice_index c.args.first.now.numbers) c.pair_windows.new.windows.left c.pair_windows.new.windows.right c.node_window.new.window ready
     c.requires.first c.requires.joined c.node_window.ensures in
-    (joined_runs x y c.args.tail.now a part c.args.right.now c.args.sum c.pair_windows.new.windows c.node_window.new.window c.compute_turns.new.words c.grow_turns_by_products.new.words c.requires.prepared
+    (joined_runs x y c.args.at.now.tail.now a part c.args.pairing.now.right.now c.args.pairing.now.out c.pair_windows.new.windows c.node_window.new.window c.compute_turns.new.words c.grow_turns_by_products.new.words c.requires.prepared
     c.in_ok-pair_windows.ensures.kept c.in_ok-pair_windows.ensures.read ready own places c.len-len.ensures.words c.len-later.ensures.words c.requires.joined c.compute_turns.ensures.made c.grow_turns_by_products.ensures.made).changed
 
 pub returns-clause-kept : goal.returns-clause-kept
 returns-clause-kept g c =
-    let x : Workspace = workspace c.args.evaluation.now c.args.words.now c.args.cache.now (g.D.Disk.files c.args.disk.now) in
-    let y : Workspace = workspace c.args.evaluation.now c.pair_windows.new.words c.pair_windows.new.cache (g.D.Disk.files c.pair_windows.new.disk) in
-    let a : Assignment = assignment_of c.args.numbers.now in
-    let part : Part = part_of c.args.block.now in
-    let h : IsAtBlock x c.args.tail.now a part = record { space = c.index_count-indexes.ensures.limits; tree = c.count-nodes.ensures.kept; prepared = c.requires.prepared; tail_is = c.requires.tail; block = c.requires.block } in
-    let ready = operands_ready x y c.args.tail.now a part c.args.right.now c.args.sum (slice_index c.args.first.now.numbers) c.pair_windows.new.windows h c.in_ok-pair_windows.ensures.kept c.in_ok-pair_windows.ensures.read
+    let x : Workspace = work_of g.D.Disk.files c.args.evaluation.now c.args.store.now in
+    let y : Workspace = work_of g.D.Disk.files c.args.evaluation.now c.pair_windows.new.store in
+    let a : Assignment = assignment_of c.args.at.now.numbers.now in
+    let part : Part = part_of c.args.at.now.block.now in
+    let h : IsAtBlock x c.args.at.now.tail.now a part = record { space = c.index_count-indexes.ensures.limits; tree = c.count-nodes.ensures.kept; prepared = c.requires.prepared; tail_is = c.requires.tail; block = c.requires.block } in
+    let ready = operands_ready x y c.args.at.now.tail.now a part c.args.pairing.now.right.now c.args.pairing.now.out (slice_index c.args.first.now.numbers) c.pair_windows.new.windows h c.in_ok-pair_windows.ensures.kept c.in_ok-pair_windows.ensures.read
     c.requires.first c.requires.right c.in_ok-pair_windows.ensures.windows in
-    let places = sum_places_ready y c.args.tail.now a part c.args.right.now c.args.sum (slice_index c.args.first.now.numbers) c.pair_windows.new.windows ready c.requires.first c.requires.joined
+    let places = sum_places_ready y c.args.at.now.tail.now a part c.args.pairing.now.right.now c.args.pairing.now.out (slice_index c.args.first.now.numbers) c.pair_windows.new.windows ready c.requires.first c.requires.joined
     c.in_ok-pair_windows.ensures.windows in
-    let own = slot_places_ready y c.args.tail.now a part c.args.right.now c.args.sum (slice_index c.args.first.now.numbers) c.pair_windows.new.windows.left c.pair_windows.new.windows.right c.node_window.new.window ready
+    let own = slot_places_ready y c.args.at.now.tail.now a part c.args.pairing.now.right.now c.args.pairing.now.out (slice_index c.args.first.now.numbers) c.pair_windows.new.windows.left c.pair_windows.new.windows.right c.node_window.new.window ready
     c.requires.first c.requires.joined c.node_window.ensures in
-    (joined_runs x y c.args.tail.now a part c.args.right.now c.args.sum c.pair_windows.new.windows c.node_window.new.window c.compute_turns.new.words c.grow_turns_by_products.new.words c.requires.prepared
+    (joined_runs x y c.args.at.now.tail.now a part c.args.pairing.now.right.now c.args.pairing.now.out c.pair_windows.new.windows c.node_window.new.window c.compute_turns.new.words c.grow_turns_by_products.new.words c.requires.prepared
     c.in_ok-pair_windows.ensures.kept c.in_ok-pair_windows.ensures.read ready own places c.len-len.ensures.words c.len-later.ensures.words c.requires.joined c.compute_turns.ensures.made c.grow_turns_by_products.ensures.made).kept
 
-pub returns-clause-steps : goal.returns-clause-steps
-returns-clause-steps g c =
-    let y : Workspace = workspace c.args.evaluation.now c.pair_windows.new.words c.pair_windows.new.cache (g.D.Disk.files c.pair_windows.new.disk) in
-    joined_steps y c.args.tail.now c.args.right.now c.args.sum (slice_index c.args.first.now.numbers) c.pair_windows.new.windows c.node_window.new.window c.requires.right c.requires.joined c.in_ok-pair_windows.ensures.windows c.node_window.ensures.steps_are
+pub returns-clause-nest : goal.returns-clause-nest
+returns-clause-nest g c =
+    let y : Workspace = work_of g.D.Disk.files c.args.evaluation.now c.pair_windows.new.store in
+    record {
+      sequence_is = c.grow_turns_by_products.ensures.sequence;
+      steps_are = joined_steps y c.args.at.now.tail.now c.args.pairing.now.right.now c.args.pairing.now.out (slice_index c.args.first.now.numbers) c.pair_windows.new.windows c.node_window.new.window c.requires.right c.requires.joined c.in_ok-pair_windows.ensures.windows c.node_window.ensures.steps_are;
+    }
 
 pub pair_windows-requires-clause-right_steps : goal.pair_windows-requires-clause-right_steps
-pair_windows-requires-clause-right_steps g c = c.requires.steps.right_are c.args.right.now c.requires.right
+pair_windows-requires-clause-right_steps g c = c.requires.nest.steps_are.right_are c.args.pairing.now.right.now c.requires.right
 
 pub pair_windows-requires-clause-out_steps : goal.pair_windows-requires-clause-out_steps
-pair_windows-requires-clause-out_steps g c = (c.requires.steps.joined_are c.args.right.now c.args.sum c.requires.right c.requires.joined).0
+pair_windows-requires-clause-out_steps g c = (c.requires.nest.steps_are.joined_are c.args.pairing.now.right.now c.args.pairing.now.out c.requires.right c.requires.joined).0
 
 pub node_window-requires-clause-steps : goal.node_window-requires-clause-steps
 node_window-requires-clause-steps g c =
-    ap (λ (w : Window). w.steps) c.in_ok-pair_windows.ensures.own ∙ (c.requires.steps.joined_are c.args.right.now c.args.sum c.requires.right c.requires.joined).1
+    ap (λ (w : Window). w.steps) c.in_ok-pair_windows.ensures.own ∙ (c.requires.nest.steps_are.joined_are c.args.pairing.now.right.now c.args.pairing.now.out c.requires.right c.requires.joined).1

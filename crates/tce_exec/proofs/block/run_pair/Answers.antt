@@ -3,7 +3,8 @@ use Rattle.tce_tree.specs.Value.{Assignment}
 use Rattle.tce_block.specs.Cuts.{part_of}
 use Rattle.tce_block.specs.Parts.{Part}
 use Rattle.tce_walk.specs.Machine.{assignment_of}
-use Rattle.tce_workspace.specs.Workspace.{Workspace, workspace}
+use Rattle.tce_workspace.specs.Workspace.{Workspace}
+use Rattle.tce_workspace.specs.Storages.{work_of}
 use Rattle.tce_workspace.proofs.Operating.{own_place}
 use Rattle.tce_exec.proofs.Turning.{IsAtBlock, block_loops}
 use Rattle.tce_exec.proofs.Asking.{node_at_first, not_sum}
@@ -13,124 +14,127 @@ use Rattle.tce_exec.proofs.block.run_pair.Goals as goal
 
 pub pair_windows-requires-clause-node : goal.pair_windows-requires-clause-node
 pair_windows-requires-clause-node g c =
-    let x : Workspace = workspace c.args.evaluation.now c.args.words.now c.args.cache.now (g.D.Disk.files c.args.disk.now) in
-    let a : Assignment = assignment_of c.args.numbers.now in
-    let part : Part = part_of c.args.block.now in
-    let h : IsAtBlock x c.args.tail.now a part = record { space = c.index_count-indexes.ensures.limits; tree = c.count-nodes.ensures.kept; prepared = c.requires.prepared; tail_is = c.requires.tail; block = c.requires.block } in
-    node_at_first x c.args.tail.now a part (slice_index c.args.first.now.numbers) h c.requires.first
+    let x : Workspace = work_of g.D.Disk.files c.args.evaluation.now c.args.store.now in
+    let a : Assignment = assignment_of c.args.at.now.numbers.now in
+    let part : Part = part_of c.args.at.now.block.now in
+    let h : IsAtBlock x c.args.at.now.tail.now a part = record { space = c.index_count-indexes.ensures.limits; tree = c.count-nodes.ensures.kept; prepared = c.requires.prepared; tail_is = c.requires.tail; block = c.requires.block } in
+    node_at_first x c.args.at.now.tail.now a part (slice_index c.args.first.now.numbers) h c.requires.first
 
 pub pair_windows-requires-clause-place : goal.pair_windows-requires-clause-place
 pair_windows-requires-clause-place g c =
-    let x : Workspace = workspace c.args.evaluation.now c.args.words.now c.args.cache.now (g.D.Disk.files c.args.disk.now) in
-    let a : Assignment = assignment_of c.args.numbers.now in
-    let part : Part = part_of c.args.block.now in
-    let h : IsAtBlock x c.args.tail.now a part = record { space = c.index_count-indexes.ensures.limits; tree = c.count-nodes.ensures.kept; prepared = c.requires.prepared; tail_is = c.requires.tail; block = c.requires.block } in
-    own_place x c.args.tail.now.node (slice_index c.args.first.now.numbers) (node_at_first x c.args.tail.now a part (slice_index c.args.first.now.numbers) h c.requires.first)
+    let x : Workspace = work_of g.D.Disk.files c.args.evaluation.now c.args.store.now in
+    let a : Assignment = assignment_of c.args.at.now.numbers.now in
+    let part : Part = part_of c.args.at.now.block.now in
+    let h : IsAtBlock x c.args.at.now.tail.now a part = record { space = c.index_count-indexes.ensures.limits; tree = c.count-nodes.ensures.kept; prepared = c.requires.prepared; tail_is = c.requires.tail; block = c.requires.block } in
+    own_place x c.args.at.now.tail.now.node (slice_index c.args.first.now.numbers) (node_at_first x c.args.at.now.tail.now a part (slice_index c.args.first.now.numbers) h c.requires.first)
 
 pub operation_of-operation-requires : goal.operation_of-operation-requires
 operation_of-operation-requires g c =
-    let x : Workspace = workspace c.args.evaluation.now c.args.words.now c.args.cache.now (g.D.Disk.files c.args.disk.now) in
-    not_sum x.places.tree c.args.tail.now.node c.args.right.now c.kind.result c.kind.ensures c.requires.right
+    let x : Workspace = work_of g.D.Disk.files c.args.evaluation.now c.args.store.now in
+    not_sum x.places.tree c.args.at.now.tail.now.node c.args.right.now c.kind.result c.kind.ensures c.requires.right
 
 pub compute_turns-requires-clause-loops : goal.compute_turns-requires-clause-loops
 compute_turns-requires-clause-loops g c =
-    let x : Workspace = workspace c.args.evaluation.now c.args.words.now c.args.cache.now (g.D.Disk.files c.args.disk.now) in
-    let a : Assignment = assignment_of c.args.numbers.now in
-    let part : Part = part_of c.args.block.now in
-    let h : IsAtBlock x c.args.tail.now a part = record { space = c.index_count-indexes.ensures.limits; tree = c.count-nodes.ensures.kept; prepared = c.requires.prepared; tail_is = c.requires.tail; block = c.requires.block } in
-    block_loops x c.args.tail.now a part h
+    let x : Workspace = work_of g.D.Disk.files c.args.evaluation.now c.args.store.now in
+    let a : Assignment = assignment_of c.args.at.now.numbers.now in
+    let part : Part = part_of c.args.at.now.block.now in
+    let h : IsAtBlock x c.args.at.now.tail.now a part = record { space = c.index_count-indexes.ensures.limits; tree = c.count-nodes.ensures.kept; prepared = c.requires.prepared; tail_is = c.requires.tail; block = c.requires.block } in
+    block_loops x c.args.at.now.tail.now a part h
 
 pub compute_turns-requires-clause-out : goal.compute_turns-requires-clause-out
 compute_turns-requires-clause-out g c =
-    let x : Workspace = workspace c.args.evaluation.now c.args.words.now c.args.cache.now (g.D.Disk.files c.args.disk.now) in
-    let y : Workspace = workspace c.args.evaluation.now c.pair_windows.new.words c.pair_windows.new.cache (g.D.Disk.files c.pair_windows.new.disk) in
-    let a : Assignment = assignment_of c.args.numbers.now in
-    let part : Part = part_of c.args.block.now in
-    let h : IsAtBlock x c.args.tail.now a part = record { space = c.index_count-indexes.ensures.limits; tree = c.count-nodes.ensures.kept; prepared = c.requires.prepared; tail_is = c.requires.tail; block = c.requires.block } in
-    let ready = operands_ready x y c.args.tail.now a part c.args.right.now c.args.tail.now.node (slice_index c.args.first.now.numbers) c.pair_windows.new.windows h c.in_ok-pair_windows.ensures.kept c.in_ok-pair_windows.ensures.read
+    let x : Workspace = work_of g.D.Disk.files c.args.evaluation.now c.args.store.now in
+    let y : Workspace = work_of g.D.Disk.files c.args.evaluation.now c.pair_windows.new.store in
+    let a : Assignment = assignment_of c.args.at.now.numbers.now in
+    let part : Part = part_of c.args.at.now.block.now in
+    let h : IsAtBlock x c.args.at.now.tail.now a part = record { space = c.index_count-indexes.ensures.limits; tree = c.count-nodes.ensures.kept; prepared = c.requires.prepared; tail_is = c.requires.tail; block = c.requires.block } in
+    let ready = operands_ready x y c.args.at.now.tail.now a part c.args.right.now c.args.at.now.tail.now.node (slice_index c.args.first.now.numbers) c.pair_windows.new.windows h c.in_ok-pair_windows.ensures.kept c.in_ok-pair_windows.ensures.read
     c.requires.first c.requires.right c.in_ok-pair_windows.ensures.windows in
-    let places = own_ready y c.args.tail.now a part c.args.right.now (slice_index c.args.first.now.numbers) c.pair_windows.new.windows ready c.requires.first c.in_ok-pair_windows.ensures.windows in
+    let places = own_ready y c.args.at.now.tail.now a part c.args.right.now (slice_index c.args.first.now.numbers) c.pair_windows.new.windows ready c.requires.first c.in_ok-pair_windows.ensures.windows in
     places.out_is
 
 pub compute_turns-requires-clause-left : goal.compute_turns-requires-clause-left
 compute_turns-requires-clause-left g c =
-    let x : Workspace = workspace c.args.evaluation.now c.args.words.now c.args.cache.now (g.D.Disk.files c.args.disk.now) in
-    let y : Workspace = workspace c.args.evaluation.now c.pair_windows.new.words c.pair_windows.new.cache (g.D.Disk.files c.pair_windows.new.disk) in
-    let a : Assignment = assignment_of c.args.numbers.now in
-    let part : Part = part_of c.args.block.now in
-    let h : IsAtBlock x c.args.tail.now a part = record { space = c.index_count-indexes.ensures.limits; tree = c.count-nodes.ensures.kept; prepared = c.requires.prepared; tail_is = c.requires.tail; block = c.requires.block } in
-    let ready = operands_ready x y c.args.tail.now a part c.args.right.now c.args.tail.now.node (slice_index c.args.first.now.numbers) c.pair_windows.new.windows h c.in_ok-pair_windows.ensures.kept c.in_ok-pair_windows.ensures.read
+    let x : Workspace = work_of g.D.Disk.files c.args.evaluation.now c.args.store.now in
+    let y : Workspace = work_of g.D.Disk.files c.args.evaluation.now c.pair_windows.new.store in
+    let a : Assignment = assignment_of c.args.at.now.numbers.now in
+    let part : Part = part_of c.args.at.now.block.now in
+    let h : IsAtBlock x c.args.at.now.tail.now a part = record { space = c.index_count-indexes.ensures.limits; tree = c.count-nodes.ensures.kept; prepared = c.requires.prepared; tail_is = c.requires.tail; block = c.requires.block } in
+    let ready = operands_ready x y c.args.at.now.tail.now a part c.args.right.now c.args.at.now.tail.now.node (slice_index c.args.first.now.numbers) c.pair_windows.new.windows h c.in_ok-pair_windows.ensures.kept c.in_ok-pair_windows.ensures.read
     c.requires.first c.requires.right c.in_ok-pair_windows.ensures.windows in
     ready.left_in
 
 pub compute_turns-requires-clause-right : goal.compute_turns-requires-clause-right
 compute_turns-requires-clause-right g c =
-    let x : Workspace = workspace c.args.evaluation.now c.args.words.now c.args.cache.now (g.D.Disk.files c.args.disk.now) in
-    let y : Workspace = workspace c.args.evaluation.now c.pair_windows.new.words c.pair_windows.new.cache (g.D.Disk.files c.pair_windows.new.disk) in
-    let a : Assignment = assignment_of c.args.numbers.now in
-    let part : Part = part_of c.args.block.now in
-    let h : IsAtBlock x c.args.tail.now a part = record { space = c.index_count-indexes.ensures.limits; tree = c.count-nodes.ensures.kept; prepared = c.requires.prepared; tail_is = c.requires.tail; block = c.requires.block } in
-    let ready = operands_ready x y c.args.tail.now a part c.args.right.now c.args.tail.now.node (slice_index c.args.first.now.numbers) c.pair_windows.new.windows h c.in_ok-pair_windows.ensures.kept c.in_ok-pair_windows.ensures.read
+    let x : Workspace = work_of g.D.Disk.files c.args.evaluation.now c.args.store.now in
+    let y : Workspace = work_of g.D.Disk.files c.args.evaluation.now c.pair_windows.new.store in
+    let a : Assignment = assignment_of c.args.at.now.numbers.now in
+    let part : Part = part_of c.args.at.now.block.now in
+    let h : IsAtBlock x c.args.at.now.tail.now a part = record { space = c.index_count-indexes.ensures.limits; tree = c.count-nodes.ensures.kept; prepared = c.requires.prepared; tail_is = c.requires.tail; block = c.requires.block } in
+    let ready = operands_ready x y c.args.at.now.tail.now a part c.args.right.now c.args.at.now.tail.now.node (slice_index c.args.first.now.numbers) c.pair_windows.new.windows h c.in_ok-pair_windows.ensures.kept c.in_ok-pair_windows.ensures.read
     c.requires.first c.requires.right c.in_ok-pair_windows.ensures.windows in
     ready.right_in
 
 pub compute_turns-requires-clause-apart_from_left : goal.compute_turns-requires-clause-apart_from_left
 compute_turns-requires-clause-apart_from_left g c =
-    let x : Workspace = workspace c.args.evaluation.now c.args.words.now c.args.cache.now (g.D.Disk.files c.args.disk.now) in
-    let y : Workspace = workspace c.args.evaluation.now c.pair_windows.new.words c.pair_windows.new.cache (g.D.Disk.files c.pair_windows.new.disk) in
-    let a : Assignment = assignment_of c.args.numbers.now in
-    let part : Part = part_of c.args.block.now in
-    let h : IsAtBlock x c.args.tail.now a part = record { space = c.index_count-indexes.ensures.limits; tree = c.count-nodes.ensures.kept; prepared = c.requires.prepared; tail_is = c.requires.tail; block = c.requires.block } in
-    let ready = operands_ready x y c.args.tail.now a part c.args.right.now c.args.tail.now.node (slice_index c.args.first.now.numbers) c.pair_windows.new.windows h c.in_ok-pair_windows.ensures.kept c.in_ok-pair_windows.ensures.read
+    let x : Workspace = work_of g.D.Disk.files c.args.evaluation.now c.args.store.now in
+    let y : Workspace = work_of g.D.Disk.files c.args.evaluation.now c.pair_windows.new.store in
+    let a : Assignment = assignment_of c.args.at.now.numbers.now in
+    let part : Part = part_of c.args.at.now.block.now in
+    let h : IsAtBlock x c.args.at.now.tail.now a part = record { space = c.index_count-indexes.ensures.limits; tree = c.count-nodes.ensures.kept; prepared = c.requires.prepared; tail_is = c.requires.tail; block = c.requires.block } in
+    let ready = operands_ready x y c.args.at.now.tail.now a part c.args.right.now c.args.at.now.tail.now.node (slice_index c.args.first.now.numbers) c.pair_windows.new.windows h c.in_ok-pair_windows.ensures.kept c.in_ok-pair_windows.ensures.read
     c.requires.first c.requires.right c.in_ok-pair_windows.ensures.windows in
-    let places = own_ready y c.args.tail.now a part c.args.right.now (slice_index c.args.first.now.numbers) c.pair_windows.new.windows ready c.requires.first c.in_ok-pair_windows.ensures.windows in
+    let places = own_ready y c.args.at.now.tail.now a part c.args.right.now (slice_index c.args.first.now.numbers) c.pair_windows.new.windows ready c.requires.first c.in_ok-pair_windows.ensures.windows in
     places.from_left
 
 pub compute_turns-requires-clause-apart_from_right : goal.compute_turns-requires-clause-apart_from_right
 compute_turns-requires-clause-apart_from_right g c =
-    let x : Workspace = workspace c.args.evaluation.now c.args.words.now c.args.cache.now (g.D.Disk.files c.args.disk.now) in
-    let y : Workspace = workspace c.args.evaluation.now c.pair_windows.new.words c.pair_windows.new.cache (g.D.Disk.files c.pair_windows.new.disk) in
-    let a : Assignment = assignment_of c.args.numbers.now in
-    let part : Part = part_of c.args.block.now in
-    let h : IsAtBlock x c.args.tail.now a part = record { space = c.index_count-indexes.ensures.limits; tree = c.count-nodes.ensures.kept; prepared = c.requires.prepared; tail_is = c.requires.tail; block = c.requires.block } in
-    let ready = operands_ready x y c.args.tail.now a part c.args.right.now c.args.tail.now.node (slice_index c.args.first.now.numbers) c.pair_windows.new.windows h c.in_ok-pair_windows.ensures.kept c.in_ok-pair_windows.ensures.read
+    let x : Workspace = work_of g.D.Disk.files c.args.evaluation.now c.args.store.now in
+    let y : Workspace = work_of g.D.Disk.files c.args.evaluation.now c.pair_windows.new.store in
+    let a : Assignment = assignment_of c.args.at.now.numbers.now in
+    let part : Part = part_of c.args.at.now.block.now in
+    let h : IsAtBlock x c.args.at.now.tail.now a part = record { space = c.index_count-indexes.ensures.limits; tree = c.count-nodes.ensures.kept; prepared = c.requires.prepared; tail_is = c.requires.tail; block = c.requires.block } in
+    let ready = operands_ready x y c.args.at.now.tail.now a part c.args.right.now c.args.at.now.tail.now.node (slice_index c.args.first.now.numbers) c.pair_windows.new.windows h c.in_ok-pair_windows.ensures.kept c.in_ok-pair_windows.ensures.read
     c.requires.first c.requires.right c.in_ok-pair_windows.ensures.windows in
-    let places = own_ready y c.args.tail.now a part c.args.right.now (slice_index c.args.first.now.numbers) c.pair_windows.new.windows ready c.requires.first c.in_ok-pair_windows.ensures.windows in
+    let places = own_ready y c.args.at.now.tail.now a part c.args.right.now (slice_index c.args.first.now.numbers) c.pair_windows.new.windows ready c.requires.first c.in_ok-pair_windows.ensures.windows in
     places.from_right
 
 pub returns-clause-changed : goal.returns-clause-changed
 returns-clause-changed g c =
-    let x : Workspace = workspace c.args.evaluation.now c.args.words.now c.args.cache.now (g.D.Disk.files c.args.disk.now) in
-    let y : Workspace = workspace c.args.evaluation.now c.pair_windows.new.words c.pair_windows.new.cache (g.D.Disk.files c.pair_windows.new.disk) in
-    let a : Assignment = assignment_of c.args.numbers.now in
-    let part : Part = part_of c.args.block.now in
-    let h : IsAtBlock x c.args.tail.now a part = record { space = c.index_count-indexes.ensures.limits; tree = c.count-nodes.ensures.kept; prepared = c.requires.prepared; tail_is = c.requires.tail; block = c.requires.block } in
-    let ready = operands_ready x y c.args.tail.now a part c.args.right.now c.args.tail.now.node (slice_index c.args.first.now.numbers) c.pair_windows.new.windows h c.in_ok-pair_windows.ensures.kept c.in_ok-pair_windows.ensures.read
+    let x : Workspace = work_of g.D.Disk.files c.args.evaluation.now c.args.store.now in
+    let y : Workspace = work_of g.D.Disk.files c.args.evaluation.now c.pair_windows.new.store in
+    let a : Assignment = assignment_of c.args.at.now.numbers.now in
+    let part : Part = part_of c.args.at.now.block.now in
+    let h : IsAtBlock x c.args.at.now.tail.now a part = record { space = c.index_count-indexes.ensures.limits; tree = c.count-nodes.ensures.kept; prepared = c.requires.prepared; tail_is = c.requires.tail; block = c.requires.block } in
+    let ready = operands_ready x y c.args.at.now.tail.now a part c.args.right.now c.args.at.now.tail.now.node (slice_index c.args.first.now.numbers) c.pair_windows.new.windows h c.in_ok-pair_windows.ensures.kept c.in_ok-pair_windows.ensures.read
     c.requires.first c.requires.right c.in_ok-pair_windows.ensures.windows in
-    let places = own_ready y c.args.tail.now a part c.args.right.now (slice_index c.args.first.now.numbers) c.pair_windows.new.windows ready c.requires.first c.in_ok-pair_windows.ensures.windows in
-    (pair_runs x y c.args.tail.now a part c.args.right.now c.operation_of-operation.result c.kind.result c.pair_windows.new.windows c.compute_turns.new.words c.requires.prepared c.in_ok-pair_windows.ensures.kept
+    let places = own_ready y c.args.at.now.tail.now a part c.args.right.now (slice_index c.args.first.now.numbers) c.pair_windows.new.windows ready c.requires.first c.in_ok-pair_windows.ensures.windows in
+    (pair_runs x y c.args.at.now.tail.now a part c.args.right.now c.operation_of-operation.result c.kind.result c.pair_windows.new.windows c.compute_turns.new.words c.requires.prepared c.in_ok-pair_windows.ensures.kept
     c.in_ok-pair_windows.ensures.read ready places c.len-len.ensures.words c.requires.alone c.kind.ensures c.operation_of-operation.ensures c.compute_turns.ensures.made).changed
 
 pub returns-clause-kept : goal.returns-clause-kept
 returns-clause-kept g c =
-    let x : Workspace = workspace c.args.evaluation.now c.args.words.now c.args.cache.now (g.D.Disk.files c.args.disk.now) in
-    let y : Workspace = workspace c.args.evaluation.now c.pair_windows.new.words c.pair_windows.new.cache (g.D.Disk.files c.pair_windows.new.disk) in
-    let a : Assignment = assignment_of c.args.numbers.now in
-    let part : Part = part_of c.args.block.now in
-    let h : IsAtBlock x c.args.tail.now a part = record { space = c.index_count-indexes.ensures.limits; tree = c.count-nodes.ensures.kept; prepared = c.requires.prepared; tail_is = c.requires.tail; block = c.requires.block } in
-    let ready = operands_ready x y c.args.tail.now a part c.args.right.now c.args.tail.now.node (slice_index c.args.first.now.numbers) c.pair_windows.new.windows h c.in_ok-pair_windows.ensures.kept c.in_ok-pair_windows.ensures.read
+    let x : Workspace = work_of g.D.Disk.files c.args.evaluation.now c.args.store.now in
+    let y : Workspace = work_of g.D.Disk.files c.args.evaluation.now c.pair_windows.new.store in
+    let a : Assignment = assignment_of c.args.at.now.numbers.now in
+    let part : Part = part_of c.args.at.now.block.now in
+    let h : IsAtBlock x c.args.at.now.tail.now a part = record { space = c.index_count-indexes.ensures.limits; tree = c.count-nodes.ensures.kept; prepared = c.requires.prepared; tail_is = c.requires.tail; block = c.requires.block } in
+    let ready = operands_ready x y c.args.at.now.tail.now a part c.args.right.now c.args.at.now.tail.now.node (slice_index c.args.first.now.numbers) c.pair_windows.new.windows h c.in_ok-pair_windows.ensures.kept c.in_ok-pair_windows.ensures.read
     c.requires.first c.requires.right c.in_ok-pair_windows.ensures.windows in
-    let places = own_ready y c.args.tail.now a part c.args.right.now (slice_index c.args.first.now.numbers) c.pair_windows.new.windows ready c.requires.first c.in_ok-pair_windows.ensures.windows in
-    (pair_runs x y c.args.tail.now a part c.args.right.now c.operation_of-operation.result c.kind.result c.pair_windows.new.windows c.compute_turns.new.words c.requires.prepared c.in_ok-pair_windows.ensures.kept
+    let places = own_ready y c.args.at.now.tail.now a part c.args.right.now (slice_index c.args.first.now.numbers) c.pair_windows.new.windows ready c.requires.first c.in_ok-pair_windows.ensures.windows in
+    (pair_runs x y c.args.at.now.tail.now a part c.args.right.now c.operation_of-operation.result c.kind.result c.pair_windows.new.windows c.compute_turns.new.words c.requires.prepared c.in_ok-pair_windows.ensures.kept
     c.in_ok-pair_windows.ensures.read ready places c.len-len.ensures.words c.requires.alone c.kind.ensures c.operation_of-operation.ensures c.compute_turns.ensures.made).kept
 
-pub returns-clause-steps : goal.returns-clause-steps
-returns-clause-steps g c =
-    let y : Workspace = workspace c.args.evaluation.now c.pair_windows.new.words c.pair_windows.new.cache (g.D.Disk.files c.pair_windows.new.disk) in
-    pair_steps y c.args.tail.now c.args.right.now (slice_index c.args.first.now.numbers) c.pair_windows.new.windows c.requires.right c.requires.alone c.in_ok-pair_windows.ensures.windows
+pub returns-clause-nest : goal.returns-clause-nest
+returns-clause-nest g c =
+    let y : Workspace = work_of g.D.Disk.files c.args.evaluation.now c.pair_windows.new.store in
+    record {
+      sequence_is = c.compute_turns.ensures.sequence;
+      steps_are = pair_steps y c.args.at.now.tail.now c.args.right.now (slice_index c.args.first.now.numbers) c.pair_windows.new.windows c.requires.right c.requires.alone c.in_ok-pair_windows.ensures.windows;
+    }
 
 pub pair_windows-requires-clause-right_steps : goal.pair_windows-requires-clause-right_steps
-pair_windows-requires-clause-right_steps g c = c.requires.steps.right_are c.args.right.now c.requires.right
+pair_windows-requires-clause-right_steps g c = c.requires.nest.steps_are.right_are c.args.right.now c.requires.right
 
 pub pair_windows-requires-clause-out_steps : goal.pair_windows-requires-clause-out_steps
-pair_windows-requires-clause-out_steps g c = c.requires.steps.pair_are c.args.right.now c.requires.right c.requires.alone
+pair_windows-requires-clause-out_steps g c = c.requires.nest.steps_are.pair_are c.args.right.now c.requires.right c.requires.alone

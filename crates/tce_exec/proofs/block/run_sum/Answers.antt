@@ -3,7 +3,8 @@ use Rattle.tce_tree.specs.Value.{Assignment}
 use Rattle.tce_block.specs.Cuts.{part_of}
 use Rattle.tce_block.specs.Parts.{Part}
 use Rattle.tce_walk.specs.Machine.{assignment_of}
-use Rattle.tce_workspace.specs.Workspace.{Workspace, workspace}
+use Rattle.tce_workspace.specs.Workspace.{Workspace}
+use Rattle.tce_workspace.specs.Storages.{work_of}
 use Rattle.tce_exec.proofs.Turning.{IsAtBlock, block_loops}
 use Rattle.tce_exec.proofs.Asking.{node_at_first}
 use Rattle.tce_exec.proofs.Stepping.{sum_steps}
@@ -12,81 +13,84 @@ use Rattle.tce_exec.proofs.block.run_sum.Goals as goal
 
 pub sum_windows-requires-clause-node : goal.sum_windows-requires-clause-node
 sum_windows-requires-clause-node g c =
-    let x : Workspace = workspace c.args.evaluation.now c.args.words.now c.args.cache.now (g.D.Disk.files c.args.disk.now) in
-    let a : Assignment = assignment_of c.args.numbers.now in
-    let part : Part = part_of c.args.block.now in
-    let h : IsAtBlock x c.args.tail.now a part = record { space = c.index_count-indexes.ensures.limits; tree = c.count-nodes.ensures.kept; prepared = c.requires.prepared; tail_is = c.requires.tail; block = c.requires.block } in
-    node_at_first x c.args.tail.now a part (slice_index c.args.first.now.numbers) h c.requires.first
+    let x : Workspace = work_of g.D.Disk.files c.args.evaluation.now c.args.store.now in
+    let a : Assignment = assignment_of c.args.at.now.numbers.now in
+    let part : Part = part_of c.args.at.now.block.now in
+    let h : IsAtBlock x c.args.at.now.tail.now a part = record { space = c.index_count-indexes.ensures.limits; tree = c.count-nodes.ensures.kept; prepared = c.requires.prepared; tail_is = c.requires.tail; block = c.requires.block } in
+    node_at_first x c.args.at.now.tail.now a part (slice_index c.args.first.now.numbers) h c.requires.first
 
 pub grow_turns-requires-clause-loops : goal.grow_turns-requires-clause-loops
 grow_turns-requires-clause-loops g c =
-    let x : Workspace = workspace c.args.evaluation.now c.args.words.now c.args.cache.now (g.D.Disk.files c.args.disk.now) in
-    let a : Assignment = assignment_of c.args.numbers.now in
-    let part : Part = part_of c.args.block.now in
-    let h : IsAtBlock x c.args.tail.now a part = record { space = c.index_count-indexes.ensures.limits; tree = c.count-nodes.ensures.kept; prepared = c.requires.prepared; tail_is = c.requires.tail; block = c.requires.block } in
-    block_loops x c.args.tail.now a part h
+    let x : Workspace = work_of g.D.Disk.files c.args.evaluation.now c.args.store.now in
+    let a : Assignment = assignment_of c.args.at.now.numbers.now in
+    let part : Part = part_of c.args.at.now.block.now in
+    let h : IsAtBlock x c.args.at.now.tail.now a part = record { space = c.index_count-indexes.ensures.limits; tree = c.count-nodes.ensures.kept; prepared = c.requires.prepared; tail_is = c.requires.tail; block = c.requires.block } in
+    block_loops x c.args.at.now.tail.now a part h
 
 pub grow_turns-requires-clause-out : goal.grow_turns-requires-clause-out
 grow_turns-requires-clause-out g c =
-    let x : Workspace = workspace c.args.evaluation.now c.args.words.now c.args.cache.now (g.D.Disk.files c.args.disk.now) in
-    let y : Workspace = workspace c.args.evaluation.now c.sum_windows.new.words c.sum_windows.new.cache (g.D.Disk.files c.sum_windows.new.disk) in
-    let a : Assignment = assignment_of c.args.numbers.now in
-    let part : Part = part_of c.args.block.now in
-    let h : IsAtBlock x c.args.tail.now a part = record { space = c.index_count-indexes.ensures.limits; tree = c.count-nodes.ensures.kept; prepared = c.requires.prepared; tail_is = c.requires.tail; block = c.requires.block } in
-    let ready = sum_ready x y c.args.tail.now a part (slice_index c.args.first.now.numbers) c.sum_windows.new.windows h c.in_ok-sum_windows.ensures.kept c.in_ok-sum_windows.ensures.read c.requires.first
+    let x : Workspace = work_of g.D.Disk.files c.args.evaluation.now c.args.store.now in
+    let y : Workspace = work_of g.D.Disk.files c.args.evaluation.now c.sum_windows.new.store in
+    let a : Assignment = assignment_of c.args.at.now.numbers.now in
+    let part : Part = part_of c.args.at.now.block.now in
+    let h : IsAtBlock x c.args.at.now.tail.now a part = record { space = c.index_count-indexes.ensures.limits; tree = c.count-nodes.ensures.kept; prepared = c.requires.prepared; tail_is = c.requires.tail; block = c.requires.block } in
+    let ready = sum_ready x y c.args.at.now.tail.now a part (slice_index c.args.first.now.numbers) c.sum_windows.new.windows h c.in_ok-sum_windows.ensures.kept c.in_ok-sum_windows.ensures.read c.requires.first
     c.in_ok-sum_windows.ensures.windows in
     ready.out
 
 pub grow_turns-requires-clause-operand : goal.grow_turns-requires-clause-operand
 grow_turns-requires-clause-operand g c =
-    let x : Workspace = workspace c.args.evaluation.now c.args.words.now c.args.cache.now (g.D.Disk.files c.args.disk.now) in
-    let y : Workspace = workspace c.args.evaluation.now c.sum_windows.new.words c.sum_windows.new.cache (g.D.Disk.files c.sum_windows.new.disk) in
-    let a : Assignment = assignment_of c.args.numbers.now in
-    let part : Part = part_of c.args.block.now in
-    let h : IsAtBlock x c.args.tail.now a part = record { space = c.index_count-indexes.ensures.limits; tree = c.count-nodes.ensures.kept; prepared = c.requires.prepared; tail_is = c.requires.tail; block = c.requires.block } in
-    let ready = sum_ready x y c.args.tail.now a part (slice_index c.args.first.now.numbers) c.sum_windows.new.windows h c.in_ok-sum_windows.ensures.kept c.in_ok-sum_windows.ensures.read c.requires.first
+    let x : Workspace = work_of g.D.Disk.files c.args.evaluation.now c.args.store.now in
+    let y : Workspace = work_of g.D.Disk.files c.args.evaluation.now c.sum_windows.new.store in
+    let a : Assignment = assignment_of c.args.at.now.numbers.now in
+    let part : Part = part_of c.args.at.now.block.now in
+    let h : IsAtBlock x c.args.at.now.tail.now a part = record { space = c.index_count-indexes.ensures.limits; tree = c.count-nodes.ensures.kept; prepared = c.requires.prepared; tail_is = c.requires.tail; block = c.requires.block } in
+    let ready = sum_ready x y c.args.at.now.tail.now a part (slice_index c.args.first.now.numbers) c.sum_windows.new.windows h c.in_ok-sum_windows.ensures.kept c.in_ok-sum_windows.ensures.read c.requires.first
     c.in_ok-sum_windows.ensures.windows in
     ready.operand
 
 pub grow_turns-requires-clause-apart : goal.grow_turns-requires-clause-apart
 grow_turns-requires-clause-apart g c =
-    let x : Workspace = workspace c.args.evaluation.now c.args.words.now c.args.cache.now (g.D.Disk.files c.args.disk.now) in
-    let y : Workspace = workspace c.args.evaluation.now c.sum_windows.new.words c.sum_windows.new.cache (g.D.Disk.files c.sum_windows.new.disk) in
-    let a : Assignment = assignment_of c.args.numbers.now in
-    let part : Part = part_of c.args.block.now in
-    let h : IsAtBlock x c.args.tail.now a part = record { space = c.index_count-indexes.ensures.limits; tree = c.count-nodes.ensures.kept; prepared = c.requires.prepared; tail_is = c.requires.tail; block = c.requires.block } in
-    let ready = sum_ready x y c.args.tail.now a part (slice_index c.args.first.now.numbers) c.sum_windows.new.windows h c.in_ok-sum_windows.ensures.kept c.in_ok-sum_windows.ensures.read c.requires.first
+    let x : Workspace = work_of g.D.Disk.files c.args.evaluation.now c.args.store.now in
+    let y : Workspace = work_of g.D.Disk.files c.args.evaluation.now c.sum_windows.new.store in
+    let a : Assignment = assignment_of c.args.at.now.numbers.now in
+    let part : Part = part_of c.args.at.now.block.now in
+    let h : IsAtBlock x c.args.at.now.tail.now a part = record { space = c.index_count-indexes.ensures.limits; tree = c.count-nodes.ensures.kept; prepared = c.requires.prepared; tail_is = c.requires.tail; block = c.requires.block } in
+    let ready = sum_ready x y c.args.at.now.tail.now a part (slice_index c.args.first.now.numbers) c.sum_windows.new.windows h c.in_ok-sum_windows.ensures.kept c.in_ok-sum_windows.ensures.read c.requires.first
     c.in_ok-sum_windows.ensures.windows in
     ready.apart
 
 pub returns-clause-changed : goal.returns-clause-changed
 returns-clause-changed g c =
-    let x : Workspace = workspace c.args.evaluation.now c.args.words.now c.args.cache.now (g.D.Disk.files c.args.disk.now) in
-    let y : Workspace = workspace c.args.evaluation.now c.sum_windows.new.words c.sum_windows.new.cache (g.D.Disk.files c.sum_windows.new.disk) in
-    let a : Assignment = assignment_of c.args.numbers.now in
-    let part : Part = part_of c.args.block.now in
-    let h : IsAtBlock x c.args.tail.now a part = record { space = c.index_count-indexes.ensures.limits; tree = c.count-nodes.ensures.kept; prepared = c.requires.prepared; tail_is = c.requires.tail; block = c.requires.block } in
-    let ready = sum_ready x y c.args.tail.now a part (slice_index c.args.first.now.numbers) c.sum_windows.new.windows h c.in_ok-sum_windows.ensures.kept c.in_ok-sum_windows.ensures.read c.requires.first
+    let x : Workspace = work_of g.D.Disk.files c.args.evaluation.now c.args.store.now in
+    let y : Workspace = work_of g.D.Disk.files c.args.evaluation.now c.sum_windows.new.store in
+    let a : Assignment = assignment_of c.args.at.now.numbers.now in
+    let part : Part = part_of c.args.at.now.block.now in
+    let h : IsAtBlock x c.args.at.now.tail.now a part = record { space = c.index_count-indexes.ensures.limits; tree = c.count-nodes.ensures.kept; prepared = c.requires.prepared; tail_is = c.requires.tail; block = c.requires.block } in
+    let ready = sum_ready x y c.args.at.now.tail.now a part (slice_index c.args.first.now.numbers) c.sum_windows.new.windows h c.in_ok-sum_windows.ensures.kept c.in_ok-sum_windows.ensures.read c.requires.first
     c.in_ok-sum_windows.ensures.windows in
-    (sum_runs x y c.args.tail.now a part c.sum_windows.new.windows c.grow_turns.new.words c.requires.prepared c.in_ok-sum_windows.ensures.kept c.in_ok-sum_windows.ensures.read ready c.len-len.ensures.words c.requires.sum
+    (sum_runs x y c.args.at.now.tail.now a part c.sum_windows.new.windows c.grow_turns.new.words c.requires.prepared c.in_ok-sum_windows.ensures.kept c.in_ok-sum_windows.ensures.read ready c.len-len.ensures.words c.requires.sum
     c.grow_turns.ensures.made).changed
 
 pub returns-clause-kept : goal.returns-clause-kept
 returns-clause-kept g c =
-    let x : Workspace = workspace c.args.evaluation.now c.args.words.now c.args.cache.now (g.D.Disk.files c.args.disk.now) in
-    let y : Workspace = workspace c.args.evaluation.now c.sum_windows.new.words c.sum_windows.new.cache (g.D.Disk.files c.sum_windows.new.disk) in
-    let a : Assignment = assignment_of c.args.numbers.now in
-    let part : Part = part_of c.args.block.now in
-    let h : IsAtBlock x c.args.tail.now a part = record { space = c.index_count-indexes.ensures.limits; tree = c.count-nodes.ensures.kept; prepared = c.requires.prepared; tail_is = c.requires.tail; block = c.requires.block } in
-    let ready = sum_ready x y c.args.tail.now a part (slice_index c.args.first.now.numbers) c.sum_windows.new.windows h c.in_ok-sum_windows.ensures.kept c.in_ok-sum_windows.ensures.read c.requires.first
+    let x : Workspace = work_of g.D.Disk.files c.args.evaluation.now c.args.store.now in
+    let y : Workspace = work_of g.D.Disk.files c.args.evaluation.now c.sum_windows.new.store in
+    let a : Assignment = assignment_of c.args.at.now.numbers.now in
+    let part : Part = part_of c.args.at.now.block.now in
+    let h : IsAtBlock x c.args.at.now.tail.now a part = record { space = c.index_count-indexes.ensures.limits; tree = c.count-nodes.ensures.kept; prepared = c.requires.prepared; tail_is = c.requires.tail; block = c.requires.block } in
+    let ready = sum_ready x y c.args.at.now.tail.now a part (slice_index c.args.first.now.numbers) c.sum_windows.new.windows h c.in_ok-sum_windows.ensures.kept c.in_ok-sum_windows.ensures.read c.requires.first
     c.in_ok-sum_windows.ensures.windows in
-    (sum_runs x y c.args.tail.now a part c.sum_windows.new.windows c.grow_turns.new.words c.requires.prepared c.in_ok-sum_windows.ensures.kept c.in_ok-sum_windows.ensures.read ready c.len-len.ensures.words c.requires.sum
+    (sum_runs x y c.args.at.now.tail.now a part c.sum_windows.new.windows c.grow_turns.new.words c.requires.prepared c.in_ok-sum_windows.ensures.kept c.in_ok-sum_windows.ensures.read ready c.len-len.ensures.words c.requires.sum
     c.grow_turns.ensures.made).kept
 
-pub returns-clause-steps : goal.returns-clause-steps
-returns-clause-steps g c =
-    let y : Workspace = workspace c.args.evaluation.now c.sum_windows.new.words c.sum_windows.new.cache (g.D.Disk.files c.sum_windows.new.disk) in
-    sum_steps y c.args.tail.now (slice_index c.args.first.now.numbers) c.sum_windows.new.windows c.requires.sum c.in_ok-sum_windows.ensures.windows
+pub returns-clause-nest : goal.returns-clause-nest
+returns-clause-nest g c =
+    let y : Workspace = work_of g.D.Disk.files c.args.evaluation.now c.sum_windows.new.store in
+    record {
+      sequence_is = c.grow_turns.ensures.sequence;
+      steps_are = sum_steps y c.args.at.now.tail.now (slice_index c.args.first.now.numbers) c.sum_windows.new.windows c.requires.sum c.in_ok-sum_windows.ensures.windows;
+    }
 
 pub sum_windows-requires-clause-out_steps : goal.sum_windows-requires-clause-out_steps
-sum_windows-requires-clause-out_steps g c = c.requires.steps.sum_are c.requires.sum
+sum_windows-requires-clause-out_steps g c = c.requires.nest.steps_are.sum_are c.requires.sum

@@ -1,20 +1,20 @@
 use Rattle.std.proofs.Common.{◌≡◌, map, slice_index, refl, sym, ap, ap₂, ◌∙◌, subst, rules}
 use Rattle.tce_block.specs.Parts.{blocks}
 use Rattle.tce_block.specs.Cuts.{part_of}
-use Rattle.tce_workspace.specs.Workspace.{Workspace, workspace}
-use Rattle.tce_workspace.proofs.Following.{kept_on}
+use Rattle.tce_workspace.specs.Workspace.{Workspace}
+use Rattle.tce_workspace.specs.Storages.{work_of}
+use Rattle.tce_workspace.proofs.Following.{kept_on, same_on}
 use Rattle.tce_space.specs.Space.{extent_at, edge_at}
 use Rattle.tce_walk.specs.declared.machine.Tail.{Tail}
-use Rattle.tce_windows.specs.Sequences.{IsLoopSequence}
 use Rattle.tce_exec.specs.Blocks.{blocks_of, loops_of}
 use Rattle.tce_exec.specs.Along.{IsAlong}
-use Rattle.tce_exec.specs.Windows.{AreSteps}
+use Rattle.tce_exec.specs.Plans.{IsNest}
 use Rattle.tce_exec.proofs.Along.{begun, is_block, few_left, stepped, has_turns, ended, first_told, none_told}
 use Rattle.tce_exec.proofs.tail.run_blocks.Goals as goal
 
 pub loop-blocks-init : goal.loop-blocks-init
 loop-blocks-init g c =
-    let x : Workspace = workspace c.args.evaluation.now c.args.words.now c.args.cache.now (g.D.Disk.files c.args.disk.now) in
+    let x : Workspace = work_of g.D.Disk.files c.args.evaluation.now c.args.store.now in
     let e = c.requires.plan in
     let all : c.new-blocks.result ≡ blocks_of x.places.space c.args.tail.now =
     c.new-blocks.ensures ∙ ap₂ blocks (e.is.extents_are ∙ ap (λ (t : Tail). map (extent_at x.places.space) (loops_of t)) e.tail_is) (e.is.edges_are ∙ ap (λ (t : Tail). map (edge_at x.places.space) (loops_of t)) e.tail_is) in
@@ -22,8 +22,8 @@ loop-blocks-init g c =
       along = subst (IsAlong x x c.args.tail.now (slice_index c.args.numbers.now)) (sym all) (begun x c.args.tail.now (slice_index c.args.numbers.now) c.requires.prepared);
       others = λ i m. ap (λ f. f i) c.requires.outside;
       position = c.requires.position;
-      sequence = subst (λ (t : Tail). IsLoopSequence (loops_of t) c.args.plan.now.sequence) e.tail_is e.is.sequence_is;
-      steps = subst (λ (t : Tail). AreSteps x.places t c.args.plan.now.windows) e.tail_is e.is.steps_are;
+      nest = subst (λ (t : Tail). IsNest x.places t c.args.plan.now.nest) e.tail_is e.is.nest_is;
+      same = (refl, refl, refl);
       made = refl;
       tail_is = refl;
       cuts_are = refl;
@@ -32,21 +32,21 @@ loop-blocks-init g c =
 
 pub run_block-requires-clause-block : goal.run_block-requires-clause-block
 run_block-requires-clause-block g c =
-    let x : Workspace = workspace c.args.evaluation.now c.args.words.now c.args.cache.now (g.D.Disk.files c.args.disk.now) in
-    let y : Workspace = workspace c.args.evaluation.now c.loop-blocks.words c.loop-blocks.cache (g.D.Disk.files c.loop-blocks.disk) in
+    let x : Workspace = work_of g.D.Disk.files c.args.evaluation.now c.args.store.now in
+    let y : Workspace = work_of g.D.Disk.files c.args.evaluation.now c.loop-blocks.store in
     is_block x y c.args.tail.now (slice_index c.args.numbers.now) c.loop-blocks.blocks (part_of c.next_in.new.block) c.loop-blocks.invariant.along (first_told c.next_in.result (part_of c.next_in.new.block) c.loop-blocks.blocks c.next_in.ensures.block c.loop-blocks-test.true)
 
 pub run_block-requires-clause-few : goal.run_block-requires-clause-few
 run_block-requires-clause-few g c =
-    let x : Workspace = workspace c.args.evaluation.now c.args.words.now c.args.cache.now (g.D.Disk.files c.args.disk.now) in
-    let y : Workspace = workspace c.args.evaluation.now c.loop-blocks.words c.loop-blocks.cache (g.D.Disk.files c.loop-blocks.disk) in
+    let x : Workspace = work_of g.D.Disk.files c.args.evaluation.now c.args.store.now in
+    let y : Workspace = work_of g.D.Disk.files c.args.evaluation.now c.loop-blocks.store in
     few_left x y c.args.tail.now (slice_index c.args.numbers.now) c.loop-blocks.blocks (part_of c.next_in.new.block) c.loop-blocks.invariant.along (first_told c.next_in.result (part_of c.next_in.new.block) c.loop-blocks.blocks c.next_in.ensures.block c.loop-blocks-test.true) c.requires.few
 
 pub loop-blocks-preserved : goal.loop-blocks-preserved
 loop-blocks-preserved g c =
-    let x : Workspace = workspace c.args.evaluation.now c.args.words.now c.args.cache.now (g.D.Disk.files c.args.disk.now) in
-    let y : Workspace = workspace c.args.evaluation.now c.loop-blocks.words c.loop-blocks.cache (g.D.Disk.files c.loop-blocks.disk) in
-    let z : Workspace = workspace c.args.evaluation.now c.run_block.new.words c.run_block.new.cache (g.D.Disk.files c.run_block.new.disk) in
+    let x : Workspace = work_of g.D.Disk.files c.args.evaluation.now c.args.store.now in
+    let y : Workspace = work_of g.D.Disk.files c.args.evaluation.now c.loop-blocks.store in
+    let z : Workspace = work_of g.D.Disk.files c.args.evaluation.now c.run_block.new.store in
     let e = c.in_ok-run_block.ensures in
     record {
       along = subst (IsAlong x z c.args.tail.now (slice_index c.args.numbers.now)) (sym c.next_in.ensures.rest)
@@ -54,8 +54,8 @@ loop-blocks-preserved g c =
           e.kept e.changed);
       others = e.others;
       position = e.position;
-      sequence = e.sequence;
-      steps = e.steps;
+      nest = e.nest;
+      same = same_on c.args.store.now c.loop-blocks.store c.run_block.new.store c.loop-blocks.invariant.same e.same;
       made = c.loop-blocks.invariant.made;
       tail_is = c.loop-blocks.invariant.tail_is;
       cuts_are = c.loop-blocks.invariant.cuts_are;
@@ -64,14 +64,14 @@ loop-blocks-preserved g c =
 
 pub returns-in_err-run_block-clause-kept : goal.returns-in_err-run_block-clause-kept
 returns-in_err-run_block-clause-kept g c =
-    let x : Workspace = workspace c.args.evaluation.now c.args.words.now c.args.cache.now (g.D.Disk.files c.args.disk.now) in
-    let y : Workspace = workspace c.args.evaluation.now c.loop-blocks.words c.loop-blocks.cache (g.D.Disk.files c.loop-blocks.disk) in
-    let z : Workspace = workspace c.args.evaluation.now c.run_block.new.words c.run_block.new.cache (g.D.Disk.files c.run_block.new.disk) in
+    let x : Workspace = work_of g.D.Disk.files c.args.evaluation.now c.args.store.now in
+    let y : Workspace = work_of g.D.Disk.files c.args.evaluation.now c.loop-blocks.store in
+    let z : Workspace = work_of g.D.Disk.files c.args.evaluation.now c.run_block.new.store in
     kept_on x y z c.loop-blocks.invariant.along.kept c.in_err-run_block.ensures.kept
 
 pub returns-clause-changed : goal.returns-clause-changed
 returns-clause-changed g c =
-    let x : Workspace = workspace c.args.evaluation.now c.args.words.now c.args.cache.now (g.D.Disk.files c.args.disk.now) in
-    let y : Workspace = workspace c.args.evaluation.now c.loop-blocks.words c.loop-blocks.cache (g.D.Disk.files c.loop-blocks.disk) in
+    let x : Workspace = work_of g.D.Disk.files c.args.evaluation.now c.args.store.now in
+    let y : Workspace = work_of g.D.Disk.files c.args.evaluation.now c.loop-blocks.store in
     ended x y c.args.tail.now (slice_index c.args.numbers.now) c.loop-blocks.blocks c.index_count-indexes.ensures.limits (has_turns x.places.space c.index_count-indexes.ensures.limits)
     c.requires.prepared c.len-len.ensures.words c.requires.tail c.loop-blocks.invariant.along (none_told c.next_in.result (part_of c.next_in.new.block) c.loop-blocks.blocks c.next_in.ensures.block c.loop-blocks-test.false)

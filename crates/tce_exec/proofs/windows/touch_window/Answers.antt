@@ -2,14 +2,15 @@ use Rattle.std.proofs.Common.{◌+◌, ◌*◌, ◌≤◌, ◌^◌, ap, map, sli
 use Rattle.tce_space.specs.Tiling.{Tiling}
 use Rattle.tce_cache.specs.Cache.{State as CacheState}
 use Rattle.tce_workspace.specs.Elements.{IsElementAt}
-use Rattle.tce_workspace.specs.Workspace.{Workspace, workspace, shape_over}
+use Rattle.tce_workspace.specs.Workspace.{Workspace, shape_over}
+use Rattle.tce_workspace.specs.Storages.{work_of}
 use Rattle.tce_workspace.proofs.Workspaces.{touched_reads}
 use Rattle.tce_exec.proofs.Touching.{element_of, touched_window, touched_room, touch_keeps_last}
 use Rattle.tce_exec.proofs.windows.touch_window.Goals as goal
 
 pub overflow_add-window : goal.overflow_add-window
 overflow_add-window g c =
-    let old : CacheState = c.args.cache.now in
+    let old : CacheState = c.args.store.now.cache.now in
     let new : CacheState = c.touch.new.self in
     let e = c.in_ok-at.ensures in
     let l = c.args.leaf.now in
@@ -26,7 +27,7 @@ overflow_add-window g c =
 
 pub returns-clause-window : goal.returns-clause-window
 returns-clause-window g c =
-    let old : CacheState = c.args.cache.now in
+    let old : CacheState = c.args.store.now.cache.now in
     let new : CacheState = c.touch.new.self in
     let e = c.in_ok-at.ensures in
     let l = c.args.leaf.now in
@@ -41,10 +42,10 @@ returns-clause-window g c =
 
 pub returns-clause-last : goal.returns-clause-last
 returns-clause-last g c =
-    touch_keeps_last c.args.cache.now c.touch.new.self c.args.leaf.now.tensor c.element-element.result.tile c.in_ok-at.at c.args.write c.requires.prepared.cache c.in_ok-at.ensures.touched
+    touch_keeps_last c.args.store.now.cache.now c.touch.new.self c.args.leaf.now.tensor c.element-element.result.tile c.in_ok-at.at c.args.write c.requires.prepared.cache c.in_ok-at.ensures.touched
 
 pub returns-clause-read : goal.returns-clause-read
 returns-clause-read g c =
-    let x : Workspace = workspace c.args.evaluation.now c.args.words.now c.args.cache.now (g.D.Disk.files c.args.disk.now) in
+    let x : Workspace = work_of g.D.Disk.files c.args.evaluation.now c.args.store.now in
     let e = c.in_ok-at.ensures in
     touched_reads x c.touch.new.words c.touch.new.self (g.D.Disk.files c.touch.new.disk) c.requires.prepared e.same e.arrays e.cache e.outside e.others

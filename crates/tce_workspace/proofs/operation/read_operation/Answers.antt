@@ -1,5 +1,6 @@
 use Rattle.std.proofs.Common.{slice_index, sym, subst, arith}
-use Rattle.tce_workspace.specs.Workspace.{Workspace, workspace, setting_in, state_in}
+use Rattle.tce_workspace.specs.Workspace.{Workspace, setting_in, state_in}
+use Rattle.tce_workspace.specs.Storages.{work_of}
 use Rattle.tce_workspace.specs.Operands.{second_word, IsReadable}
 use Rattle.tce_tree.specs.FlatTree.{right_of}
 use Rattle.tce_workspace.proofs.Following.{kept_on, read_on}
@@ -8,35 +9,35 @@ use Rattle.tce_workspace.proofs.operation.read_operation.Goals as goal
 
 pub read_operand-requires-clause-readable : goal.read_operand-requires-clause-readable
 read_operand-requires-clause-readable g c =
-    let x : Workspace = workspace c.args.evaluation.now c.args.words.now c.args.cache.now (g.D.Disk.files c.args.disk.now) in
+    let x : Workspace = work_of g.D.Disk.files c.args.evaluation.now c.args.store.now in
     subst (λ o. IsReadable x o (slice_index c.args.numbers.now)) (sym c.left-operand.ensures.value)
     (readable_left x c.args.v (slice_index c.args.numbers.now) c.count-nodes.ensures.kept c.requires.prepared c.requires.node)
 
 pub returns-in_err-second-clause-kept : goal.returns-in_err-second-clause-kept
 returns-in_err-second-clause-kept g c =
-    let x : Workspace = workspace c.args.evaluation.now c.args.words.now c.args.cache.now (g.D.Disk.files c.args.disk.now) in
-    let y : Workspace = workspace c.args.evaluation.now c.read_operand.new.words c.read_operand.new.cache (g.D.Disk.files c.read_operand.new.disk) in
-    let z : Workspace = workspace c.args.evaluation.now c.read_second.new.words c.read_second.new.cache (g.D.Disk.files c.read_second.new.disk) in
+    let x : Workspace = work_of g.D.Disk.files c.args.evaluation.now c.args.store.now in
+    let y : Workspace = work_of g.D.Disk.files c.args.evaluation.now c.read_operand.new.store in
+    let z : Workspace = work_of g.D.Disk.files c.args.evaluation.now c.read_second.new.store in
     kept_on x y z c.in_ok-first.ensures.kept c.in_err-second.ensures.kept
 
 pub returns-clause-kept : goal.returns-clause-kept
 returns-clause-kept g c =
-    let x : Workspace = workspace c.args.evaluation.now c.args.words.now c.args.cache.now (g.D.Disk.files c.args.disk.now) in
-    let y : Workspace = workspace c.args.evaluation.now c.read_operand.new.words c.read_operand.new.cache (g.D.Disk.files c.read_operand.new.disk) in
-    let z : Workspace = workspace c.args.evaluation.now c.read_second.new.words c.read_second.new.cache (g.D.Disk.files c.read_second.new.disk) in
+    let x : Workspace = work_of g.D.Disk.files c.args.evaluation.now c.args.store.now in
+    let y : Workspace = work_of g.D.Disk.files c.args.evaluation.now c.read_operand.new.store in
+    let z : Workspace = work_of g.D.Disk.files c.args.evaluation.now c.read_second.new.store in
     kept_on x y z c.in_ok-first.ensures.kept c.in_ok-second.ensures.kept
 
 pub returns-clause-read : goal.returns-clause-read
 returns-clause-read g c =
-    let x : Workspace = workspace c.args.evaluation.now c.args.words.now c.args.cache.now (g.D.Disk.files c.args.disk.now) in
-    let y : Workspace = workspace c.args.evaluation.now c.read_operand.new.words c.read_operand.new.cache (g.D.Disk.files c.read_operand.new.disk) in
-    let z : Workspace = workspace c.args.evaluation.now c.read_second.new.words c.read_second.new.cache (g.D.Disk.files c.read_second.new.disk) in
+    let x : Workspace = work_of g.D.Disk.files c.args.evaluation.now c.args.store.now in
+    let y : Workspace = work_of g.D.Disk.files c.args.evaluation.now c.read_operand.new.store in
+    let z : Workspace = work_of g.D.Disk.files c.args.evaluation.now c.read_second.new.store in
     read_on 1 1 2 x y z (omega arith) c.in_ok-first.ensures.kept c.in_ok-first.ensures.read c.in_ok-second.ensures.read
 
 pub returns-clause-word : goal.returns-clause-word
 returns-clause-word g c =
-    let x : Workspace = workspace c.args.evaluation.now c.args.words.now c.args.cache.now (g.D.Disk.files c.args.disk.now) in
-    let y : Workspace = workspace c.args.evaluation.now c.read_operand.new.words c.read_operand.new.cache (g.D.Disk.files c.read_operand.new.disk) in
+    let x : Workspace = work_of g.D.Disk.files c.args.evaluation.now c.args.store.now in
+    let y : Workspace = work_of g.D.Disk.files c.args.evaluation.now c.read_operand.new.store in
     let a = slice_index c.args.numbers.now in
     both_words (setting_in x) c.args.v (state_in x) a c.kind.result c.left-operand.result.now c.in_ok-first.first c.in_ok-second.second c.combine.result c.kind.ensures c.left-operand.ensures.value
     c.in_ok-first.ensures.word
