@@ -1,11 +1,11 @@
 -- What the command leaves and reports.
-use Rattle.std.specs.Prelude.{◌≡◌, ◌⊎◌, ℕ, ◌≤◌, List, [], ◌∷◌, ◌++◌, codes, Option}
-use Rattle.std.specs.Option.{ForSome, option_map}
+use Rattle.std.specs.Prelude.{◌≡◌, ◌⊎◌, ℕ, ◌≤◌, List, [], ◌∷◌, ◌++◌, codes, Option, IfErr, Result}
+use Rattle.std.specs.Option.{ForSome, option_map, IsSomeAnd}
 use Rattle.std.specs.Fmt.{decimal}
 use Rattle.tce_base.specs.Word.{wrapping_sum}
-use Rattle.tce_outside.specs.Files.{Files}
+use Rattle.tce_outside.specs.Files.{Files, file, others}
 use Rattle.tce_array.specs.declared.form.Form.TheVariants.{One}
-use Rattle.tce_array.specs.Forms.{head_len, cell}
+use Rattle.tce_array.specs.Forms.{head_len, cell, IsForm}
 use Rattle.tce_tools.specs.Flat.{in_order, contents}
 use Rattle.tce_tools.specs.Demo.{demo_text}
 use Rattle.tce_tools.specs.NoHalf.{LeavesNoHalfOf}
@@ -14,15 +14,20 @@ use Rattle.tce_search.specs.LeastPlan.{IsLeastPlan}
 use Rattle.tce_spec.specs.Specification.{Specification}
 use Rattle.tce_spec.specs.Operands.{shape_of}
 use Rattle.tce_tensors.specs.TensorFiles.{file_of}
-use Rattle.tce_tensors.specs.ResultBytes.{result_bytes}
+use Rattle.tce_tensors.specs.ResultBytes.{result_bytes, with_result}
 use Rattle.tce_tensors.specs.Takings.{tile_take}
+use Rattle.tce_tensors.specs.Opened.{HasOperands, operand_count}
 use Rattle.tce_job.specs.Prepared.{taking_of, HasTaken}
 use Rattle.tce_job.specs.Refusals.{CanRun}
 use Rattle.tce_job.specs.declared.fault.JobFault.{JobFault}
+use Rattle.tce_job.specs.Run.{IsReported}
+use Rattle.tce_job.specs.declared.report.RunReport.{RunReport}
 use Rattle.tce_command.specs.declared.refusal.Refusal.{Refusal}
+use Rattle.tce_command.specs.Refusals.{IsFree}
 use Rattle.tce_run.specs.Told.{IsToldAs}
 use Rattle.tce_example.specs.Specification.{IsDemoOf}
 use Rattle.tce_example.specs.Files.{LeavesArrays, with_input, with_demo}
+use Rattle.tce_example.specs.declared.input.Example.{Example}
 
 -- the words that the tiles of a run may take
 abbrev pub demo_budget : ℕ
@@ -81,3 +86,42 @@ pub record LeavesRun (s : Specification) (seed : ℕ) (text : List ℕ) (before 
 -- no file differs, or that is left of the files of the demonstration
 abbrev pub LeavesDemonstration : ℕ → ℕ → ℕ → Option Files → Option Files → Type 0
 LeavesDemonstration seed v o before after = (after ≡ before) ⊎ ((s : Specification) × IsDemoOf v o s × LeavesRun s seed (demo_text v o) before after)
+
+-- where the disk tells its files: the result's file is an array of its shape, its elements have this sum, and each operand has its array
+abbrev pub HasResultArray : Option Files → Specification → Type 0
+HasResultArray told s = ForSome told (λ files. IsSomeAnd (file files (file_of s s.result)) (IsForm One (shape_of s s.result)))
+
+abbrev pub IsSumOfResult : Option Files → Specification → ℕ → Type 0
+IsSumOfResult told s n = ForSome told (λ files. n ≡ result_sum s files)
+
+abbrev pub HasAllOperands : Option Files → Specification → Type 0
+HasAllOperands told s = ForSome told (λ files. HasOperands files s (operand_count s))
+
+-- the result's file has the bytes of the formula; no file but that of the result differs
+abbrev pub PutsResult : Specification → Option Files → Option Files → Type 0
+PutsResult s before after = after ≡ option_map (with_result s) before
+
+abbrev pub AllButResultStay : Specification → Option Files → Option Files → Type 0
+AllButResultStay s before after = others (file_of s s.result) after ≡ others (file_of s s.result) before
+
+-- the report of a run under the words that a demonstration has for tiles
+abbrev pub HasRunReport : Specification → List (ℕ × ℕ) → List (ℕ × ℕ) → RunReport → Type 0
+HasRunReport s takings takings_after report = IsReported s demo_budget takings takings_after report
+
+-- a refused run left the takings as they were, or, after a failure of the disk or for want of memory, took once
+abbrev pub LeavesRoom : {A : Type 0} → Specification → List (ℕ × ℕ) → List (ℕ × ℕ) → Result A Refusal → Type 0
+LeavesRoom s takings takings_after result =
+    IfErr result (λ refusal. (IsFree refusal × HasTaken s demo_budget takings takings_after) ⊎ (takings_after ≡ takings))
+
+abbrev pub LeavesDemoRoom : {A : Type 0} → ℕ → ℕ → List (ℕ × ℕ) → List (ℕ × ℕ) → Result A Refusal → Type 0
+LeavesDemoRoom v o takings takings_after result =
+    IfErr result (λ refusal. (IsFree refusal × IsDemoTaking v o takings takings_after) ⊎ (takings_after ≡ takings))
+
+-- what is left of the files of an example, wherever its demonstration ends
+abbrev pub LeavesExample : Example → ℕ → Option Files → Option Files → Type 0
+LeavesExample example seed before after = LeavesRun example.spec seed example.text.items before after
+
+-- the example is run, with this report
+abbrev pub IsRunOfExample : Example → ℕ → Option Files → Option Files → List (ℕ × ℕ) → List (ℕ × ℕ) → List ℕ → Type 0
+IsRunOfExample example seed before after takings takings_after report =
+    IsRunOf example.spec seed example.text.items before after takings takings_after report

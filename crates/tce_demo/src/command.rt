@@ -1,13 +1,13 @@
 // The command.
-ghost use Rattle.std.specs.Prelude.{◌≡◌, ◌⊎◌, ◌≤◌, Err, IfOk, IfErr, OnOk};
-ghost use Rattle.std.specs.Option.{ForSome, option_map};
+ghost use Rattle.std.specs.Prelude.{◌≡◌, ◌≤◌, Err, IfOk, IfErr};
+ghost use Rattle.std.specs.Option.{ForSome};
 ghost use Rattle.std.specs.String.{string_bytes};
 ghost use Rattle.tce_outside.specs.Fault.{HasCause, TellsFaults};
 ghost use Rattle.tce_command.specs.Refusals.{IsFree};
-ghost use Rattle.tce_job.specs.Prepared.{HasTaken};
 ghost use Rattle.tce_example.specs.Specification.{IsDemo};
-ghost use Rattle.tce_example.specs.Files.{IsSeed, DemoOthersStay, LeavesOperands, with_input};
-ghost use Rattle.tce_demo.specs.Done.{demo_budget, IsRunOf, IsDemonstrated, IsDemoTaking, IsDemoRefusal, IsOfRun, LeavesRun, LeavesDemonstration};
+ghost use Rattle.tce_example.specs.Files.{IsSeed, DemoOthersStay, LeavesOperands};
+ghost use Rattle.tce_example.specs.Input.{PutsInput};
+ghost use Rattle.tce_demo.specs.Done.{IsDemonstrated, IsDemoRefusal, IsOfRun, LeavesDemonstration, IsRunOfExample, LeavesDemoRoom, LeavesExample, LeavesRoom};
 
 use crate::report::report;
 use crate::running::run_example;
@@ -22,7 +22,7 @@ use tce_words::Room;
 fn put_input<D: Disk>(disk: &mut D, made: &Example, seed: u64) -> Result<(), Refusal>
     requires spec { IsDemo made.now.spec }
     requires seed { IsSeed seed }
-    ensures written { OnOk result (D.files disk.new ≡ option_map (with_input made.now.spec seed made.now.text.items) (D.files disk.old)) }
+    ensures written { PutsInput made.now seed (D.files disk.old) (D.files disk.new) result }
     ensures free { IfErr result IsFree }
     ensures no_half { LeavesOperands made.now.spec seed (D.files disk.old) (D.files disk.new) }
     ensures others { DemoOthersStay (D.files disk.old) (D.files disk.new) }
@@ -46,11 +46,13 @@ fn demonstrate<D: Disk, R: Room>(
 ) -> Result<String, Refusal>
     requires spec { IsDemo made.now.spec }
     requires seed { IsSeed seed }
-    ensures done { IfOk result (λ report. IsRunOf made.now.spec seed made.now.text.items (D.files disk.old) (D.files disk.new) (R.takings room.old) (R.takings room.new) (string_bytes report)) }
+    ensures done { IfOk result (λ report. IsRunOfExample made.now seed
+        (D.files disk.old) (D.files disk.new) (R.takings room.old) (R.takings room.new)
+        (string_bytes report)) }
     ensures refused { IfErr result (λ refusal. ForSome (D.files disk.old) (λ _. IsFree refusal)) }
     ensures as_run { IfErr result (IsOfRun made.now.spec) }
-    ensures takings { IfErr result (λ refusal. (IsFree refusal × HasTaken made.now.spec demo_budget (R.takings room.old) (R.takings room.new)) ⊎ (R.takings room.new ≡ R.takings room.old)) }
-    ensures no_half { LeavesRun made.now.spec seed made.now.text.items (D.files disk.old) (D.files disk.new) }
+    ensures takings { LeavesRoom made.now.spec (R.takings room.old) (R.takings room.new) result }
+    ensures no_half { LeavesExample made.now seed (D.files disk.old) (D.files disk.new) }
     ensures others { DemoOthersStay (D.files disk.old) (D.files disk.new) }
     ensures cause { HasCause (D.faults disk.old) (D.faults disk.new) (result ≡ Err Refusal.Disk) }
     ensures told { TellsFaults (D.faults disk.old) (D.faults disk.new) (result ≡ Err Refusal.Disk) }
@@ -83,10 +85,11 @@ pub fn demo<D: Disk, R: Room>(
     requires seed { (1 ≤ seed) × (seed ≤ 2147483646) }
     requires v { (1 ≤ v) × (v ≤ 32) }
     requires o { (1 ≤ o) × (o ≤ 32) }
-    ensures done { IfOk result (λ report. IsDemonstrated (D.files disk.old) (D.files disk.new) (R.takings room.old) (R.takings room.new) seed v o (string_bytes report)) }
+    ensures done { IfOk result (λ report. IsDemonstrated (D.files disk.old) (D.files disk.new)
+        (R.takings room.old) (R.takings room.new) seed v o (string_bytes report)) }
     ensures refused { IfErr result (λ refusal. ForSome (D.files disk.old) (λ _. IsFree refusal)) }
     ensures as_run { IfErr result (IsDemoRefusal v o) }
-    ensures takings { IfErr result (λ refusal. (IsFree refusal × IsDemoTaking v o (R.takings room.old) (R.takings room.new)) ⊎ (R.takings room.new ≡ R.takings room.old)) }
+    ensures takings { LeavesDemoRoom v o (R.takings room.old) (R.takings room.new) result }
     ensures no_half { LeavesDemonstration seed v o (D.files disk.old) (D.files disk.new) }
     ensures others { DemoOthersStay (D.files disk.old) (D.files disk.new) }
     ensures cause { HasCause (D.faults disk.old) (D.faults disk.new) (result ≡ Err Refusal.Disk) }

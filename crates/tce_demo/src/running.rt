@@ -1,19 +1,14 @@
 // The run of an example.
-ghost use Rattle.std.specs.Prelude.{◌≡◌, ◌⊎◌, OnOk, IfOk, IfErr, Err};
-ghost use Rattle.std.specs.Option.{ForSome, option_map};
+ghost use Rattle.std.specs.Prelude.{◌≡◌, OnOk, IfOk, IfErr, Err};
+ghost use Rattle.std.specs.Option.{ForSome};
 ghost use Rattle.tce_outside.specs.Files.{others};
 ghost use Rattle.tce_outside.specs.Fault.{HasCause, TellsFaults};
 ghost use Rattle.tce_command.specs.Refusals.{IsFree};
-ghost use Rattle.tce_tensors.specs.TensorFiles.{file_of};
-ghost use Rattle.tce_tensors.specs.ResultBytes.{with_result};
 ghost use Rattle.tce_tensors.specs.Laws.{LeavesNoHalfResult};
-ghost use Rattle.tce_tensors.specs.Opened.{HasOperands, operand_count};
-ghost use Rattle.tce_job.specs.Prepared.{HasTaken};
-ghost use Rattle.tce_job.specs.Run.{IsReported};
 ghost use Rattle.tce_job.specs.Refusals.{NamesDeclared, IsFree as IsFreeFault};
 ghost use Rattle.tce_example.specs.Specification.{IsDemo};
 ghost use Rattle.tce_run.specs.Told.{IsOfFiles, IsToldAs};
-ghost use Rattle.tce_demo.specs.Done.{demo_budget, IsOfRun};
+ghost use Rattle.tce_demo.specs.Done.{IsOfRun, AllButResultStay, HasAllOperands, HasRunReport, LeavesRoom, PutsResult};
 
 use std::alloc::Global;
 use tce_command::Refusal;
@@ -47,16 +42,18 @@ pub fn run_example<D: Disk, R: Room>(
     room: &mut R,
 ) -> Result<RunReport, Refusal>
     requires spec { IsDemo spec.now }
-    requires operands { ForSome (D.files disk.old) (λ files. HasOperands files spec.now (operand_count spec.now)) }
-    ensures told { OnOk result (D.files disk.new ≡ option_map (with_result spec.now) (D.files disk.old)) }
-    ensures reported { IfOk result (IsReported spec.now demo_budget (R.takings room.old) (R.takings room.new)) }
+    requires operands { HasAllOperands (D.files disk.old) spec.now }
+    ensures told { OnOk result (PutsResult spec.now (D.files disk.old) (D.files disk.new)) }
+    ensures reported { IfOk result
+        (HasRunReport spec.now (R.takings room.old) (R.takings room.new)) }
     ensures refused { IfErr result (λ refusal. ForSome (D.files disk.old) (λ _. IsFree refusal)) }
-    ensures takings { IfErr result (λ refusal. (IsFree refusal × HasTaken spec.now demo_budget (R.takings room.old) (R.takings room.new)) ⊎ (R.takings room.new ≡ R.takings room.old)) }
+    ensures takings { LeavesRoom spec.now (R.takings room.old) (R.takings room.new) result }
     ensures as_run { IfErr result (IsOfRun spec.now) }
     ensures no_half { LeavesNoHalfResult spec.now (D.files disk.old) (D.files disk.new) }
-    ensures others { others (file_of spec.now spec.now.result) (D.files disk.new) ≡ others (file_of spec.now spec.now.result) (D.files disk.old) }
+    ensures others { AllButResultStay spec.now (D.files disk.old) (D.files disk.new) }
     ensures cause { HasCause (D.faults disk.old) (D.faults disk.new) (result ≡ Err Refusal.Disk) }
-    ensures quiet { TellsFaults (D.faults disk.old) (D.faults disk.new) (result ≡ Err Refusal.Disk) }
+    ensures quiet { TellsFaults (D.faults disk.old) (D.faults disk.new)
+        (result ≡ Err Refusal.Disk) }
 {
     match run_job(alloc, spec, BUDGET, disk, room) {
         Ok(report) => Ok(report),

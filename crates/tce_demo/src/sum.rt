@@ -1,13 +1,7 @@
 // The sum of a result.
 ghost use Rattle.std.specs.Prelude.{◌≡◌, IfOk, IsErr};
-ghost use Rattle.std.specs.Option.{ForSome, IsSomeAnd};
-ghost use Rattle.tce_outside.specs.Files.{file};
 ghost use Rattle.tce_outside.specs.Fault.{HasCause, TellsFaults};
-ghost use Rattle.tce_array.specs.declared.form.Form.TheVariants.{One};
-ghost use Rattle.tce_array.specs.Forms.{IsForm};
-ghost use Rattle.tce_spec.specs.Operands.{shape_of};
-ghost use Rattle.tce_tensors.specs.TensorFiles.{file_of};
-ghost use Rattle.tce_demo.specs.Done.{result_sum};
+ghost use Rattle.tce_demo.specs.Done.{HasResultArray, IsSumOfResult};
 
 use tce_array::Form;
 use tce_outside::{Disk, Failed};
@@ -18,8 +12,8 @@ use tce_tools::cell_sum;
 /// The sum of all elements of the result, modulo 2^64.
 #[inline(never)]
 pub fn result_sum<D: Disk>(disk: &mut D, spec: &Spec) -> Result<u64, Failed>
-    requires { ForSome (D.files disk.old) (λ files. IsSomeAnd (file files (file_of spec.now spec.now.result)) (IsForm One (shape_of spec.now spec.now.result))) }
-    ensures sum { IfOk result (λ n. ForSome (D.files disk.old) (λ files. n ≡ result_sum spec.now files)) }
+    requires { HasResultArray (D.files disk.old) spec.now }
+    ensures sum { IfOk result (IsSumOfResult (D.files disk.old) spec.now) }
     ensures same { D.files disk.new ≡ D.files disk.old }
     ensures cause { HasCause (D.faults disk.old) (D.faults disk.new) (IsErr result) }
     ensures told { TellsFaults (D.faults disk.old) (D.faults disk.new) (IsErr result) }
