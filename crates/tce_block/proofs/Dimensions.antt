@@ -1,8 +1,7 @@
 -- One dimension of a block.
-use Rattle.std.proofs.Common.{◌≡◌, ◌∙◌, ℕ, zero, suc, ◌+◌, ◌-◌, ◌*◌, ◌<◌, ◌≤◌, ◌^◌, min, List, [], ◌∷◌, ◌++◌, length, take, sym, refl, ap, inl, inr, arith, get_or}
+use Rattle.std.proofs.Common.{◌≡◌, ℕ, zero, suc, ◌+◌, ◌-◌, ◌*◌, ◌<◌, ◌≤◌, ◌^◌, min, List, [], ◌∷◌, length, refl, ap, inl, inr, arith, get_or}
 use Rattle.std.specs.Int.{div_ceil}
 use Rattle.std.proofs.lemmas.Bool.{cases_lt}
-use Rattle.std.proofs.lemmas.List.{take_more}
 use Rattle.tce_space.specs.Box.{IsInside}
 use Rattle.tce_space.specs.Tiling.{counts_along}
 use Rattle.tce_block.specs.Parts.{beginnings, lengths}
@@ -57,7 +56,3 @@ as_many (n ∷ ns) (e ∷ es) [] w h = absurd h
 as_many (n ∷ ns) (e ∷ es) (b ∷ bs) w h =
     let rest = as_many ns es bs w.3 h.1 in
     record { edges = ap suc rest.edges; extents = ap suc rest.extents; beginnings_len = ap suc rest.beginnings_len; lengths_len = ap suc rest.lengths_len }
-
--- one number more of a list
-pub one_more : (xs ys : List ℕ) (d x : ℕ) → xs ≡ take d ys → d < length ys → get_or ys d 0 ≡ x → xs ++ x ∷ [] ≡ take (d + 1) ys
-one_more xs ys d x h l e = ap (λ l. l ++ x ∷ []) h ∙ ap (λ y. take d ys ++ y ∷ []) (sym e) ∙ sym (take_more ys d 0 l)

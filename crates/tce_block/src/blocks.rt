@@ -1,8 +1,9 @@
 // The blocks of a box, one after the other.
-ghost use Rattle.std.specs.Prelude.{◌≡◌, ℕ, ◌+◌, ◌*◌, if◌then◌else◌, List, length, drop, slice_get, Some, None};
+ghost use Rattle.std.specs.Prelude.{◌≡◌, ℕ, ◌+◌, ◌*◌, ◌≤◌, if◌then◌else◌, List, length, drop, slice_get, Some, None};
 ghost use Rattle.std.specs.List.{All};
 ghost use Rattle.std.specs.Option.{option_map};
-ghost use Rattle.tce_block.specs.Parts.{Part, block as block_of, blocks};
+ghost use Rattle.tce_space.specs.Limits.{max_loops};
+ghost use Rattle.tce_block.specs.Parts.{Part, block as block_of, blocks, beginnings, lengths};
 ghost use Rattle.tce_block.specs.Numbers.{IsNumbered};
 ghost use Rattle.tce_block.specs.Cuts.{IsCut, extents_of, edges_of, part_of};
 
@@ -92,17 +93,49 @@ impl Blocks {
     }
 }
 
-// Makes the block the one with these numbers.
+// Makes the block the one with these numbers. The block before has as many dimensions, so that its lists are written over.
 fn fill_block(extents: &[u64], edges: &[u64], numbers: &[u64], block: &mut Block)
     requires { IsNumbered extents.now edges.now numbers.now }
     ensures { part_of block.new ≡ block_of extents.now edges.now numbers.now }
 {
-    block.from.clear();
-    block.len.clear();
+    set_len(&mut block.from, numbers.len());
+    set_len(&mut block.len, numbers.len());
+    put_block(
+        extents,
+        edges,
+        numbers,
+        block.from.as_mut_slice(),
+        block.len.as_mut_slice(),
+    );
+}
+
+// Gives a list this length, if it has another one.
+#[inline]
+fn set_len(list: &mut ArrayVec<u64, MAX_LOOPS>, n: usize)
+    requires { n ≤ max_loops }
+    ensures { length list.new.items ≡ n }
+{
+    if list.len() == n {
+        return;
+    }
+    list.clear();
+    for _ in 0..n {
+        list.push(0);
+    }
+}
+
+// Puts where the block begins in each dimension, and how long it is there.
+fn put_block(extents: &[u64], edges: &[u64], numbers: &[u64], from: &mut [u64], len: &mut [u64])
+    requires numbers { IsNumbered extents.now edges.now numbers.now }
+    requires from { length from.old ≡ length numbers.now }
+    requires len { length len.old ≡ length numbers.now }
+    ensures from { from.new ≡ beginnings edges.now numbers.now }
+    ensures len { len.new ≡ lengths extents.now edges.now numbers.now }
+{
     for d in 0..numbers.len() {
         let first = numbers[d] * edges[d];
         let end = (first + edges[d]).min(extents[d]);
-        block.from.push(first);
-        block.len.push(end - first);
+        from[d] = first;
+        len[d] = end - first;
     }
 }
