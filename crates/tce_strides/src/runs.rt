@@ -1,8 +1,8 @@
 //! Single turns, and innermost loops.
-ghost use Rattle.std.specs.Prelude.{◌≡◌, ◌↔◌, ◌^◌, ◌<◌, IsTrue, length, [], ◌∷◌};
+ghost use Rattle.std.specs.Prelude.{◌≡◌, ◌↔◌, ◌+◌, ◌^◌, ◌<◌, ◌≤◌, IsTrue, length, [], ◌∷◌};
 ghost use Rattle.tce_strides.specs.Turns.{operate};
 ghost use Rattle.tce_strides.specs.Running.{CanRun, CanSum, IsLeftWithin, IsRightWithin, AreAdded, AreTurned, AreComputed};
-ghost use Rattle.tce_strides.specs.Rows.{AreScaled, loops_of, products_along};
+ghost use Rattle.tce_strides.specs.Rows.{AreFourWords, AreScaled, four_products, loops_of, products_along};
 
 use crate::loops::{Loop, Operation, Rows, SumLoop, Turn};
 use tce_words::{Strided, Words};
@@ -117,7 +117,44 @@ fn turn_long(words: &mut Words, turn: Turn, along: Loop, out: u64, left: u64, ri
     }
 }
 
+// Whether both operands go on word by word for four turns, as in tiles with edges of 4.
+fn are_four_words(along: Loop) -> bool
+    ensures { IsTrue result ↔ AreFourWords along }
+{
+    along.len == 4 && along.left == 1 && along.right == 1
+}
+
+// A word and the products of four words each, without a loop.
+#[inline]
+fn grown_by_four(words: &Words, word: u64, left: u64, right: u64) -> u64
+    requires limit { length words.now < 2 ^ 60 }
+    requires left { left + 4 ≤ length words.now }
+    requires right { right + 4 ≤ length words.now }
+    ensures { result ≡ four_products words.now left right word }
+{
+    let a = words.get(left).wrapping_mul(words.get(right));
+    let b = words.get(left + 1).wrapping_mul(words.get(right + 1));
+    let c = words.get(left + 2).wrapping_mul(words.get(right + 2));
+    let d = words.get(left + 3).wrapping_mul(words.get(right + 3));
+    word.wrapping_add(a).wrapping_add(b).wrapping_add(c).wrapping_add(d)
+}
+
 // A word and the products of the operands' words in the turns of a short loop.
+#[inline]
+fn grown_short(words: &Words, along: Loop, word: u64, left: u64, right: u64) -> u64
+    requires limit { length words.now < 2 ^ 60 }
+    requires left { IsLeftWithin (length words.now) (along ∷ []) left }
+    requires right { IsRightWithin (length words.now) (along ∷ []) right }
+    ensures { result ≡ products_along words.now along left right word }
+{
+    if are_four_words(along) {
+        grown_by_four(words, word, left, right)
+    } else {
+        grown_along(words, along, word, left, right)
+    }
+}
+
+// The same, turn by turn.
 #[inline]
 fn grown_along(words: &Words, along: Loop, word: u64, left: u64, right: u64) -> u64
     requires limit { length words.now < 2 ^ 60 }
@@ -142,7 +179,7 @@ fn grow_at_one(words: &mut Words, along: Loop, out: u64, left: u64, right: u64)
     requires still { along.out ≡ 0 }
     ensures { AreTurned Turn.Grow (along ∷ []) out left right words.old words.new }
 {
-    let word = grown_along(words, along, words.get(out), left, right);
+    let word = grown_short(words, along, words.get(out), left, right);
     words.put(out, word);
 }
 

@@ -18,4 +18,4 @@ returns c =
     let f : ℕ → ℕ → ℕ = λ w x. grown_by_products old (word_place c.args.left (along.left ∷ [])) (word_place c.args.right (along.right ∷ [])) w (x ∷ []) in
     made_at_one (turned Grow old (word_place c.args.left (along.left ∷ [])) (word_place c.args.right (along.right ∷ []))) c.args.out along.out along.len _ old c.put.new.self c.requires.still
     (first_within _ _ _ _ c.requires.run.positive.0 c.requires.run.out_within) c.put.ensures
-    (c.grown_along-word.ensures ∙ ap (λ w. fold f w (range_with_len 0 along.len)) c.get.ensures)
+    (c.grown_short-word.ensures ∙ ap (λ w. fold f w (range_with_len 0 along.len)) c.get.ensures)
