@@ -10,3 +10,4 @@ pub mod TailExamples
 pub mod Parts
 pub mod PartLaws
 pub mod PartExamples
+pub mod Opened

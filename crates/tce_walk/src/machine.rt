@@ -49,7 +49,8 @@ pub trait Machine {
         requires ready { ready self.old }
         requires sum { IsInnerSum (setting self.old).tree v }
         ensures ready { ready self.new }
-        ensures state { state self.new ≡ option_map (λ before. cleared before v) (state self.old) }
+        ensures state { state self.new
+            ≡ option_map (λ before. cleared before v) (state self.old) }
         ensures touches { touches self.new ≤ touches self.old }
         ensures faults { faults self.new ≡ faults self.old }
         ensures space { space self.new ≡ space self.old }
@@ -62,7 +63,8 @@ pub trait Machine {
         requires node { IsNodeAt (setting self.old) v (assignment_of numbers.now) }
         requires few { touches self.old + 3 ≤ 2 ^ 100 }
         ensures ready { OnOk result (ready self.new) }
-        ensures state { OnOk result (state self.new ≡ after (setting self.old) (operation_of_node (setting self.old).tree v) (assignment_of numbers.now) (state self.old)) }
+        ensures state { OnOk result (state self.new
+            ≡ after (setting self.old) (operation_of_node (setting self.old).tree v) (assignment_of numbers.now) (state self.old)) }
         ensures touches { OnOk result (touches self.new ≤ touches self.old + 3) }
         ensures cause { HasCause (faults self.old) (faults self.new) (IsErr result) }
         ensures told { TellsFaults (faults self.old) (faults self.new) (IsErr result) }
@@ -76,8 +78,10 @@ pub trait Machine {
         requires tail { IsTailAt (setting self.old) tail.now (assignment_of numbers.now) }
         requires few { touches self.old + touches_of_tail (space self.old) tail.now ≤ 2 ^ 100 }
         ensures ready { OnOk result (ready self.new) }
-        ensures state { OnOk result (state self.new ≡ after (setting self.old) (tail_program (setting self.old).tree tail.now) (assignment_of numbers.now) (state self.old)) }
-        ensures touches { OnOk result (touches self.new ≤ touches self.old + touches_of_tail (space self.old) tail.now) }
+        ensures state { OnOk result (state self.new
+            ≡ after (setting self.old) (tail_program (setting self.old).tree tail.now) (assignment_of numbers.now) (state self.old)) }
+        ensures touches { OnOk result (touches self.new
+            ≤ touches self.old + touches_of_tail (space self.old) tail.now) }
         ensures cause { HasCause (faults self.old) (faults self.new) (IsErr result) }
         ensures told { TellsFaults (faults self.old) (faults self.new) (IsErr result) }
         ensures space { space self.new ≡ space self.old }

@@ -1,10 +1,11 @@
 // Runs loop code from position to position.
 ghost use Rattle.std.specs.Prelude.{◌≡◌, ◌+◌, ◌<◌, ◌≤◌, ◌^◌, length, IfOk, OnOk, IsErr};
 ghost use Rattle.tce_outside.specs.Fault.{HasCause, TellsFaults};
-ghost use Rattle.tce_code.specs.Program.{stop, loop, program_of};
+ghost use Rattle.tce_code.specs.Program.{program_of};
 ghost use Rattle.tce_space.specs.Space.{extent_at};
 ghost use Rattle.tce_walk.specs.Touches.{touch_bound};
 ghost use Rattle.tce_walk.specs.Machine.{assignment_of, after};
+ghost use Rattle.tce_walk.specs.Opened.{loop_at};
 ghost use Rattle.tce_walk.specs.Positions.{program_at, IsPlain, plain_program};
 ghost use Rattle.tce_walk.specs.Run.{zeros, IsCodeOf, RunsOver, AreKept, IsPart, IsRun, IsEnd};
 ghost use Rattle.tce_walk.specs.Search.{HasNoTail};
@@ -15,6 +16,13 @@ use tce_code::Op;
 use tce_outside::Failed;
 use tce_space::{MAX_INDEXES, Numbers, Space};
 use tce_tree::Tree;
+
+// A loop of the code: where its `Open` stands, and its index.
+#[derive(Clone, Copy)]
+struct OpenLoop {
+    at: usize,
+    index: u8,
+}
 
 /// Runs the code of a tree on a machine.
 ///
@@ -29,10 +37,13 @@ pub fn run_program<M: Machine>(
     requires over { RunsOver space.now tree.now (M.space machine.old) (M.setting machine.old) }
     requires code { IsCodeOf tree.now (M.setting machine.old).fusion ops.now }
     requires ready { M.ready machine.old }
-    requires few { M.touches machine.old + touch_bound space.now tree.now (program_of ops.now) ≤ 2 ^ 100 }
+    requires few { M.touches machine.old
+        + touch_bound space.now tree.now (program_of ops.now) ≤ 2 ^ 100 }
     ensures ready { OnOk result (M.ready machine.new) }
-    ensures state { OnOk result (M.state machine.new ≡ after (M.setting machine.old) (program_of ops.now) zeros (M.state machine.old)) }
-    ensures touches { OnOk result (M.touches machine.new ≤ M.touches machine.old + touch_bound space.now tree.now (program_of ops.now)) }
+    ensures state { OnOk result (M.state machine.new
+        ≡ after (M.setting machine.old) (program_of ops.now) zeros (M.state machine.old)) }
+    ensures touches { OnOk result (M.touches machine.new
+        ≤ M.touches machine.old + touch_bound space.now tree.now (program_of ops.now)) }
     ensures cause { HasCause (M.faults machine.old) (M.faults machine.new) (IsErr result) }
     ensures told { TellsFaults (M.faults machine.old) (M.faults machine.new) (IsErr result) }
     ensures space { M.space machine.new ≡ M.space machine.old }
@@ -50,11 +61,14 @@ pub fn run_program<M: Machine>(
 fn run_action<M: Machine>(machine: &mut M, op: Op, numbers: &Numbers) -> Result<(), Failed>
     requires plain { IsPlain op }
     requires ready { M.ready machine.old }
-    requires part { IsPart (M.space machine.old) (M.setting machine.old).tree (plain_program op) (assignment_of numbers.now) }
+    requires part { IsPart (M.space machine.old) (M.setting machine.old).tree
+        (plain_program op) (assignment_of numbers.now) }
     requires extents { (M.setting machine.old).elements.extent ≡ extent_at (M.space machine.old) }
-    requires few { M.touches machine.old + touch_bound (M.space machine.old) (M.setting machine.old).tree (plain_program op) ≤ 2 ^ 100 }
+    requires few { M.touches machine.old
+        + touch_bound (M.space machine.old) (M.setting machine.old).tree (plain_program op) ≤ 2 ^ 100 }
     ensures ready { OnOk result (M.ready machine.new) }
-    ensures run { OnOk result (IsRun (M.space machine.old) (M.setting machine.old).tree (M.setting machine.old) (plain_program op) (assignment_of numbers.now)
+    ensures run { OnOk result (IsRun (M.space machine.old) (M.setting machine.old).tree
+        (M.setting machine.old) (plain_program op) (assignment_of numbers.now)
         (M.state machine.old) (M.state machine.new) (M.touches machine.old) (M.touches machine.new)) }
     ensures cause { HasCause (M.faults machine.old) (M.faults machine.new) (IsErr result) }
     ensures told { TellsFaults (M.faults machine.old) (M.faults machine.new) (IsErr result) }
@@ -85,11 +99,14 @@ fn run_part<M: Machine>(
     requires start { start ≤ length ops.now }
     requires limits { AreKept space.now tree.now }
     requires over { RunsOver space.now tree.now (M.space machine.old) (M.setting machine.old) }
-    requires part { IsPart space.now tree.now (program_at ops.now start) (assignment_of numbers.old) }
+    requires part { IsPart space.now tree.now
+        (program_at ops.now start) (assignment_of numbers.old) }
     requires ready { M.ready machine.old }
-    requires few { M.touches machine.old + touch_bound space.now tree.now (program_at ops.now start) ≤ 2 ^ 100 }
+    requires few { M.touches machine.old
+        + touch_bound space.now tree.now (program_at ops.now start) ≤ 2 ^ 100 }
     ensures ready { OnOk result (M.ready machine.new) }
-    ensures run { OnOk result (IsRun space.now tree.now (M.setting machine.old) (program_at ops.now start) (assignment_of numbers.old)
+    ensures run { OnOk result (IsRun space.now tree.now (M.setting machine.old)
+        (program_at ops.now start) (assignment_of numbers.old)
         (M.state machine.old) (M.state machine.new) (M.touches machine.old) (M.touches machine.new)) }
     ensures end { IfOk result (IsEnd ops.now start) }
     ensures numbers { OnOk result (numbers.new ≡ numbers.old) }
@@ -104,7 +121,8 @@ fn run_part<M: Machine>(
         match ops[at] {
             Op::Close => return Ok(at),
             Op::Open(i) => {
-                let close = run_loop(space, tree, ops, machine, at, i, numbers)?;
+                let head = OpenLoop { at, index: i };
+                let close = run_loop(space, tree, ops, machine, head, numbers)?;
                 at = (close + 1).min(ops.len());
             }
             op => {
@@ -116,27 +134,28 @@ fn run_part<M: Machine>(
     Ok(at)
 }
 
-// Runs the loop over `i` whose `Open` stands at `at`, and says where its body ends.
+// Runs a loop, and says where its body ends.
 #[cycle(walking)]
 fn run_loop<M: Machine>(
     space: &Space,
     tree: &Tree,
     ops: &[Op],
     machine: &mut M,
-    at: usize,
-    i: u8,
+    head: OpenLoop,
     numbers: &mut Numbers,
 ) -> Result<usize, Failed>
-    requires within { at < length ops.now }
+    requires within { head.at < length ops.now }
     requires limits { AreKept space.now tree.now }
     requires over { RunsOver space.now tree.now (M.space machine.old) (M.setting machine.old) }
-    requires part { IsPart space.now tree.now (loop i (program_at ops.now (at + 1)) stop) (assignment_of numbers.old) }
+    requires part { IsPart space.now tree.now (loop_at ops.now head) (assignment_of numbers.old) }
     requires ready { M.ready machine.old }
-    requires few { M.touches machine.old + touch_bound space.now tree.now (loop i (program_at ops.now (at + 1)) stop) ≤ 2 ^ 100 }
+    requires few { M.touches machine.old
+        + touch_bound space.now tree.now (loop_at ops.now head) ≤ 2 ^ 100 }
     ensures ready { OnOk result (M.ready machine.new) }
-    ensures run { OnOk result (IsRun space.now tree.now (M.setting machine.old) (loop i (program_at ops.now (at + 1)) stop) (assignment_of numbers.old)
+    ensures run { OnOk result (IsRun space.now tree.now (M.setting machine.old)
+        (loop_at ops.now head) (assignment_of numbers.old)
         (M.state machine.old) (M.state machine.new) (M.touches machine.old) (M.touches machine.new)) }
-    ensures end { IfOk result (IsEnd ops.now (at + 1)) }
+    ensures end { IfOk result (IsEnd ops.now (head.at + 1)) }
     ensures numbers { OnOk result (numbers.new ≡ numbers.old) }
     ensures cause { HasCause (M.faults machine.old) (M.faults machine.new) (IsErr result) }
     ensures told { TellsFaults (M.faults machine.old) (M.faults machine.new) (IsErr result) }
@@ -144,35 +163,36 @@ fn run_loop<M: Machine>(
     ensures setting { M.setting machine.new ≡ M.setting machine.old }
     ensures kept { M.keeps machine.old machine.new }
 {
-    if let Some(found) = find_tail(tree, ops, at, i) {
+    if let Some(found) = find_tail(tree, ops, head.at, head.index) {
         machine.run_tail(&found.tail, numbers)?;
         return Ok(found.close);
     }
-    run_turns(space, tree, ops, machine, at, i, numbers)
+    run_turns(space, tree, ops, machine, head, numbers)
 }
 
-// Runs that loop turn by turn.
+// Runs a loop turn by turn.
 #[cycle(walking)]
 fn run_turns<M: Machine>(
     space: &Space,
     tree: &Tree,
     ops: &[Op],
     machine: &mut M,
-    at: usize,
-    i: u8,
+    head: OpenLoop,
     numbers: &mut Numbers,
 ) -> Result<usize, Failed>
-    requires within { at < length ops.now }
+    requires within { head.at < length ops.now }
     requires limits { AreKept space.now tree.now }
     requires over { RunsOver space.now tree.now (M.space machine.old) (M.setting machine.old) }
-    requires part { IsPart space.now tree.now (loop i (program_at ops.now (at + 1)) stop) (assignment_of numbers.old) }
-    requires no_tail { HasNoTail tree.now i (program_at ops.now (at + 1)) }
+    requires part { IsPart space.now tree.now (loop_at ops.now head) (assignment_of numbers.old) }
+    requires no_tail { HasNoTail tree.now head.index (program_at ops.now (head.at + 1)) }
     requires ready { M.ready machine.old }
-    requires few { M.touches machine.old + touch_bound space.now tree.now (loop i (program_at ops.now (at + 1)) stop) ≤ 2 ^ 100 }
+    requires few { M.touches machine.old
+        + touch_bound space.now tree.now (loop_at ops.now head) ≤ 2 ^ 100 }
     ensures ready { OnOk result (M.ready machine.new) }
-    ensures run { OnOk result (IsRun space.now tree.now (M.setting machine.old) (loop i (program_at ops.now (at + 1)) stop) (assignment_of numbers.old)
+    ensures run { OnOk result (IsRun space.now tree.now (M.setting machine.old)
+        (loop_at ops.now head) (assignment_of numbers.old)
         (M.state machine.old) (M.state machine.new) (M.touches machine.old) (M.touches machine.new)) }
-    ensures end { IfOk result (IsEnd ops.now (at + 1)) }
+    ensures end { IfOk result (IsEnd ops.now (head.at + 1)) }
     ensures numbers { OnOk result (numbers.new ≡ numbers.old) }
     ensures cause { HasCause (M.faults machine.old) (M.faults machine.new) (IsErr result) }
     ensures told { TellsFaults (M.faults machine.old) (M.faults machine.new) (IsErr result) }
@@ -180,13 +200,14 @@ fn run_turns<M: Machine>(
     ensures setting { M.setting machine.new ≡ M.setting machine.old }
     ensures kept { M.keeps machine.old machine.new }
 {
+    let i = head.index;
     let extent = space.extent(i);
     let before = numbers[i as usize];
     numbers[i as usize] = 0;
-    let mut close = run_part(space, tree, ops, machine, at + 1, numbers)?;
+    let mut close = run_part(space, tree, ops, machine, head.at + 1, numbers)?;
     for x in 1..extent {
         numbers[i as usize] = x;
-        close = run_part(space, tree, ops, machine, at + 1, numbers)?;
+        close = run_part(space, tree, ops, machine, head.at + 1, numbers)?;
     }
     numbers[i as usize] = before;
     Ok(close)

@@ -49,7 +49,8 @@ fn is_end(ops: &[Op], at: usize) -> bool
 fn sum_alone(tree: &Tree, ops: &[Op], at: usize, v: u8) -> Option<u8>
     requires node { v < operations tree.now }
     requires shaped { IsShaped tree.now (program_at ops.now at) }
-    ensures { MatchOption result (accumulates_parent tree.now v (program_at ops.now at) ≡ false) (IsSumAt tree.now ops.now at v) }
+    ensures { MatchOption result (accumulates_parent tree.now v (program_at ops.now at) ≡ false)
+        (IsSumAt tree.now ops.now at v) }
 {
     if at >= ops.len() {
         return None;
@@ -70,7 +71,8 @@ fn find_product(tree: &Tree, ops: &[Op], at: usize, v: u8) -> Option<Inside>
     requires within { at < length ops.now }
     requires op { slice_index_or ops.now at (Mul v) ≡ Mul v }
     requires shaped { IsShaped tree.now (program_at ops.now at) }
-    ensures { MatchOption result (tail_loops tree.now (program_at ops.now at) ≡ None) (λ f. IsAlone tree.now ops.now at f.node f.sum f.close) }
+    ensures { MatchOption result (tail_loops tree.now (program_at ops.now at) ≡ None)
+        (λ f. IsAlone tree.now ops.now at f.node f.sum f.close) }
 {
     if is_end(ops, at + 1) {
         return Some(Inside {
@@ -92,7 +94,8 @@ fn find_operations(tree: &Tree, ops: &[Op], at: usize) -> Option<Inside>
     requires within { at < length ops.now }
     requires shaped { IsShaped tree.now (program_at ops.now at) }
     requires no_loop { (i : ℕ) → slice_index_or ops.now at (Open i) ≡ Open i → ⊥ }
-    ensures { MatchOption result (tail_loops tree.now (program_at ops.now at) ≡ None) (λ f. IsAlone tree.now ops.now at f.node f.sum f.close) }
+    ensures { MatchOption result (tail_loops tree.now (program_at ops.now at) ≡ None)
+        (λ f. IsAlone tree.now ops.now at f.node f.sum f.close) }
 {
     match ops[at] {
         Op::Mul(v) => find_product(tree, ops, at, v),

@@ -12,12 +12,12 @@ use Rattle.tce_walk.proofs.running.+walking.Goals as goal
 
 pub run_loop-find_tail-requires-clause-shaped : goal.run_loop-find_tail-requires-clause-shaped
 run_loop-find_tail-requires-clause-shaped g t c =
-    part-shaped c.args.space.now c.args.tree.now c.args.i (program_at c.args.ops.now (c.args.at + 1)) (assignment_of c.args.numbers.now) c.requires.part
+    part-shaped c.args.space.now c.args.tree.now c.args.head.index (program_at c.args.ops.now (c.args.head.at + 1)) (assignment_of c.args.numbers.now) c.requires.part
 
 pub run_loop-run_tail-requires-clause-tail : goal.run_loop-run_tail-requires-clause-tail
 run_loop-run_tail-requires-clause-tail g t c =
-    tail-asks c.args.space.now c.args.tree.now (g.M.Machine.space c.args.machine.now) (g.M.Machine.setting c.args.machine.now) c.args.i
-    (program_at c.args.ops.now (c.args.at + 1)) (assignment_of c.args.numbers.now) c.in-Some.found.tail c.requires.over c.requires.part (c.in-Some.ensures).0
+    tail-asks c.args.space.now c.args.tree.now (g.M.Machine.space c.args.machine.now) (g.M.Machine.setting c.args.machine.now) c.args.head.index
+    (program_at c.args.ops.now (c.args.head.at + 1)) (assignment_of c.args.numbers.now) c.in-Some.found.tail c.requires.over c.requires.part (c.in-Some.ensures).0
 
 pub run_part-run_loop-requires : goal.run_part-run_loop-requires
 run_part-run_loop-requires g t c = λ κs lives. (
@@ -123,24 +123,24 @@ run_part-loop-at-preserved g t c =
 
 pub run_turns-extent-extent-requires : goal.run_turns-extent-extent-requires
 run_turns-extent-extent-requires g t c =
-    (loop-index c.args.space.now c.args.tree.now c.args.i (program_at c.args.ops.now (c.args.at + 1)) (assignment_of c.args.numbers.now) c.requires.limits
+    (loop-index c.args.space.now c.args.tree.now c.args.head.index (program_at c.args.ops.now (c.args.head.at + 1)) (assignment_of c.args.numbers.now) c.requires.limits
     c.requires.over.measured c.requires.part).declared
 
 pub run_turns-bounds-numbers-i : goal.run_turns-bounds-numbers-i
 run_turns-bounds-numbers-i g t c =
-    (loop-index c.args.space.now c.args.tree.now c.args.i (program_at c.args.ops.now (c.args.at + 1)) (assignment_of c.args.numbers.now) c.requires.limits
+    (loop-index c.args.space.now c.args.tree.now c.args.head.index (program_at c.args.ops.now (c.args.head.at + 1)) (assignment_of c.args.numbers.now) c.requires.limits
     c.requires.over.measured c.requires.part).small
 
 pub run_turns-bounds-numbers-i-2 : goal.run_turns-bounds-numbers-i-2
 run_turns-bounds-numbers-i-2 g t c =
-    (loop-index c.args.space.now c.args.tree.now c.args.i (program_at c.args.ops.now (c.args.at + 1)) (assignment_of c.args.numbers.now) c.requires.limits
+    (loop-index c.args.space.now c.args.tree.now c.args.head.index (program_at c.args.ops.now (c.args.head.at + 1)) (assignment_of c.args.numbers.now) c.requires.limits
     c.requires.over.measured c.requires.part).small
 
 pub run_turns-run_part-requires : goal.run_turns-run_part-requires
 run_turns-run_part-requires g t c = λ κs lives.
-    let index : IsIndex c.args.space.now c.args.i = loop-index c.args.space.now c.args.tree.now c.args.i (program_at c.args.ops.now (c.args.at + 1))
+    let index : IsIndex c.args.space.now c.args.head.index = loop-index c.args.space.now c.args.tree.now c.args.head.index (program_at c.args.ops.now (c.args.head.at + 1))
     (assignment_of c.args.numbers.now) c.requires.limits c.requires.over.measured c.requires.part in
-    let within : c.args.i < length c.args.numbers.now = omega (arith, index.small, c.told-numbers) in (
+    let within : c.args.head.index < length c.args.numbers.now = omega (arith, index.small, c.told-numbers) in (
       omega (arith, c.requires.within),
       (
         lives,
@@ -151,14 +151,14 @@ run_turns-run_part-requires g t c = λ κs lives.
             (
               c.requires.over,
               (
-                turn-part c.args.space.now c.args.tree.now c.args.i (program_at c.args.ops.now (c.args.at + 1)) (assignment_of c.args.numbers.now)
-                    (assignment_of (set c.args.numbers.now c.args.i 0)) 0 (assignment-set c.args.numbers.now c.args.i 0 within) index.some c.requires.part,
+                turn-part c.args.space.now c.args.tree.now c.args.head.index (program_at c.args.ops.now (c.args.head.at + 1)) (assignment_of c.args.numbers.now)
+                    (assignment_of (set c.args.numbers.now c.args.head.index 0)) 0 (assignment-set c.args.numbers.now c.args.head.index 0 within) index.some c.requires.part,
                 (
                   c.requires.ready,
-                  turn-few c.args.space.now c.args.tree.now (g.M.Machine.setting c.args.machine.now) c.args.i (program_at c.args.ops.now (c.args.at + 1))
+                  turn-few c.args.space.now c.args.tree.now (g.M.Machine.setting c.args.machine.now) c.args.head.index (program_at c.args.ops.now (c.args.head.at + 1))
                       (assignment_of c.args.numbers.now) 0 (g.M.Machine.state c.args.machine.now) (g.M.Machine.state c.args.machine.now)
                       (g.M.Machine.touches c.args.machine.now) (g.M.Machine.touches c.args.machine.now) c.requires.no_tail index.some
-                      (turns-none c.args.space.now c.args.tree.now (g.M.Machine.setting c.args.machine.now) c.args.i (program_at c.args.ops.now (c.args.at + 1))
+                      (turns-none c.args.space.now c.args.tree.now (g.M.Machine.setting c.args.machine.now) c.args.head.index (program_at c.args.ops.now (c.args.head.at + 1))
                       (assignment_of c.args.numbers.now) (g.M.Machine.state c.args.machine.now) (g.M.Machine.touches c.args.machine.now)) c.requires.few,
                 ),
               ),
@@ -170,9 +170,9 @@ run_turns-run_part-requires g t c = λ κs lives.
 
 pub run_turns-loop-x-init : goal.run_turns-loop-x-init
 run_turns-loop-x-init g t c =
-    let index : IsIndex c.args.space.now c.args.i = loop-index c.args.space.now c.args.tree.now c.args.i (program_at c.args.ops.now (c.args.at + 1))
+    let index : IsIndex c.args.space.now c.args.head.index = loop-index c.args.space.now c.args.tree.now c.args.head.index (program_at c.args.ops.now (c.args.head.at + 1))
     (assignment_of c.args.numbers.now) c.requires.limits c.requires.over.measured c.requires.part in
-    let within : c.args.i < length c.args.numbers.now = omega (arith, index.small, c.told-numbers) in
+    let within : c.args.head.index < length c.args.numbers.now = omega (arith, index.small, c.told-numbers) in
     record {
       setting = c.run_part.ensures.setting;
       space = c.run_part.ensures.space;
@@ -180,12 +180,12 @@ run_turns-loop-x-init g t c =
       kept = c.run_part.ensures.kept;
       counted = (c.in_ok-close.ensures).told (search rules);
       turns =
-          turns-next c.args.space.now c.args.tree.now (g.M.Machine.setting c.args.machine.now) (g.M.Machine.setting c.args.machine.now) c.args.i
-          (program_at c.args.ops.now (c.args.at + 1)) (assignment_of c.args.numbers.now) (assignment_of (set c.args.numbers.now c.args.i 0)) 0
+          turns-next c.args.space.now c.args.tree.now (g.M.Machine.setting c.args.machine.now) (g.M.Machine.setting c.args.machine.now) c.args.head.index
+          (program_at c.args.ops.now (c.args.head.at + 1)) (assignment_of c.args.numbers.now) (assignment_of (set c.args.numbers.now c.args.head.index 0)) 0
           (g.M.Machine.state c.args.machine.now) (g.M.Machine.state c.args.machine.now) (g.M.Machine.state c.run_part.new.machine)
           (g.M.Machine.touches c.args.machine.now) (g.M.Machine.touches c.args.machine.now) (g.M.Machine.touches c.run_part.new.machine) refl
-          (assignment-set c.args.numbers.now c.args.i 0 within)
-          (turns-none c.args.space.now c.args.tree.now (g.M.Machine.setting c.args.machine.now) c.args.i (program_at c.args.ops.now (c.args.at + 1))
+          (assignment-set c.args.numbers.now c.args.head.index 0 within)
+          (turns-none c.args.space.now c.args.tree.now (g.M.Machine.setting c.args.machine.now) c.args.head.index (program_at c.args.ops.now (c.args.head.at + 1))
           (assignment_of c.args.numbers.now) (g.M.Machine.state c.args.machine.now) (g.M.Machine.touches c.args.machine.now)) (c.in_ok-close.ensures).run;
       numbers_set = (c.in_ok-close.ensures).numbers;
       end = (c.in_ok-close.ensures).end;
@@ -193,10 +193,10 @@ run_turns-loop-x-init g t c =
 
 pub run_turns-run_part-requires-in-loop-x : goal.run_turns-run_part-requires-in-loop-x
 run_turns-run_part-requires-in-loop-x g t c = λ κs lives.
-    let index : IsIndex c.args.space.now c.args.i = loop-index c.args.space.now c.args.tree.now c.args.i (program_at c.args.ops.now (c.args.at + 1))
+    let index : IsIndex c.args.space.now c.args.head.index = loop-index c.args.space.now c.args.tree.now c.args.head.index (program_at c.args.ops.now (c.args.head.at + 1))
     (assignment_of c.args.numbers.now) c.requires.limits c.requires.over.measured c.requires.part in
-    let within : c.args.i < length c.args.numbers.now = omega (arith, index.small, c.told-numbers) in
-    let turn : c.loop-x.x < extent_at c.args.space.now c.args.i = omega (arith, c.loop-x-test.true, c.extent-extent.ensures.extent) in (
+    let within : c.args.head.index < length c.args.numbers.now = omega (arith, index.small, c.told-numbers) in
+    let turn : c.loop-x.x < extent_at c.args.space.now c.args.head.index = omega (arith, c.loop-x-test.true, c.extent-extent.ensures.extent) in (
       omega (arith, c.requires.within),
       (
         lives,
@@ -208,12 +208,12 @@ run_turns-run_part-requires-in-loop-x g t c = λ κs lives.
               over-later c.args.space.now c.args.tree.now (g.M.Machine.space c.args.machine.now) (g.M.Machine.space c.loop-x.machine)
                   (g.M.Machine.setting c.args.machine.now) (g.M.Machine.setting c.loop-x.machine) c.loop-x.invariant.space c.loop-x.invariant.setting c.requires.over,
               (
-                turn-part c.args.space.now c.args.tree.now c.args.i (program_at c.args.ops.now (c.args.at + 1)) (assignment_of c.args.numbers.now)
-                    (assignment_of (set c.loop-x.numbers c.args.i c.loop-x.x)) c.loop-x.x
-                    (set-again c.args.numbers.now c.loop-x.numbers c.args.i c.loop-x.x (c.loop-x.x - 1) within c.loop-x.invariant.numbers_set) turn c.requires.part,
+                turn-part c.args.space.now c.args.tree.now c.args.head.index (program_at c.args.ops.now (c.args.head.at + 1)) (assignment_of c.args.numbers.now)
+                    (assignment_of (set c.loop-x.numbers c.args.head.index c.loop-x.x)) c.loop-x.x
+                    (set-again c.args.numbers.now c.loop-x.numbers c.args.head.index c.loop-x.x (c.loop-x.x - 1) within c.loop-x.invariant.numbers_set) turn c.requires.part,
                 (
                   c.loop-x.invariant.ready,
-                  turn-few c.args.space.now c.args.tree.now (g.M.Machine.setting c.args.machine.now) c.args.i (program_at c.args.ops.now (c.args.at + 1))
+                  turn-few c.args.space.now c.args.tree.now (g.M.Machine.setting c.args.machine.now) c.args.head.index (program_at c.args.ops.now (c.args.head.at + 1))
                       (assignment_of c.args.numbers.now) c.loop-x.x (g.M.Machine.state c.args.machine.now) (g.M.Machine.state c.loop-x.machine)
                       (g.M.Machine.touches c.args.machine.now) (g.M.Machine.touches c.loop-x.machine) c.requires.no_tail turn c.loop-x.invariant.turns c.requires.few,
                 ),
@@ -226,9 +226,9 @@ run_turns-run_part-requires-in-loop-x g t c = λ κs lives.
 
 pub run_turns-loop-x-preserved : goal.run_turns-loop-x-preserved
 run_turns-loop-x-preserved g t c =
-    let index : IsIndex c.args.space.now c.args.i = loop-index c.args.space.now c.args.tree.now c.args.i (program_at c.args.ops.now (c.args.at + 1))
+    let index : IsIndex c.args.space.now c.args.head.index = loop-index c.args.space.now c.args.tree.now c.args.head.index (program_at c.args.ops.now (c.args.head.at + 1))
     (assignment_of c.args.numbers.now) c.requires.limits c.requires.over.measured c.requires.part in
-    let within : c.args.i < length c.args.numbers.now = omega (arith, index.small, c.told-numbers) in
+    let within : c.args.head.index < length c.args.numbers.now = omega (arith, index.small, c.told-numbers) in
     let back : c.loop-x.x ≡ c.loop-x.x + 1 - 1 = omega arith in
     record {
       setting = c.run_part-in-loop-x.ensures.setting ∙ c.loop-x.invariant.setting;
@@ -237,35 +237,35 @@ run_turns-loop-x-preserved g t c =
       kept = g.met.M.Machine.keeps_on c.args.machine.now c.loop-x.machine c.run_part-in-loop-x.new.machine c.loop-x.invariant.kept c.run_part-in-loop-x.ensures.kept;
       counted = (c.in_ok-close-2.ensures).told (search rules) ∙ c.loop-x.invariant.counted;
       turns =
-          turns-next c.args.space.now c.args.tree.now (g.M.Machine.setting c.args.machine.now) (g.M.Machine.setting c.loop-x.machine) c.args.i
-          (program_at c.args.ops.now (c.args.at + 1)) (assignment_of c.args.numbers.now) (assignment_of (set c.loop-x.numbers c.args.i c.loop-x.x)) c.loop-x.x
+          turns-next c.args.space.now c.args.tree.now (g.M.Machine.setting c.args.machine.now) (g.M.Machine.setting c.loop-x.machine) c.args.head.index
+          (program_at c.args.ops.now (c.args.head.at + 1)) (assignment_of c.args.numbers.now) (assignment_of (set c.loop-x.numbers c.args.head.index c.loop-x.x)) c.loop-x.x
           (g.M.Machine.state c.args.machine.now) (g.M.Machine.state c.loop-x.machine) (g.M.Machine.state c.run_part-in-loop-x.new.machine)
           (g.M.Machine.touches c.args.machine.now) (g.M.Machine.touches c.loop-x.machine) (g.M.Machine.touches c.run_part-in-loop-x.new.machine) c.loop-x.invariant.setting
-          (set-again c.args.numbers.now c.loop-x.numbers c.args.i c.loop-x.x (c.loop-x.x - 1) within c.loop-x.invariant.numbers_set)
+          (set-again c.args.numbers.now c.loop-x.numbers c.args.head.index c.loop-x.x (c.loop-x.x - 1) within c.loop-x.invariant.numbers_set)
           c.loop-x.invariant.turns (c.in_ok-close-2.ensures).run;
       numbers_set =
-          set-next c.args.numbers.now c.loop-x.numbers c.run_part-in-loop-x.new.numbers c.args.i c.loop-x.x (c.loop-x.x - 1) c.loop-x.invariant.numbers_set
-          (c.in_ok-close-2.ensures).numbers ∙ ap (set c.args.numbers.now c.args.i) back;
+          set-next c.args.numbers.now c.loop-x.numbers c.run_part-in-loop-x.new.numbers c.args.head.index c.loop-x.x (c.loop-x.x - 1) c.loop-x.invariant.numbers_set
+          (c.in_ok-close-2.ensures).numbers ∙ ap (set c.args.numbers.now c.args.head.index) back;
       end = (c.in_ok-close-2.ensures).end;
     }
 
 pub run_turns-bounds-numbers-i-3 : goal.run_turns-bounds-numbers-i-3
 run_turns-bounds-numbers-i-3 g t c =
-    (loop-index c.args.space.now c.args.tree.now c.args.i (program_at c.args.ops.now (c.args.at + 1)) (assignment_of c.args.numbers.now) c.requires.limits
+    (loop-index c.args.space.now c.args.tree.now c.args.head.index (program_at c.args.ops.now (c.args.head.at + 1)) (assignment_of c.args.numbers.now) c.requires.limits
     c.requires.over.measured c.requires.part).small
 
 pub run_turns-returns-clause-run : goal.run_turns-returns-clause-run
 run_turns-returns-clause-run g t c =
-    let all : c.loop-x.x ≡ extent_at c.args.space.now c.args.i = omega (arith, c.loop-x-test.false, c.extent-extent.ensures.extent, c.extent-extent.ensures.positive, c.loop-x.auto) in
-    turns-all c.args.space.now c.args.tree.now (g.M.Machine.setting c.args.machine.now) c.args.i (program_at c.args.ops.now (c.args.at + 1))
+    let all : c.loop-x.x ≡ extent_at c.args.space.now c.args.head.index = omega (arith, c.loop-x-test.false, c.extent-extent.ensures.extent, c.extent-extent.ensures.positive, c.loop-x.auto) in
+    turns-all c.args.space.now c.args.tree.now (g.M.Machine.setting c.args.machine.now) c.args.head.index (program_at c.args.ops.now (c.args.head.at + 1))
     (assignment_of c.args.numbers.now) (g.M.Machine.state c.args.machine.now) (g.M.Machine.state c.loop-x.machine) (g.M.Machine.touches c.args.machine.now)
     (g.M.Machine.touches c.loop-x.machine) c.requires.over.extents c.requires.no_tail
-    (subst (λ n. AreTurns c.args.space.now c.args.tree.now (g.M.Machine.setting c.args.machine.now) c.args.i (program_at c.args.ops.now (c.args.at + 1))
+    (subst (λ n. AreTurns c.args.space.now c.args.tree.now (g.M.Machine.setting c.args.machine.now) c.args.head.index (program_at c.args.ops.now (c.args.head.at + 1))
     (assignment_of c.args.numbers.now) n (g.M.Machine.state c.args.machine.now) (g.M.Machine.state c.loop-x.machine) (g.M.Machine.touches c.args.machine.now)
     (g.M.Machine.touches c.loop-x.machine)) all c.loop-x.invariant.turns)
 
 pub run_turns-returns-clause-numbers : goal.run_turns-returns-clause-numbers
 run_turns-returns-clause-numbers g t c =
-    let index : IsIndex c.args.space.now c.args.i = loop-index c.args.space.now c.args.tree.now c.args.i (program_at c.args.ops.now (c.args.at + 1))
+    let index : IsIndex c.args.space.now c.args.head.index = loop-index c.args.space.now c.args.tree.now c.args.head.index (program_at c.args.ops.now (c.args.head.at + 1))
     (assignment_of c.args.numbers.now) c.requires.limits c.requires.over.measured c.requires.part in
-    set-back c.args.numbers.now c.loop-x.numbers c.args.i (c.loop-x.x - 1) (omega (arith, index.small, c.told-numbers)) c.loop-x.invariant.numbers_set
+    set-back c.args.numbers.now c.loop-x.numbers c.args.head.index (c.loop-x.x - 1) (omega (arith, index.small, c.told-numbers)) c.loop-x.invariant.numbers_set

@@ -10,10 +10,10 @@ abbrev pub decreases-run_part : goal.decreases-run_part
 decreases-run_part g l = 3 * (length l.ops.now - l.start) + 2
 
 abbrev pub decreases-run_loop : goal.decreases-run_loop
-decreases-run_loop g l = 3 * (length l.ops.now - l.at) + 1
+decreases-run_loop g l = 3 * (length l.ops.now - l.head.at) + 1
 
 abbrev pub decreases-run_turns : goal.decreases-run_turns
-decreases-run_turns g l = 3 * (length l.ops.now - l.at)
+decreases-run_turns g l = 3 * (length l.ops.now - l.head.at)
 
 abbrev pub invariant-run_part-loop-at : goal.invariant-run_part-loop-at
 invariant-run_part-loop-at g l = record {
@@ -40,8 +40,8 @@ invariant-run_turns-loop-x g l = record {
   ready : g.M.Machine.ready l.machine;
   kept : g.M.Machine.keeps l.fn.machine l.machine;
   counted : g.M.Machine.faults l.machine ≡ g.M.Machine.faults l.fn.machine;
-  turns : AreTurns l.space l.tree (g.M.Machine.setting l.fn.machine) l.i (program_at l.ops (l.at + 1)) (assignment_of l.fn.numbers) l.x
+  turns : AreTurns l.space l.tree (g.M.Machine.setting l.fn.machine) l.head.index (program_at l.ops (l.head.at + 1)) (assignment_of l.fn.numbers) l.x
       (g.M.Machine.state l.fn.machine) (g.M.Machine.state l.machine) (g.M.Machine.touches l.fn.machine) (g.M.Machine.touches l.machine);
-  numbers_set : l.numbers ≡ set l.fn.numbers l.i (l.x - 1);
-  end : IsEnd l.ops (l.at + 1) l.close;
+  numbers_set : l.numbers ≡ set l.fn.numbers l.head.index (l.x - 1);
+  end : IsEnd l.ops (l.head.at + 1) l.close;
 }
