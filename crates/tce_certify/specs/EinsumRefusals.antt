@@ -1,10 +1,11 @@
 -- Why the command on einsums is refused. No file has a part in it.
 use Rattle.std.specs.Prelude.{◌≢◌, ⊤, ℕ, List}
-use Rattle.std.specs.declared.result.Result.TheVariants.{Ok}
+use Rattle.std.specs.declared.result.Result.TheVariants.{Ok, Err}
 use Rattle.tce_declarations.specs.declared.fault.SpecFault.TheVariants as spec_faults
 use Rattle.tce_spec.specs.Specification.{Specification}
 use Rattle.tce_einsum.specs.Input.{IsBadText, HasBadSize, HasBadItem}
-use Rattle.tce_einsum.specs.Answer.{Produces, ProducesFault}
+use Rattle.tce_einsum.specs.Answer.{Produces, ProducesFault, AnswersEinsum}
+use Rattle.tce_einsum.specs.declared.fault.EinsumFault.{EinsumFault}
 use Rattle.tce_command.specs.declared.trouble.EinsumTrouble.TheVariants.{BadText, BadSize, BadPath, Spec}
 use Rattle.tce_command.specs.declared.refusal.Refusal.{Refusal}
 use Rattle.tce_command.specs.declared.refusal.Refusal.TheVariants.{Einsum, Disk, Memory}
@@ -22,3 +23,7 @@ IsEinsumRefusal text path (Einsum (Spec fault)) = ProducesFault text path fault 
 IsEinsumRefusal text path Disk = ⊤
 IsEinsumRefusal text path Memory = ⊤
 IsEinsumRefusal text path refusal = ⊥
+
+-- the refusal tells the fault of every text and path that have it
+abbrev pub TellsFault : EinsumFault → Refusal → Type 0
+TellsFault fault refusal = (text path : List ℕ) → AnswersEinsum text path (Err fault) → IsEinsumRefusal text path refusal

@@ -1,5 +1,6 @@
 -- Why the command is refused.
-use Rattle.std.specs.Prelude.{ℕ, List}
+use Rattle.std.specs.Prelude.{ℕ, List, Option}
+use Rattle.std.specs.Option.{ForSome}
 use Rattle.tce_outside.specs.Files.{Files, file}
 use Rattle.tce_spec.specs.Specification.{Specification}
 use Rattle.tce_command.specs.declared.refusal.Refusal.{Refusal}
@@ -12,3 +13,7 @@ CanCertify files spec = (s : Specification) × HasSpecification files spec s
 -- the specification is refused. The disk may fail, and memory be wanting, at any place
 abbrev pub IsCertifyRefusal : Files → List ℕ → Refusal → Type 0
 IsCertifyRefusal files spec refusal = IsSourceRefusal spec (file files spec) refusal
+
+-- and the same of a disk that may tell its files
+abbrev pub IsCertifyRefusalIfTold : Option Files → List ℕ → Refusal → Type 0
+IsCertifyRefusalIfTold told spec refusal = ForSome told (λ files. IsCertifyRefusal files spec refusal)

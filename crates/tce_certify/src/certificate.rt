@@ -17,7 +17,8 @@ pub struct Certificate {
 
 /// The certificate of a plan of least memory for a specification, and the report where it stands in this file.
 pub fn certificate_of(alloc: Global, spec: &Spec, cert: &str) -> Result<Certificate, AllocError>
-    ensures { IfOk result (λ made. IsCertificate spec.now cert.now made.text.items (string_bytes made.report)) }
+    ensures { IfOk result (λ made.
+        IsCertificate spec.now cert.now made.text.items (string_bytes made.report)) }
 {
     let space = spec.space();
     let tree = spec.tree();

@@ -1,12 +1,12 @@
 // The command.
-ghost use Rattle.std.specs.Prelude.{◌≡◌, ◌≢◌, Err, IfOk, IfErr};
-ghost use Rattle.std.specs.Option.{ForSome};
+ghost use Rattle.std.specs.Prelude.{◌≡◌, Err, IfOk, IfErr};
 ghost use Rattle.std.specs.String.{string_bytes};
 ghost use Rattle.tce_outside.specs.Files.{others};
 ghost use Rattle.tce_outside.specs.Fault.{HasCause, TellsFaults};
 ghost use Rattle.tce_command.specs.Command.{NamesCertificate, NamesSpec};
+ghost use Rattle.tce_command.specs.Refusals.{SameUnlessDisk};
 ghost use Rattle.tce_certify.specs.Done.{IsCertified};
-ghost use Rattle.tce_certify.specs.Refusals.{IsCertifyRefusal};
+ghost use Rattle.tce_certify.specs.Refusals.{IsCertifyRefusalIfTold};
 
 use crate::certificate::certificate_of;
 use std::alloc::Global;
@@ -27,9 +27,10 @@ pub fn certify<D: Disk>(
 ) -> Result<String, Refusal>
     requires spec { NamesSpec spec.now }
     requires cert { NamesCertificate cert.now }
-    ensures done { IfOk result (λ report. IsCertified (D.files disk.old) (D.files disk.new) spec.now cert.now (string_bytes report)) }
-    ensures refused { IfErr result (λ refusal. ForSome (D.files disk.old) (λ files. IsCertifyRefusal files spec.now refusal)) }
-    ensures unchanged { IfErr result (λ refusal. refusal ≢ Refusal.Disk → D.files disk.new ≡ D.files disk.old) }
+    ensures done { IfOk result (λ report. IsCertified (D.files disk.old) (D.files disk.new)
+        spec.now cert.now (string_bytes report)) }
+    ensures refused { IfErr result (IsCertifyRefusalIfTold (D.files disk.old) spec.now) }
+    ensures unchanged { IfErr result (SameUnlessDisk (D.files disk.old) (D.files disk.new)) }
     ensures others { others cert.now (D.files disk.new) ≡ others cert.now (D.files disk.old) }
     ensures cause { HasCause (D.faults disk.old) (D.faults disk.new) (result ≡ Err Refusal.Disk) }
     ensures told { TellsFaults (D.faults disk.old) (D.faults disk.new) (result ≡ Err Refusal.Disk) }

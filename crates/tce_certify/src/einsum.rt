@@ -1,12 +1,12 @@
 // The command on einsums.
-ghost use Rattle.std.specs.Prelude.{◌≡◌, ◌≢◌, ℕ, List, length, Err, IfOk, IfErr};
+ghost use Rattle.std.specs.Prelude.{◌≡◌, ◌≢◌, length, Err, IfOk, IfErr};
 ghost use Rattle.std.specs.String.{string_bytes};
 ghost use Rattle.tce_outside.specs.Files.{others};
 ghost use Rattle.tce_outside.specs.Fault.{HasCause, TellsFaults};
 ghost use Rattle.tce_tree.specs.ContractionTree.{operations};
-ghost use Rattle.tce_einsum.specs.Answer.{AnswersEinsum};
 ghost use Rattle.tce_certify.specs.EinsumDone.{IsEinsumWritten, einsum_report};
-ghost use Rattle.tce_certify.specs.EinsumRefusals.{IsEinsumRefusal};
+ghost use Rattle.tce_certify.specs.EinsumRefusals.{IsEinsumRefusal, TellsFault};
+ghost use Rattle.tce_command.specs.Refusals.{SameUnlessDisk};
 
 use std::alloc::{AllocError, Global};
 use tce_command::{EinsumTrouble, Refusal};
@@ -26,9 +26,10 @@ pub fn write_einsum<D: Disk>(
     spec: &str,
     disk: &mut D,
 ) -> Result<String, Refusal>
-    ensures done { IfOk result (λ report. IsEinsumWritten (D.files disk.old) (D.files disk.new) text.now path.now spec.now (string_bytes report)) }
+    ensures done { IfOk result (λ report. IsEinsumWritten (D.files disk.old) (D.files disk.new)
+        text.now path.now spec.now (string_bytes report)) }
     ensures refused { IfErr result (IsEinsumRefusal text.now path.now) }
-    ensures unchanged { IfErr result (λ refusal. refusal ≢ Refusal.Disk → D.files disk.new ≡ D.files disk.old) }
+    ensures unchanged { IfErr result (SameUnlessDisk (D.files disk.old) (D.files disk.new)) }
     ensures others { others spec.now (D.files disk.new) ≡ others spec.now (D.files disk.old) }
     ensures cause { HasCause (D.faults disk.old) (D.faults disk.new) (result ≡ Err Refusal.Disk) }
     ensures told { TellsFaults (D.faults disk.old) (D.faults disk.new) (result ≡ Err Refusal.Disk) }
@@ -53,7 +54,7 @@ pub fn write_einsum<D: Disk>(
 // The refusal of a text and a path with this fault.
 fn refusal_of(fault: EinsumFault) -> Refusal
     ensures no_disk { result ≢ Refusal.Disk }
-    ensures told { (text path : List ℕ) → AnswersEinsum text path (Err fault) → IsEinsumRefusal text path result }
+    ensures told { TellsFault fault result }
 {
     match fault {
         EinsumFault::BadText => Refusal::Einsum(EinsumTrouble::BadText),
@@ -66,7 +67,8 @@ fn refusal_of(fault: EinsumFault) -> Refusal
 
 // The report of a specification whose text stands in this file.
 fn report(alloc: Global, produced: &Spec, spec: &str, written: &[u8]) -> Result<String, AllocError>
-    ensures { IfOk result (λ text. string_bytes text ≡ einsum_report (operations produced.now.tree) spec.now (length written.now)) }
+    ensures { IfOk result (λ text. string_bytes text
+        ≡ einsum_report (operations produced.now.tree) spec.now (length written.now)) }
 {
     let nodes = produced.tree().count();
     let len = written.len();
