@@ -25,20 +25,23 @@ pub(crate) struct Bounds {
     pub(crate) ceiling: u128,
     // Whether they are used; else each subtree is searched up to the ceiling.
     pub(crate) learns: bool,
+    // One round ends here, where it would go past.
+    near: u128,
     least: [u128; MAX_NODES],
     kept: usize,
     earlier: Round,
 }
 
 impl Bounds {
-    /// Before the first round the ceiling is 0, and nothing is known of subtrees.
-    pub(crate) fn new() -> Bounds
+    /// Before the first round the ceiling is 0, and nothing is known of subtrees. No round goes past `near` at once.
+    pub(crate) fn new(near: u128) -> Bounds
         ensures ceiling { result.ceiling ≡ 0 }
         ensures learns { result.learns ≡ true }
     {
         Bounds {
             ceiling: 0,
             learns: true,
+            near,
             least: [0; MAX_NODES],
             kept: 0,
             earlier: Round {
@@ -134,6 +137,22 @@ impl Bounds {
         }
     }
 
+    // The next ceiling, but for the end.
+    fn next(&self) -> u128
+        requires { self.now.ceiling < cost_limit }
+        ensures { self.now.ceiling < result }
+    {
+        if self.ceiling == 0 {
+            return self.near / 2 + 1;
+        }
+        let next = self.ceiling + self.step() + 1;
+        if self.ceiling < self.near && self.near < next {
+            self.near
+        } else {
+            next
+        }
+    }
+
     /// Raises the ceiling for the next round, at most to the end. Behind a round at the end comes one that uses nothing of what is known.
     pub(crate) fn raise(&mut self, end: u128)
         requires small { end < cost_limit }
@@ -146,12 +165,12 @@ impl Bounds {
         if !self.learns {
             return;
         }
-        let step = self.step();
+        let next = self.next();
         self.earlier = Round {
             ceiling: self.ceiling,
             kept: self.kept,
         };
-        self.ceiling = end.min(self.ceiling + step + 1);
+        self.ceiling = end.min(next);
         self.kept = 0;
     }
 }

@@ -48,17 +48,18 @@ pub fn search(alloc: Global, space: &Space, tree: &Tree) -> Result<Plan, AllocEr
 {
     let _indexes = space.index_count();
     let _nodes = tree.count();
-    let plan = search_below(alloc, space, tree, LAST_LIMIT)?;
+    let plan = search_below(alloc, space, tree, 0, LAST_LIMIT)?;
     Ok(plan.unwrap())
 }
 
 /// The plan that [`search`] finds, where its memory is at most the limit, in elements; `None` exactly where each legal fusion takes more.
 ///
-/// It costs no more than the search up to the limit, however much the least fusion takes. Only want of memory is refused.
+/// It goes no further than the limit, however much the least fusion takes. A guess of that memory only makes the search short where it is right. Only want of memory is refused.
 pub fn search_within(
     alloc: Global,
     space: &Space,
     tree: &Tree,
+    guess: u128,
     limit: u64,
 ) -> Result<Option<Plan>, AllocError>
     requires { IsMeasured space.now tree.now }
@@ -66,14 +67,16 @@ pub fn search_within(
     ensures within { IfOk result (λ found. IfSome found (λ plan. plan.memory ≤ limit)) }
     ensures none { IfOk result (λ found. IfNone found (IsExceeded space.now tree.now limit)) }
 {
-    search_below(alloc, space, tree, limit as u128 + 1)
+    let near = guess.saturating_add(1);
+    search_below(alloc, space, tree, near, limit as u128 + 1)
 }
 
-// The plan of a least fusion, where it takes less memory than the end. Its rounds go no further.
+// The plan of a least fusion, where it takes less memory than the end. The rounds go no further, and one of them to `near`.
 fn search_below(
     alloc: Global,
     space: &Space,
     tree: &Tree,
+    near: u128,
     end: u128,
 ) -> Result<Option<Plan>, AllocError>
     requires measured { IsMeasured space.now tree.now }
@@ -82,7 +85,7 @@ fn search_below(
     ensures below { IfOk result (λ found. IfSome found (λ plan. plan.memory < end)) }
     ensures none { IfOk result (λ found. IfNone found (IsBelowFusions space.now tree.now end)) }
 {
-    let mut bounds = Bounds::new();
+    let mut bounds = Bounds::new(near);
     let mut least = 0;
     while least < end {
         bounds.raise(end);

@@ -14,7 +14,7 @@ ghost use Rattle.tce_spill.specs.declared.fault.SpillFault.{SpillFault as Fault}
 
 use crate::fault::SpillFault;
 use crate::node_set::{has_node, with_node, without_node};
-use crate::planned::{PlannedCuts, put_joined, without_rows};
+use crate::planned::{PlannedCuts, joined_guess, put_joined, without_rows};
 use crate::storage::storable;
 use std::alloc::{AllocError, Global};
 use tce_nesting::Plan;
@@ -177,7 +177,8 @@ fn decide(
     }
     let fewer = without_node(planned.nodes, v);
     let root = root_over(spec, fewer, v);
-    let Some(joined) = plan_within(alloc, spec, root, fewer, limit)? else {
+    let guess = joined_guess(planned.plans.as_slice(), v, root);
+    let Some(joined) = plan_within(alloc, spec, root, fewer, guess, limit)? else {
         return Ok(());
     };
     put_joined(&mut planned.plans, v, root, joined);
@@ -203,6 +204,7 @@ fn plan_within(
     spec: &Spec,
     root: u8,
     cuts: u32,
+    guess: u128,
     limit: u64,
 ) -> Result<Option<Plan>, AllocError>
     requires names { HaveNames spec.now.declarations.tensors }
@@ -213,7 +215,7 @@ fn plan_within(
     ensures none { IfOk result (λ found. IfNone found (IsAbove spec.now (has cuts) root limit)) }
 {
     let piece = piece(alloc, spec, root, cuts)?;
-    match search_within(alloc, piece.space(), piece.tree(), limit)? {
+    match search_within(alloc, piece.space(), piece.tree(), guess, limit)? {
         Some(plan) => Ok(Some(without_rows(alloc, plan)?)),
         None => Ok(None),
     }

@@ -40,3 +40,18 @@ pub(crate) fn put_joined(plans: &mut Vec<Option<Plan>>, lower: u8, root: u8, joi
     plans[lower as usize] = None;
     plans[root as usize] = Some(joined);
 }
+
+/// What a joined piece mostly takes at least: what both of its parts take, and an element of the node between them.
+///
+/// It only says where to search.
+pub(crate) fn joined_guess(plans: &[Option<Plan>], lower: u8, root: u8) -> u128 {
+    let parts = memory_at(plans, lower).saturating_add(memory_at(plans, root));
+    parts.saturating_add(1)
+}
+
+fn memory_at(plans: &[Option<Plan>], v: u8) -> u128 {
+    match plans.get(v as usize) {
+        Some(Some(plan)) => plan.memory,
+        _ => 0,
+    }
+}
