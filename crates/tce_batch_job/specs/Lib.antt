@@ -3,3 +3,4 @@ pub mod Reports
 pub mod Plans
 pub mod Refusals
 pub mod Left
+pub mod Told

@@ -1,10 +1,10 @@
 // The plan of every formula, found before any formula is run.
-ghost use Rattle.std.specs.Prelude.{◌≡◌, ◌≢◌, ◌<◌, ◌≤◌, IfOk, IfErr, OnOk, Some, length, slice_get};
+ghost use Rattle.std.specs.Prelude.{◌≡◌, ◌≢◌, ◌<◌, ◌≤◌, IfOk, IfErr, OnOk, length};
 ghost use Rattle.tce_job.specs.Refusals.{IsAffordable, IsCause};
 ghost use Rattle.tce_job.specs.declared.fault.JobFault.{JobFault as Fault};
-ghost use Rattle.tce_spec.specs.Specification.{Specification};
 ghost use Rattle.tce_batch_job.specs.Plans.{AreKept, IsKeptOf, IsOneMore, IsPlanOf};
 ghost use Rattle.tce_batch_job.specs.Refusals.{AffordableBelow, IsCostFault};
+ghost use Rattle.tce_batch_job.specs.Told.{HoldsOf};
 
 use crate::fault::{BatchFault, before_runs};
 use arrayvec::ArrayVec;
@@ -66,9 +66,10 @@ fn find_plan(
     plans: &mut Vec<KeptPlan>,
 ) -> Result<(), JobFault>
     requires { number < length batch.now }
-    ensures affordable { OnOk result ((s : Specification) → slice_get batch.now number ≡ Some s → IsAffordable s budget) }
+    ensures affordable { OnOk result (HoldsOf batch.now number (λ s. IsAffordable s budget)) }
     ensures kept { OnOk result (IsOneMore batch.now number plans.old.items plans.new.items) }
-    ensures refused { IfErr result (λ fault. (s : Specification) → slice_get batch.now number ≡ Some s → IsCause (λ _. ⊥) s budget fault) }
+    ensures refused { IfErr result
+        (λ fault. HoldsOf batch.now number (λ s. IsCause (λ _. ⊥) s budget fault)) }
     ensures failed { IfErr result (λ fault. fault ≢ Fault.Disk) }
 {
     let Ok(spec) = batch.spec(alloc, number) else {

@@ -1,22 +1,19 @@
 // The formulas in turn.
-ghost use Rattle.std.specs.Prelude.{◌≡◌, ◌<◌, ◌≤◌, IfOk, IfErr, OnOk, IsErrAnd, Err, Some, length, slice_get, ◌⊎◌};
-ghost use Rattle.tce_spec.specs.Specification.{Specification};
+ghost use Rattle.std.specs.Prelude.{◌≡◌, ◌<◌, ◌≤◌, IfOk, IfErr, OnOk, Err, length};
 ghost use Rattle.tce_outside.specs.Files.{others};
-ghost use Rattle.tce_tensors.specs.TensorFiles.{file_of};
 ghost use Rattle.tce_tensors.specs.Laws.{LeavesNoHalfResult};
-ghost use Rattle.tce_tensors.specs.ResultBytes.{with_result};
-ghost use Rattle.tce_job.specs.Refusals.{IsAffordable, IsCause, IsFree, MayBeRefused};
+ghost use Rattle.tce_job.specs.Refusals.{IsAffordable};
 ghost use Rattle.tce_job.specs.Run.{IsReported};
 ghost use Rattle.tce_job.specs.Prepared.{IsRoomLeft as IsRoomLeftByOne};
-ghost use Rattle.std.specs.Option.{ForSome, option_map};
 ghost use Rattle.tce_space.specs.Limits.{max_memory};
 ghost use Rattle.tce_outside.specs.Fault.{HasCause, TellsFaults};
 ghost use Rattle.tce_job.specs.declared.fault.JobFault.{JobFault as Fault};
-ghost use Rattle.tce_batch_job.specs.Files.{files_after};
+ghost use Rattle.tce_job.specs.Told.{IsRefusalOf, FailsOrKeeps, WritesResult, ResultAlone, Reports, LeavesRoom as LeavesRoomByOne};
 ghost use Rattle.tce_batch_job.specs.Reports.{HasRun};
 ghost use Rattle.tce_batch_job.specs.Plans.{AreKept, IsKeptFor, IsKeptIn};
-ghost use Rattle.tce_batch_job.specs.Refusals.{AffordableBelow, SourcesBelow, IsBatchCause, IsExact};
-ghost use Rattle.tce_batch_job.specs.Left.{IsLeft, IsRoomLeft, OnlyResultsDiffer};
+ghost use Rattle.tce_batch_job.specs.Refusals.{AffordableBelow, IsBatchCause, IsExact};
+ghost use Rattle.tce_batch_job.specs.Left.{IsLeft, OnlyResultsDiffer};
+ghost use Rattle.tce_batch_job.specs.Told.{HoldsOf, HasAllSources, WritesResults, IsFreeIn, HasDiskFault, TakesTested, LeavesRoom};
 
 use crate::fault::BatchFault;
 use crate::plans::{KeptPlan, find_plans};
@@ -41,13 +38,14 @@ fn run_kept<D: Disk, R: Room>(
     requires kept { IsKeptFor spec.now kept.now }
     requires affordable { IsAffordable spec.now budget }
     requires budget { budget ≤ max_memory }
-    ensures told { OnOk result (D.files disk.new ≡ option_map (with_result spec.now) (D.files disk.old)) }
-    ensures reported { IfOk result (IsReported spec.now budget (R.takings room.old) (R.takings room.new)) }
-    ensures refused { IfErr result (IsCause (MayBeRefused (D.files disk.old) spec.now) spec.now budget) }
-    ensures unchanged { IfErr result (λ fault. (fault ≡ Fault.Disk) ⊎ (D.files disk.new ≡ D.files disk.old)) }
-    ensures takings { IfErr result (λ fault. IsRoomLeftByOne fault spec.now budget (R.takings room.old) (R.takings room.new)) }
+    ensures told { OnOk result (WritesResult spec.now (D.files disk.old) (D.files disk.new)) }
+    ensures reported { Reports result spec.now budget (R.takings room.old) (R.takings room.new) }
+    ensures refused { IfErr result (IsRefusalOf (D.files disk.old) spec.now budget) }
+    ensures unchanged { FailsOrKeeps result (D.files disk.old) (D.files disk.new) }
+    ensures takings { LeavesRoomByOne result spec.now budget
+        (R.takings room.old) (R.takings room.new) }
     ensures no_half { LeavesNoHalfResult spec.now (D.files disk.old) (D.files disk.new) }
-    ensures others { others (file_of spec.now spec.now.result) (D.files disk.new) ≡ others (file_of spec.now spec.now.result) (D.files disk.old) }
+    ensures others { ResultAlone spec.now (D.files disk.old) (D.files disk.new) }
     ensures cause { HasCause (D.faults disk.old) (D.faults disk.new) (result ≡ Err Fault.Disk) }
     ensures quiet { TellsFaults (D.faults disk.old) (D.faults disk.new) (result ≡ Err Fault.Disk) }
 {
@@ -74,13 +72,19 @@ fn run_formula<D: Disk, R: Room>(
     requires kept { IsKeptIn batch.now kept.now }
     requires affordable { AffordableBelow batch.now budget (length batch.now) }
     requires budget { budget ≤ max_memory }
-    ensures told { OnOk result ((s : Specification) → slice_get batch.now kept.now.number ≡ Some s → D.files disk.new ≡ option_map (with_result s) (D.files disk.old)) }
-    ensures reported { IfOk result (λ report. (s : Specification) → slice_get batch.now kept.now.number ≡ Some s → IsReported s budget (R.takings room.old) (R.takings room.new) report) }
-    ensures refused { IfErr result (λ fault. (s : Specification) → slice_get batch.now kept.now.number ≡ Some s → IsCause (MayBeRefused (D.files disk.old) s) s budget fault) }
-    ensures unchanged { IfErr result (λ fault. (fault ≡ Fault.Disk) ⊎ (D.files disk.new ≡ D.files disk.old)) }
-    ensures takings { IfErr result (λ fault. (s : Specification) → slice_get batch.now kept.now.number ≡ Some s → IsRoomLeftByOne fault s budget (R.takings room.old) (R.takings room.new)) }
-    ensures no_half { (s : Specification) → slice_get batch.now kept.now.number ≡ Some s → LeavesNoHalfResult s (D.files disk.old) (D.files disk.new) }
-    ensures others { (s : Specification) → slice_get batch.now kept.now.number ≡ Some s → others (file_of s s.result) (D.files disk.new) ≡ others (file_of s s.result) (D.files disk.old) }
+    ensures told { OnOk result (HoldsOf batch.now kept.now.number
+        (λ s. WritesResult s (D.files disk.old) (D.files disk.new))) }
+    ensures reported { IfOk result (λ report. HoldsOf batch.now kept.now.number
+        (λ s. IsReported s budget (R.takings room.old) (R.takings room.new) report)) }
+    ensures refused { IfErr result (λ fault. HoldsOf batch.now kept.now.number
+        (λ s. IsRefusalOf (D.files disk.old) s budget fault)) }
+    ensures unchanged { FailsOrKeeps result (D.files disk.old) (D.files disk.new) }
+    ensures takings { IfErr result (λ fault. HoldsOf batch.now kept.now.number
+        (λ s. IsRoomLeftByOne fault s budget (R.takings room.old) (R.takings room.new))) }
+    ensures no_half { HoldsOf batch.now kept.now.number
+        (λ s. LeavesNoHalfResult s (D.files disk.old) (D.files disk.new)) }
+    ensures others { HoldsOf batch.now kept.now.number
+        (λ s. ResultAlone s (D.files disk.old) (D.files disk.new)) }
     ensures cause { HasCause (D.faults disk.old) (D.faults disk.new) (result ≡ Err Fault.Disk) }
     ensures quiet { TellsFaults (D.faults disk.old) (D.faults disk.new) (result ≡ Err Fault.Disk) }
 {
@@ -102,15 +106,16 @@ fn run_all<D: Disk, R: Room>(
     requires budget { budget ≤ max_memory }
     requires kept { AreKept batch.now (length batch.now) plans.now }
     requires affordable { AffordableBelow batch.now budget (length batch.now) }
-    requires sources { ForSome (D.files disk.old) (λ files. SourcesBelow files batch.now (length batch.now)) }
-    ensures told { OnOk result (D.files disk.new ≡ option_map (files_after batch.now) (D.files disk.old)) }
-    ensures reported { IfOk result (λ text. HasRun batch.now budget (R.takings room.old) (R.takings room.new) text.items) }
+    requires sources { HasAllSources (D.files disk.old) batch.now }
+    ensures told { OnOk result (WritesResults batch.now (D.files disk.old) (D.files disk.new)) }
+    ensures reported { IfOk result
+        (λ text. HasRun batch.now budget (R.takings room.old) (R.takings room.new) text.items) }
     ensures refused { IfErr result (IsBatchCause (D.files disk.old) batch.now budget) }
-    ensures free { IfErr result (λ refused. ForSome (D.files disk.old) (λ _. IsFree refused.fault)) }
-    ensures left { IfErr result (λ refused. IsLeft (D.files disk.old) (D.files disk.new) batch.now refused) }
-    ensures takings { IfErr result (λ refused. IsRoomLeft (R.takings room.old) (R.takings room.new) batch.now budget refused) }
-    ensures cause { HasCause (D.faults disk.old) (D.faults disk.new) (IsErrAnd result (λ refused. refused.fault ≡ Fault.Disk)) }
-    ensures quiet { TellsFaults (D.faults disk.old) (D.faults disk.new) (IsErrAnd result (λ refused. refused.fault ≡ Fault.Disk)) }
+    ensures free { IfErr result (IsFreeIn (D.files disk.old)) }
+    ensures left { IfErr result (IsLeft (D.files disk.old) (D.files disk.new) batch.now) }
+    ensures takings { LeavesRoom result (R.takings room.old) (R.takings room.new) batch.now budget }
+    ensures cause { HasCause (D.faults disk.old) (D.faults disk.new) (HasDiskFault result) }
+    ensures quiet { TellsFaults (D.faults disk.old) (D.faults disk.new) (HasDiskFault result) }
 {
     let count = batch.len();
     let Ok(mut text) = first_line(alloc) else {
@@ -153,18 +158,20 @@ pub fn run_batch<D: Disk, R: Room>(
     room: &mut R,
 ) -> Result<BatchReport, BatchFault>
     requires { budget ≤ max_memory }
-    ensures told { OnOk result (D.files disk.new ≡ option_map (files_after batch.now) (D.files disk.old)) }
-    ensures reported { IfOk result (λ report. HasRun batch.now budget (R.takings room.old) (R.takings room.new) report.text) }
+    ensures told { OnOk result (WritesResults batch.now (D.files disk.old) (D.files disk.new)) }
+    ensures reported { IfOk result
+        (λ report. HasRun batch.now budget (R.takings room.old) (R.takings room.new) report.text) }
     ensures affordable { OnOk result (AffordableBelow batch.now budget (length batch.now)) }
-    ensures sources { OnOk result (ForSome (D.files disk.old) (λ files. SourcesBelow files batch.now (length batch.now))) }
+    ensures sources { OnOk result (HasAllSources (D.files disk.old) batch.now) }
     ensures refused { IfErr result (IsBatchCause (D.files disk.old) batch.now budget) }
     ensures exactly { IsExact (D.files disk.old) batch.now budget result }
-    ensures left { IfErr result (λ refused. IsLeft (D.files disk.old) (D.files disk.new) batch.now refused) }
-    ensures takings { IfErr result (λ refused. IsRoomLeft (R.takings room.old) (R.takings room.new) batch.now budget refused) }
-    ensures tested { IfErr result (λ refused. ForSome (D.files disk.old) (λ _. (IsFree refused.fault → ⊥) → R.takings room.new ≡ R.takings room.old)) }
+    ensures left { IfErr result (IsLeft (D.files disk.old) (D.files disk.new) batch.now) }
+    ensures takings { LeavesRoom result (R.takings room.old) (R.takings room.new) batch.now budget }
+    ensures tested { TakesTested result (D.files disk.old)
+        (R.takings room.old) (R.takings room.new) }
     ensures others { OnlyResultsDiffer batch.now (D.files disk.old) (D.files disk.new) }
-    ensures cause { HasCause (D.faults disk.old) (D.faults disk.new) (IsErrAnd result (λ refused. refused.fault ≡ Fault.Disk)) }
-    ensures quiet { TellsFaults (D.faults disk.old) (D.faults disk.new) (IsErrAnd result (λ refused. refused.fault ≡ Fault.Disk)) }
+    ensures cause { HasCause (D.faults disk.old) (D.faults disk.new) (HasDiskFault result) }
+    ensures quiet { TellsFaults (D.faults disk.old) (D.faults disk.new) (HasDiskFault result) }
 {
     let plans = find_plans(alloc, batch, budget)?;
     open_sources(alloc, batch, disk)?;

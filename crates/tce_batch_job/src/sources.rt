@@ -1,16 +1,17 @@
 // The files of the operands that are no earlier result.
-ghost use Rattle.std.specs.Prelude.{◌≡◌, ◌≢◌, ◌<◌, ◌≤◌, Err, IfOk, IfErr, OnOk, OnErr, IsErrAnd, Some, length, slice_get};
+ghost use Rattle.std.specs.Prelude.{◌≡◌, ◌≢◌, ◌<◌, ◌≤◌, Err, IfOk, IfErr, OnOk, OnErr, Some, length, slice_get};
 ghost use Rattle.std.specs.Option.{ForSome};
 ghost use Rattle.tce_outside.specs.Fault.{HasCause, TellsFaults};
 ghost use Rattle.tce_job.specs.declared.fault.JobFault.{JobFault as Fault};
 ghost use Rattle.tce_spec.specs.Specification.{Specification};
 ghost use Rattle.tce_spec.specs.Operands.{shape_of};
 ghost use Rattle.tce_array.specs.Faults.{IsFault};
-ghost use Rattle.tce_tensors.specs.Opened.{HasArray, operand_count};
+ghost use Rattle.tce_tensors.specs.Opened.{HasArray};
 ghost use Rattle.tce_outside.specs.Files.{file};
 ghost use Rattle.tce_tensors.specs.TensorFiles.{file_of};
 ghost use Rattle.tce_batch.specs.BatchCode.{results_before};
-ghost use Rattle.tce_batch_job.specs.Refusals.{IsSource, HasSources, SourcesBelow, IsOperandFault, IsSourceFault, IsOpeningFault};
+ghost use Rattle.tce_batch_job.specs.Refusals.{IsSource, IsOperandFault, IsOpeningFault};
+ghost use Rattle.tce_batch_job.specs.Told.{HasSourceFile, HasSourceFiles, HasAllSources, IsSourceFaultOf, HasDiskFault};
 
 use crate::fault::{BatchFault, before_runs};
 use std::alloc::Global;
@@ -48,7 +49,7 @@ fn open_source<D: Disk>(
 ) -> Result<(), JobFault>
     requires number { number < length batch.now }
     requires declared { t < length spec.now.declarations.tensors }
-    ensures opened { OnOk result (ForSome (D.files disk.old) (λ files. IsSource (results_before batch.now number) t → HasArray files spec.now t)) }
+    ensures opened { OnOk result (HasSourceFile (D.files disk.old) batch.now number spec.now t) }
     ensures source { OnErr result (IsSource (results_before batch.now number) t) }
     ensures refused { IfErr result (IsOperandFault (D.files disk.old) spec.now t) }
     ensures same { D.files disk.new ≡ D.files disk.old }
@@ -69,8 +70,8 @@ fn open_formula<D: Disk>(
     disk: &mut D,
 ) -> Result<(), JobFault>
     requires { number < length batch.now }
-    ensures opened { OnOk result (ForSome (D.files disk.old) (λ files. HasSources files spec.now (results_before batch.now number) (operand_count spec.now))) }
-    ensures refused { IfErr result (IsSourceFault (D.files disk.old) spec.now (results_before batch.now number)) }
+    ensures opened { OnOk result (HasSourceFiles (D.files disk.old) batch.now number spec.now) }
+    ensures refused { IfErr result (IsSourceFaultOf (D.files disk.old) batch.now number spec.now) }
     ensures same { D.files disk.new ≡ D.files disk.old }
     ensures cause { HasCause (D.faults disk.old) (D.faults disk.new) (result ≡ Err Fault.Disk) }
     ensures quiet { TellsFaults (D.faults disk.old) (D.faults disk.new) (result ≡ Err Fault.Disk) }
@@ -90,11 +91,11 @@ pub(crate) fn open_sources<D: Disk>(
     batch: &Batch,
     disk: &mut D,
 ) -> Result<(), BatchFault>
-    ensures opened { OnOk result (ForSome (D.files disk.old) (λ files. SourcesBelow files batch.now (length batch.now))) }
+    ensures opened { OnOk result (HasAllSources (D.files disk.old) batch.now) }
     ensures refused { IfErr result (IsOpeningFault (D.files disk.old) batch.now) }
     ensures same { D.files disk.new ≡ D.files disk.old }
-    ensures cause { HasCause (D.faults disk.old) (D.faults disk.new) (IsErrAnd result (λ refused. refused.fault ≡ Fault.Disk)) }
-    ensures quiet { TellsFaults (D.faults disk.old) (D.faults disk.new) (IsErrAnd result (λ refused. refused.fault ≡ Fault.Disk)) }
+    ensures cause { HasCause (D.faults disk.old) (D.faults disk.new) (HasDiskFault result) }
+    ensures quiet { TellsFaults (D.faults disk.old) (D.faults disk.new) (HasDiskFault result) }
 {
     let count = batch.len();
     for number in 0..count {
