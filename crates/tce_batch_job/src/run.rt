@@ -21,7 +21,7 @@ use crate::report::{BatchReport, first_line, push_section};
 use crate::sources::open_sources;
 use std::alloc::Global;
 use tce_batch::Batch;
-use tce_job::{Bytes, JobFault, RunReport, opened_forms, run_by};
+use tce_job::{Bytes, JobFault, PlannedRun, RunReport, opened_forms, run_by};
 use tce_outside::Disk;
 use tce_spec::Spec;
 use tce_words::Room;
@@ -55,7 +55,8 @@ fn run_kept<D: Disk, R: Room>(
         return Err(JobFault::Memory);
     };
     let forms = opened_forms(spec, disk)?;
-    let report = run_by(alloc, spec, budget, &forms, plan, disk, room)?;
+    let planned = PlannedRun { plan, forms };
+    let report = run_by(alloc, spec, budget, planned, disk, room)?;
     Ok(report)
 }
 

@@ -19,7 +19,7 @@ mod run;
 pub use bytes::Bytes;
 pub use fault::JobFault;
 pub use planning::{affordable_plan, opened_forms};
-pub use prepared::Prepared;
+pub use prepared::{PlannedRun, Prepared};
 pub use preparing::begin;
 pub use report::RunReport;
 pub use run::{run_by, run_job, run_prepared};

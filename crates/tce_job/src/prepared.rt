@@ -4,7 +4,15 @@ use tce_cache::Cache;
 use tce_code::Code;
 use tce_layout::Layout;
 use tce_nesting::Plan;
+use tce_tensors::Forms;
 use tce_words::Words;
+
+/// The plan by which a run goes, and the forms of its operands, which were opened.
+#[derive(Drop)]
+pub struct PlannedRun {
+    pub plan: Plan,
+    pub forms: Forms,
+}
 
 /// All that a run needs beside the disk.
 #[derive(Drop)]

@@ -13,7 +13,7 @@ ghost use Rattle.tce_job.specs.Told.{AreOpenedIn, FailsOrKeeps, MakesResult, Res
 
 use crate::bytes::Bytes;
 use crate::fault::JobFault;
-use crate::prepared::Prepared;
+use crate::prepared::{PlannedRun, Prepared};
 use crate::report::RunReport;
 use std::alloc::{AllocError, Global};
 use tce_array::{Form, form_len};
@@ -133,26 +133,25 @@ pub fn begin<D: Disk, R: Room>(
     alloc: Global,
     spec: &Spec,
     budget: u64,
-    forms: &Forms,
-    plan: Plan,
+    planned: PlannedRun,
     disk: &mut D,
     room: &mut R,
 ) -> Result<Prepared, JobFault>
     requires enough { least_budget spec.now ≤ budget }
     requires limit { budget ≤ max_memory }
-    requires plan { IsCarriedPlan spec.now.declarations.space spec.now.tree plan }
-    requires small { plan.memory ≤ max_memory }
-    requires opened { AreOpenedIn (D.files disk.old) spec.now forms.now.0 }
+    requires plan { IsCarriedPlan spec.now.declarations.space spec.now.tree planned.plan }
+    requires small { planned.plan.memory ≤ max_memory }
+    requires opened { AreOpenedIn (D.files disk.old) spec.now planned.forms.0 }
     ensures begun { IfOk result (IsBegun spec.now (D.files disk.new)) }
-    ensures prepared { IfOk result (IsPrepared spec.now budget forms.now.0) }
-    ensures plan { IfOk result (λ p. p.plan ≡ plan) }
+    ensures prepared { IfOk result (IsPrepared spec.now budget planned.forms.0) }
+    ensures plan { IfOk result (λ p. p.plan ≡ planned.plan) }
     ensures made { OnOk result (MakesResult spec.now (D.files disk.old) (D.files disk.new)) }
     ensures taken { OnOk result
-        (Takes spec.now budget plan (R.takings room.old) (R.takings room.new)) }
+        (Takes spec.now budget planned.plan (R.takings room.old) (R.takings room.new)) }
     ensures free { IfErr result IsFree }
     ensures unchanged { FailsOrKeeps result (D.files disk.old) (D.files disk.new) }
     ensures no_half { LeavesNoHalfResult spec.now (D.files disk.old) (D.files disk.new) }
-    ensures takings { MayTake result spec.now budget plan
+    ensures takings { MayTake result spec.now budget planned.plan
         (R.takings room.old) (R.takings room.new) }
     ensures others { ResultAlone spec.now (D.files disk.old) (D.files disk.new) }
     ensures cause { HasCause (D.faults disk.old) (D.faults disk.new) (result ≡ Err Fault.Disk) }
@@ -160,7 +159,8 @@ pub fn begin<D: Disk, R: Room>(
 {
     // Specifications keep their rules.
     let _space = spec.space();
-    let Ok(prepared) = take_memory(alloc, spec, budget, forms, plan, room) else {
+    let PlannedRun { plan, forms } = planned;
+    let Ok(prepared) = take_memory(alloc, spec, budget, &forms, plan, room) else {
         return Err(JobFault::Memory);
     };
     make_result(spec, disk)?;

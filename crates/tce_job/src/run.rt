@@ -13,16 +13,15 @@ ghost use Rattle.tce_job.specs.Told.{AreOpenedIn, CanRunIn, IsRefusalOf, Refuses
 
 use crate::fault::JobFault;
 use crate::planning::tested;
-use crate::prepared::Prepared;
+use crate::prepared::{PlannedRun, Prepared};
 use crate::preparing::begin;
 use crate::report::RunReport;
 use std::alloc::Global;
 use tce_array::{Form, write_head};
 use tce_exec::run_code;
-use tce_nesting::Plan;
 use tce_outside::{Disk, Failed};
 use tce_spec::Spec;
-use tce_tensors::{Forms, file_of};
+use tce_tensors::file_of;
 use tce_words::Room;
 
 /// Runs the code of a run that was begun, writes the tiles of the result to its file, and last the head of that file.
@@ -75,24 +74,23 @@ pub fn run_by<D: Disk, R: Room>(
     alloc: Global,
     spec: &Spec,
     budget: u64,
-    forms: &Forms,
-    plan: Plan,
+    planned: PlannedRun,
     disk: &mut D,
     room: &mut R,
 ) -> Result<RunReport, JobFault>
     requires enough { least_budget spec.now ≤ budget }
     requires limit { budget ≤ max_memory }
-    requires plan { IsCarriedPlan spec.now.declarations.space spec.now.tree plan }
-    requires small { plan.memory ≤ max_memory }
-    requires opened { AreOpenedIn (D.files disk.old) spec.now forms.now.0 }
+    requires plan { IsCarriedPlan spec.now.declarations.space spec.now.tree planned.plan }
+    requires small { planned.plan.memory ≤ max_memory }
+    requires opened { AreOpenedIn (D.files disk.old) spec.now planned.forms.0 }
     ensures told { OnOk result (WritesResult spec.now (D.files disk.old) (D.files disk.new)) }
-    ensures report { IfOk result (IsReport spec.now budget plan) }
+    ensures report { IfOk result (IsReport spec.now budget planned.plan) }
     ensures taken { OnOk result
-        (Takes spec.now budget plan (R.takings room.old) (R.takings room.new)) }
+        (Takes spec.now budget planned.plan (R.takings room.old) (R.takings room.new)) }
     ensures free { IfErr result IsFree }
     ensures unchanged { FailsOrKeeps result (D.files disk.old) (D.files disk.new) }
     ensures no_half { LeavesNoHalfResult spec.now (D.files disk.old) (D.files disk.new) }
-    ensures takings { MayTake result spec.now budget plan
+    ensures takings { MayTake result spec.now budget planned.plan
         (R.takings room.old) (R.takings room.new) }
     ensures others { ResultAlone spec.now (D.files disk.old) (D.files disk.new) }
     ensures cause { HasCause (D.faults disk.old) (D.faults disk.new) (result ≡ Err Fault.Disk) }
@@ -100,7 +98,7 @@ pub fn run_by<D: Disk, R: Room>(
 {
     // Specifications keep their rules.
     let _space = spec.space();
-    let mut prepared = begin(alloc, spec, budget, forms, plan, disk, room)?;
+    let mut prepared = begin(alloc, spec, budget, planned, disk, room)?;
     match run_prepared(spec, &mut prepared, disk) {
         Ok(()) => Ok(prepared.report),
         Err(Failed) => Err(JobFault::Disk),
@@ -146,6 +144,7 @@ pub fn run_job<D: Disk, R: Room>(
     ensures others { ResultAlone spec.now (D.files disk.old) (D.files disk.new) }
 {
     let (plan, forms) = tested(alloc, spec, budget, disk)?;
-    let report = run_by(alloc, spec, budget, &forms, plan, disk, room)?;
+    let planned = PlannedRun { plan, forms };
+    let report = run_by(alloc, spec, budget, planned, disk, room)?;
     Ok(report)
 }

@@ -31,7 +31,7 @@ use crate::plans::{Turn, take_plan};
 use crate::report::{SpillReport, first_line, push_piece, push_wrote};
 use crate::spilling::{Spilling, largest_tile};
 use std::alloc::Global;
-use tce_job::{Bytes, JobFault, RunReport, run_by};
+use tce_job::{Bytes, JobFault, PlannedRun, RunReport, run_by};
 use tce_nesting::Plan;
 use tce_outside::Disk;
 use tce_spec::{Spec, piece};
@@ -62,7 +62,8 @@ fn run_one<D: Disk, R: Room>(
     ensures quiet { TellsFaults (D.faults disk.old) (D.faults disk.new) (result ≡ Err Fault.Disk) }
 {
     let forms = open_all(spec, disk)?;
-    match run_by(alloc, spec, budget, &forms, plan, disk, room) {
+    let planned = PlannedRun { plan, forms };
+    match run_by(alloc, spec, budget, planned, disk, room) {
         Ok(report) => Ok(report),
         Err(JobFault::Disk) => Err(SpillFault::Disk),
         Err(_) => Err(SpillFault::Memory),

@@ -8,7 +8,7 @@ use arrayvec::ArrayVec;
 use std::alloc::Global;
 use std::test::Fail;
 use tce_fusion::{is_legal, memory, standard_orders};
-use tce_job::{begin, run_by, run_prepared};
+use tce_job::{PlannedRun, begin, run_by, run_prepared};
 use tce_nesting::{Plan, Tables};
 use tce_outside::MemDisk;
 use tce_space::IndexSet;
@@ -102,7 +102,8 @@ pub fn is_run_by(
         return Ok(false);
     };
     let mut room = HeapRoom::new(alloc);
-    Ok(run_by(alloc, spec, budget, &forms, plan, disk, &mut room).is_ok())
+    let planned = PlannedRun { plan, forms };
+    Ok(run_by(alloc, spec, budget, planned, disk, &mut room).is_ok())
 }
 
 /// How often a run by the fusion that fuses nothing touches tiles, where it succeeds.
@@ -123,7 +124,8 @@ pub fn touches_unfused(
         return Ok(None);
     };
     let mut room = HeapRoom::new(alloc);
-    let Ok(mut prepared) = begin(alloc, spec, budget, &forms, plan, disk, &mut room) else {
+    let planned = PlannedRun { plan, forms };
+    let Ok(mut prepared) = begin(alloc, spec, budget, planned, disk, &mut room) else {
         return Ok(None);
     };
     let answer = run_prepared(spec, &mut prepared, disk);
