@@ -59,9 +59,13 @@ array_bytes s element = form_bytes One s element
 abbrev pub form_by : Bool → ℕ → Form
 form_by second n = if second then (if nat_eq n 4 then Narrow else Wide) else One
 
+-- the form that a file has by its first 24 bytes
+abbrev pub form_by_start : List ℕ → Form
+form_by_start start = form_by (bytes_eq (take 8 start) (codes "TCARRAY2")) (word_of_bytes 8 (drop 16 start))
+
 -- the form that a file has by its first bytes
 abbrev pub form_of : List ℕ → Form
-form_of bytes = if nat_lt (length bytes) 24 then One else form_by (bytes_eq (take 8 bytes) (codes "TCARRAY2")) (word_of_bytes 8 (drop 16 bytes))
+form_of bytes = if nat_lt (length bytes) 24 then One else form_by_start bytes
 
 -- the bytes are a file of this form and shape
 pub record IsForm (form : Form) (s : Tiling) (bytes : List ℕ) : Type 0 where

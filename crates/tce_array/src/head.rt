@@ -84,7 +84,7 @@ pub fn head(form: Form, shape: &Shape) -> Head
 /// The first place at which two texts of one length differ.
 pub fn first_difference(found: &[u8], expected: &[u8]) -> Option<usize>
     requires { length found.now ≡ length expected.now }
-    ensures { MatchOption result (found.now ≡ expected.now) (λ p. DifferFirst found.now expected.now p) }
+    ensures { MatchOption result (found.now ≡ expected.now) (DifferFirst found.now expected.now) }
 {
     for i in 0..found.len() {
         if found[i] != expected[i] {

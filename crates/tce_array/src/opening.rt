@@ -1,13 +1,12 @@
 // Opening and creating array files.
-ghost use Rattle.std.specs.Prelude.{◌≡◌, ℕ, ◌+◌, ◌*◌, ◌≤◌, ◌<◌, List, length, take, drop, IfOk, IfErr, OnOk, IsErr, IsErrOf, Err, codes, ◌++◌};
-ghost use Rattle.std.specs.Option.{ForSome, IsSomeAnd};
-ghost use Rattle.tce_outside.specs.Files.{file, others, holding, written, bytes_from};
+ghost use Rattle.std.specs.Prelude.{◌≡◌, ℕ, ◌+◌, ◌*◌, ◌≤◌, ◌<◌, List, length, take, IfOk, IfErr, OnOk, IsErr, IsErrOf, Err, codes, ◌++◌};
+ghost use Rattle.tce_outside.specs.Files.{others, written};
 ghost use Rattle.tce_outside.specs.Fault.{HasCause, TellsFaults};
-ghost use Rattle.tce_array.specs.Forms.{form_of, form_bytes, head, head_len, IsArray};
-ghost use Rattle.tce_array.specs.Faults.{IsFault, IsOnlyAnswer};
+ghost use Rattle.tce_array.specs.Forms.{head, form_by_start};
+ghost use Rattle.tce_array.specs.Faults.{HasFailed, IsDiskFault};
 ghost use Rattle.std.specs.Str.{bytes_eq};
 ghost use Rattle.tce_base.specs.Word.{word_of_bytes};
-ghost use Rattle.tce_array.specs.Forms.{form_by};
+ghost use Rattle.tce_array.specs.OnDisk.{HasLengthOn, HasFormOn, HasArrayOn, HasFaultOn, IsOnlyAnswerOn, HoldsZeros, HasRoomForHead, HoldsHead, SameBehindHead};
 
 use crate::fault::ArrayFault;
 use crate::form::Form;
@@ -29,7 +28,7 @@ fn is_second_version(start: &[u8]) -> bool
 #[tactic(auto, unfolding(tce_base::specs::Word::word_of_bytes))]
 fn form_of_start(start: &[u8]) -> Form
     requires { length start.now ≡ 24 }
-    ensures { result ≡ form_by (bytes_eq (take 8 start.now) (codes "TCARRAY2")) (word_of_bytes 8 (drop 16 start.now)) }
+    ensures { result ≡ form_by_start start.now }
 {
     if !is_second_version(start) {
         Form::One
@@ -42,8 +41,8 @@ fn form_of_start(start: &[u8]) -> Form
 
 // The form of a file of this length.
 fn find_form<D: Disk>(disk: &mut D, name: &str, len: u64) -> Result<Form, Failed>
-    requires { ForSome (D.files disk.old) (λ fs. IsSomeAnd (file fs name.now) (λ bytes. length bytes ≡ len)) }
-    ensures form { IfOk result (λ form. ForSome (D.files disk.old) (λ fs. IsSomeAnd (file fs name.now) (λ bytes. form_of bytes ≡ form))) }
+    requires { HasLengthOn (D.files disk.old) name.now len }
+    ensures form { IfOk result (HasFormOn (D.files disk.old) name.now) }
     ensures same { D.files disk.new ≡ D.files disk.old }
     ensures cause { HasCause (D.faults disk.old) (D.faults disk.new) (IsErr result) }
     ensures told { TellsFaults (D.faults disk.old) (D.faults disk.new) (IsErr result) }
@@ -64,12 +63,12 @@ fn find_form<D: Disk>(disk: &mut D, name: &str, len: u64) -> Result<Form, Failed
 ///
 /// No file changes. Nothing is sized by what the file says of itself: at most one head is read, and no memory taken.
 pub fn open<D: Disk>(disk: &mut D, name: &str, shape: &Shape) -> Result<Form, ArrayFault>
-    ensures form { IfOk result (λ form. ForSome (D.files disk.old) (λ fs. IsSomeAnd (file fs name.now) (λ bytes. (form_of bytes ≡ form) × IsArray shape.now bytes))) }
-    ensures fault { IfErr result (λ fault. ForSome (D.files disk.old) (λ fs. IsFault shape.now (file fs name.now) fault)) }
-    ensures exact { ForSome (D.files disk.old) (λ fs. IsOnlyAnswer shape.now (file fs name.now) result) }
+    ensures form { IfOk result (HasArrayOn (D.files disk.old) name.now shape.now) }
+    ensures fault { IfErr result (HasFaultOn (D.files disk.old) name.now shape.now) }
+    ensures exact { IsOnlyAnswerOn (D.files disk.old) name.now shape.now result }
     ensures same { D.files disk.new ≡ D.files disk.old }
-    ensures cause { HasCause (D.faults disk.old) (D.faults disk.new) (result ≡ Err ArrayFault.Disk) }
-    ensures told { TellsFaults (D.faults disk.old) (D.faults disk.new) (result ≡ Err ArrayFault.Disk) }
+    ensures cause { HasCause (D.faults disk.old) (D.faults disk.new) (IsDiskFault result) }
+    ensures told { TellsFaults (D.faults disk.old) (D.faults disk.new) (IsDiskFault result) }
 {
     let Ok(size) = disk.size(name) else {
         return Err(ArrayFault::Disk);
@@ -101,11 +100,11 @@ pub fn open<D: Disk>(disk: &mut D, name: &str, shape: &Shape) -> Result<Form, Ar
 /// anything or be absent. All other files stay in every case. The head alone is written: the zeros come from
 /// making the file.
 pub fn create<D: Disk>(disk: &mut D, name: &str, form: Form, shape: &Shape) -> Result<(), OutFault>
-    ensures zeros { OnOk result (D.files disk.new ≡ holding name.now (form_bytes form shape.now (λ _. 0)) (D.files disk.old)) }
+    ensures zeros { OnOk result (HoldsZeros D.files disk.old disk.new name.now form shape.now) }
     ensures memory { IsErrOf result OutFault.Memory → D.files disk.new ≡ D.files disk.old }
     ensures others { others name.now (D.files disk.new) ≡ others name.now (D.files disk.old) }
-    ensures cause { HasCause (D.faults disk.old) (D.faults disk.new) (IsErrOf result OutFault.Failed) }
-    ensures told { TellsFaults (D.faults disk.old) (D.faults disk.new) (IsErrOf result OutFault.Failed) }
+    ensures cause { HasCause (D.faults disk.old) (D.faults disk.new) (HasFailed result) }
+    ensures told { TellsFaults (D.faults disk.old) (D.faults disk.new) (HasFailed result) }
 {
     disk.make(name, form_len(form, shape))?;
     let head = head(form, shape);
@@ -126,9 +125,9 @@ pub fn write_head<D: Disk>(
     form: Form,
     shape: &Shape,
 ) -> Result<(), Failed>
-    requires { ForSome (D.files disk.old) (λ fs. IsSomeAnd (file fs name.now) (λ bytes. head_len form shape.now ≤ length bytes)) }
-    ensures written { OnOk result (D.files disk.new ≡ written name.now 0 (head form shape.now) (D.files disk.old)) }
-    ensures behind { bytes_from name.now (head_len form shape.now) (D.files disk.new) ≡ bytes_from name.now (head_len form shape.now) (D.files disk.old) }
+    requires { HasRoomForHead (D.files disk.old) name.now form shape.now }
+    ensures written { OnOk result (HoldsHead D.files disk.old disk.new name.now form shape.now) }
+    ensures behind { SameBehindHead name.now form shape.now (D.files disk.old) (D.files disk.new) }
     ensures others { others name.now (D.files disk.new) ≡ others name.now (D.files disk.old) }
     ensures cause { HasCause (D.faults disk.old) (D.faults disk.new) (IsErr result) }
     ensures told { TellsFaults (D.faults disk.old) (D.faults disk.new) (IsErr result) }
