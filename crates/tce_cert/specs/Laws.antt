@@ -1,5 +1,5 @@
 -- Laws of certificates and of their faults.
-use Rattle.std.specs.Prelude.{◌≡◌, ℕ, ◌<◌, ◌≤◌, List, length}
+use Rattle.std.specs.Prelude.{◌≡◌, ℕ, ◌<◌, ◌≤◌, List, length, ◌≢◌, Result, IfErr}
 use Rattle.std.specs.List.{All}
 use Rattle.tce_space.specs.Limits.{cost_limit, max_loops}
 use Rattle.tce_space.specs.Space.{IndexSpace, IsSpace}
@@ -13,6 +13,7 @@ use Rattle.tce_nesting.specs.declared.plan.Plan.{Plan}
 use Rattle.tce_cert.specs.declared.fault.CertFault.{CertFault}
 use Rattle.tce_cert.specs.Certificate.{certificate}
 use Rattle.tce_cert.specs.Faults.{IsFault}
+use Rattle.tce_cert.specs.declared.fault.CertFault.TheVariants.{Memory}
 
 -- what a row is by its type: a nesting of at most ten classes
 pub record IsNestingRow (row : Row) : Type 0 where
@@ -42,3 +43,16 @@ abbrev pub CertificatesHaveNoFault : Type 0
 CertificatesHaveNoFault =
     (space : IndexSpace) (tree : ContractionTree) (plan : Plan) (fault : CertFault) → IsSpace space → IsTree tree → IsDeclaredTree space tree
     → PlanFits tree plan → RowsAreNestings plan.tables → IsFault space tree (certificate space tree plan) fault → ⊥
+
+-- the text is the certificate of this plan, which fits the tree
+abbrev pub Certifies : IndexSpace → ContractionTree → List ℕ → Plan → Type 0
+Certifies space tree text plan = PlanFits tree plan × (text ≡ certificate space tree plan) × RowsAreNestings plan.tables
+
+-- the fault is want of memory, or the first one of the text
+abbrev pub IsFaultOrMemory : IndexSpace → ContractionTree → List ℕ → CertFault → Type 0
+IsFaultOrMemory space tree text fault = fault ≢ Memory → IsFault space tree text fault
+
+-- where the text is the certificate of a plan, it is answered with that error alone which is want of memory
+abbrev pub RefusesForMemory : {A : Type 0} → IndexSpace → ContractionTree → List ℕ → Result A CertFault → Type 0
+RefusesForMemory space tree text result =
+    (plan : Plan) → PlanFits tree plan → RowsAreNestings plan.tables → text ≡ certificate space tree plan → IfErr result (λ fault. fault ≡ Memory)

@@ -5,3 +5,4 @@ pub mod Laws
 pub mod Lines
 pub mod Forms
 pub mod Cut
+pub mod Cursors

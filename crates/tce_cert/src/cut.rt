@@ -1,6 +1,6 @@
 // Texts with separators.
-ghost use Rattle.std.specs.Prelude.{◌≡◌, ◌==◌, position, MatchOption};
-ghost use Rattle.tce_cert.specs.Cut.{Lacks, IsCut};
+ghost use Rattle.std.specs.Prelude.{◌≡◌, ◌==◌, position};
+ghost use Rattle.tce_cert.specs.Cut.{CutsAt};
 
 // Where the separator first stands.
 fn first_separator(text: &[u8], separator: u8) -> Option<usize>
@@ -11,7 +11,7 @@ fn first_separator(text: &[u8], separator: u8) -> Option<usize>
 
 /// What stands in front of the first separator, and what stands behind it. `None` where the text has no separator.
 pub fn cut_at(text: &[u8], separator: u8) -> Option<(&[u8], &[u8])>
-    ensures { MatchOption result (Lacks separator text.now) (λ parts. IsCut separator text.now parts.0.now parts.1.now) }
+    ensures { CutsAt separator text.now result }
 {
     match first_separator(text, separator) {
         Some(end) => Some((&text[..end], &text[end + 1..])),

@@ -1,14 +1,11 @@
 // The lines of a certificate that are due, each read at its place.
-ghost use Rattle.std.specs.Prelude.{◌≡◌, ◌↔◌, ◌<◌, ◌++◌, [], ◌∷◌, List, IsTrue, IfErr, IfOk, OnOk};
-ghost use Rattle.tce_tree.specs.ContractionTree.{operations, node_dims};
+ghost use Rattle.std.specs.Prelude.{◌≡◌, ◌↔◌, ◌<◌, ◌++◌, [], ◌∷◌, IsTrue, IfErr, IfOk, OnOk};
+ghost use Rattle.tce_tree.specs.ContractionTree.{operations};
 ghost use Rattle.tce_tree.specs.WellFormed.{IsDeclaredTree};
 ghost use Rattle.tce_report.specs.NodeForm as nodes;
-ghost use Rattle.tce_report.specs.NodeLine.{Says};
-ghost use Rattle.tce_report.specs.ReadLine.{said};
-ghost use Rattle.tce_cert.specs.Lines.{opening_line, end_line};
-ghost use Rattle.tce_cert.specs.Forms.{StatesMemory, StatesTable, StatesRow};
-ghost use Rattle.tce_cert.specs.Faults.{Due, opening, node, memory, table, row, ending, IsFaultOf, IsFaultIn};
-ghost use Rattle.tce_cert.specs.Reading.{ReadsThat};
+ghost use Rattle.tce_cert.specs.Lines.{end_line};
+ghost use Rattle.tce_cert.specs.Faults.{opening, node, memory, table, row, ending, IsFaultOf};
+ghost use Rattle.tce_cert.specs.Cursors.{ReadsOpening, ReadsNode, ReadsMemory, ReadsTable, ReadsRow, IsFaultAt, IsFaultOfRest};
 
 use crate::cursor::Cursor;
 use crate::fault::CertFault;
@@ -53,8 +50,8 @@ pub(crate) fn read_opening<'a>(
     from: Cursor<'a>,
 ) -> Result<Cursor<'a>, CertFault>
     requires { IsDeclaredTree space.now tree.now }
-    ensures ok { IfOk result (λ read. ReadsThat from.entry.rest.now from.entry.number read.rest.now read.number (λ line. line ≡ opening_line)) }
-    ensures err { IfErr result (λ fault. (ds : List Due) → IsFaultIn space.now tree.now (opening ∷ ds) from.entry.number from.entry.rest.now fault) }
+    ensures ok { IfOk result (ReadsOpening from.entry) }
+    ensures err { IfErr result (IsFaultAt space.now tree.now opening from.entry) }
 {
     let (line, to) = from.line()?;
     if is_opening_line(line) {
@@ -73,8 +70,8 @@ pub(crate) fn read_node<'a>(
 ) -> Result<(NodeLine, Cursor<'a>), CertFault>
     requires declared { IsDeclaredTree space.now tree.now }
     requires inside { v < operations tree.now }
-    ensures ok { IfOk result (λ read. ReadsThat from.entry.rest.now from.entry.number read.1.rest.now read.1.number (λ line. Says space.now tree.now v line (said read.0))) }
-    ensures err { IfErr result (λ fault. (ds : List Due) → IsFaultIn space.now tree.now (node v ∷ ds) from.entry.number from.entry.rest.now fault) }
+    ensures ok { IfOk result (ReadsNode space.now tree.now v from.entry) }
+    ensures err { IfErr result (IsFaultAt space.now tree.now (node v) from.entry) }
 {
     let (line, to) = from.line()?;
     match read_node_line(space, tree, v, line) {
@@ -90,8 +87,8 @@ pub(crate) fn read_memory<'a>(
     from: Cursor<'a>,
 ) -> Result<(u128, Cursor<'a>), CertFault>
     requires { IsDeclaredTree space.now tree.now }
-    ensures ok { IfOk result (λ read. ReadsThat from.entry.rest.now from.entry.number read.1.rest.now read.1.number (λ line. StatesMemory line read.0)) }
-    ensures err { IfErr result (λ fault. (ds : List Due) → IsFaultIn space.now tree.now (memory ∷ ds) from.entry.number from.entry.rest.now fault) }
+    ensures ok { IfOk result (ReadsMemory from.entry) }
+    ensures err { IfErr result (IsFaultAt space.now tree.now memory from.entry) }
 {
     let (line, to) = from.line()?;
     match read_memory_line(line) {
@@ -108,8 +105,8 @@ pub(crate) fn read_table<'a>(
     from: Cursor<'a>,
 ) -> Result<(u128, Cursor<'a>), CertFault>
     requires { IsDeclaredTree space.now tree.now }
-    ensures ok { IfOk result (λ read. ReadsThat from.entry.rest.now from.entry.number read.1.rest.now read.1.number (λ line. StatesTable line v read.0)) }
-    ensures err { IfErr result (λ fault. (ds : List Due) → IsFaultIn space.now tree.now (table v ∷ ds) from.entry.number from.entry.rest.now fault) }
+    ensures ok { IfOk result (ReadsTable v from.entry) }
+    ensures err { IfErr result (IsFaultAt space.now tree.now (table v) from.entry) }
 {
     let (line, to) = from.line()?;
     let Some((of_node, rows)) = read_table_line(line) else {
@@ -130,8 +127,8 @@ pub(crate) fn read_row<'a>(
 ) -> Result<(Row, Cursor<'a>), CertFault>
     requires declared { IsDeclaredTree space.now tree.now }
     requires inside { v < operations tree.now }
-    ensures ok { IfOk result (λ read. ReadsThat from.entry.rest.now from.entry.number read.1.rest.now read.1.number (λ line. StatesRow space.now (node_dims tree.now v) line read.0)) }
-    ensures err { IfErr result (λ fault. (ds : List Due) → IsFaultIn space.now tree.now (row v ∷ ds) from.entry.number from.entry.rest.now fault) }
+    ensures ok { IfOk result (ReadsRow space.now tree.now v from.entry) }
+    ensures err { IfErr result (IsFaultAt space.now tree.now (row v) from.entry) }
 {
     let (line, to) = from.line()?;
     let _declared = space.index_count();
@@ -145,7 +142,7 @@ pub(crate) fn read_row<'a>(
 pub(crate) fn read_end(space: &Space, tree: &Tree, from: Cursor<'_>) -> Result<(), CertFault>
     requires { IsDeclaredTree space.now tree.now }
     ensures ok { OnOk result (from.entry.rest.now ≡ end_line ++ 10 ∷ []) }
-    ensures err { IfErr result (λ fault. IsFaultIn space.now tree.now (ending ∷ []) from.entry.number from.entry.rest.now fault) }
+    ensures err { IfErr result (IsFaultOfRest space.now tree.now (ending ∷ []) from.entry) }
 {
     let (line, to) = from.line()?;
     if !is_end_line(line) {

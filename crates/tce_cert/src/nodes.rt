@@ -1,11 +1,12 @@
 // The lines of nodes of a certificate.
-ghost use Rattle.std.specs.Prelude.{◌≡◌, ◌≢◌, ◌+◌, ◌++◌, [], List, length, map, IfErr, IfOk};
+ghost use Rattle.std.specs.Prelude.{◌≡◌, ◌≢◌, ◌+◌, ◌++◌, List, length, map, IfErr, IfOk};
 ghost use Rattle.std.specs.List.{range_with_len};
 ghost use Rattle.tce_tree.specs.ContractionTree.{operations};
 ghost use Rattle.tce_tree.specs.Orders.{lists_of};
 ghost use Rattle.tce_tree.specs.WellFormed.{IsDeclaredTree};
 ghost use Rattle.tce_cert.specs.Faults.{Due, node, IsFaultIn};
-ghost use Rattle.tce_cert.specs.Reading.{ReadsNodes, saying, KeepsFaults};
+ghost use Rattle.tce_cert.specs.Reading.{ReadsNodes, saying};
+ghost use Rattle.tce_cert.specs.Cursors.{KeepsNodeFaults};
 
 use crate::cursor::Cursor;
 use crate::due::read_node;
@@ -33,7 +34,7 @@ pub(crate) fn read_nodes<'a>(
     ensures sizes { IfOk result (λ read. length read.0.sizes.items + 1 ≡ operations tree.now) }
     ensures ok { IfOk result (λ read. ReadsNodes space.now tree.now (operations tree.now)
         (saying read.0.fusion.0.items (lists_of read.0.orders.0.items) read.0.sizes.items) from.entry.rest.now read.1.rest.now) }
-    ensures on { IfOk result (λ read. KeepsFaults space.now tree.now (map node (range_with_len 0 (operations tree.now))) from.entry.number from.entry.rest.now [] read.1.number read.1.rest.now) }
+    ensures on { IfOk result (λ read. KeepsNodeFaults space.now tree.now from.entry read.1) }
     ensures err { IfErr result (λ fault. (ds : List Due) →
         IsFaultIn space.now tree.now (map node (range_with_len 0 (operations tree.now)) ++ ds) from.entry.number from.entry.rest.now fault) }
 {

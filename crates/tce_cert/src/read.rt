@@ -1,10 +1,7 @@
 // Certificates read back.
-ghost use Rattle.std.specs.Prelude.{◌≡◌, ◌≢◌, IfErr, IfOk};
+ghost use Rattle.std.specs.Prelude.{IfErr, IfOk};
 ghost use Rattle.tce_tree.specs.WellFormed.{IsDeclaredTree};
-ghost use Rattle.tce_nesting.specs.Plan.{PlanFits};
-ghost use Rattle.tce_cert.specs.Certificate.{certificate};
-ghost use Rattle.tce_cert.specs.Faults.{IsFault};
-ghost use Rattle.tce_cert.specs.Laws.{RowsAreNestings};
+ghost use Rattle.tce_cert.specs.Laws.{Certifies, IsFaultOrMemory, RefusesForMemory};
 
 use crate::cursor::Cursor;
 use crate::due::{read_end, read_memory, read_opening};
@@ -21,10 +18,9 @@ use tce_tree::Tree;
 /// Errors: the fault of the first line that is not the one due, or `Memory`, which alone refuses the certificate of such a plan.
 pub fn read_cert(alloc: Global, space: &Space, tree: &Tree, bytes: &[u8]) -> Result<Plan, CertFault>
     requires { IsDeclaredTree space.now tree.now }
-    ensures ok { IfOk result (λ plan. PlanFits tree.now plan × (bytes.now ≡ certificate space.now tree.now plan) × RowsAreNestings plan.tables) }
-    ensures fault { IfErr result (λ fault. fault ≢ CertFault.Memory → IsFault space.now tree.now bytes.now fault) }
-    ensures exact { (plan : Plan) → PlanFits tree.now plan → RowsAreNestings plan.tables → bytes.now ≡ certificate space.now tree.now plan
-        → IfErr result (λ fault. fault ≡ CertFault.Memory) }
+    ensures ok { IfOk result (Certifies space.now tree.now bytes.now) }
+    ensures fault { IfErr result (IsFaultOrMemory space.now tree.now bytes.now) }
+    ensures exact { RefusesForMemory space.now tree.now bytes.now result }
 {
     let _declared = space.index_count();
     let _count = tree.count();

@@ -1,10 +1,10 @@
 // The tables of a certificate.
-ghost use Rattle.std.specs.Prelude.{◌≡◌, ◌≢◌, ◌+◌, ◌-◌, ◌<◌, ◌++◌, [], List, length, map, replicate, IfErr, IfOk};
+ghost use Rattle.std.specs.Prelude.{◌≡◌, ◌≢◌, ◌+◌, ◌-◌, ◌<◌, ◌++◌, List, length, map, replicate, IfErr, IfOk};
 ghost use Rattle.std.specs.List.{range_with_len};
 ghost use Rattle.tce_tree.specs.ContractionTree.{operations};
 ghost use Rattle.tce_tree.specs.WellFormed.{IsDeclaredTree};
 ghost use Rattle.tce_cert.specs.Faults.{Due, row, table, IsFaultIn};
-ghost use Rattle.tce_cert.specs.Reading.{ReadsRows, ReadsTables, KeepsFaults};
+ghost use Rattle.tce_cert.specs.Cursors.{AddsRows, KeepsRowFaults, ReadsAllTables, KeepsTableFaults};
 
 use crate::cursor::Cursor;
 use crate::due::{read_row, read_table};
@@ -26,8 +26,8 @@ pub(crate) fn read_rows<'a>(
     requires declared { IsDeclaredTree space.now tree.now }
     requires inside { v < operations tree.now }
     requires listed { v < length tables.old }
-    ensures ok { IfOk result (λ to. ReadsRows space.now tree.now v rows tables.old tables.new from.entry.rest.now to.rest.now) }
-    ensures on { IfOk result (λ to. KeepsFaults space.now tree.now (replicate rows (row v)) from.entry.number from.entry.rest.now [] to.number to.rest.now) }
+    ensures ok { IfOk result (AddsRows space.now tree.now v rows tables.old tables.new from.entry) }
+    ensures on { IfOk result (KeepsRowFaults space.now tree.now v rows from.entry) }
     ensures err { IfErr result (λ fault. fault ≢ CertFault.Memory → (ds : List Due) →
         IsFaultIn space.now tree.now (replicate rows (row v) ++ ds) from.entry.number from.entry.rest.now fault) }
 {
@@ -49,8 +49,8 @@ pub(crate) fn read_tables<'a>(
 ) -> Result<(Tables, Cursor<'a>), CertFault>
     requires { IsDeclaredTree space.now tree.now }
     ensures each { IfOk result (λ read. length read.0 + 1 ≡ operations tree.now) }
-    ensures ok { IfOk result (λ read. ReadsTables space.now tree.now (length read.0) read.0 from.entry.rest.now read.1.rest.now) }
-    ensures on { IfOk result (λ read. KeepsFaults space.now tree.now (map table (range_with_len 0 (operations tree.now - 1))) from.entry.number from.entry.rest.now [] read.1.number read.1.rest.now) }
+    ensures ok { IfOk result (ReadsAllTables space.now tree.now from.entry) }
+    ensures on { IfOk result (λ read. KeepsTableFaults space.now tree.now from.entry read.1) }
     ensures err { IfErr result (λ fault. fault ≢ CertFault.Memory → (ds : List Due) →
         IsFaultIn space.now tree.now (map table (range_with_len 0 (operations tree.now - 1)) ++ ds) from.entry.number from.entry.rest.now fault) }
 {

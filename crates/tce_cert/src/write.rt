@@ -1,14 +1,12 @@
 // The text of a certificate.
-ghost use Rattle.std.specs.Prelude.{◌≡◌, ◌<◌, ◌≤◌, ◌++◌, ℕ, [], ◌∷◌, length, map, All, OnOk, IfOk};
+ghost use Rattle.std.specs.Prelude.{◌≡◌, ◌<◌, ◌≤◌, ◌++◌, All, OnOk, IfOk};
 ghost use Rattle.std.specs.List.{flat_map};
 ghost use Rattle.tce_space.specs.Space.{IsDeclared};
-ghost use Rattle.tce_tree.specs.ContractionTree.{operations};
 ghost use Rattle.tce_tree.specs.WellFormed.{IsDeclaredTree};
-ghost use Rattle.tce_states.specs.Row.{rows_at};
 ghost use Rattle.tce_nesting.specs.Plan.{PlanFits};
-ghost use Rattle.tce_cert.specs.Lines.{row_line, classes_text};
-ghost use Rattle.tce_cert.specs.Certificate as lines;
+ghost use Rattle.tce_cert.specs.Lines.{classes_text};
 ghost use Rattle.tce_cert.specs.Laws.{IsNestingRow, RowsAreNestings};
+ghost use Rattle.tce_cert.specs.Certificate.{certificate, with_nodes, with_tables, with_rows, with_row, AreDeclaredRows, AreDeclaredTables};
 
 use crate::names::push_set;
 use std::alloc::{AllocError, Global};
@@ -26,7 +24,7 @@ pub fn write_cert(
 ) -> Result<Vec<u8>, AllocError>
     requires declared { IsDeclaredTree space.now tree.now }
     requires fits { PlanFits tree.now plan.now }
-    ensures text { IfOk result (λ text. text.items ≡ lines.certificate space.now tree.now plan.now) }
+    ensures text { IfOk result (λ text. text.items ≡ certificate space.now tree.now plan.now) }
     ensures nestings { OnOk result (RowsAreNestings plan.now.tables) }
 {
     let _declared = space.index_count();
@@ -44,7 +42,7 @@ pub fn write_cert(
 fn push_nodes(text: &mut Vec<u8>, space: &Space, tree: &Tree, plan: &Plan) -> Result<(), AllocError>
     requires declared { IsDeclaredTree space.now tree.now }
     requires fits { PlanFits tree.now plan.now }
-    ensures { OnOk result (text.new.items ≡ text.old.items ++ lines.text_of (lines.nodes_lines space.now tree.now plan.now (operations tree.now))) }
+    ensures { OnOk result (text.new.items ≡ with_nodes text.old.items space.now tree.now plan.now) }
 {
     for v in 0..tree.count() {
         text.extend_from_slice(node_line(space, tree, plan, v).as_str().as_bytes())?;
@@ -60,8 +58,8 @@ fn push_tables(
     space: &Space,
     tables: &Tables,
 ) -> Result<(), AllocError>
-    requires { (v : ℕ) → v < length tables.now → All (λ row. All (IsDeclared space.now) row.classes) (rows_at tables.now v) }
-    ensures text { OnOk result (text.new.items ≡ text.old.items ++ lines.text_of (lines.tables_lines space.now tables.now (length tables.now))) }
+    requires { AreDeclaredTables space.now tables.now }
+    ensures text { OnOk result (text.new.items ≡ with_tables text.old.items space.now tables.now) }
     ensures nestings { OnOk result (RowsAreNestings tables.now) }
 {
     for v in 0..tables.lists() {
@@ -80,8 +78,8 @@ fn push_rows(
     space: &Space,
     rows: &[Row],
 ) -> Result<(), AllocError>
-    requires { All (λ row. All (IsDeclared space.now) row.classes) rows.now }
-    ensures text { OnOk result (text.new.items ≡ text.old.items ++ lines.text_of (map (row_line space.now) rows.now)) }
+    requires { AreDeclaredRows space.now rows.now }
+    ensures text { OnOk result (text.new.items ≡ with_rows text.old.items space.now rows.now) }
     ensures nestings { OnOk result (All IsNestingRow rows.now) }
 {
     for row in rows {
@@ -93,7 +91,7 @@ fn push_rows(
 // Appends the line of a row with its line feed.
 fn push_row(alloc: Global, text: &mut Vec<u8>, space: &Space, row: &Row) -> Result<(), AllocError>
     requires { All (IsDeclared space.now) row.now.classes }
-    ensures text { OnOk result (text.new.items ≡ text.old.items ++ (row_line space.now row.now ++ 10 ∷ [])) }
+    ensures text { OnOk result (text.new.items ≡ with_row text.old.items space.now row.now) }
     ensures nesting { OnOk result (IsNestingRow row.now) }
 {
     let head = format!(in alloc; "row {} ", row.cost)?;
