@@ -34,9 +34,13 @@ with_range space name extent edge =
 abbrev pub index_names : IndexSpace → List (List ℕ)
 index_names space = map (λ (i : Index). i.name) space.indexes
 
+-- the first name of a line that an index has, or that stood before on the line
+abbrev pub declared_twice : IndexSpace → List (List ℕ) → Option (List ℕ)
+declared_twice space names = twice_after (index_names space) names
+
 abbrev pub index_fault : ℕ → IndexSpace → List ℕ → List (List ℕ) → Option Fault
 index_fault line space of_range names = first (
-    option_map (name_twice line) (twice_after (index_names space) names)
+    option_map (name_twice line) (declared_twice space names)
     ∷ fault_if (is_none (range_number space of_range)) (unknown_name line of_range)
     ∷ fault_if (nat_lt 24 (length space.indexes + length names)) (limit_passed line index_count)
     ∷ [])
@@ -56,10 +60,14 @@ with_indexes space of_range names = with_numbered_indexes space (number_of_range
 abbrev pub numbers_of_ranges : IndexSpace → List (List ℕ) → List ℕ
 numbers_of_ranges space names = map (number_of_range space) names
 
+-- the first name that no range has
+abbrev pub unknown_range : IndexSpace → List (List ℕ) → Option (List ℕ)
+unknown_range space names = find (λ range. is_none (range_number space range)) names
+
 abbrev pub tensor_fault : ℕ → Declarations → List ℕ → List (List ℕ) → Option Fault
 tensor_fault line d name ranges = first (
     fault_if (is_some (tensor_number d.tensors name)) (name_twice line name)
-    ∷ option_map (unknown_name line) (find (λ range. is_none (range_number d.space range)) ranges)
+    ∷ option_map (unknown_name line) (unknown_range d.space ranges)
     ∷ fault_if (nat_le 32 (length d.tensors)) (limit_passed line tensor_count)
     ∷ fault_if (nat_lt 8 (length ranges)) (limit_passed line rank)
     ∷ fault_if (nat_lt max_tile_words (tile_words (tiling_of d.space (numbers_of_ranges d.space ranges)))) (limit_passed line words_of_tile)

@@ -5,7 +5,7 @@ use Rattle.std.specs.List.{All, IsDistinct}
 use Rattle.tce_space.specs.Limits.{max_array_words, max_name_bytes, max_rank, max_tensors, max_tile_words}
 use Rattle.tce_space.specs.Name.{is_name}
 use Rattle.tce_space.specs.Space.{IndexSpace, IsSpace, no_declarations, tiling_of}
-use Rattle.tce_space.specs.Tiling.{tile_words, padded_words}
+use Rattle.tce_space.specs.Tiling.{tile_words, padded_words, Tiling}
 
 -- a tensor has a name, and in each dimension the number of a range
 pub record Tensor : Type 0 where
@@ -30,6 +30,10 @@ no_tensor = record { name = []; ranges = [] }
 -- the tensor with this number
 abbrev pub tensor_at : Declarations → ℕ → Tensor
 tensor_at d t = slice_index_or d.tensors t no_tensor
+
+-- the shape of the tensor with this number
+abbrev pub tensor_shape : Declarations → ℕ → Tiling
+tensor_shape d t = tiling_of d.space (tensor_at d t).ranges
 
 -- a name of at most 16 bytes, at most eight dimensions over declared ranges, and a shape within the limits of size
 pub record IsTensor (space : IndexSpace) (t : Tensor) : Type 0 where

@@ -10,6 +10,10 @@ use Rattle.tce_declarations.specs.declared.declarations.Tensor.{Tensor}
 abbrev pub tensor_of : ArrayString × Tensor → model.Tensor
 tensor_of e = record { name = e.0.bytes; ranges = e.1.ranges.items }
 
+-- a tensor, as it is kept under its name
+abbrev pub entry_of : Tensor → ArrayString × Tensor
+entry_of t = (t.name, t)
+
 abbrev pub declarations_of : IndexSpace → List (ArrayString × Tensor) → model.Declarations
 declarations_of space tensors = record { space = space; tensors = map tensor_of tensors }
 

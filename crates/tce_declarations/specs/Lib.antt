@@ -8,3 +8,4 @@ pub mod DeclarationsCode
 pub mod TextCode
 pub mod Laws
 pub mod Examples
+pub mod LineCode

@@ -1,19 +1,22 @@
 -- What the program reads from a text.
-use Rattle.std.specs.Prelude.{◌≡◌, ⊤, ◌+◌, ℕ, List, Option, Result}
+use Rattle.std.specs.Prelude.{◌≡◌, ⊤, ◌+◌, ℕ, List, Option, Result, ◌-◌, [], ◌∷◌, map, slice_index_or}
 use Rattle.std.specs.declared.option.Option.TheVariants.{Some, None}
 use Rattle.std.specs.declared.result.Result.TheVariants.{Ok, Err}
-use Rattle.tce_grammar.specs.Grammar.{Line, Statement, skipped, bad, says}
+use Rattle.tce_grammar.specs.Grammar.{Line, Statement, skipped, bad, says, IsLine}
 use Rattle.tce_grammar.specs.Grammar as grammar
 use Rattle.tce_grammar.specs.Code.{names, formula}
 use Rattle.tce_declarations.specs.Faults.{Fault}
 use Rattle.tce_declarations.specs.FaultCode.{Shows}
 use Rattle.tce_declarations.specs.DeclarationLines.{HasNames}
 use Rattle.tce_declarations.specs.Text as text
-use Rattle.tce_declarations.specs.Text.{head_of}
+use Rattle.tce_declarations.specs.Text.{head_of, IsHead}
 use Rattle.tce_declarations.specs.declared.text.Head.{Head}
 use Rattle.tce_declarations.specs.declared.text.Read.{Read}
 use Rattle.tce_declarations.specs.declared.text.Read.TheVariants.{Declared, Formula}
 use Rattle.tce_declarations.specs.declared.fault.SpecFault.{SpecFault}
+use Rattle.tce_grammar.specs.Lines.{lines}
+use Rattle.tce_grammar.specs.Reading.{line_of}
+use Rattle.tce_declarations.specs.Declarations.{Declarations, nothing_declared}
 
 abbrev pub head : Head → text.Head
 head h = record { declarations = h.declarations; line = h.line; result = h.result.now; indexes = names h.indexes.items; written = formula h.formula }
@@ -50,3 +53,19 @@ head_behind line (Formula h) rest = Ok (head h)
 abbrev pub StandsAt : ℕ → List ℕ → Read → Type 0
 StandsAt line rest (Declared d) = ⊤
 StandsAt line rest (Formula h) = (h.line ≡ line) × (h.rest.now ≡ rest)
+
+-- whatever head the text is found to have, the program answers it
+abbrev pub AnswersHead : List ℕ → Result Head SpecFault → Type 0
+AnswersHead bytes result = (found : Result text.Head Fault) → IsHead bytes found → Answers found result
+
+-- the head of the lines of a text, as they are read
+abbrev pub head_of_text : List ℕ → Result text.Head Fault
+head_of_text bytes = head_of 1 nothing_declared (map line_of (lines bytes))
+
+-- the line is at fault, whatever stands behind it
+abbrev pub ShowsFirst : ℕ → Declarations → List ℕ → SpecFault → Type 0
+ShowsFirst line d first fault = (behind : List Line) → Shows (fault_in (head_of line d (line_of first ∷ behind))) fault
+
+-- the line of this number says the formula that was found
+abbrev pub IsFormulaLine : List ℕ → Head → Type 0
+IsFormulaLine bytes found = IsLine (slice_index_or (lines bytes) (found.line - 1) []) (says (formula_line found))

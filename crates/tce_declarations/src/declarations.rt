@@ -6,12 +6,13 @@ ghost use Rattle.std.specs.Str.{bytes_eq};
 ghost use Rattle.tce_space.specs.Limits.{max_name_bytes, max_tensors};
 ghost use Rattle.tce_space.specs.Name.{is_name};
 ghost use Rattle.tce_grammar.specs.Grammar.{AreNames};
-ghost use Rattle.tce_grammar.specs.Code.{names, statement, text_if_some};
-ghost use Rattle.tce_declarations.specs.DeclarationLines.{numbers_of_ranges, range_fault, with_range, index_fault, with_indexes, tensor_fault, with_tensor, statement_fault, with_statement, HasNames};
+ghost use Rattle.tce_grammar.specs.Code.{names, statement};
+ghost use Rattle.tce_declarations.specs.DeclarationLines.{with_range, with_indexes, with_tensor, statement_fault, with_statement, HasNames};
 ghost use Rattle.tce_declarations.specs.FaultCode.{Shows};
-ghost use Rattle.tce_space.specs.Space.{tiling_of};
 ghost use Rattle.tce_space.specs.SpaceEntries.{entry_number, names_of};
-ghost use Rattle.tce_declarations.specs.Declarations.{IsDeclarations, IsTensor, nothing_declared, tensor_number, tensor_at};
+ghost use Rattle.tce_declarations.specs.Declarations.{IsDeclarations, IsTensor, nothing_declared, tensor_number, tensor_at, tensor_shape};
+ghost use Rattle.tce_declarations.specs.DeclarationsCode.{entry_of};
+ghost use Rattle.tce_declarations.specs.LineCode.{RangeFits, ShowsRange, DeclaresRange, IndexesFit, ShowsIndexes, DeclaresIndexes, TensorFits, ShowsTensor, IsOverRanges, HasShapeOf};
 
 use crate::fault::{Limit, SpecFault};
 use crate::indexes::declare_indexes;
@@ -55,7 +56,7 @@ impl Model for Declarations {
 /// Keeps a tensor under its name, behind those that are there.
 fn keep(tensors: &mut IndexMap<Name, Tensor>, tensor: Tensor) -> Result<(), AllocError>
     requires { entry_number tensors.old.entries tensor.name.bytes ≡ None }
-    ensures kept { OnOk result (tensors.new.entries ≡ tensors.old.entries ++ (tensor.name, tensor) ∷ []) }
+    ensures kept { OnOk result (tensors.new.entries ≡ tensors.old.entries ++ entry_of tensor ∷ []) }
     ensures apart { OnOk result (IsDistinct bytes_eq (names_of tensors.new.entries)) }
 {
     match tensors.insert(tensor.name, tensor) {
@@ -127,7 +128,7 @@ impl Declarations {
         requires { tensor < length self.now.tensors }
         ensures name { result.now.name.bytes ≡ (tensor_at self.now tensor).name }
         ensures ranges { result.now.ranges.items ≡ (tensor_at self.now tensor).ranges }
-        ensures shape { result.now.shape ≡ tiling_of self.now.space (tensor_at self.now tensor).ranges }
+        ensures shape { result.now.shape ≡ tensor_shape self.now tensor }
         ensures limits { IsDeclarations self.now }
     {
         &self.tensors[tensor as usize]
@@ -145,11 +146,11 @@ impl Declarations {
     fn tensor_of_line(&self, line: u64, name: &[u8], ranges: &[&[u8]]) -> Result<Tensor, SpecFault>
         requires name { IsTrue (is_name name.now) }
         requires ranges { AreNames (names ranges.now) }
-        ensures fault { IfErr result (λ f. Shows (tensor_fault line self.now name.now (names ranges.now)) f) }
-        ensures faultless { OnOk result (tensor_fault line self.now name.now (names ranges.now) ≡ None) }
+        ensures fault { IfErr result (ShowsTensor line self.now name.now ranges.now) }
+        ensures faultless { OnOk result (TensorFits line self.now name.now ranges.now) }
         ensures name { IfOk result (λ tensor. tensor.name.bytes ≡ name.now) }
-        ensures ranges { IfOk result (λ tensor. tensor.ranges.items ≡ numbers_of_ranges self.now.space (names ranges.now)) }
-        ensures shape { IfOk result (λ tensor. tensor.shape ≡ tiling_of self.now.space (numbers_of_ranges self.now.space (names ranges.now))) }
+        ensures ranges { IfOk result (IsOverRanges self.now.space ranges.now) }
+        ensures shape { IfOk result (HasShapeOf self.now.space ranges.now) }
     {
         let tensor_name = name_of(name);
         if self.tensor_named(tensor_name.as_str()).is_some() {
@@ -187,9 +188,9 @@ impl Declarations {
         edge: Option<&[u8]>,
     ) -> Result<Declarations, SpecFault>
         requires { IsTrue (is_name name.now) }
-        ensures fault { IfErr result (λ f. Shows (range_fault line self.space name.now extent.now (text_if_some edge.entry)) f) }
-        ensures faultless { OnOk result (range_fault line self.space name.now extent.now (text_if_some edge.entry) ≡ None) }
-        ensures declared { IfOk result (λ d. d ≡ record { space = with_range self.space name.now extent.now (text_if_some edge.entry); tensors = self.tensors }) }
+        ensures fault { IfErr result (ShowsRange line self.space name.now extent.now edge.entry) }
+        ensures faultless { OnOk result (RangeFits line self.space name.now extent.now edge.entry) }
+        ensures declared { IfOk result (DeclaresRange self name.now extent.now edge.entry) }
     {
         declare_range(&mut self.space, line, name, extent, edge)?;
         Ok(self)
@@ -206,9 +207,9 @@ impl Declarations {
     ) -> Result<Declarations, SpecFault>
         requires range { IsTrue (is_name range.now) }
         requires indexes { AreNames (names indexes.now) }
-        ensures fault { IfErr result (λ f. Shows (index_fault line self.space range.now (names indexes.now)) f) }
-        ensures faultless { OnOk result (index_fault line self.space range.now (names indexes.now) ≡ None) }
-        ensures declared { IfOk result (λ d. d ≡ record { space = with_indexes self.space range.now (names indexes.now); tensors = self.tensors }) }
+        ensures fault { IfErr result (ShowsIndexes line self.space range.now indexes.now) }
+        ensures faultless { OnOk result (IndexesFit line self.space range.now indexes.now) }
+        ensures declared { IfOk result (DeclaresIndexes self range.now indexes.now) }
     {
         declare_indexes(&mut self.space, line, range, indexes)?;
         Ok(self)
@@ -225,8 +226,8 @@ impl Declarations {
     ) -> Result<Declarations, SpecFault>
         requires name { IsTrue (is_name name.now) }
         requires ranges { AreNames (names ranges.now) }
-        ensures fault { IfErr result (λ f. Shows (tensor_fault line self name.now (names ranges.now)) f) }
-        ensures faultless { OnOk result (tensor_fault line self name.now (names ranges.now) ≡ None) }
+        ensures fault { IfErr result (ShowsTensor line self name.now ranges.now) }
+        ensures faultless { OnOk result (TensorFits line self name.now ranges.now) }
         ensures declared { IfOk result (λ d. d ≡ with_tensor self name.now (names ranges.now)) }
     {
         let tensor = self.tensor_of_line(line, name, ranges)?;
@@ -263,7 +264,7 @@ impl Declarations {
     /// Declares what a line says. A formula declares nothing.
     pub fn declare(self, line: u64, said: &Statement) -> Result<Declarations, SpecFault>
         requires { HasNames (statement said.now) }
-        ensures fault { IfErr result (λ f. Shows (statement_fault line self (statement said.now)) f) }
+        ensures fault { IfErr result (Shows (statement_fault line self (statement said.now))) }
         ensures faultless { OnOk result (statement_fault line self (statement said.now) ≡ None) }
         ensures declared { IfOk result (λ d. d ≡ with_statement self (statement said.now)) }
     {

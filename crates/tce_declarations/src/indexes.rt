@@ -9,8 +9,8 @@ ghost use Rattle.tce_space.specs.Space.{IsSpace};
 ghost use Rattle.tce_grammar.specs.Code.{text_if_some};
 ghost use Rattle.tce_grammar.specs.Code as code;
 ghost use Rattle.tce_grammar.specs.Grammar.{AreNames};
-ghost use Rattle.tce_declarations.specs.DeclarationLines.{twice_after, index_names, index_fault, with_indexes, with_numbered_indexes};
-ghost use Rattle.tce_declarations.specs.FaultCode.{Shows};
+ghost use Rattle.tce_declarations.specs.DeclarationLines.{index_names, declared_twice};
+ghost use Rattle.tce_declarations.specs.LineCode.{HasNumberedIndexes, ShowsIndexes, IndexesFit, HasIndexes};
 
 use crate::fault::{Limit, SpecFault};
 use crate::ranges::range_named;
@@ -42,7 +42,7 @@ fn is_among(names: &[&[u8]], name: &[u8]) -> bool
 /// The first of some names that an index has, or that stands before among them.
 fn declared_twice<'a>(space: &Space, names: &[&'a [u8]]) -> Option<&'a [u8]>
     requires { AreNames (code.names names.now) }
-    ensures first { text_if_some result ≡ twice_after (index_names space.now) (code.names names.now) }
+    ensures first { text_if_some result ≡ declared_twice space.now (code.names names.now) }
     ensures named { IfSome result (λ name. IsTrue (is_name name.now)) }
 {
     for (place, name) in names.iter().enumerate() {
@@ -57,10 +57,10 @@ fn declared_twice<'a>(space: &Space, names: &[&'a [u8]]) -> Option<&'a [u8]>
 fn add_indexes(space: &mut Space, range: u8, names: &[&[u8]]) -> Result<(), AllocError>
     requires names { AreNames (code.names names.now) }
     requires declared { range < length space.old.ranges }
-    requires new { twice_after (index_names space.old) (code.names names.now) ≡ None }
+    requires new { declared_twice space.old (code.names names.now) ≡ None }
     requires room { length space.old.indexes + length names.now ≤ max_indexes }
     requires limits { IsSpace space.old }
-    ensures declared { OnOk result (space.new ≡ with_numbered_indexes space.old range (code.names names.now)) }
+    ensures declared { OnOk result (HasNumberedIndexes space.old space.new range names.now) }
     ensures limits { OnOk result (IsSpace space.new) }
 {
     for name in names {
@@ -81,9 +81,9 @@ pub(crate) fn declare_indexes(
 ) -> Result<(), SpecFault>
     requires range { IsTrue (is_name range.now) }
     requires names { AreNames (code.names names.now) }
-    ensures fault { IfErr result (λ f. Shows (index_fault line space.old range.now (code.names names.now)) f) }
-    ensures faultless { OnOk result (index_fault line space.old range.now (code.names names.now) ≡ None) }
-    ensures declared { OnOk result (space.new ≡ with_indexes space.old range.now (code.names names.now)) }
+    ensures fault { IfErr result (ShowsIndexes line space.old range.now names.now) }
+    ensures faultless { OnOk result (IndexesFit line space.old range.now names.now) }
+    ensures declared { OnOk result (HasIndexes space.old space.new range.now names.now) }
     ensures limits { OnOk result (IsSpace space.new) }
 {
     if let Some(name) = declared_twice(space, names) {

@@ -2,7 +2,7 @@
 
 ghost use Rattle.std.specs.Prelude.{◌≡◌, ◌≤◌, ◌^◌, false, true, MatchOption};
 ghost use Rattle.tce_grammar.specs.Code.{text_if_some};
-ghost use Rattle.tce_declarations.specs.Numbers.{value_of, leads_with_zero, is_range_number, is_range_size, edge_of};
+ghost use Rattle.tce_declarations.specs.Numbers.{value_of, leads_with_zero, is_range_size, edge_of, GivesRangeNumber};
 
 const MAX_EXTENT: u64 = 4_294_967_295;
 
@@ -35,7 +35,7 @@ fn leads_with_zero(digits: &[u8]) -> bool
 
 /// An extent or an edge.
 fn range_number(digits: &[u8]) -> Option<u64>
-    ensures { MatchOption result (is_range_number digits.now ≡ false) (λ n. (is_range_number digits.now ≡ true) × (n ≡ value_of digits.now)) }
+    ensures { GivesRangeNumber digits.now result }
 {
     if leads_with_zero(digits) {
         return None;

@@ -1,11 +1,9 @@
 //! Lines that declare a range.
 
-ghost use Rattle.std.specs.Prelude.{◌≡◌, IsTrue, OnOk, IfErr, None};
+ghost use Rattle.std.specs.Prelude.{◌≡◌, IsTrue, OnOk, IfErr};
 ghost use Rattle.tce_space.specs.Name.{is_name};
 ghost use Rattle.tce_space.specs.Space.{range_number, IsSpace};
-ghost use Rattle.tce_grammar.specs.Code.{text_if_some};
-ghost use Rattle.tce_declarations.specs.DeclarationLines.{range_fault, with_range};
-ghost use Rattle.tce_declarations.specs.FaultCode.{Shows};
+ghost use Rattle.tce_declarations.specs.LineCode.{ShowsRange, RangeFits, HasRange};
 
 use crate::fault::{Limit, SpecFault};
 use crate::numbers::range_size;
@@ -30,9 +28,9 @@ pub(crate) fn declare_range(
     edge: Option<&[u8]>,
 ) -> Result<(), SpecFault>
     requires { IsTrue (is_name name.now) }
-    ensures fault { IfErr result (λ f. Shows (range_fault line space.old name.now extent.now (text_if_some edge.entry)) f) }
-    ensures faultless { OnOk result (range_fault line space.old name.now extent.now (text_if_some edge.entry) ≡ None) }
-    ensures declared { OnOk result (space.new ≡ with_range space.old name.now extent.now (text_if_some edge.entry)) }
+    ensures fault { IfErr result (ShowsRange line space.old name.now extent.now edge.entry) }
+    ensures faultless { OnOk result (RangeFits line space.old name.now extent.now edge.entry) }
+    ensures declared { OnOk result (HasRange space.old space.new name.now extent.now edge.entry) }
     ensures limits { OnOk result (IsSpace space.new) }
 {
     if range_named(space, name).is_some() {

@@ -1,13 +1,12 @@
 //! Lines that declare a tensor.
 
-ghost use Rattle.std.specs.Prelude.{◌≡◌, ◌≤◌, IsTrue, IfSome, length, find, is_none};
+ghost use Rattle.std.specs.Prelude.{◌≡◌, ◌≤◌, IsTrue, IfSome, length};
 ghost use Rattle.tce_space.specs.Limits.{max_rank};
 ghost use Rattle.tce_space.specs.Name.{is_name};
-ghost use Rattle.tce_space.specs.Space.{range_number};
 ghost use Rattle.tce_grammar.specs.Code.{text_if_some};
 ghost use Rattle.tce_grammar.specs.Code as code;
 ghost use Rattle.tce_grammar.specs.Grammar.{AreNames};
-ghost use Rattle.tce_declarations.specs.DeclarationLines.{numbers_of_ranges};
+ghost use Rattle.tce_declarations.specs.DeclarationLines.{numbers_of_ranges, unknown_range};
 
 use crate::ranges::range_named;
 use arrayvec::ArrayVec;
@@ -19,7 +18,7 @@ const NO_RANGE: u8 = 16;
 /// The first of some names that no range has.
 pub(crate) fn unknown_range<'a>(space: &Space, names: &[&'a [u8]]) -> Option<&'a [u8]>
     requires { AreNames (code.names names.now) }
-    ensures first { text_if_some result ≡ find (λ name. is_none (range_number space.now name)) (code.names names.now) }
+    ensures first { text_if_some result ≡ unknown_range space.now (code.names names.now) }
     ensures named { IfSome result (λ name. IsTrue (is_name name.now)) }
 {
     for name in names {

@@ -1,17 +1,16 @@
 //! The lines of a text up to its formula, and behind it.
 
-ghost use Rattle.std.specs.Prelude.{◌≡◌, ◌+◌, ◌-◌, ◌<◌, ◌≤◌, ◌^◌, List, [], ◌∷◌, map, Ok, IfOk, IfErr, Option, Result, length, drop, slice_index_or};
+ghost use Rattle.std.specs.Prelude.{◌≡◌, ◌+◌, ◌-◌, ◌<◌, ◌≤◌, ◌^◌, List, ◌∷◌, map, Ok, IfOk, IfErr, Option, Result, length, drop};
 ghost use Rattle.tce_space.specs.Limits.{max_spec_bytes};
 ghost use Rattle.tce_grammar.specs.Code.{line as line_view};
 ghost use Rattle.tce_grammar.specs.Lines.{lines};
 ghost use Rattle.tce_grammar.specs.Grammar as grammar;
-ghost use Rattle.tce_grammar.specs.Grammar.{IsLine, says};
 ghost use Rattle.tce_grammar.specs.Reading.{line_of};
-ghost use Rattle.tce_declarations.specs.Declarations.{HaveNames, nothing_declared};
+ghost use Rattle.tce_declarations.specs.Declarations.{HaveNames};
 ghost use Rattle.tce_declarations.specs.Faults.{Fault};
 ghost use Rattle.tce_declarations.specs.FaultCode.{Shows};
-ghost use Rattle.tce_declarations.specs.Text.{Head as HeadOfText, IsHead, IsClosing, head_of, closing_fault};
-ghost use Rattle.tce_declarations.specs.TextCode.{Answers, AnswersFault, LineHasNames, fault_in, head_behind, head, formula_line, StandsAt};
+ghost use Rattle.tce_declarations.specs.Text.{IsClosing, head_of, closing_fault};
+ghost use Rattle.tce_declarations.specs.TextCode.{AnswersFault, LineHasNames, fault_in, head_behind, head, StandsAt, ShowsFirst, head_of_text, AnswersHead, IsFormulaLine};
 
 use crate::declarations::Declarations;
 use crate::fault::SpecFault;
@@ -59,7 +58,7 @@ fn read_first<'a>(
 ) -> Result<Read<'a>, SpecFault>
     ensures read { IfOk result (λ read. (behind : List grammar.Line) →
         head_of line declarations (line_of first.now ∷ behind) ≡ head_behind line read behind) }
-    ensures fault { IfErr result (λ f. (behind : List grammar.Line) → Shows (fault_in (head_of line declarations (line_of first.now ∷ behind))) f) }
+    ensures fault { IfErr result (ShowsFirst line declarations first.now) }
     ensures place { IfOk result (StandsAt line rest.now) }
 {
     match read_named(alloc, first)? {
@@ -86,8 +85,8 @@ fn read_first<'a>(
 /// Reads the lines of a text up to its formula.
 fn read_lines<'a>(alloc: Global, text: &'a [u8]) -> Result<Head<'a>, SpecFault>
     requires { length text.now ≤ max_spec_bytes }
-    ensures head { IfOk result (λ found. head_of 1 nothing_declared (map line_of (lines text.now)) ≡ Ok (head found)) }
-    ensures fault { IfErr result (λ f. Shows (fault_in (head_of 1 nothing_declared (map line_of (lines text.now)))) f) }
+    ensures head { IfOk result (λ found. head_of_text text.now ≡ Ok (head found)) }
+    ensures fault { IfErr result (Shows (fault_in (head_of_text text.now))) }
     ensures rest { IfOk result (λ found. lines found.rest.now ≡ drop found.line (lines text.now)) }
     ensures few { IfOk result (λ found. found.line + length found.rest.now ≤ max_spec_bytes) }
 {
@@ -110,8 +109,8 @@ fn read_lines<'a>(alloc: Global, text: &'a [u8]) -> Result<Head<'a>, SpecFault>
 /// `TooLong` where the text has more than 65,536 bytes. Else the first line with a fault decides. A line that has none of
 /// the four forms is `BadText`, and so is the line behind the last where no line has a formula.
 pub fn read_head<'a>(alloc: Global, text: &'a [u8]) -> Result<Head<'a>, SpecFault>
-    ensures answers { (found : Result HeadOfText Fault) → IsHead text.now found → Answers found result }
-    ensures said { IfOk result (λ found. IsLine (slice_index_or (lines text.now) (found.line - 1) []) (says (formula_line found))) }
+    ensures answers { AnswersHead text.now result }
+    ensures said { IfOk result (IsFormulaLine text.now) }
     ensures names { IfOk result (λ found. HaveNames found.declarations.tensors) }
     ensures rest { IfOk result (λ found. lines found.rest.now ≡ drop found.line (lines text.now)) }
     ensures few { IfOk result (λ found. found.line + length found.rest.now ≤ max_spec_bytes) }
