@@ -1,5 +1,5 @@
 -- What the values of the code stand for.
-use Rattle.std.specs.Prelude.{◌≡◌, ℕ, List, map, Option, Result, option_map}
+use Rattle.std.specs.Prelude.{◌≡◌, ℕ, List, map, Option, Result, option_map, MatchOption, ◌+◌, ◌<◌}
 use Rattle.std.specs.declared.option.Option.TheVariants.{Some, None}
 use Rattle.std.specs.declared.result.Result.TheVariants.{Ok, Err}
 use Rattle.std.specs.Borrow.{Bor}
@@ -56,3 +56,16 @@ abbrev pub Gives : {X Y : Type 0} → (X → Y) → Result X ReadError → Optio
 Gives view (Ok x) read = read ≡ Some (view x)
 Gives view (Err errors.Memory) read = Unit {0}
 Gives view (Err errors.Form) read = read ≡ None
+
+-- how many operations a formula leaves of so many, if it has not more
+abbrev pub LeavesOperations : ℕ → Formula → Option ℕ → Type 0
+LeavesOperations limit whole result =
+    MatchOption result (limit < formulas.operations (formula whole)) (λ left. left + formulas.operations (formula whole) ≡ limit)
+
+-- a formula of two with an operator between them
+abbrev pub IsJoined : Operator → Formula → Formula → Formula → Type 0
+IsJoined between left right whole = formula whole ≡ formulas.binary (operator between) (formula left) (formula right)
+
+-- no line but this one has this text
+abbrev pub IsOnlyLine : List ℕ → Line → Type 0
+IsOnlyLine text read = (other : grammar.Line) → grammar.IsLine text other → other ≡ line read

@@ -9,3 +9,4 @@ pub mod Code
 pub mod PrinterCode
 pub mod Laws
 pub mod Examples
+pub mod ParserCode

@@ -129,6 +129,10 @@ enclosed_within (suc n) ts = closed_by (formula_by (factor_at (enclosed_within n
 abbrev pub factor_within : ℕ → List Token → Reads Formula
 factor_within n ts = factor_at (enclosed_within n) ts
 
+-- a product of factors, with at most so many open parentheses
+abbrev pub product_within : ℕ → List Token → Reads Formula
+product_within n ts = chain_at times_of (factor_within n) ts
+
 abbrev pub formula_within : ℕ → List Token → Reads Formula
 formula_within n ts = formula_by (factor_within n) ts
 

@@ -1,7 +1,7 @@
 //! Formulas, as trees that borrow their text.
 
-ghost use Rattle.std.specs.Prelude.{◌≡◌, ◌<◌, ◌+◌, ◌↔◌, IsTrue, MatchOption};
-ghost use Rattle.tce_grammar.specs.Code.{formula};
+ghost use Rattle.std.specs.Prelude.{◌<◌, ◌↔◌, IsTrue};
+ghost use Rattle.tce_grammar.specs.Code.{formula, LeavesOperations};
 ghost use Rattle.tce_grammar.specs.Formula.{operations};
 
 /// What stands between two operands.
@@ -73,7 +73,7 @@ impl<'a> Formula<'a> {
 
 /// What is left of `limit` without the operations of a formula.
 fn operations_left(whole: &Formula, limit: u32) -> Option<u32>
-    ensures { MatchOption result (limit < operations (formula whole.now)) (λ left. left + operations (formula whole.now) ≡ limit) }
+    ensures { LeavesOperations limit whole.now result }
 {
     let mut left = limit;
     let mut rest = whole;

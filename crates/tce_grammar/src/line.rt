@@ -1,5 +1,5 @@
 ghost use Rattle.std.specs.Prelude.{◌≡◌, IfOk};
-ghost use Rattle.tce_grammar.specs.Code.{line};
+ghost use Rattle.tce_grammar.specs.Code.{line, IsOnlyLine};
 ghost use Rattle.tce_grammar.specs.Grammar.{IsLine};
 ghost use Rattle.tce_grammar.specs.Grammar as grammar;
 ghost use Rattle.tce_grammar.specs.Reading.{line_of};
@@ -25,7 +25,7 @@ pub enum Line<'a> {
 /// `Err` exactly where memory runs out.
 pub fn read_line<'a>(alloc: Global, text: &'a [u8]) -> Result<Line<'a>, AllocError>
     ensures is_line { IfOk result (λ read. IsLine text.now (line read)) }
-    ensures nothing_else { IfOk result (λ read. (other : grammar.Line) → IsLine text.now other → other ≡ line read) }
+    ensures nothing_else { IfOk result (IsOnlyLine text.now) }
 {
     read_tokens(alloc, text)
 }

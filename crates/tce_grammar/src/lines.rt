@@ -1,8 +1,8 @@
 //! The lines of a text.
 
-ghost use Rattle.std.specs.Prelude.{◌≡◌, ◌<◌, ◌≤◌, ◌==◌, ◌∷◌, List, [], ℕ, length, IfSome, MatchOption};
+ghost use Rattle.std.specs.Prelude.{◌≡◌, ◌<◌, ◌≤◌, ◌==◌, List, [], ℕ, length, IfSome};
 ghost use Rattle.std.specs.List.{position_or_len};
-ghost use Rattle.tce_grammar.specs.Lines.{without_comment, without_return, lines};
+ghost use Rattle.tce_grammar.specs.Lines.{without_comment, without_return, CutsFirstLine};
 
 const LINE_FEED: u8 = 10;
 
@@ -37,7 +37,7 @@ fn without_return(line: &[u8]) -> &[u8]
 /// The first line of a text, without its line feed and a carriage return before that, and the text behind the line.
 /// A text with no bytes has no line; what stands behind the last line feed is one more line unless it is empty.
 pub fn first_line(text: &[u8]) -> Option<(&[u8], &[u8])>
-    ensures first { MatchOption result (lines text.now ≡ []) (λ r. lines text.now ≡ r.0.now ∷ lines r.1.now) }
+    ensures first { CutsFirstLine text.now result }
     ensures shorter { IfSome result (λ r. length r.1.now < length text.now) }
 {
     if text.is_empty() {

@@ -1,9 +1,9 @@
 //! Formulas, read from the tokens of a line.
 
-ghost use Rattle.std.specs.Prelude.{◌≡◌, ◌≢◌, ◌<◌, ◌+◌, ◌*◌, ℕ, length, map, option_map, IfOk, IfSome};
-ghost use Rattle.tce_grammar.specs.Code.{Gives, token, operator, names, formula};
-ghost use Rattle.tce_grammar.specs.Formula.{binary};
-ghost use Rattle.tce_grammar.specs.Reading.{ahead, behind, names_at, brackets_at, times_of, plus_of, chain_at, summed_at, sum_at, tensor_at, factor_within, formula_within, enclosed_within};
+ghost use Rattle.std.specs.Prelude.{◌≡◌, ◌≢◌, ◌<◌, ◌+◌, ◌*◌, ℕ, length, map, IfOk, IfSome};
+ghost use Rattle.tce_grammar.specs.Code.{token, operator, IsJoined};
+ghost use Rattle.tce_grammar.specs.Reading.{ahead, behind, names_at, brackets_at, times_of, plus_of, chain_at, summed_at, sum_at, tensor_at, factor_within, formula_within, enclosed_within, product_within};
+ghost use Rattle.tce_grammar.specs.ParserCode.{GivesFormula, GivesNames, operator_if_some, tokens_if_some};
 
 use crate::formula::{Formula, Operator};
 use crate::name::SUM;
@@ -14,7 +14,7 @@ use tce_space::is_name;
 
 /// The tokens behind this symbol.
 pub(crate) fn behind<'a, 'b>(symbol: u8, tokens: &'b [Token<'a>]) -> Option<&'b [Token<'a>]>
-    ensures read { option_map (λ rest. map token rest.now) result ≡ behind symbol (map token tokens.now) }
+    ensures read { tokens_if_some result ≡ behind symbol (map token tokens.now) }
     ensures shorter { IfSome result (λ rest. length rest.now < length tokens.now) }
 {
     match tokens {
@@ -25,7 +25,7 @@ pub(crate) fn behind<'a, 'b>(symbol: u8, tokens: &'b [Token<'a>]) -> Option<&'b 
 
 /// A sign of a product at the front, and the tokens behind it.
 fn times_ahead<'a, 'b>(tokens: &'b [Token<'a>]) -> Option<(Operator, &'b [Token<'a>])>
-    ensures read { option_map (λ r. (operator r.0, map token r.1.now)) result ≡ ahead times_of (map token tokens.now) }
+    ensures read { operator_if_some result ≡ ahead times_of (map token tokens.now) }
     ensures shorter { IfSome result (λ r. length r.1.now < length tokens.now) }
 {
     match tokens {
@@ -36,7 +36,7 @@ fn times_ahead<'a, 'b>(tokens: &'b [Token<'a>]) -> Option<(Operator, &'b [Token<
 
 /// A sign of a sum or difference at the front, and the tokens behind it.
 fn plus_ahead<'a, 'b>(tokens: &'b [Token<'a>]) -> Option<(Operator, &'b [Token<'a>])>
-    ensures read { option_map (λ r. (operator r.0, map token r.1.now)) result ≡ ahead plus_of (map token tokens.now) }
+    ensures read { operator_if_some result ≡ ahead plus_of (map token tokens.now) }
     ensures shorter { IfSome result (λ r. length r.1.now < length tokens.now) }
 {
     match tokens {
@@ -52,7 +52,7 @@ fn names_up_to<'a, 'b>(
     close: u8,
     tokens: &'b [Token<'a>],
 ) -> Result<(Vec<&'a [u8]>, &'b [Token<'a>]), ReadError>
-    ensures read { Gives (λ r. (names r.0.items, map token r.1.now)) result (names_at close (map token tokens.now)) }
+    ensures read { GivesNames result (names_at close (map token tokens.now)) }
     ensures shorter { IfOk result (λ r. length r.1.now < length tokens.now) }
 {
     let mut found = Vec::new(alloc);
@@ -79,7 +79,7 @@ pub(crate) fn brackets<'a, 'b>(
     alloc: Global,
     tokens: &'b [Token<'a>],
 ) -> Result<(Vec<&'a [u8]>, &'b [Token<'a>]), ReadError>
-    ensures read { Gives (λ r. (names r.0.items, map token r.1.now)) result (brackets_at (map token tokens.now)) }
+    ensures read { GivesNames result (brackets_at (map token tokens.now)) }
     ensures shorter { IfOk result (λ r. length r.1.now < length tokens.now) }
 {
     let inner = behind(b'[', tokens).ok_or(ReadError::Form)?;
@@ -96,7 +96,7 @@ fn joined<'a>(
     left: Formula<'a>,
     right: Formula<'a>,
 ) -> Result<Formula<'a>, AllocError>
-    ensures { IfOk result (λ whole. formula whole ≡ binary (operator between) (formula left.entry) (formula right.entry)) }
+    ensures { IfOk result (IsJoined between left.entry right.entry) }
 {
     Ok(Formula::Binary {
         operator: between,
@@ -113,7 +113,7 @@ fn product<'a, 'b>(
     open_left: u8,
     tokens: &'b [Token<'a>],
 ) -> Result<(Formula<'a>, &'b [Token<'a>]), ReadError>
-    ensures read { Gives (λ r. (formula r.0, map token r.1.now)) result (chain_at times_of (factor_within open_left) (map token tokens.now)) }
+    ensures read { GivesFormula result (product_within open_left (map token tokens.now)) }
     ensures shorter { IfOk result (λ r. length r.1.now < length tokens.now) }
 {
     let (mut left, mut rest) = factor(alloc, open_left, tokens)?;
@@ -133,7 +133,7 @@ pub(crate) fn expression<'a, 'b>(
     open_left: u8,
     tokens: &'b [Token<'a>],
 ) -> Result<(Formula<'a>, &'b [Token<'a>]), ReadError>
-    ensures read { Gives (λ r. (formula r.0, map token r.1.now)) result (formula_within open_left (map token tokens.now)) }
+    ensures read { GivesFormula result (formula_within open_left (map token tokens.now)) }
     ensures shorter { IfOk result (λ r. length r.1.now < length tokens.now) }
 {
     let (mut left, mut rest) = product(alloc, open_left, tokens)?;
@@ -153,7 +153,7 @@ fn enclosed<'a, 'b>(
     open_left: u8,
     tokens: &'b [Token<'a>],
 ) -> Result<(Formula<'a>, &'b [Token<'a>]), ReadError>
-    ensures read { Gives (λ r. (formula r.0, map token r.1.now)) result (enclosed_within open_left (map token tokens.now)) }
+    ensures read { GivesFormula result (enclosed_within open_left (map token tokens.now)) }
     ensures shorter { IfOk result (λ r. length r.1.now < length tokens.now) }
 {
     if open_left == 0 {
@@ -169,7 +169,7 @@ fn summed<'a, 'b>(
     alloc: Global,
     tokens: &'b [Token<'a>],
 ) -> Result<(Vec<&'a [u8]>, &'b [Token<'a>]), ReadError>
-    ensures read { Gives (λ r. (names r.0.items, map token r.1.now)) result (summed_at (map token tokens.now)) }
+    ensures read { GivesNames result (summed_at (map token tokens.now)) }
     ensures shorter { IfOk result (λ r. length r.1.now < length tokens.now) }
 {
     let list = behind(b'{', tokens).ok_or(ReadError::Form)?;
@@ -186,7 +186,7 @@ fn sum<'a, 'b>(
     open_left: u8,
     tokens: &'b [Token<'a>],
 ) -> Result<(Formula<'a>, &'b [Token<'a>]), ReadError>
-    ensures read { Gives (λ r. (formula r.0, map token r.1.now)) result (sum_at (enclosed_within open_left) (map token tokens.now)) }
+    ensures read { GivesFormula result (sum_at (enclosed_within open_left) (map token tokens.now)) }
     ensures shorter { IfOk result (λ r. length r.1.now < length tokens.now) }
 {
     let (indexes, rest) = summed(alloc, tokens)?;
@@ -201,7 +201,7 @@ fn tensor<'a, 'b>(
     name: &'a [u8],
     tokens: &'b [Token<'a>],
 ) -> Result<(Formula<'a>, &'b [Token<'a>]), ReadError>
-    ensures read { Gives (λ r. (formula r.0, map token r.1.now)) result (tensor_at name.now (map token tokens.now)) }
+    ensures read { GivesFormula result (tensor_at name.now (map token tokens.now)) }
     ensures shorter { IfOk result (λ r. length r.1.now < length tokens.now) }
 {
     let (indexes, rest) = brackets(alloc, tokens)?;
@@ -215,7 +215,7 @@ fn factor<'a, 'b>(
     open_left: u8,
     tokens: &'b [Token<'a>],
 ) -> Result<(Formula<'a>, &'b [Token<'a>]), ReadError>
-    ensures read { Gives (λ r. (formula r.0, map token r.1.now)) result (factor_within open_left (map token tokens.now)) }
+    ensures read { GivesFormula result (factor_within open_left (map token tokens.now)) }
     ensures shorter { IfOk result (λ r. length r.1.now < length tokens.now) }
 {
     match tokens {

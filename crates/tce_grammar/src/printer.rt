@@ -1,8 +1,8 @@
 //! Printing tokens, with the spaces between them.
 
 ghost use Rattle.std.specs.Prelude.{◌≡◌, ◌++◌, ◌∷◌, List, [], ℕ, OnOk, OnErr};
-ghost use Rattle.tce_grammar.specs.Printed.{kind, is_sign, is_spaced, token_text};
-ghost use Rattle.tce_grammar.specs.PrinterCode.{front};
+ghost use Rattle.tce_grammar.specs.Printed.{kind, is_sign, is_spaced};
+ghost use Rattle.tce_grammar.specs.PrinterCode.{front, text_of};
 ghost use Rattle.tce_grammar.specs.Code as code;
 
 use crate::token::Token;
@@ -107,7 +107,7 @@ fn is_spaced(before: Front, behind: Front) -> bool
 }
 
 fn push_text(bytes: &mut Vec<u8>, token: Token) -> Result<(), AllocError>
-    ensures { OnOk result (bytes.new.items ≡ bytes.old.items ++ token_text (code.token token.entry)) }
+    ensures { OnOk result (bytes.new.items ≡ bytes.old.items ++ text_of token.entry) }
 {
     match token {
         Token::Word(text) | Token::Number(text) => bytes.extend_from_slice(text),

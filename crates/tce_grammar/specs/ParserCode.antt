@@ -1,0 +1,28 @@
+-- What the functions of the parser answer, with the tokens behind it.
+use Rattle.std.specs.Prelude.{ℕ, List, map, Option, Result, Vec, option_map}
+use Rattle.std.specs.Borrow.{Bor}
+use Rattle.std.specs.declared.alloc.Global.{Global}
+use Rattle.tce_grammar.specs.Tokens as tokens
+use Rattle.tce_grammar.specs.Formula as formulas
+use Rattle.tce_grammar.specs.Code.{Gives, token, operator, names, formula}
+use Rattle.tce_grammar.specs.Reading.{Reads}
+use Rattle.tce_grammar.specs.declared.token.Token.{Token}
+use Rattle.tce_grammar.specs.declared.read_error.ReadError.{ReadError}
+use Rattle.tce_grammar.specs.declared.formula.Operator.{Operator}
+use Rattle.tce_grammar.specs.declared.formula.Formula.{Formula}
+
+-- the tokens, where there are some
+abbrev pub tokens_if_some : Option (Bor (List Token)) → Option (List tokens.Token)
+tokens_if_some answer = option_map (λ (rest : Bor (List Token)). map token rest.now) answer
+
+-- the operator and the tokens behind it, where there is one
+abbrev pub operator_if_some : Option (Operator × Bor (List Token)) → Option (formulas.Operator × List tokens.Token)
+operator_if_some answer = option_map (λ (r : Operator × Bor (List Token)). (operator r.0, map token r.1.now)) answer
+
+-- the formula that is read, unless memory ran out
+abbrev pub GivesFormula : Result (Formula × Bor (List Token)) ReadError → Reads formulas.Formula → Type 0
+GivesFormula result read = Gives (λ (r : Formula × Bor (List Token)). (formula r.0, map token r.1.now)) result read
+
+-- the names that are read, unless memory ran out
+abbrev pub GivesNames : Result (Vec (Bor (List ℕ)) Global × Bor (List Token)) ReadError → Reads (List (List ℕ)) → Type 0
+GivesNames result read = Gives (λ (r : Vec (Bor (List ℕ)) Global × Bor (List Token)). (names r.0.items, map token r.1.now)) result read
