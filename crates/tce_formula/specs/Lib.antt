@@ -7,3 +7,4 @@ pub mod Contraction
 pub mod Lengths
 pub mod Laws
 pub mod Examples
+pub mod LineCode

@@ -1,5 +1,5 @@
 -- The rules of the code: each is a column of the table of faults over the places of a formula.
-use Rattle.std.specs.Prelude.{ℕ, ◌==◌, not, List, [], ◌∷◌, ◌++◌, Option, option_map}
+use Rattle.std.specs.Prelude.{ℕ, ◌==◌, not, List, [], ◌∷◌, ◌++◌, Option, option_map, ◌≡◌}
 use Rattle.std.specs.List.{list_all}
 use Rattle.arrayvec.specs.ArrayString.{ArrayString}
 use Rattle.tce_grammar.specs.Formula.{Formula}
@@ -14,6 +14,9 @@ use Rattle.tce_tree.specs.Faults.{fault_of}
 use Rattle.tce_formula.specs.PlaceFaults.{undeclared, other_rank, other_range, listed_twice, tensor_named}
 use Rattle.tce_formula.specs.declared.rule.Rule.{Rule}
 use Rattle.tce_formula.specs.declared.rule.Rule.TheVariants.{Declared, SameRank, SameRanges, ListedOnce, NotNamed}
+use Rattle.std.specs.Borrow.{Bor}
+use Rattle.tce_grammar.specs.Code.{names, formula}
+use Rattle.tce_grammar.specs.declared.formula.Formula.{Formula as Written}
 
 abbrev pub bytes_if_some : Option ArrayString → Option (List ℕ)
 bytes_if_some name = option_map (λ (n : ArrayString). n.bytes) name
@@ -62,3 +65,23 @@ tree_fault line d indexes f = first (
     option_map (tree line) (fault_of d.space (meaning d f))
     ∷ fault_if (not (set_of (indexes_of d.space indexes) == dims (meaning d f))) (result_indices line)
     ∷ [])
+
+-- what the program answers is the name at which a place breaks the rule, if there is one
+abbrev pub BrokenAt : Declarations → Rule → Place → Option ArrayString → Type 0
+BrokenAt d rule place result = bytes_if_some result ≡ broken d rule place
+
+-- the same of the leftmost of some places
+abbrev pub FirstBroken : Declarations → Rule → List Place → Option ArrayString → Type 0
+FirstBroken d rule in_places result = bytes_if_some result ≡ first_at (broken d rule) in_places
+
+-- of the result of a line, and of the whole line
+abbrev pub BrokenResult : Declarations → Rule → List ℕ → List (Bor (List ℕ)) → Option ArrayString → Type 0
+BrokenResult d rule name indexes result = FirstBroken d rule (result_places rule name (names indexes)) result
+
+abbrev pub BrokenLine : Declarations → Rule → List ℕ → List (Bor (List ℕ)) → Written → Option ArrayString → Type 0
+BrokenLine d rule name indexes written result =
+    FirstBroken d rule (result_places rule name (names indexes) ++ places (formula written)) result
+
+-- a tensor with its indexes, as a place
+abbrev pub tensor_place : List ℕ → List (Bor (List ℕ)) → Place
+tensor_place name indexes = reference name (names indexes)

@@ -1,6 +1,6 @@
 //! The formula line as a whole.
 
-ghost use Rattle.std.specs.Prelude.{◌≡◌, ◌≤◌, ◌==◌, nat_lt, option_map, None, IfOk, IfErr, OnOk, IsTrue, length};
+ghost use Rattle.std.specs.Prelude.{◌≡◌, ◌≤◌, ◌==◌, None, IfOk, IfErr, OnOk, IsTrue};
 ghost use Rattle.tce_space.specs.Name.{is_name};
 ghost use Rattle.tce_tree.specs.Expr.{tree_of};
 ghost use Rattle.tce_tree.specs.ContractionTree.{dims, operations as node_count};
@@ -8,18 +8,15 @@ ghost use Rattle.tce_tree.specs.WellFormed.{IsDeclaredTree, sums_distinct};
 ghost use Rattle.tce_tree.specs.Measure.{IsMeasured};
 ghost use Rattle.tce_tree.specs.Faults.{fault_of};
 ghost use Rattle.tce_space.specs.IndexSet.{set_of};
-ghost use Rattle.std.specs.List.{list_all};
 ghost use Rattle.tce_space.specs.Limits.{max_nodes};
-ghost use Rattle.tce_declarations.specs.Faults.{tree as refused_tree};
 ghost use Rattle.tce_grammar.specs.Code.{names, formula};
 ghost use Rattle.tce_grammar.specs.Grammar.{AreNames};
 ghost use Rattle.tce_grammar.specs.Formula.{operations};
 ghost use Rattle.tce_declarations.specs.FaultCode.{Shows};
 ghost use Rattle.tce_formula.specs.Places.{IsNamed};
-ghost use Rattle.tce_formula.specs.Rules.{column, places_fault, tree_fault};
-ghost use Rattle.tce_formula.specs.Meaning.{meaning, indexes_of, tensor_of};
-ghost use Rattle.tce_formula.specs.FormulaFaults.{formula_fault};
-ghost use Rattle.tce_formula.specs.Contraction.{IsContraction};
+ghost use Rattle.tce_formula.specs.Rules.{column};
+ghost use Rattle.tce_formula.specs.Meaning.{meaning, tensor_of};
+ghost use Rattle.tce_formula.specs.LineCode.{AreIndexesOf, GoodPlaces, BadPlace, BadExpression, GoodTree, BadTree, KeepsRules, GoodLine, BadLine, HasIndexes, HasMeaning};
 
 use crate::constant::has_good_constants;
 use crate::expression::{expression_of, leaf_of};
@@ -73,8 +70,8 @@ fn check_places(
     requires name { IsTrue (is_name name.now) }
     requires indexes { AreNames (names indexes.now) }
     requires written { IsNamed (formula written.now) }
-    ensures ok { OnOk result (places_fault line declarations.now name.now (names indexes.now) (formula written.now) ≡ None) }
-    ensures fault { IfErr result (Shows (places_fault line declarations.now name.now (names indexes.now) (formula written.now))) }
+    ensures ok { OnOk result (GoodPlaces line declarations.now name.now indexes.now written.now) }
+    ensures fault { IfErr result (BadPlace line declarations.now name.now indexes.now written.now) }
 {
     keep(Rule::Declared, line, declarations, name, indexes, written)?;
     if !has_good_constants(written) {
@@ -106,7 +103,7 @@ fn build_tree(
     ensures ok { IfOk result (λ tree. tree ≡ tree_of expr.now) }
     ensures faultless { OnOk result (fault_of declarations.now.space (tree_of expr.now) ≡ None) }
     ensures measured { OnOk result (IsMeasured declarations.now.space (tree_of expr.now)) }
-    ensures fault { IfErr result (Shows (option_map (refused_tree line) (fault_of declarations.now.space (tree_of expr.now)))) }
+    ensures fault { IfErr result (BadExpression line declarations.now expr.now) }
 {
     match Tree::build(alloc, declarations.space(), expr) {
         Ok(tree) => Ok(tree),
@@ -117,7 +114,7 @@ fn build_tree(
 
 /// Whether a tree has the listed indexes and no others.
 fn has_indexes(declarations: &Declarations, tree: &Tree, indexes: &[u8]) -> bool
-    requires { IsTrue (list_all (λ i. nat_lt i (length declarations.now.space.indexes)) indexes.now) }
+    requires { AreIndexesOf declarations.now indexes.now }
     ensures { result ≡ (set_of indexes.now == dims tree.now) }
 {
     let _count = declarations.space().index_count();
@@ -138,14 +135,14 @@ fn contraction_of(
     requires indexes { AreNames (names indexes.now) }
     requires written { IsNamed (formula written.now) }
     requires few { operations (formula written.now) ≤ max_nodes }
-    requires faultless { places_fault line declarations.now name.now (names indexes.now) (formula written.now) ≡ None }
+    requires faultless { GoodPlaces line declarations.now name.now indexes.now written.now }
     ensures tensor { IfOk result (λ c. c.result.tensor ≡ tensor_of declarations.now name.now) }
-    ensures indexes { IfOk result (λ c. c.result.indexes.items ≡ indexes_of declarations.now.space (names indexes.now)) }
-    ensures expr { IfOk result (λ c. tree_of c.expr ≡ meaning declarations.now (formula written.now)) }
+    ensures indexes { IfOk result (HasIndexes declarations.now indexes.now) }
+    ensures expr { IfOk result (HasMeaning declarations.now written.now) }
     ensures tree { IfOk result (λ c. c.tree ≡ meaning declarations.now (formula written.now)) }
     ensures measured { IfOk result (λ c. IsMeasured declarations.now.space c.tree) }
-    ensures ok { OnOk result (tree_fault line declarations.now (names indexes.now) (formula written.now) ≡ None) }
-    ensures fault { IfErr result (Shows (tree_fault line declarations.now (names indexes.now) (formula written.now))) }
+    ensures ok { OnOk result (GoodTree line declarations.now indexes.now written.now) }
+    ensures fault { IfErr result (BadTree line declarations.now indexes.now written.now) }
 {
     let _space = declarations.space();
     let result = leaf_of(declarations, name, indexes);
@@ -183,13 +180,13 @@ pub fn read_formula(
     requires indexes { AreNames (names indexes.now) }
     requires written { IsNamed (formula written.now) }
     ensures tensor { IfOk result (λ c. c.result.tensor ≡ tensor_of declarations.now name.now) }
-    ensures indexes { IfOk result (λ c. c.result.indexes.items ≡ indexes_of declarations.now.space (names indexes.now)) }
-    ensures expr { IfOk result (λ c. tree_of c.expr ≡ meaning declarations.now (formula written.now)) }
+    ensures indexes { IfOk result (HasIndexes declarations.now indexes.now) }
+    ensures expr { IfOk result (HasMeaning declarations.now written.now) }
     ensures tree { IfOk result (λ c. c.tree ≡ meaning declarations.now (formula written.now)) }
     ensures measured { IfOk result (λ c. IsMeasured declarations.now.space c.tree) }
-    ensures rules { IfOk result (λ c. IsContraction declarations.now c.result.tensor c.result.indexes.items c.tree) }
-    ensures ok { OnOk result (formula_fault line declarations.now name.now (names indexes.now) (formula written.now) ≡ None) }
-    ensures fault { IfErr result (Shows (formula_fault line declarations.now name.now (names indexes.now) (formula written.now))) }
+    ensures rules { IfOk result (KeepsRules declarations.now) }
+    ensures ok { OnOk result (GoodLine line declarations.now name.now indexes.now written.now) }
+    ensures fault { IfErr result (BadLine line declarations.now name.now indexes.now written.now) }
 {
     let _space = declarations.space();
     if written.has_more_operations(MAX_NODES as u32) {

@@ -1,12 +1,12 @@
 //! The rules that each place of a formula keeps, or breaks at a name.
 
-ghost use Rattle.std.specs.Prelude.{◌≡◌, ℕ, IsTrue, Some, ◌++◌};
+ghost use Rattle.std.specs.Prelude.{ℕ, IsTrue, Some};
 ghost use Rattle.tce_space.specs.Name.{is_name};
 ghost use Rattle.tce_grammar.specs.Code.{names, formula};
 ghost use Rattle.tce_grammar.specs.Grammar.{AreNames};
 ghost use Rattle.tce_declarations.specs.FaultCode.{Shows};
-ghost use Rattle.tce_formula.specs.Places.{reference, listing, places, first_at, IsNamed};
-ghost use Rattle.tce_formula.specs.Rules.{bytes_if_some, broken, result_places, rule_fault};
+ghost use Rattle.tce_formula.specs.Places.{listing, places, IsNamed};
+ghost use Rattle.tce_formula.specs.Rules.{rule_fault, BrokenAt, FirstBroken, BrokenResult, BrokenLine, tensor_place};
 
 use crate::names::{listed_twice, ranges_of, tensor_named, undeclared_index, wrong_index};
 use tce_declarations::{Declarations, SpecFault};
@@ -38,7 +38,7 @@ impl<'a> Rule<'a> {
     ) -> Option<Name>
         requires name { IsTrue (is_name name.now) }
         requires indexes { AreNames (names indexes.now) }
-        ensures { bytes_if_some result ≡ broken declarations.now self.entry (reference name.now (names indexes.now)) }
+        ensures { BrokenAt declarations.now self.entry (tensor_place name.now indexes.now) result }
     {
         match self {
             Rule::Declared => match tensor_named(declarations, name) {
@@ -59,7 +59,7 @@ impl<'a> Rule<'a> {
     /// The name at which the list of a sum breaks the rule.
     fn broken_by_list(self, declarations: &Declarations, indexes: &[&[u8]]) -> Option<Name>
         requires { AreNames (names indexes.now) }
-        ensures { bytes_if_some result ≡ broken declarations.now self.entry (listing (names indexes.now)) }
+        ensures { BrokenAt declarations.now self.entry (listing (names indexes.now)) result }
     {
         match self {
             Rule::Declared => undeclared_index(declarations.space(), indexes),
@@ -72,7 +72,7 @@ impl<'a> Rule<'a> {
     #[tactic(auto, using(crate::proofs::Joined::first_joined))]
     fn broken_by_formula(self, declarations: &Declarations, written: &Formula) -> Option<Name>
         requires { IsNamed (formula written.now) }
-        ensures { bytes_if_some result ≡ first_at (broken declarations.now self.entry) (places (formula written.now)) }
+        ensures { FirstBroken declarations.now self.entry (places (formula written.now)) result }
     {
         match written {
             Formula::Tensor { name, indexes } => {
@@ -103,7 +103,7 @@ impl<'a> Rule<'a> {
     ) -> Option<Name>
         requires name { IsTrue (is_name name.now) }
         requires indexes { AreNames (names indexes.now) }
-        ensures { bytes_if_some result ≡ first_at (broken declarations.now self.entry) (result_places self.entry name.now (names indexes.now)) }
+        ensures { BrokenResult declarations.now self.entry name.now indexes.now result }
     {
         match self {
             Rule::ListedOnce => self.broken_by_list(declarations, indexes),
@@ -123,7 +123,7 @@ impl<'a> Rule<'a> {
         requires name { IsTrue (is_name name.now) }
         requires indexes { AreNames (names indexes.now) }
         requires written { IsNamed (formula written.now) }
-        ensures { bytes_if_some result ≡ first_at (broken declarations.now self.entry) (result_places self.entry name.now (names indexes.now) ++ places (formula written.now)) }
+        ensures { BrokenLine declarations.now self.entry name.now indexes.now written.now result }
     {
         match self.broken_by_result(declarations, name, indexes) {
             Some(found) => Some(found),
