@@ -1,5 +1,5 @@
 -- The canonical text of declarations and of a contraction over them, by the statements of its lines.
-use Rattle.std.specs.Prelude.{ℕ, ◌==◌, if◌then◌else◌, List, [], ◌∷◌, ◌++◌, map, Option}
+use Rattle.std.specs.Prelude.{ℕ, ◌==◌, if◌then◌else◌, List, [], ◌∷◌, ◌++◌, map, Option, ◌≡◌, ◌≢◌}
 use Rattle.std.specs.declared.option.Option.TheVariants.{Some, None}
 use Rattle.std.specs.Fmt.{decimal}
 use Rattle.tce_space.specs.Space.{Range, Index, IndexSpace, range_at, index_at}
@@ -61,12 +61,33 @@ formula_of d (sum indexes operand) = formulas.sum (index_names d.space indexes) 
 abbrev pub formula_statement : Declarations → ℕ → List ℕ → ContractionTree → Statement
 formula_statement d result indexes tree = formula (tensor_at d result).name (index_names d.space indexes) (formula_of d tree)
 
+-- the statement of the range with this number
+abbrev pub range_line : IndexSpace → ℕ → Statement
+range_line space r = range_statement (range_at space r)
+
+-- those of all ranges, of all indexes, and of all tensors
+abbrev pub range_statements : IndexSpace → List Statement
+range_statements space = map range_statement space.ranges
+
+abbrev pub index_statements : IndexSpace → List Statement
+index_statements space = map (index_statement space) (groups space.indexes)
+
+abbrev pub tensor_statements : Declarations → List Statement
+tensor_statements d = map (tensor_statement d.space) d.tensors
+
+-- two indexes are of one range, or of different ones
+abbrev pub SameRange : IndexSpace → ℕ → ℕ → Type 0
+SameRange space i j = (index_at space i).of_range ≡ (index_at space j).of_range
+
+abbrev pub OtherRange : IndexSpace → ℕ → ℕ → Type 0
+OtherRange space i j = (index_at space i).of_range ≢ (index_at space j).of_range
+
 -- the ranges, the indexes, the tensors, and the formula
 abbrev pub statements : Declarations → ℕ → List ℕ → ContractionTree → List Statement
 statements d result indexes tree =
-    map range_statement d.space.ranges
-    ++ (map (index_statement d.space) (groups d.space.indexes)
-    ++ (map (tensor_statement d.space) d.tensors
+    range_statements d.space
+    ++ (index_statements d.space
+    ++ (tensor_statements d
     ++ formula_statement d result indexes tree ∷ []))
 
 abbrev pub canonical : Declarations → ℕ → List ℕ → ContractionTree → List ℕ

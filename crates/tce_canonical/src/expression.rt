@@ -13,6 +13,7 @@ ghost use Rattle.tce_grammar.specs.Printed.{with_tokens};
 ghost use Rattle.tce_declarations.specs.Declarations as model;
 ghost use Rattle.tce_formula.specs.Contraction.{LeavesFit};
 ghost use Rattle.tce_canonical.specs.Statements.{formula_of, index_names};
+ghost use Rattle.tce_canonical.specs.Expressions.{written_expr, with_expr};
 
 use crate::tensors::push_reference;
 use crate::words::{push_index_list, push_number, push_symbol, push_word};
@@ -44,7 +45,7 @@ fn precedence(operator: Operator) -> u8
 
 /// The precedence of an expression's last operator, and 3 where it has none outside of brackets.
 fn level(expr: &Expr) -> u8
-    ensures { (d : model.Declarations) → result ≡ grammar.level (written_of (formula_of d (tree_of expr.now))) }
+    ensures { (d : model.Declarations) → result ≡ grammar.level (written_expr d expr.now) }
 {
     match expr {
         Expr::Leaf(_) | Expr::Constant(_) | Expr::Sum(_, _) => 3,
@@ -75,7 +76,7 @@ pub(crate) fn push_expr(
 ) -> Result<(), AllocError>
     requires leaves { LeavesFit declarations.now (tree_of expr.now) }
     requires declared { IsDeclaredTree declarations.now.space (tree_of expr.now) }
-    ensures { OnOk result (printer.new ≡ with_tokens printer.old (spelling (written_of (formula_of declarations.now (tree_of expr.now))))) }
+    ensures { OnOk result (printer.new ≡ with_expr printer.old declarations.now expr.now) }
 {
     match expr {
         Expr::Leaf(leaf) => push_reference(printer, declarations, leaf),

@@ -1,8 +1,8 @@
 //! The lines of indexes.
 
-ghost use Rattle.std.specs.Prelude.{◌≡◌, ◌≢◌, ◌<◌, ◌≤◌, ◌-◌, ℕ, length, map, take, drop, OnOk};
+ghost use Rattle.std.specs.Prelude.{◌≡◌, ◌<◌, ◌≤◌, ◌-◌, ℕ, length, map, take, drop, OnOk};
 ghost use Rattle.tce_space.specs.Space.{Index, index_at};
-ghost use Rattle.tce_canonical.specs.Statements.{groups, index_statement};
+ghost use Rattle.tce_canonical.specs.Statements.{index_statement, SameRange, OtherRange, index_statements};
 ghost use Rattle.tce_canonical.specs.Lines.{with_line, with_lines};
 
 use crate::words::push_word;
@@ -15,8 +15,8 @@ fn group_end(space: &Space, first: u8) -> u8
     requires { first < length space.now.indexes }
     ensures some { first < result }
     ensures within { result ≤ length space.now.indexes }
-    ensures same { (k : ℕ) → first ≤ k → k < result → (index_at space.now k).of_range ≡ (index_at space.now first).of_range }
-    ensures ends { result < length space.now.indexes → (index_at space.now result).of_range ≢ (index_at space.now first).of_range }
+    ensures same { (k : ℕ) → first ≤ k → k < result → SameRange space.now k first }
+    ensures ends { result < length space.now.indexes → OtherRange space.now result first }
 {
     let range = space.range_of(first);
     let count = space.index_count();
@@ -45,7 +45,7 @@ fn print_group(printer: &mut Printer, space: &Space, first: u8, end: u8) -> Resu
 
 /// Prints the indexes in order of declaration, neighbours of one range on one line.
 pub(crate) fn print_indexes(printer: &mut Printer, space: &Space) -> Result<(), AllocError>
-    ensures { OnOk result (printer.new ≡ with_lines printer.old (map (index_statement space.now) (groups space.now.indexes))) }
+    ensures { OnOk result (printer.new ≡ with_lines printer.old (index_statements space.now)) }
 {
     let count = space.index_count();
     let mut first = 0;

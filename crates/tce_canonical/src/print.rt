@@ -3,9 +3,9 @@
 ghost use Rattle.std.specs.Prelude.{◌≡◌, IfOk, OnOk};
 ghost use Rattle.tce_tree.specs.Expr.{tree_of};
 ghost use Rattle.tce_declarations.specs.Declarations.{IsDeclarations};
-ghost use Rattle.tce_formula.specs.Contraction.{IsContraction};
-ghost use Rattle.tce_canonical.specs.Statements.{canonical, formula_statement};
+ghost use Rattle.tce_canonical.specs.Statements.{formula_statement};
 ghost use Rattle.tce_canonical.specs.Lines.{with_line};
+ghost use Rattle.tce_canonical.specs.Expressions.{IsContractionTo, canonical_to};
 
 use crate::expression::push_expr;
 use crate::indexes::print_indexes;
@@ -25,7 +25,7 @@ fn print_formula(
     expr: &Expr,
 ) -> Result<(), AllocError>
     requires rules { IsDeclarations declarations.now }
-    requires contraction { IsContraction declarations.now computed.now.tensor computed.now.indexes.items (tree_of expr.now) }
+    requires contraction { IsContractionTo declarations.now computed.now expr.now }
     ensures { OnOk result (printer.new ≡ with_line printer.old
         (formula_statement declarations.now computed.now.tensor computed.now.indexes.items (tree_of expr.now))) }
 {
@@ -44,8 +44,8 @@ pub fn print_lines(
     computed: &Leaf,
     expr: &Expr,
 ) -> Result<Vec<u8>, AllocError>
-    requires { IsContraction declarations.now computed.now.tensor computed.now.indexes.items (tree_of expr.now) }
-    ensures { IfOk result (λ text. text.items ≡ canonical declarations.now computed.now.tensor computed.now.indexes.items (tree_of expr.now)) }
+    requires { IsContractionTo declarations.now computed.now expr.now }
+    ensures { IfOk result (λ t. t.items ≡ canonical_to declarations.now computed.now expr.now) }
 {
     let mut printer = Printer::new(alloc);
     print_ranges(alloc, &mut printer, declarations.space())?;

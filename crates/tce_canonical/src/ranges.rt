@@ -1,10 +1,9 @@
 //! The lines of ranges.
 
-ghost use Rattle.std.specs.Prelude.{◌≡◌, ◌<◌, length, map, OnOk};
-ghost use Rattle.tce_space.specs.Space.{range_at};
+ghost use Rattle.std.specs.Prelude.{◌≡◌, ◌<◌, length, OnOk};
 ghost use Rattle.tce_grammar.specs.Canonical.{edge_tokens};
 ghost use Rattle.tce_grammar.specs.Printed.{with_tokens};
-ghost use Rattle.tce_canonical.specs.Statements.{edge_digits, range_statement};
+ghost use Rattle.tce_canonical.specs.Statements.{edge_digits, range_line, range_statements};
 ghost use Rattle.tce_canonical.specs.Lines.{with_line, with_lines};
 
 use crate::words::{push_number, push_word};
@@ -30,7 +29,7 @@ fn print_range(
     range: u8,
 ) -> Result<(), AllocError>
     requires { range < length space.now.ranges }
-    ensures { OnOk result (printer.new ≡ with_line printer.old (range_statement (range_at space.now range))) }
+    ensures { OnOk result (printer.new ≡ with_line printer.old (range_line space.now range)) }
 {
     push_word(printer, "range")?;
     push_word(printer, space.range_name(range).as_str())?;
@@ -45,7 +44,7 @@ pub(crate) fn print_ranges(
     printer: &mut Printer,
     space: &Space,
 ) -> Result<(), AllocError>
-    ensures { OnOk result (printer.new ≡ with_lines printer.old (map range_statement space.now.ranges)) }
+    ensures { OnOk result (printer.new ≡ with_lines printer.old (range_statements space.now)) }
 {
     for range in 0..space.range_count() {
         print_range(alloc, printer, space, range)?;

@@ -1,11 +1,11 @@
 //! The lines of tensors, and references to tensors.
 
-ghost use Rattle.std.specs.Prelude.{◌≡◌, ◌<◌, length, map, All, OnOk};
+ghost use Rattle.std.specs.Prelude.{◌≡◌, ◌<◌, length, All, OnOk};
 ghost use Rattle.tce_grammar.specs.Grammar.{bracketed};
 ghost use Rattle.tce_grammar.specs.Printed.{with_tokens};
 ghost use Rattle.tce_declarations.specs.Declarations.{tensor_at};
-ghost use Rattle.tce_canonical.specs.Statements.{index_names, tensor_statement};
-ghost use Rattle.tce_canonical.specs.Lines.{with_line, with_lines};
+ghost use Rattle.tce_canonical.specs.Statements.{index_names};
+ghost use Rattle.tce_canonical.specs.Lines.{with_tensor, with_tensors};
 
 use crate::words::{push_index_list, push_range_list, push_symbol, push_word};
 use std::alloc::AllocError;
@@ -19,7 +19,7 @@ fn print_tensor(
     tensor: u8,
 ) -> Result<(), AllocError>
     requires { tensor < length declarations.now.tensors }
-    ensures { OnOk result (printer.new ≡ with_line printer.old (tensor_statement declarations.now.space (tensor_at declarations.now tensor))) }
+    ensures { OnOk result (printer.new ≡ with_tensor printer.old declarations.now tensor) }
 {
     let declared = declarations.tensor(tensor);
     push_word(printer, "tensor")?;
@@ -35,7 +35,7 @@ pub(crate) fn print_tensors(
     printer: &mut Printer,
     declarations: &Declarations,
 ) -> Result<(), AllocError>
-    ensures { OnOk result (printer.new ≡ with_lines printer.old (map (tensor_statement declarations.now.space) declarations.now.tensors)) }
+    ensures { OnOk result (printer.new ≡ with_tensors printer.old declarations.now) }
 {
     for tensor in 0..declarations.tensor_count() {
         print_tensor(printer, declarations, tensor)?;

@@ -3,9 +3,8 @@
 ghost use Rattle.std.specs.Prelude.{◌≡◌, ◌<◌, length, All, OnOk};
 ghost use Rattle.std.specs.Fmt.{decimal};
 ghost use Rattle.tce_grammar.specs.Tokens as tokens;
-ghost use Rattle.tce_grammar.specs.Grammar.{listed};
-ghost use Rattle.tce_grammar.specs.Printed.{with_token, with_tokens};
-ghost use Rattle.tce_canonical.specs.Statements.{range_names, index_names};
+ghost use Rattle.tce_grammar.specs.Printed.{with_token};
+ghost use Rattle.tce_canonical.specs.Lines.{with_ranges, with_indexes};
 
 use std::alloc::{AllocError, Global};
 use tce_grammar::{Printer, Token};
@@ -42,7 +41,7 @@ pub(crate) fn push_range_list(
     ranges: &[u8],
 ) -> Result<(), AllocError>
     requires { All (λ r. r < length space.now.ranges) ranges.now }
-    ensures { OnOk result (printer.new ≡ with_tokens printer.old (listed (range_names space.now ranges.now))) }
+    ensures { OnOk result (printer.new ≡ with_ranges printer.old space.now ranges.now) }
 {
     let Some((first, rest)) = ranges.split_first() else {
         return Ok(());
@@ -62,7 +61,7 @@ pub(crate) fn push_index_list(
     indexes: &[u8],
 ) -> Result<(), AllocError>
     requires { All (λ i. i < length space.now.indexes) indexes.now }
-    ensures { OnOk result (printer.new ≡ with_tokens printer.old (listed (index_names space.now indexes.now))) }
+    ensures { OnOk result (printer.new ≡ with_indexes printer.old space.now indexes.now) }
 {
     let Some((first, rest)) = indexes.split_first() else {
         return Ok(());
