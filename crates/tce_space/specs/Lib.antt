@@ -6,3 +6,4 @@ pub mod SpaceEntries
 pub mod Box
 pub mod Tiling
 pub mod Laws
+pub mod Refusals

@@ -88,3 +88,7 @@ abbrev pub WordsAreApart : Type 0
 WordsAreApart =
     (s : Tiling) → IsTiling s → (xs ys : List ℕ) → IsInside s.extents xs → IsInside s.extents ys
     → (word_number s xs ≡ word_number s ys → xs ≡ ys) × (word_number s xs < padded_words s)
+
+-- the tiling with these extents and edges
+abbrev pub tiling_with : List ℕ → List ℕ → Tiling
+tiling_with extents edges = record { extents = extents; edges = edges }

@@ -1,7 +1,8 @@
 // The shape of an array that is cut into tiles.
-ghost use Rattle.std.specs.Prelude.{◌≡◌, ◌<◌, ◌≤◌, ◌^◌, ◌↔◌, length, All, IfOk, ⊤};
-ghost use Rattle.tce_space.specs.Limits.{max_array_words, max_rank, max_tile_words};
-ghost use Rattle.tce_space.specs.Tiling.{Tiling, ArePositive, WordsAreApart, counts_along, no_dimensions, tile_words, padded_words};
+ghost use Rattle.std.specs.Prelude.{◌≡◌, ◌<◌, ◌≤◌, ◌^◌, length, All, IfOk, ⊤};
+ghost use Rattle.tce_space.specs.Limits.{max_rank};
+ghost use Rattle.tce_space.specs.Tiling.{Tiling, ArePositive, WordsAreApart, counts_along, no_dimensions, tile_words, padded_words, tiling_with};
+ghost use Rattle.tce_space.specs.Refusals.{RefusesTiles, RefusesArrays};
 
 use crate::limits::{MAX_ARRAY_WORDS, MAX_RANK, MAX_TILE_WORDS};
 use crate::product::{product_of, product_within};
@@ -60,11 +61,9 @@ pub(crate) fn shape_of(
     requires same_rank { length edges.items ≡ length extents.items }
     requires sizes { All (λ n. (0 < n) × (n < 2 ^ 32)) extents.items }
     requires positive { ArePositive edges.items }
-    ensures made { let s : Tiling = record { extents = extents.items; edges = edges.items } in IfOk result (λ shape. shape ≡ s) }
-    ensures tile_words { let s : Tiling = record { extents = extents.items; edges = edges.items } in
-        (result ≡ Err ShapeFault.TileWords) ↔ (max_tile_words < tile_words s) }
-    ensures array_words { let s : Tiling = record { extents = extents.items; edges = edges.items } in
-        (result ≡ Err ShapeFault.ArrayWords) ↔ ((tile_words s ≤ max_tile_words) × (max_array_words < padded_words s)) }
+    ensures made { IfOk result (λ shape. shape ≡ tiling_with extents.items edges.items) }
+    ensures tile_words { RefusesTiles (tiling_with extents.items edges.items) result }
+    ensures array_words { RefusesArrays (tiling_with extents.items edges.items) result }
 {
     let Some(tile_words) = product_within(edges.as_slice(), MAX_TILE_WORDS) else {
         return Err(ShapeFault::TileWords);

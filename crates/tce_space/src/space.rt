@@ -1,13 +1,14 @@
 // Index spaces: the declared ranges and indexes, by name and by number.
-ghost use Rattle.std.specs.Prelude.{◌≡◌, ◌<◌, ◌≤◌, ◌^◌, ◌↔◌, length, None, IsSome, SomeIff, IfOk, OnOk, OnErr, IsTrue, slice_index_or, All};
-ghost use Rattle.tce_space.specs.Space.{IsSpace, IsRange, IsDeclared, AddsRange, AddsIndex, no_declarations, range_at, index_at, extent_at, edge_at, range_number, index_number, volume_of, tiling_of};
-ghost use Rattle.tce_space.specs.Limits.{max_array_words, max_indexes, max_name_bytes, max_ranges, max_tile_words, max_volume};
-ghost use Rattle.tce_space.specs.Tiling.{tile_words, padded_words};
+ghost use Rattle.std.specs.Prelude.{◌≡◌, ◌<◌, ◌≤◌, ◌^◌, length, None, IfOk, OnOk, OnErr, IsTrue, slice_index_or, All};
+ghost use Rattle.tce_space.specs.Space.{IsSpace, IsRange, IsDeclared, no_declarations, range_at, index_at, extent_at, edge_at, range_number, index_number, tiling_of};
+ghost use Rattle.tce_space.specs.Limits.{max_name_bytes};
+ghost use Rattle.tce_space.specs.Tiling.{tile_words};
 ghost use Rattle.tce_space.specs.Laws.{VolumesGrow};
 ghost use Rattle.tce_space.specs.Name.{is_name};
 ghost use Rattle.tce_space.specs.SpaceEntries.{Enters, entry_number, names_of};
 ghost use Rattle.std.specs.List.{IsDistinct};
 ghost use Rattle.std.specs.Str.{bytes_eq};
+ghost use Rattle.tce_space.specs.Refusals.{RefusesTwice, RefusesEntries, RefusesRanges, RefusesIndexes, DeclaresRange, DeclaresIndex, GivesVolume, RefusesTiles, RefusesArrays};
 
 use crate::index_set::IndexSet;
 use crate::limits::{MAX_INDEXES, MAX_RANGES, MAX_RANK, MAX_VOLUME};
@@ -75,8 +76,8 @@ fn declare<V: Copy>(
     requires small { limit ≤ 256 }
     requires within { length entries.old.entries ≤ limit }
     ensures added { IfOk result (Enters entries.old.entries entries.new.entries limit name.now value) }
-    ensures named { (result ≡ Err SpaceFault.NameTwice) ↔ IsSome (entry_number entries.old.entries name.now.bytes) }
-    ensures full { (result ≡ Err SpaceFault.Full) ↔ ((entry_number entries.old.entries name.now.bytes ≡ None) × (length entries.old.entries ≡ limit)) }
+    ensures named { RefusesTwice (entry_number entries.old.entries name.now.bytes) result }
+    ensures full { RefusesEntries entries.old.entries limit name.now.bytes result }
     ensures refused { OnErr result (entries.new.entries ≡ entries.old.entries) }
     ensures apart { OnOk result (IsDistinct bytes_eq (names_of entries.new.entries)) }
 {
@@ -131,9 +132,9 @@ impl Space {
     /// `NameTwice` where a range has this name, and `Full` where there are 16 others. After a refusal the space is unchanged.
     pub fn add_range(&mut self, name: &Name, extent: u64, edge: u64) -> Result<u8, SpaceFault>
         requires { IsRange (record { name = name.now.bytes; extent = extent; edge = edge }) }
-        ensures added { IfOk result (AddsRange self.old self.new (record { name = name.now.bytes; extent = extent; edge = edge })) }
-        ensures named { (result ≡ Err SpaceFault.NameTwice) ↔ IsSome (range_number self.old name.now.bytes) }
-        ensures full { (result ≡ Err SpaceFault.Full) ↔ ((range_number self.old name.now.bytes ≡ None) × (length self.old.ranges ≡ max_ranges)) }
+        ensures added { IfOk result (DeclaresRange self.old self.new name.now.bytes extent edge) }
+        ensures named { RefusesTwice (range_number self.old name.now.bytes) result }
+        ensures full { RefusesRanges self.old name.now.bytes result }
         ensures refused { OnErr result (self.new ≡ self.old) }
         ensures limits { IsSpace self.new }
     {
@@ -151,9 +152,9 @@ impl Space {
     pub fn add_index(&mut self, name: &Name, range: u8) -> Result<u8, SpaceFault>
         requires name { IsTrue (is_name name.now.bytes) }
         requires declared { range < length self.old.ranges }
-        ensures added { IfOk result (AddsIndex self.old self.new (record { name = name.now.bytes; of_range = range })) }
-        ensures named { (result ≡ Err SpaceFault.NameTwice) ↔ IsSome (index_number self.old name.now.bytes) }
-        ensures full { (result ≡ Err SpaceFault.Full) ↔ ((index_number self.old name.now.bytes ≡ None) × (length self.old.indexes ≡ max_indexes)) }
+        ensures added { IfOk result (DeclaresIndex self.old self.new name.now.bytes range) }
+        ensures named { RefusesTwice (index_number self.old name.now.bytes) result }
+        ensures full { RefusesIndexes self.old name.now.bytes result }
         ensures refused { OnErr result (self.new ≡ self.old) }
         ensures limits { IsSpace self.new }
     {
@@ -267,7 +268,7 @@ impl Space {
     /// How many elements an array over these indexes has: the product of their extents. `None` where it is above 2^90.
     pub fn volume(&self, set: IndexSet) -> Option<u128>
         requires { IsDeclared self.now set }
-        ensures volume { SomeIff result (volume_of self.now set ≤ max_volume) (volume_of self.now set) }
+        ensures volume { GivesVolume self.now set result }
         ensures limits { IsSpace self.now }
     {
         let mut product: u128 = 1;
@@ -288,9 +289,8 @@ impl Space {
     pub fn shape(&self, ranges: &ArrayVec<u8, MAX_RANK>) -> Result<Shape, ShapeFault>
         requires { All (λ r. r < length self.now.ranges) ranges.now.items }
         ensures made { IfOk result (λ shape. shape ≡ tiling_of self.now ranges.now.items) }
-        ensures tile_words { (result ≡ Err ShapeFault.TileWords) ↔ (max_tile_words < tile_words (tiling_of self.now ranges.now.items)) }
-        ensures array_words { (result ≡ Err ShapeFault.ArrayWords) ↔
-            ((tile_words (tiling_of self.now ranges.now.items) ≤ max_tile_words) × (max_array_words < padded_words (tiling_of self.now ranges.now.items))) }
+        ensures tile_words { RefusesTiles (tiling_of self.now ranges.now.items) result }
+        ensures array_words { RefusesArrays (tiling_of self.now ranges.now.items) result }
     {
         let mut extents = ArrayVec::new();
         let mut edges = ArrayVec::new();
