@@ -1,6 +1,6 @@
 -- The arrays of a specification, by the numbers of their tensors.
 use Rattle.std.specs.Prelude.{◌≡◌, ◌≢◌, ℕ, ◌≤◌, true, false, List, length, slice_get, IsTrue, Some}
-use Rattle.tce_space.specs.Tiling.{tile_words}
+use Rattle.tce_space.specs.Tiling.{tile_words, Tiling}
 use Rattle.tce_array.specs.declared.form.Form.{Form}
 use Rattle.tce_array.specs.declared.form.Form.TheVariants.{One}
 use Rattle.tce_cache.specs.declared.array.ArrayRef.{ArrayRef}
@@ -41,3 +41,7 @@ pub record AreArraysOf (s : Specification) (forms : List Form) (arrays : List Ar
   pub files : (t : ℕ) (a : ArrayRef) → slice_get arrays t ≡ Some a → a.file.bytes ≡ file_of s t
   pub only : (t : ℕ) (a : ArrayRef) → slice_get arrays t ≡ Some a → a.writable ≡ true → t ≡ s.result
   pub fit : AreArrays arrays (largest_tile s)
+
+-- a shape is the tensor's own where its tiles are no larger than those that a run moves
+abbrev pub HasOwnShape : Specification → ℕ → Tiling → Type 0
+HasOwnShape s t shape = tile_words (shape_of s t) ≤ largest_tile s → shape ≡ shape_of s t

@@ -1,6 +1,6 @@
 -- The files of the operands of a specification.
-use Rattle.std.specs.Prelude.{◌≡◌, ℕ, ◌<◌, List, length, slice_index, slice_index_or}
-use Rattle.std.specs.Option.{IsSomeAnd}
+use Rattle.std.specs.Prelude.{◌≡◌, ℕ, ◌<◌, List, length, slice_index, slice_index_or, Option, Result, IsErrAnd}
+use Rattle.std.specs.Option.{IsSomeAnd, ForSome}
 use Rattle.tce_outside.specs.Files.{Files, file}
 use Rattle.tce_array.specs.declared.form.Form.{Form}
 use Rattle.tce_array.specs.declared.form.Form.TheVariants.{One}
@@ -10,6 +10,7 @@ use Rattle.tce_spec.specs.Specification.{Specification}
 use Rattle.tce_spec.specs.Operands.{operands, shape_of}
 use Rattle.tce_tensors.specs.TensorFiles.{file_of}
 use Rattle.tce_tensors.specs.declared.opening.Refused.{Refused}
+use Rattle.tce_array.specs.declared.fault.ArrayFault.TheVariants.{Disk}
 
 -- how many operands there are, and the d-th by first use
 abbrev pub operand_count : Specification → ℕ
@@ -46,3 +47,29 @@ pub record IsRefusedAt (files : Files) (s : Specification) (d : ℕ) (refused : 
 
 abbrev pub IsRefused : Files → Specification → Refused → Type 0
 IsRefused files s refused = (d : ℕ) × IsRefusedAt files s d refused
+
+-- a declared tensor is refused
+abbrev pub IsOfDeclared : Specification → Refused → Type 0
+IsOfDeclared s refused = refused.tensor < length s.declarations.tensors
+
+-- the answer is that the disk failed
+abbrev pub IsDiskFault : {A : Type 0} → Result A Refused → Type 0
+IsDiskFault result = IsErrAnd result (λ (refused : Refused). refused.fault ≡ Disk)
+
+-- Of a disk, where it tells its files.
+
+-- the file of a tensor is there, is an array of the tensor's shape, and has this form
+abbrev pub HasArrayOn : Option Files → Specification → ℕ → Form → Type 0
+HasArrayOn told s t form = ForSome told (λ files. IsSomeAnd (file files (file_of s t)) (λ bytes. (form_of bytes ≡ form) × IsArray (shape_of s t) bytes))
+
+-- the file of a tensor has the fault for which it is refused
+abbrev pub HasFaultOn : Option Files → Specification → ℕ → Refused → Type 0
+HasFaultOn told s t refused = ForSome told (λ files. IsFault (shape_of s t) (file files (file_of s t)) refused.fault)
+
+-- the files of all operands have these forms, by the numbers of their tensors
+abbrev pub AreOpenedOn : Option Files → Specification → List Form → Type 0
+AreOpenedOn told s forms = ForSome told (λ files. AreOpened files s forms (operand_count s))
+
+-- the first operand that is refused, and why
+abbrev pub IsRefusedOn : Option Files → Specification → Refused → Type 0
+IsRefusedOn told s refused = ForSome told (λ files. IsRefused files s refused)

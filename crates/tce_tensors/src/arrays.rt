@@ -1,8 +1,8 @@
 // The arrays of a specification.
-ghost use Rattle.std.specs.Prelude.{◌≡◌, ◌<◌, ◌≤◌, IfOk, length};
+ghost use Rattle.std.specs.Prelude.{◌<◌, ◌≤◌, IfOk, length};
 ghost use Rattle.tce_space.specs.Tiling.{tile_words};
-ghost use Rattle.tce_spec.specs.Operands.{largest_tile, shape_of};
-ghost use Rattle.tce_tensors.specs.Arrays.{IsArrayOf, AreArraysOf};
+ghost use Rattle.tce_spec.specs.Operands.{largest_tile};
+ghost use Rattle.tce_tensors.specs.Arrays.{IsArrayOf, AreArraysOf, HasOwnShape};
 
 use crate::file_of;
 use crate::opening::Forms;
@@ -15,7 +15,7 @@ use tce_spec::Spec;
 // The shape of a tensor, or of the result where the tensor's tiles are larger than those that a run moves.
 fn shape_for(spec: &Spec, t: u8) -> Result<Shape, AllocError>
     requires { t < length spec.now.declarations.tensors }
-    ensures own { IfOk result (λ shape. tile_words (shape_of spec.now t) ≤ largest_tile spec.now → shape ≡ shape_of spec.now t) }
+    ensures own { IfOk result (HasOwnShape spec.now t) }
     ensures fits { IfOk result (λ shape. tile_words shape ≤ largest_tile spec.now) }
 {
     let own = &spec.tensor(t).shape;
