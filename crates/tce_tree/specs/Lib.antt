@@ -11,3 +11,4 @@ pub mod Measure
 pub mod Memory
 pub mod Laws
 pub mod Examples
+pub mod Building

@@ -46,3 +46,7 @@ pub record IsWellFormed (tree : ContractionTree) : Type 0 where
 -- all indexes of the tree are declared
 abbrev pub IsDeclaredTree : IndexSpace → ContractionTree → Type 0
 IsDeclaredTree space tree = IsTrue (indexes_below (length space.indexes) tree)
+
+-- each number of the list is that of a declared index
+abbrev pub AreIndexes : IndexSpace → List ℕ → Type 0
+AreIndexes space indexes = IsTrue (list_all (λ i. nat_lt i (length space.indexes)) indexes)

@@ -1,16 +1,15 @@
 // The nodes of an expression, appended in postorder, and the first fault among them.
-ghost use Rattle.std.specs.Prelude.{◌≡◌, ◌<◌, ◌≤◌, ◌+◌, ◌-◌, ◌++◌, ◌∷◌, [], nat_lt, length, None, IfOk, OnOk, IfErr, IsTrue};
-ghost use Rattle.std.specs.List.{list_all};
+ghost use Rattle.std.specs.Prelude.{◌≡◌, ◌<◌, ◌≤◌, ◌+◌, ◌-◌, ◌++◌, ◌∷◌, [], None, IfOk, OnOk, IfErr};
 ghost use Rattle.arrayvec.specs.ArrayVec.{array_vec_len};
 ghost use Rattle.tce_space.specs.IndexSet.{set_of};
 ghost use Rattle.tce_space.specs.Space.{IsDeclared};
-ghost use Rattle.tce_tree.specs.ContractionTree.{binary, sum as sum_tree, dims, loops, operations};
+ghost use Rattle.tce_tree.specs.ContractionTree.{binary, dims, loops, operations};
 ghost use Rattle.tce_tree.specs.Expr.{tree_of};
-ghost use Rattle.tce_tree.specs.WellFormed.{IsDeclaredTree};
-ghost use Rattle.tce_tree.specs.FlatTree.{flat, node_of, operand_of, arithmetic_of};
-ghost use Rattle.tce_tree.specs.Faults.{nodes_fault, sum_fault, loops_fault, Shows};
-ghost use Rattle.std.specs.Option.{option_or};
+ghost use Rattle.tce_tree.specs.WellFormed.{IsDeclaredTree, AreIndexes};
+ghost use Rattle.tce_tree.specs.FlatTree.{node_of, arithmetic_of};
+ghost use Rattle.tce_tree.specs.Faults.{sum_fault, loops_fault, Shows};
 ghost use Rattle.tce_space.specs.Limits.{max_nodes};
+ghost use Rattle.tce_tree.specs.Building.{GrowsBy, AppendsNodes, fault_behind, StandLast, AppendsSum, IsFaultlessSum, IsSumFault, IsOperandBefore};
 
 use crate::expr::{Expr, Leaf};
 use crate::fault::TreeFault;
@@ -27,10 +26,10 @@ pub(crate) fn push_nodes(
 ) -> Result<(), TreeFault>
     requires room { array_vec_len nodes.old + operations (tree_of expr.now) ≤ max_nodes }
     requires declared { IsDeclaredTree space.now (tree_of expr.now) }
-    ensures len { OnOk result (array_vec_len nodes.new ≡ array_vec_len nodes.old + operations (tree_of expr.now)) }
-    ensures ok { OnOk result (nodes.new.items ≡ nodes.old.items ++ flat (array_vec_len nodes.old) (tree_of expr.now)) }
-    ensures faultless { OnOk result (nodes_fault space.now (array_vec_len nodes.old) (tree_of expr.now) ≡ None) }
-    ensures fault { IfErr result (Shows (nodes_fault space.now (array_vec_len nodes.old) (tree_of expr.now))) }
+    ensures len { OnOk result (GrowsBy nodes.old nodes.new (operations (tree_of expr.now))) }
+    ensures ok { OnOk result (AppendsNodes nodes.old nodes.new expr.now) }
+    ensures faultless { OnOk result (fault_behind space.now nodes.old expr.now ≡ None) }
+    ensures fault { IfErr result (Shows (fault_behind space.now nodes.old expr.now)) }
 {
     let first = nodes.len();
     match expr {
@@ -67,7 +66,7 @@ fn push_binary(
     left: &Expr,
     right: &Expr,
 ) -> Result<(), TreeFault>
-    requires place { first + operations (tree_of left.now) + operations (tree_of right.now) ≡ array_vec_len nodes.old }
+    requires place { StandLast nodes.old first left.now right.now }
     requires room { array_vec_len nodes.old < max_nodes }
     requires left_declared { IsDeclaredTree space.now (tree_of left.now) }
     requires right_declared { IsDeclaredTree space.now (tree_of right.now) }
@@ -104,14 +103,12 @@ fn push_sum(
 ) -> Result<(), TreeFault>
     requires place { first + operations (tree_of operand.now) ≡ array_vec_len nodes.old }
     requires room { array_vec_len nodes.old < max_nodes }
-    requires listed { IsTrue (list_all (λ i. nat_lt i (length space.now.indexes)) indexes.now.items) }
+    requires listed { AreIndexes space.now indexes.now.items }
     requires declared { IsDeclaredTree space.now (tree_of operand.now) }
     ensures len { OnOk result (array_vec_len nodes.new ≡ array_vec_len nodes.old + 1) }
-    ensures ok { OnOk result (nodes.new.items ≡ nodes.old.items ++ node_of first (sum_tree indexes.now.items (tree_of operand.now)) ∷ []) }
-    ensures faultless { OnOk result (option_or (sum_fault space.now indexes.now.items (dims (tree_of operand.now)))
-        (loops_fault space.now (array_vec_len nodes.old) (dims (tree_of operand.now))) ≡ None) }
-    ensures fault { IfErr result (Shows (option_or (sum_fault space.now indexes.now.items (dims (tree_of operand.now)))
-        (loops_fault space.now (array_vec_len nodes.old) (dims (tree_of operand.now))))) }
+    ensures ok { OnOk result (AppendsSum nodes.old nodes.new first indexes.now operand.now) }
+    ensures faultless { OnOk result (IsFaultlessSum space.now nodes.old indexes.now operand.now) }
+    ensures fault { IfErr result (IsSumFault space.now nodes.old indexes.now operand.now) }
 {
     let end = nodes.len();
     let loops = dims_of(space, operand);
@@ -132,7 +129,7 @@ fn push_sum(
 fn operand_before(end: usize, expr: &Expr) -> Result<Operand, AllocError>
     requires numbered { operations (tree_of expr.now) ≤ end }
     requires few { end ≤ max_nodes }
-    ensures { IfOk result (λ operand. operand ≡ operand_of (end - operations (tree_of expr.now)) (tree_of expr.now)) }
+    ensures { IfOk result (IsOperandBefore end expr.now) }
 {
     match expr {
         Expr::Leaf(leaf) => Ok(Operand::Leaf(Leaf {
@@ -165,7 +162,7 @@ fn dims_of(space: &Space, expr: &Expr) -> IndexSet
 
 // The set of the listed indexes.
 fn set_of_list(space: &Space, indexes: &[u8]) -> IndexSet
-    requires { IsTrue (list_all (λ i. nat_lt i (length space.now.indexes)) indexes.now) }
+    requires { AreIndexes space.now indexes.now }
     ensures { result ≡ set_of indexes.now }
 {
     let _count = space.index_count();
@@ -174,7 +171,7 @@ fn set_of_list(space: &Space, indexes: &[u8]) -> IndexSet
 
 // Refuses a sum over an index that its operand lacks.
 fn check_sum(space: &Space, indexes: &[u8], dims: IndexSet) -> Result<(), TreeFault>
-    requires { IsTrue (list_all (λ i. nat_lt i (length space.now.indexes)) indexes.now) }
+    requires { AreIndexes space.now indexes.now }
     ensures ok { OnOk result (sum_fault space.now indexes.now dims ≡ None) }
     ensures fault { IfErr result (Shows (sum_fault space.now indexes.now dims)) }
 {
