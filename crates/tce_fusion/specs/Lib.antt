@@ -2,3 +2,4 @@ pub mod Scope
 pub mod Tops
 pub mod Least
 pub mod Examples
+pub mod Carried

@@ -58,3 +58,7 @@ Precedes tree fusion v = StandsBefore (λ i. scope_size tree fusion i v)
 -- the order of node `v` goes by the sizes of the scopes at `v`
 abbrev pub IsStandardAt : ContractionTree → List ℕ → ℕ → List ℕ → Type 0
 IsStandardAt tree fusion v order = AllPairs (Precedes tree fusion v) order
+
+-- no node below `v` has loops whose scopes cross
+abbrev pub NoneIllegalBelow : ContractionTree → List ℕ → ℕ → Type 0
+NoneIllegalBelow tree fusion v = (w : ℕ) → w < v → IsIllegalAt tree fusion w → ⊥

@@ -1,5 +1,5 @@
 -- Scopes as the program keeps them: for each index the topmost node of its scope at each node.
-use Rattle.std.specs.Prelude.{◌≡◌, ℕ, ◌<◌, ◌==◌, Bool, false, List, [], ◌⊎◌, slice_index, slice_index_or, IsTrue}
+use Rattle.std.specs.Prelude.{◌≡◌, ℕ, ◌<◌, ◌==◌, Bool, false, List, [], ◌⊎◌, slice_index, slice_index_or, IsTrue, length}
 use Rattle.std.specs.List.{count_by, range_with_len}
 use Rattle.std.specs.declared.option.Option.TheVariants.{Some}
 use Rattle.tce_space.specs.Limits.{max_indexes}
@@ -43,3 +43,24 @@ AreNested count s t = IsSubset count s t ⊎ IsSubset count t s
 -- how many nodes have the same top as `v`
 unfoldable pub size_in : ℕ → List ℕ → ℕ → ℕ
 size_in count tops v = count_by (joined tops v) (range_with_len 0 count)
+
+-- of any two of these loops, the scope of one at `v` contains that of the other
+abbrev pub LoopsAreNested : List (List ℕ) → ℕ → ℕ → ℕ → Type 0
+LoopsAreNested tops count loops v =
+    (i j : ℕ) → i < max_indexes → j < max_indexes → IsTrue (has loops i) → IsTrue (has loops j)
+    → AreNested count (joined (row tops i) v) (joined (row tops j) v)
+
+-- the tops of the nodes above `v` are those of the scopes of `i`
+abbrev pub AreTopsAbove : ContractionTree → List ℕ → ℕ → ℕ → List ℕ → Type 0
+AreTopsAbove tree fusion i v tops = (w : ℕ) → v < w → w < operations tree → IsTop tree fusion i w (slice_index tops w)
+
+-- how many nodes the scope of an index at `v` has, and that of the k-th index of an order
+abbrev pub scope_nodes : List (List ℕ) → ℕ → ℕ → ℕ → ℕ
+scope_nodes tops count v i = size_in count (row tops i) v
+
+abbrev pub nodes_at : List (List ℕ) → ℕ → ℕ → List ℕ → ℕ → ℕ
+nodes_at tops count v order k = scope_nodes tops count v (slice_index order k)
+
+-- the index at a place, if there is one, has a scope of fewer nodes than this
+abbrev pub IsSmallerAt : List (List ℕ) → ℕ → ℕ → List ℕ → ℕ → ℕ → Type 0
+IsSmallerAt tops count v order size k = k < length order → nodes_at tops count v order k < size

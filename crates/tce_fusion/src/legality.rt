@@ -4,8 +4,8 @@ ghost use Rattle.tce_space.specs.Limits.{max_indexes, max_nodes};
 ghost use Rattle.tce_space.specs.IndexSet.{has};
 ghost use Rattle.tce_tree.specs.ContractionTree.{operations};
 ghost use Rattle.tce_tree.specs.Fusion.{FusionFits};
-ghost use Rattle.tce_fusion.specs.Scope.{IsSubset, IsLegal, IsIllegalAt};
-ghost use Rattle.tce_fusion.specs.Tops.{AreNested, joined, row};
+ghost use Rattle.tce_fusion.specs.Scope.{IsSubset, IsLegal, IsIllegalAt, NoneIllegalBelow};
+ghost use Rattle.tce_fusion.specs.Tops.{AreNested, joined, row, LoopsAreNested};
 
 use crate::scopes::{Scopes, scopes_of};
 use tce_space::{IndexSet, MAX_INDEXES, MAX_NODES};
@@ -18,7 +18,7 @@ pub fn first_illegal(tree: &Tree, fusion: &Fusion) -> Option<u8>
     requires { FusionFits tree.now fusion.now.0.items }
     ensures found { IfSome result (IsIllegalAt tree.now fusion.now.0.items) }
     ensures inside { IfSome result (λ v. v < operations tree.now) }
-    ensures least { IfSome result (λ v. (w : ℕ) → w < v → IsIllegalAt tree.now fusion.now.0.items w → ⊥) }
+    ensures least { IfSome result (NoneIllegalBelow tree.now fusion.now.0.items) }
     ensures legal { IsNone result ↔ IsLegal tree.now fusion.now.0.items }
 {
     let scopes = scopes_of(tree, fusion);
@@ -45,8 +45,7 @@ fn loops_cross(scopes: &Scopes, count: u8, loops: IndexSet, v: u8) -> bool
     requires inside { v < count }
     ensures yes { IsTrue result → (i : ℕ) × (j : ℕ) × IsTrue (has loops i) × IsTrue (has loops j)
         × (AreNested count (joined (row scopes.now.0 i) v) (joined (row scopes.now.0 j) v) → ⊥) }
-    ensures no { result ≡ false → (i j : ℕ) → i < max_indexes → j < max_indexes → IsTrue (has loops i) → IsTrue (has loops j)
-        → AreNested count (joined (row scopes.now.0 i) v) (joined (row scopes.now.0 j) v) }
+    ensures no { result ≡ false → LoopsAreNested scopes.now.0 count loops v }
 {
     for i in 0..MAX_INDEXES as u8 {
         if loops.has(i) && crosses_another(scopes, count, loops, v, i) {

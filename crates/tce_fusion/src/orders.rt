@@ -1,12 +1,13 @@
 // Loop orders that carry a fusion.
-ghost use Rattle.std.specs.Prelude.{◌≡◌, ◌<◌, ◌≤◌, ◌+◌, ℕ, ◌↔◌, IsTrue, IsNone, IfSome, All, AllPairs, IsPermutation, length, slice_index};
+ghost use Rattle.std.specs.Prelude.{◌≡◌, ◌<◌, ◌≤◌, ◌+◌, ℕ, ◌↔◌, IsTrue, IsNone, IfSome, All, AllPairs, IsPermutation, length};
 ghost use Rattle.tce_space.specs.Limits.{max_indexes, max_loops, max_nodes};
 ghost use Rattle.tce_space.specs.IndexSet.{members, count as size};
 ghost use Rattle.tce_tree.specs.ContractionTree.{operations};
 ghost use Rattle.tce_tree.specs.Fusion.{FusionFits, OrdersFit, Carries, LeadBoth, fused_at, order_at};
-ghost use Rattle.tce_tree.specs.Orders.{lists_of, LeadsUp};
+ghost use Rattle.tce_tree.specs.Orders.{lists_of};
 ghost use Rattle.tce_fusion.specs.Scope.{IsLegal, IsStandardAt, StandsBefore};
-ghost use Rattle.tce_fusion.specs.Tops.{row, size_in};
+ghost use Rattle.tce_fusion.specs.Tops.{size_in, scope_nodes, nodes_at, IsSmallerAt};
+ghost use Rattle.tce_fusion.specs.Carried.{IsCarried, IsNotCarriedAt, AreCarriedBelow};
 
 use crate::legality::{is_joined, tops_in};
 use crate::scopes::{Scopes, scopes_of};
@@ -36,10 +37,10 @@ pub fn standard_orders(tree: &Tree, fusion: &Fusion) -> Orders
 pub fn first_not_carried(tree: &Tree, fusion: &Fusion, orders: &Orders) -> Option<u8>
     requires fusion_fits { FusionFits tree.now fusion.now.0.items }
     requires orders_fit { OrdersFit tree.now (lists_of orders.now.0.items) }
-    ensures found { IfSome result (λ v. LeadsUp tree.now fusion.now.0.items (lists_of orders.now.0.items) v → ⊥) }
+    ensures found { IfSome result (IsNotCarriedAt tree.now fusion.now.0.items orders.now.0.items) }
     ensures inside { IfSome result (λ v. v + 1 < operations tree.now) }
-    ensures least { IfSome result (λ v. (w : ℕ) → w < v → LeadsUp tree.now fusion.now.0.items (lists_of orders.now.0.items) w) }
-    ensures carried { IsNone result ↔ Carries tree.now fusion.now.0.items (lists_of orders.now.0.items) }
+    ensures least { IfSome result (AreCarriedBelow tree.now fusion.now.0.items orders.now.0.items) }
+    ensures carried { IsNone result ↔ IsCarried tree.now fusion.now.0.items orders.now.0.items }
     ensures legal { IsNone result → IsLegal tree.now fusion.now.0.items }
 {
     for v in 0..tree.count() {
@@ -89,7 +90,7 @@ fn standard_order(scopes: &Scopes, count: u8, loops: IndexSet, v: u8) -> LoopOrd
     requires inside { v < count }
     requires limit { size loops ≤ max_loops }
     ensures permutes { IsPermutation (members loops) result.0.items }
-    ensures standard { AllPairs (StandsBefore (λ i. size_in count (row scopes.now.0 i) v)) result.0.items }
+    ensures standard { AllPairs (StandsBefore (scope_nodes scopes.now.0 count v)) result.0.items }
 {
     let mut order = ArrayVec::new();
     for i in 0..MAX_INDEXES as u8 {
@@ -108,8 +109,8 @@ fn place_behind(scopes: &Scopes, count: u8, v: u8, order: &[u8], size: u8) -> us
     requires inside { v < count }
     requires indexes { All (λ i. i < max_indexes) order.now }
     ensures within { result ≤ length order.now }
-    ensures before { (k : ℕ) → k < result → size ≤ size_in count (row scopes.now.0 (slice_index order.now k)) v }
-    ensures behind { result < length order.now → size_in count (row scopes.now.0 (slice_index order.now result)) v < size }
+    ensures before { (k : ℕ) → k < result → size ≤ nodes_at scopes.now.0 count v order.now k }
+    ensures behind { IsSmallerAt scopes.now.0 count v order.now size result }
 {
     for (k, i) in order.iter().enumerate() {
         if scope_size(tops_in(scopes, *i), count, v) < size {

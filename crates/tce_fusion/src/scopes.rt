@@ -1,10 +1,10 @@
 // The scopes of all indexes at all nodes, told by the topmost node of each.
-ghost use Rattle.std.specs.Prelude.{◌≡◌, ◌<◌, ◌≤◌, ℕ, IfSome, IsNone, false, slice_index};
+ghost use Rattle.std.specs.Prelude.{◌≡◌, ◌<◌, ◌≤◌, IfSome, IsNone, false};
 ghost use Rattle.tce_space.specs.Limits.{max_indexes, max_nodes};
 ghost use Rattle.tce_space.specs.IndexSet.{has};
 ghost use Rattle.tce_tree.specs.ContractionTree.{operations};
 ghost use Rattle.tce_tree.specs.Fusion.{FusionFits, fused_at};
-ghost use Rattle.tce_fusion.specs.Tops.{IsFusedParent, IsTop, TellsScopes, TellsAllScopes};
+ghost use Rattle.tce_fusion.specs.Tops.{IsFusedParent, IsTop, TellsScopes, TellsAllScopes, AreTopsAbove};
 
 use tce_space::{MAX_INDEXES, MAX_NODES};
 use tce_tree::{Fusion, Tree};
@@ -42,7 +42,7 @@ fn top_of(tree: &Tree, fusion: &Fusion, i: u8, v: u8, tops: &[u8; MAX_NODES]) ->
     requires index { i < max_indexes }
     requires inside { v < operations tree.now }
     requires few { operations tree.now ≤ max_nodes }
-    requires above { (w : ℕ) → v < w → w < operations tree.now → IsTop tree.now fusion.now.0.items i w (slice_index tops.now w) }
+    requires above { AreTopsAbove tree.now fusion.now.0.items i v tops.now }
     ensures { IsTop tree.now fusion.now.0.items i v result }
 {
     match fused_parent(tree, fusion, i, v) {
