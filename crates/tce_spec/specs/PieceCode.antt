@@ -3,12 +3,15 @@ use Rattle.std.specs.Prelude.{◌≡◌, ⊤, ◌⊎◌, ℕ, true, ◌+◌, ◌
 use Rattle.std.specs.List.{AllByRecursion, IsDistinct}
 use Rattle.std.specs.Str.{bytes_eq}
 use Rattle.tce_space.specs.Limits.{max_rank, max_tensors}
-use Rattle.tce_space.specs.IndexSet.{count}
+use Rattle.tce_space.specs.IndexSet.{count, has}
 use Rattle.tce_tree.specs.ContractionTree.{ContractionTree, leaf, constant, binary, sum, operations, node, node_dims}
-use Rattle.tce_declarations.specs.Declarations.{IsTensor}
-use Rattle.tce_pieces.specs.Pieces.{Cuts, stored}
+use Rattle.tce_declarations.specs.Declarations.{IsTensor, Declarations}
+use Rattle.tce_pieces.specs.Pieces.{Cuts, stored, except, rest_of}
 use Rattle.tce_spec.specs.Specification.{Specification}
-use Rattle.tce_spec.specs.PieceSpecification.{source}
+use Rattle.tce_spec.specs.PieceSpecification.{source, renumbered, place_in}
+use Rattle.tce_tree.specs.Expr.{tree_of}
+use Rattle.tce_tree.specs.declared.expr.Expr.{Expr}
+use Rattle.tce_tree.specs.declared.expr.Leaf.{Leaf}
 
 -- the nodes of the tree from `first` on are those of this part of it
 abbrev pub StandsAt : ContractionTree → ℕ → ContractionTree → Type 0
@@ -37,3 +40,19 @@ pub record CanDeclare (s : Specification) (numbers : List ℕ) : Type 0 where
 -- the number of what a piece computes
 abbrev pub target_number : Specification → ℕ → ℕ
 target_number s v = if v + 1 == operations s.tree then s.result else stored v
+
+-- the cut nodes, as the bits of a number, but the root of the piece
+abbrev pub cuts_below : ℕ → ℕ → Cuts
+cuts_below cuts root = except (has cuts) root
+
+-- an expression of what is left of a part of the tree, whose nodes are numbered from `first` on
+abbrev pub IsRestOf : ℕ → ℕ → ℕ → Expr → Expr → Type 0
+IsRestOf cuts root first part rest = tree_of rest ≡ rest_of (cuts_below cuts root) first (tree_of part)
+
+-- the same expression, with the places of its tensors in a list for their numbers
+abbrev pub IsRenumbered : List ℕ → Expr → Expr → Type 0
+IsRenumbered numbers expr own = tree_of own ≡ renumbered (place_in numbers) (tree_of expr)
+
+-- the specification whose result has the values of the expression
+abbrev pub specification_to : Declarations → Leaf → Expr → Specification
+specification_to d target expr = record { declarations = d; result = target.tensor; indexes = target.indexes.items; tree = tree_of expr }

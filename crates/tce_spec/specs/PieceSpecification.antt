@@ -3,7 +3,7 @@ use Rattle.std.specs.Prelude.{ℕ, ◌+◌, ◌-◌, ◌<◌, ◌==◌, nat_lt, 
 use Rattle.std.specs.Fmt.{decimal}
 use Rattle.tce_space.specs.IndexSet.{members}
 use Rattle.tce_tree.specs.ContractionTree.{ContractionTree, leaf, constant, binary, sum, operations, node_dims}
-use Rattle.tce_declarations.specs.Declarations.{Tensor, tensor_at}
+use Rattle.tce_declarations.specs.Declarations.{Tensor, tensor_at, Declarations}
 use Rattle.tce_pieces.specs.Pieces.{Cuts, is_root, piece}
 use Rattle.tce_pieces.specs.Storable.{ranges_of_node, storable}
 use Rattle.tce_spec.specs.Specification.{Specification}
@@ -16,6 +16,10 @@ array_of s v = record { name = codes "spill-" ++ decimal v; ranges = ranges_of_n
 -- what a number means in the tree of a piece: a declared tensor, or the array of a node
 abbrev pub source : Specification → ℕ → Tensor
 source s t = if nat_lt t 32 then tensor_at s.declarations t else array_of s (t - 32)
+
+-- these tensors and arrays, declared over the same space
+abbrev pub declared_of : Specification → List ℕ → Declarations
+declared_of s numbers = record { space = s.declarations.space; tensors = map (source s) numbers }
 
 -- what the piece of root `v` reads, by its first use
 abbrev pub sources : Specification → Cuts → ℕ → List ℕ

@@ -1,6 +1,6 @@
 //! The specifications of pieces of a tree.
 
-ghost use Rattle.std.specs.Prelude.{◌≡◌, ◌<◌, ◌≤◌, ◌+◌, ◌-◌, ◌++◌, ◌&&◌, nat_lt, not, map, codes, IfOk, IsTrue, length};
+ghost use Rattle.std.specs.Prelude.{◌≡◌, ◌<◌, ◌≤◌, ◌+◌, ◌-◌, ◌++◌, ◌&&◌, nat_lt, codes, IfOk, IsTrue, length};
 ghost use Rattle.std.specs.List.{list_all};
 ghost use Rattle.std.specs.Fmt.{decimal};
 ghost use Rattle.tce_space.specs.Limits.{max_nodes, max_rank};
@@ -11,8 +11,8 @@ ghost use Rattle.tce_tree.specs.Measure.{IsMeasured};
 ghost use Rattle.tce_declarations.specs.Declarations.{HaveNames};
 ghost use Rattle.tce_pieces.specs.Pieces as model;
 ghost use Rattle.tce_pieces.specs.Storable.{ranges_of_node};
-ghost use Rattle.tce_spec.specs.PieceSpecification.{CanCut, piece_of, renumbered, place_in, source, target_indexes};
-ghost use Rattle.tce_spec.specs.PieceCode.{StandsAt, HaveRank, IsSource, CanDeclare, target_number};
+ghost use Rattle.tce_spec.specs.PieceSpecification.{CanCut, piece_of, renumbered, place_in, source, target_indexes, declared_of};
+ghost use Rattle.tce_spec.specs.PieceCode.{StandsAt, HaveRank, IsSource, CanDeclare, target_number, cuts_below, IsRestOf, IsRenumbered, specification_to};
 ghost use Rattle.tce_spec.specs.Specification.{ConstantsAreWords};
 ghost use Rattle.tce_formula.specs.Contraction.{IsContraction};
 ghost use Rattle.tce_tree.specs.WellFormed.{sums_distinct};
@@ -44,7 +44,7 @@ impl CutNodes {
     // Whether the piece has the array of this node in place of the node.
     fn has(self, v: u8) -> bool
         requires { v < max_nodes }
-        ensures { result ≡ model.except (has self.cuts) self.root v }
+        ensures { result ≡ cuts_below self.cuts self.root v }
     {
         has_bit(self.cuts, v) && v != self.root
     }
@@ -53,7 +53,7 @@ impl CutNodes {
     fn has_last(self, first: u8, nodes: u8) -> bool
         requires { first + nodes ≤ max_nodes }
         ensures some { IsTrue result → 0 < nodes }
-        ensures last { 0 < nodes → result ≡ model.except (has self.cuts) self.root (first + nodes - 1) }
+        ensures last { 0 < nodes → result ≡ cuts_below self.cuts self.root (first + nodes - 1) }
     {
         nodes > 0 && self.has(first + nodes - 1)
     }
@@ -127,7 +127,7 @@ fn rest_of(
     requires inside { first + operations (tree_of part.now) ≤ operations tree.now }
     requires stands { StandsAt tree.now first (tree_of part.now) }
     requires rank { HaveRank tree.now (has cut.cuts) }
-    ensures { IfOk result (λ rest. tree_of rest ≡ model.rest_of (model.except (has cut.cuts) cut.root) first (tree_of part.now)) }
+    ensures { IfOk result (IsRestOf cut.cuts cut.root first part.now) }
 {
     let _count = tree.count();
     let nodes = part.operations() as u8;
@@ -186,7 +186,7 @@ fn place_of(numbers: &[u8], t: u8) -> u8
 // An expression with the places of its tensors in a list for their numbers.
 fn renumbered(alloc: Global, expr: &Expr, numbers: &[u8]) -> Result<Expr, AllocError>
     requires { length numbers.now ≤ 64 }
-    ensures { IfOk result (λ own. tree_of own ≡ renumbered (place_in numbers.now) (tree_of expr.now)) }
+    ensures { IfOk result (IsRenumbered numbers.now expr.now) }
 {
     match expr {
         Expr::Leaf(leaf) => Ok(Expr::Leaf(Leaf {
@@ -272,7 +272,7 @@ fn source_ranges(spec: &Spec, t: u8) -> Result<ArrayVec<u8, MAX_RANK>, AllocErro
 // These tensors and arrays over the same space.
 fn declared(alloc: Global, spec: &Spec, numbers: &[u8]) -> Result<Declarations, AllocError>
     requires { CanDeclare spec.now numbers.now }
-    ensures { IfOk result (λ d. d ≡ record { space = spec.now.declarations.space; tensors = map (source spec.now) numbers.now }) }
+    ensures { IfOk result (λ d. d ≡ declared_of spec.now numbers.now) }
 {
     let mut declarations = Declarations::over(alloc, copied_space(alloc, spec.space())?)?;
     for t in numbers {
@@ -340,7 +340,7 @@ fn specified(
     requires distinct { IsTrue (sums_distinct (tree_of expr)) }
     requires words { ConstantsAreWords (tree_of expr) }
     requires contraction { IsContraction declarations target.tensor target.indexes.items (tree_of expr) }
-    ensures { IfOk result (λ spec. spec ≡ record { declarations = declarations; result = target.tensor; indexes = target.indexes.items; tree = tree_of expr }) }
+    ensures { IfOk result (λ spec. spec ≡ specification_to declarations target expr) }
 {
     let space = declarations.space();
     match Tree::build(alloc, space, &expr) {

@@ -1,15 +1,12 @@
 //! A specification, and its reader.
 
 ghost use Rattle.std.specs.Prelude.{◌≡◌, ◌<◌, ◌≤◌, length, Result, IfOk};
-ghost use Rattle.tce_space.specs.Space.{tiling_of};
 ghost use Rattle.tce_space.specs.Tiling.{tile_words};
 ghost use Rattle.tce_tree.specs.Expr.{tree_of};
 ghost use Rattle.tce_declarations.specs.Declarations.{HaveNames, tensor_number, tensor_at};
-ghost use Rattle.tce_declarations.specs.Faults.{Fault};
-ghost use Rattle.tce_spec.specs.Specification.{Specification as SpecificationOfText, IsSpecification};
+ghost use Rattle.tce_spec.specs.Specification.{IsSpecification};
 ghost use Rattle.tce_spec.specs.Operands.{operands, largest_tile, shape_of};
-ghost use Rattle.tce_spec.specs.Outcome.{IsOutcome};
-ghost use Rattle.tce_spec.specs.OutcomeCode.{Answers};
+ghost use Rattle.tce_spec.specs.OutcomeCode.{AnswersText};
 ghost use Rattle.tce_spec.specs.Canonical.{canonical_of};
 ghost use Rattle.tce_spec.specs.SpecCode.{specification_of, IsKept};
 
@@ -103,7 +100,7 @@ impl Spec {
         requires { t < length self.now.declarations.tensors }
         ensures name { result.now.name.bytes ≡ (tensor_at self.now.declarations t).name }
         ensures ranges { result.now.ranges.items ≡ (tensor_at self.now.declarations t).ranges }
-        ensures shape { result.now.shape ≡ tiling_of self.now.declarations.space (tensor_at self.now.declarations t).ranges }
+        ensures shape { result.now.shape ≡ shape_of self.now t }
     {
         self.declarations.tensor(t)
     }
@@ -150,7 +147,7 @@ impl Spec {
 /// `TooLong` where the text has more than 65,536 bytes. Else the first line with a fault decides, and on one line the
 /// first fault in the order of [`SpecFault`]. The numbers kept in faults are those of lines, from 1.
 pub fn read_spec(alloc: Global, text: &[u8]) -> Result<Spec, SpecFault>
-    ensures answers { (found : Result SpecificationOfText Fault) → IsOutcome text.now found → Answers found result }
+    ensures answers { AnswersText text.now result }
     ensures names { IfOk result (λ s. HaveNames s.declarations.tensors) }
 {
     let head = read_head(alloc, text)?;
