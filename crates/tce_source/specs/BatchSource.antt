@@ -1,6 +1,6 @@
 -- The file of several formulas.
 use Rattle.std.specs.Prelude.{◌≢◌, ℕ, List, Option, Some}
-use Rattle.std.specs.Option.{IsSomeAnd}
+use Rattle.std.specs.Option.{IsSomeAnd, ForSome}
 use Rattle.std.specs.declared.result.Result.TheVariants.{Ok, Err}
 use Rattle.tce_declarations.specs.Faults.{Fault}
 use Rattle.tce_declarations.specs.FaultCode.{Shows}
@@ -26,3 +26,13 @@ IsBatchSourceRefusal name found refusal = IsTextRefusal HasBatchFault name found
 -- the file is there, and its text specifies these formulas
 abbrev pub HasBatch : Files → List ℕ → List Specification → Type 0
 HasBatch files spec batch = IsSomeAnd (file files spec) (λ text. IsBatchOutcome text (Ok batch))
+
+-- Of a disk, where it tells its files.
+
+-- the file specifies these formulas
+abbrev pub HasBatchOn : Option Files → List ℕ → List Specification → Type 0
+HasBatchOn told name batch = ForSome told (λ files. HasBatch files name batch)
+
+-- why the formulas in the file are refused
+abbrev pub IsBatchSourceRefusalOn : Option Files → List ℕ → Refusal → Type 0
+IsBatchSourceRefusalOn told name refusal = ForSome told (λ files. IsBatchSourceRefusal name (file files name) refusal)

@@ -1,6 +1,6 @@
 -- The file of a specification.
 use Rattle.std.specs.Prelude.{◌≡◌, ◌≢◌, ⊤, ℕ, ◌<◌, List, length, Option, Some, None}
-use Rattle.std.specs.Option.{IsSomeAnd}
+use Rattle.std.specs.Option.{IsSomeAnd, ForSome}
 use Rattle.std.specs.declared.result.Result.TheVariants.{Ok, Err}
 use Rattle.tce_space.specs.Limits.{max_spec_bytes}
 use Rattle.tce_declarations.specs.Faults.{Fault}
@@ -44,3 +44,21 @@ IsSourceRefusal name found refusal = IsTextRefusal HasFault name found refusal
 -- the file is there, and its text specifies this
 abbrev pub HasSpecification : Files → List ℕ → Specified → Type 0
 HasSpecification files spec s = IsSomeAnd (file files spec) (λ text. Specifies text s)
+
+-- Of a disk, where it tells its files.
+
+-- the file is there, and has these bytes
+abbrev pub HoldsOn : Option Files → List ℕ → List ℕ → Type 0
+HoldsOn told name bytes = ForSome told (λ files. file files name ≡ Some bytes)
+
+-- the file specifies this
+abbrev pub HasSpecificationOn : Option Files → List ℕ → Specified → Type 0
+HasSpecificationOn told name s = ForSome told (λ files. HasSpecification files name s)
+
+-- why its text is refused, where `Has` says which faults a text has
+abbrev pub IsTextRefusalOn : Option Files → (List ℕ → SpecFault → Type 0) → List ℕ → Refusal → Type 0
+IsTextRefusalOn told Has name refusal = ForSome told (λ files. IsTextRefusal Has name (file files name) refusal)
+
+-- why its specification is refused
+abbrev pub IsSourceRefusalOn : Option Files → List ℕ → Refusal → Type 0
+IsSourceRefusalOn told name refusal = ForSome told (λ files. IsSourceRefusal name (file files name) refusal)

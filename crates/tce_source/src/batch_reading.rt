@@ -1,9 +1,7 @@
 // Files of several formulas.
 ghost use Rattle.std.specs.Prelude.{◌≡◌, ◌≤◌, length, Err, IfOk, IfErr};
-ghost use Rattle.std.specs.Option.{ForSome};
-ghost use Rattle.tce_outside.specs.Files.{file};
 ghost use Rattle.tce_outside.specs.Fault.{HasCause, TellsFaults};
-ghost use Rattle.tce_source.specs.BatchSource.{HasBatch, IsBatchSourceRefusal};
+ghost use Rattle.tce_source.specs.BatchSource.{HasBatchOn, IsBatchSourceRefusalOn};
 
 use crate::reading::{is_memory, read_text};
 use std::alloc::Global;
@@ -16,8 +14,8 @@ use tce_outside::Disk;
 /// Of a file that is too long no more is read than shows it.
 pub fn read_batch_source<D: Disk>(alloc: Global, disk: &mut D, name: &str) -> Result<Batch, Refusal>
     requires { length name.now ≤ 200 }
-    ensures read { IfOk result (λ batch. ForSome (D.files disk.old) (λ files. HasBatch files name.now batch)) }
-    ensures refused { IfErr result (λ refusal. ForSome (D.files disk.old) (λ files. IsBatchSourceRefusal name.now (file files name.now) refusal)) }
+    ensures read { IfOk result (HasBatchOn (D.files disk.old) name.now) }
+    ensures refused { IfErr result (IsBatchSourceRefusalOn (D.files disk.old) name.now) }
     ensures same { D.files disk.new ≡ D.files disk.old }
     ensures cause { HasCause (D.faults disk.old) (D.faults disk.new) (result ≡ Err Refusal.Disk) }
     ensures told { TellsFaults (D.faults disk.old) (D.faults disk.new) (result ≡ Err Refusal.Disk) }

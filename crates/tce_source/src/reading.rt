@@ -1,10 +1,8 @@
 // Files of specifications.
 ghost use Rattle.std.specs.Prelude.{◌≡◌, ◌≤◌, ◌↔◌, IsTrue, length, Some, Err, IfOk, IfErr};
-ghost use Rattle.std.specs.Option.{ForSome, IsSomeAnd};
-ghost use Rattle.tce_outside.specs.Files.{file};
 ghost use Rattle.tce_outside.specs.Fault.{HasCause, TellsFaults};
 ghost use Rattle.tce_declarations.specs.Declarations.{HaveNames};
-ghost use Rattle.tce_source.specs.Source.{HasSpecification, IsSourceRefusal, IsTextRefusal, IsTooLong};
+ghost use Rattle.tce_source.specs.Source.{IsTooLong, HasSpecificationOn, IsSourceRefusalOn, HoldsOn, IsTextRefusalOn};
 
 use std::alloc::Global;
 use tce_command::Refusal;
@@ -17,9 +15,9 @@ use tce_spec::{Spec, SpecFault, read_spec};
 /// Of a file that is too long no more is read than shows it.
 pub fn read_source<D: Disk>(alloc: Global, disk: &mut D, name: &str) -> Result<Spec, Refusal>
     requires { length name.now ≤ 200 }
-    ensures read { IfOk result (λ s. ForSome (D.files disk.old) (λ files. HasSpecification files name.now s)) }
+    ensures read { IfOk result (HasSpecificationOn (D.files disk.old) name.now) }
     ensures names { IfOk result (λ s. HaveNames s.declarations.tensors) }
-    ensures refused { IfErr result (λ refusal. ForSome (D.files disk.old) (λ files. IsSourceRefusal name.now (file files name.now) refusal)) }
+    ensures refused { IfErr result (IsSourceRefusalOn (D.files disk.old) name.now) }
     ensures same { D.files disk.new ≡ D.files disk.old }
     ensures cause { HasCause (D.faults disk.old) (D.faults disk.new) (result ≡ Err Refusal.Disk) }
     ensures told { TellsFaults (D.faults disk.old) (D.faults disk.new) (result ≡ Err Refusal.Disk) }
@@ -46,8 +44,8 @@ pub(crate) fn read_text<D: Disk>(
     name: &str,
 ) -> Result<Vec<u8>, Refusal>
     requires { length name.now ≤ 200 }
-    ensures bytes { IfOk result (λ bytes. ForSome (D.files disk.old) (λ files. file files name.now ≡ Some bytes.items)) }
-    ensures refused { IfErr result (λ refusal. ForSome (D.files disk.old) (λ files. IsTextRefusal IsTooLong name.now (file files name.now) refusal)) }
+    ensures bytes { IfOk result (λ bytes. HoldsOn (D.files disk.old) name.now bytes.items) }
+    ensures refused { IfErr result (IsTextRefusalOn (D.files disk.old) IsTooLong name.now) }
     ensures same { D.files disk.new ≡ D.files disk.old }
     ensures cause { HasCause (D.faults disk.old) (D.faults disk.new) (result ≡ Err Refusal.Disk) }
     ensures told { TellsFaults (D.faults disk.old) (D.faults disk.new) (result ≡ Err Refusal.Disk) }
