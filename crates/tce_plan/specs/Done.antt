@@ -1,5 +1,5 @@
 -- What the command reports.
-use Rattle.std.specs.Prelude.{◌≡◌, ℕ, List}
+use Rattle.std.specs.Prelude.{◌≡◌, ℕ, List, Option}
 use Rattle.tce_outside.specs.Files.{Files}
 use Rattle.tce_nesting.specs.declared.plan.Plan.{Plan}
 use Rattle.tce_search.specs.LeastPlan.{IsLeastPlan}
@@ -7,6 +7,7 @@ use Rattle.tce_report.specs.NodeLine.{stated}
 use Rattle.tce_report.specs.Report.{plan_text}
 use Rattle.tce_spec.specs.Specification.{Specification}
 use Rattle.tce_source.specs.Source.{HasSpecification}
+use Rattle.std.specs.Option.{ForSome}
 
 -- the report of a plan of the specification's tree that fits it: its fusion is legal and no legal fusion takes less memory, its orders are the standard ones, its sizes and its memory are those of the fusion, and its tables cover all fusions
 pub record IsPlanReport (s : Specification) (report : List ℕ) : Type 0 where
@@ -19,3 +20,7 @@ pub record IsPlanned (files : Files) (spec report : List ℕ) : Type 0 where
   pub specification : Specification
   pub specified : HasSpecification files spec specification
   pub planned : IsPlanReport specification report
+
+-- the same of a disk, where it tells its files
+abbrev pub IsPlannedOn : Option Files → List ℕ → List ℕ → Type 0
+IsPlannedOn told spec report = ForSome told (λ files. IsPlanned files spec report)

@@ -1,11 +1,10 @@
 // The command.
 ghost use Rattle.std.specs.Prelude.{◌≡◌, Err, IfOk, IfErr};
-ghost use Rattle.std.specs.Option.{ForSome};
 ghost use Rattle.tce_outside.specs.Fault.{HasCause, TellsFaults};
 ghost use Rattle.tce_command.specs.Command as commands;
 ghost use Rattle.tce_command.specs.Command.{KeepsRules};
-ghost use Rattle.tce_plan.specs.Done.{IsPlanReport, IsPlanned};
-ghost use Rattle.tce_plan.specs.Refusals.{IsPlanRefusal};
+ghost use Rattle.tce_plan.specs.Done.{IsPlanReport, IsPlannedOn};
+ghost use Rattle.tce_plan.specs.Refusals.{IsPlanRefusalOn};
 
 use std::alloc::{AllocError, Global};
 use tce_command::Refusal;
@@ -20,8 +19,8 @@ use tce_spec::Spec;
 /// Beside the refusals of the specification itself only want of memory and failures of the disk are refused.
 pub fn plan<D: Disk>(alloc: Global, spec: &str, disk: &mut D) -> Result<Vec<u8>, Refusal>
     requires { KeepsRules (commands.plan spec.now) }
-    ensures done { IfOk result (λ report. ForSome (D.files disk.old) (λ files. IsPlanned files spec.now report.items)) }
-    ensures refused { IfErr result (λ refusal. ForSome (D.files disk.old) (λ files. IsPlanRefusal files spec.now refusal)) }
+    ensures done { IfOk result (λ report. IsPlannedOn (D.files disk.old) spec.now report.items) }
+    ensures refused { IfErr result (IsPlanRefusalOn (D.files disk.old) spec.now) }
     ensures unchanged { D.files disk.new ≡ D.files disk.old }
     ensures cause { HasCause (D.faults disk.old) (D.faults disk.new) (result ≡ Err Refusal.Disk) }
     ensures told { TellsFaults (D.faults disk.old) (D.faults disk.new) (result ≡ Err Refusal.Disk) }
