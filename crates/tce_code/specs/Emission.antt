@@ -1,12 +1,12 @@
 -- The generated code of parts of the program's tree, as the functions write it that go from node to node.
 use Rattle.std.specs.Prelude.{◌≡◌, ℕ, ◌<◌, ◌≤◌, List, length}
 use Rattle.tce_space.specs.IndexSet.{count}
-use Rattle.tce_tree.specs.ContractionTree.{ContractionTree, leaf, constant, binary, sum, multiply, add, subtract, node}
+use Rattle.tce_tree.specs.ContractionTree.{ContractionTree, leaf, constant, binary, sum, multiply, add, subtract, node, operations}
 use Rattle.tce_tree.specs.FlatTree.{first_number_of}
 use Rattle.tce_tree.specs.declared.node.Operand.{Operand}
 use Rattle.tce_tree.specs.declared.node.Operand.TheVariants.{Leaf, Constant, Node}
 use Rattle.tce_tree.specs.Fusion.{fused_at, order_at}
-use Rattle.tce_code.specs.Generation.{inner_code, loops_from, operand_code}
+use Rattle.tce_code.specs.Generation.{inner_code, loops_from, operand_code, clearing}
 use Rattle.tce_code.specs.Plan.{Plan}
 use Rattle.tce_code.specs.Program.{Program, stop}
 use Rattle.tce_code.specs.declared.op.Op.{Op}
@@ -40,3 +40,11 @@ abbrev pub named_code : ContractionTree → Plan → Operand → ℕ → Program
 named_code tree plan (Leaf l) depth = stop
 named_code tree plan (Constant number) depth = stop
 named_code tree plan (Node v) depth = operand_code plan (node tree v) v (node_inner_code tree plan v) depth
+
+-- the plan has one set and one order for each node of the tree, and no more fused indexes than loops
+abbrev pub HasJoints : ContractionTree → Plan → Type 0
+HasJoints tree plan = JointsFit (operations tree) plan.fusion plan.orders
+
+-- the operation that clears node `v`, where it is a sum
+abbrev pub node_clearing : ContractionTree → ℕ → Program
+node_clearing tree v = clearing (node tree v) v

@@ -5,9 +5,8 @@ ghost use Rattle.tce_tree.specs.FlatTree.{IsBefore};
 ghost use Rattle.tce_tree.specs.Fusion.{FusionFits, OrdersFit, Carries, fused_at, order_at};
 ghost use Rattle.tce_tree.specs.Orders.{lists_of};
 ghost use Rattle.tce_code.specs.CodeFor.{IsCodeFor};
-ghost use Rattle.tce_code.specs.Emission.{JointsFit, computing_op, named_code, node_inner_code, node_loops_code};
-ghost use Rattle.tce_code.specs.Generation.{clearing};
-ghost use Rattle.tce_code.specs.Plan.{plan_of};
+ghost use Rattle.tce_code.specs.Emission.{computing_op, named_code, node_inner_code, node_loops_code, HasJoints, node_clearing};
+ghost use Rattle.tce_code.specs.Plan.{plan_with};
 ghost use Rattle.tce_code.specs.Program.{spelled};
 
 use crate::op::Op;
@@ -53,7 +52,7 @@ pub fn generate(
     requires fusion_fits { FusionFits tree.now fusion.now.0.items }
     requires orders_fit { OrdersFit tree.now (lists_of orders.now.0.items) }
     requires carried { Carries tree.now fusion.now.0.items (lists_of orders.now.0.items) }
-    ensures { IfOk result (IsCodeFor tree.now (plan_of fusion.now.0.items (lists_of orders.now.0.items))) }
+    ensures { IfOk result (IsCodeFor tree.now (plan_with fusion.now.0.items orders.now.0.items)) }
 {
     let mut ops = Vec::new(alloc);
     let root = tree.count() - 1;
@@ -71,11 +70,11 @@ fn emit_loops(
     v: u8,
     depth: u8,
 ) -> Result<(), AllocError>
-    requires fit { JointsFit (operations tree.now) fusion.now.0.items (lists_of orders.now.0.items) }
+    requires fit { HasJoints tree.now (plan_with fusion.now.0.items orders.now.0.items) }
     requires inside { v < operations tree.now }
     requires deep { depth ≤ length (order_at (lists_of orders.now.0.items) v) }
     ensures { OnOk result (ops.new.items ≡ ops.old.items
-        ++ spelled (node_loops_code tree.now (plan_of fusion.now.0.items (lists_of orders.now.0.items)) v depth)) }
+        ++ spelled (node_loops_code tree.now (plan_with fusion.now.0.items orders.now.0.items) v depth)) }
 {
     emit_inside(ops, tree, fusion, orders, v, depth)?;
     let order = order_at_node(orders, v);
@@ -99,10 +98,10 @@ fn emit_inside(
     v: u8,
     depth: u8,
 ) -> Result<(), AllocError>
-    requires fit { JointsFit (operations tree.now) fusion.now.0.items (lists_of orders.now.0.items) }
+    requires fit { HasJoints tree.now (plan_with fusion.now.0.items orders.now.0.items) }
     requires inside { v < operations tree.now }
     ensures { OnOk result (ops.new.items ≡ ops.old.items
-        ++ spelled (node_inner_code tree.now (plan_of fusion.now.0.items (lists_of orders.now.0.items)) v depth)) }
+        ++ spelled (node_inner_code tree.now (plan_with fusion.now.0.items orders.now.0.items) v depth)) }
 {
     emit_operand(ops, tree, fusion, orders, tree.left(v), depth)?;
     match tree.right(v) {
@@ -121,10 +120,10 @@ fn emit_operand(
     operand: &Operand,
     depth: u8,
 ) -> Result<(), AllocError>
-    requires fit { JointsFit (operations tree.now) fusion.now.0.items (lists_of orders.now.0.items) }
+    requires fit { HasJoints tree.now (plan_with fusion.now.0.items orders.now.0.items) }
     requires inside { IsBefore (operations tree.now) operand.now }
     ensures { OnOk result (ops.new.items ≡ ops.old.items
-        ++ spelled (named_code tree.now (plan_of fusion.now.0.items (lists_of orders.now.0.items)) operand.now depth)) }
+        ++ spelled (named_code tree.now (plan_with fusion.now.0.items orders.now.0.items) operand.now depth)) }
 {
     let Operand::Node(v) = operand else {
         return Ok(());
@@ -143,7 +142,7 @@ fn emit_operand(
 // Appends a `Clear` of a sum, and nothing for another node.
 fn emit_clearing(ops: &mut Vec<Op>, tree: &Tree, v: u8) -> Result<(), AllocError>
     requires { v < operations tree.now }
-    ensures { OnOk result (ops.new.items ≡ ops.old.items ++ spelled (clearing (node tree.now v) v)) }
+    ensures { OnOk result (ops.new.items ≡ ops.old.items ++ spelled (node_clearing tree.now v)) }
 {
     match tree.kind(v) {
         Kind::Sum => ops.push(Op::Clear(v))?,
