@@ -1,5 +1,5 @@
 -- What the command accepts and reports.
-use Rattle.std.specs.Prelude.{◌≡◌, ℕ, List, ◌++◌, codes, Some}
+use Rattle.std.specs.Prelude.{◌≡◌, ℕ, List, ◌++◌, codes, Some, Option}
 use Rattle.std.specs.Fmt.{decimal}
 use Rattle.tce_outside.specs.Files.{Files, file}
 use Rattle.tce_fusion.specs.Least.{IsLeast}
@@ -8,6 +8,10 @@ use Rattle.tce_check.specs.Verdict.{IsAccepted}
 use Rattle.tce_spec.specs.Specification.{Specification}
 use Rattle.tce_source.specs.Source.{HasSpecification}
 use Rattle.tce_verify.specs.Certificates.{IsCertificateOf}
+use Rattle.std.specs.Option.{ForSome}
+use Rattle.std.specs.String.{string_bytes}
+use Rattle.std.specs.declared.string.String.{String}
+use Rattle.std.specs.declared.alloc.Global.{Global}
 
 -- the report: the memory of the plan
 abbrev pub report_text : ℕ → List ℕ
@@ -28,3 +32,7 @@ pub record IsVerified (files : Files) (spec cert report : List ℕ) : Type 0 whe
   pub can : CanVerify files spec cert
   pub least : IsLeast can.specification.declarations.space can.specification.tree can.plan.fusion.0.items
   pub reported : report ≡ report_text can.plan.memory
+
+-- the same of a disk, where it tells its files
+abbrev pub IsVerifiedOn : Option Files → List ℕ → List ℕ → String Global → Type 0
+IsVerifiedOn told spec cert report = ForSome told (λ files. IsVerified files spec cert (string_bytes report))

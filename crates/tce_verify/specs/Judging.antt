@@ -44,3 +44,7 @@ IsOfPlan s plan (troubles.Text fault) = ⊥
 abbrev pub IsPlanRefusal : Specification → Plan → CommandRefusal → Type 0
 IsPlanRefusal s plan (Certificate flaw line) = IsOfPlan s plan (trouble_of flaw) × IsWrittenOver s.declarations.space (Certificate flaw line)
 IsPlanRefusal s plan (Common refusal) = ⊥
+
+-- no legal fusion of the specification's tree takes less memory than the plan's
+abbrev pub IsOfLeast : Specification → Plan → Type 0
+IsOfLeast s plan = IsLeast s.declarations.space s.tree plan.fusion.0.items

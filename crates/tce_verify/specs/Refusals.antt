@@ -1,5 +1,5 @@
 -- Why the command is refused.
-use Rattle.std.specs.Prelude.{◌≡◌, ◌⊎◌, ⊤, ℕ, List, Option, Some, None}
+use Rattle.std.specs.Prelude.{◌≡◌, ◌⊎◌, ⊤, ℕ, List, Option, Some, None, Result}
 use Rattle.std.specs.Option.{ForSome}
 use Rattle.tce_outside.specs.Files.{Files, file}
 use Rattle.tce_spec.specs.Specification.{Specification}
@@ -12,6 +12,7 @@ use Rattle.tce_command.specs.declared.command_refusal.CommandRefusal.{CommandRef
 use Rattle.tce_command.specs.declared.command_refusal.CommandRefusal.TheVariants.{Common, Certificate}
 use Rattle.tce_source.specs.Source.{HasSpecification, IsSourceRefusal}
 use Rattle.tce_verify.specs.Certificates.{IsTrouble}
+use Rattle.std.specs.declared.result.Result.TheVariants.{Err}
 
 -- why a file with these contents, or one that is not there, is not read. The disk may fail and memory be wanting at any place
 abbrev pub IsUnread : List ℕ → Option (List ℕ) → Refusal → Type 0
@@ -43,3 +44,17 @@ abbrev pub IsWrittenFor : Option Files → List ℕ → CommandRefusal → Type 
 IsWrittenFor told spec (Common refusal) = ⊤
 IsWrittenFor told spec (Certificate flaw line) =
     (s : Specification) × (ForSome told (λ files. HasSpecification files spec s) × IsWrittenOver s.declarations.space (Certificate flaw line))
+
+-- Of a disk, where it tells its files.
+
+-- why the command is refused
+abbrev pub IsVerifyRefusalOn : Option Files → List ℕ → List ℕ → CommandRefusal → Type 0
+IsVerifyRefusalOn told spec cert refusal = ForSome told (λ files. IsVerifyRefusal files spec cert refusal)
+
+-- why the file is not read
+abbrev pub IsUnreadOn : Option Files → List ℕ → Refusal → Type 0
+IsUnreadOn told name refusal = ForSome told (λ files. IsUnread name (file files name) refusal)
+
+-- the answer is that the disk failed
+abbrev pub IsDiskFault : {A : Type 0} → Result A CommandRefusal → Type 0
+IsDiskFault result = result ≡ Err (Common Disk)

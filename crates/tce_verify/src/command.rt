@@ -1,11 +1,10 @@
 // The command.
 ghost use Rattle.std.specs.Prelude.{◌≡◌, Err, IfOk, IfErr};
-ghost use Rattle.std.specs.Option.{ForSome};
 ghost use Rattle.std.specs.String.{string_bytes};
 ghost use Rattle.tce_outside.specs.Fault.{HasCause, TellsFaults};
 ghost use Rattle.tce_command.specs.Command.{NamesCertificate, NamesSpec};
-ghost use Rattle.tce_verify.specs.Done.{IsVerified, report_text};
-ghost use Rattle.tce_verify.specs.Refusals.{IsVerifyRefusal, IsWrittenFor};
+ghost use Rattle.tce_verify.specs.Done.{report_text, IsVerifiedOn};
+ghost use Rattle.tce_verify.specs.Refusals.{IsWrittenFor, IsVerifyRefusalOn, IsDiskFault};
 
 use crate::judging::judge;
 use crate::reading::read_file;
@@ -26,12 +25,12 @@ pub fn verify<D: Disk>(
 ) -> Result<String, CommandRefusal>
     requires spec { NamesSpec spec.now }
     requires cert { NamesCertificate cert.now }
-    ensures done { IfOk result (λ report. ForSome (D.files disk.old) (λ files. IsVerified files spec.now cert.now (string_bytes report))) }
-    ensures refused { IfErr result (λ refusal. ForSome (D.files disk.old) (λ files. IsVerifyRefusal files spec.now cert.now refusal)) }
+    ensures done { IfOk result (IsVerifiedOn (D.files disk.old) spec.now cert.now) }
+    ensures refused { IfErr result (IsVerifyRefusalOn (D.files disk.old) spec.now cert.now) }
     ensures line { IfErr result (λ refusal. IsWrittenFor (D.files disk.old) spec.now refusal) }
     ensures unchanged { D.files disk.new ≡ D.files disk.old }
-    ensures cause { HasCause (D.faults disk.old) (D.faults disk.new) (result ≡ Err (CommandRefusal.Common Refusal.Disk)) }
-    ensures told { TellsFaults (D.faults disk.old) (D.faults disk.new) (result ≡ Err (CommandRefusal.Common Refusal.Disk)) }
+    ensures cause { HasCause (D.faults disk.old) (D.faults disk.new) (IsDiskFault result) }
+    ensures told { TellsFaults (D.faults disk.old) (D.faults disk.new) (IsDiskFault result) }
 {
     let source = read_source(alloc, disk, spec)?;
     let text = read_file(alloc, disk, cert)?;

@@ -1,10 +1,9 @@
 // Texts of certificates, judged.
 ghost use Rattle.std.specs.Prelude.{IfOk, IfErr, OnOk};
-ghost use Rattle.tce_fusion.specs.Least.{IsLeast};
 ghost use Rattle.tce_nesting.specs.Plan.{PlanFits};
 ghost use Rattle.tce_check.specs.Verdict.{IsAccepted};
 ghost use Rattle.tce_verify.specs.Certificates.{IsCertificateOf};
-ghost use Rattle.tce_verify.specs.Judging.{IsAcceptedText, IsJudgement, IsPlanRefusal, SaysFault};
+ghost use Rattle.tce_verify.specs.Judging.{IsAcceptedText, IsJudgement, IsPlanRefusal, SaysFault, IsOfLeast};
 
 use std::alloc::Global;
 use tce_cert::{CertFault, read_cert};
@@ -53,7 +52,7 @@ fn text_refusal(space: &Space, fault: CertFault) -> CommandRefusal
 fn judge_plan(spec: &Spec, plan: &Plan) -> Result<(), CommandRefusal>
     requires { PlanFits spec.now.tree plan.now }
     ensures accepted { OnOk result (IsAccepted spec.now.declarations.space spec.now.tree plan.now) }
-    ensures least { OnOk result (IsLeast spec.now.declarations.space spec.now.tree plan.now.fusion.0.items) }
+    ensures least { OnOk result (IsOfLeast spec.now plan.now) }
     ensures refused { IfErr result (IsPlanRefusal spec.now plan.now) }
 {
     let space = spec.space();

@@ -3,7 +3,7 @@ ghost use Rattle.std.specs.Prelude.{◌≡◌, ◌≤◌, length, Some, Err, IfO
 ghost use Rattle.std.specs.Option.{ForSome};
 ghost use Rattle.tce_outside.specs.Files.{file};
 ghost use Rattle.tce_outside.specs.Fault.{HasCause, TellsFaults};
-ghost use Rattle.tce_verify.specs.Refusals.{IsUnread};
+ghost use Rattle.tce_verify.specs.Refusals.{IsUnreadOn};
 
 use std::alloc::Global;
 use tce_command::Refusal;
@@ -13,7 +13,7 @@ use tce_outside::Disk;
 pub fn read_file<D: Disk>(alloc: Global, disk: &mut D, name: &str) -> Result<Vec<u8>, Refusal>
     requires { length name.now ≤ 200 }
     ensures bytes { IfOk result (λ bytes. ForSome (D.files disk.old) (λ files. file files name.now ≡ Some bytes.items)) }
-    ensures refused { IfErr result (λ refusal. ForSome (D.files disk.old) (λ files. IsUnread name.now (file files name.now) refusal)) }
+    ensures refused { IfErr result (IsUnreadOn (D.files disk.old) name.now) }
     ensures same { D.files disk.new ≡ D.files disk.old }
     ensures cause { HasCause (D.faults disk.old) (D.faults disk.new) (result ≡ Err Refusal.Disk) }
     ensures told { TellsFaults (D.faults disk.old) (D.faults disk.new) (result ≡ Err Refusal.Disk) }
