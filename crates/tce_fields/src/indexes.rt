@@ -1,12 +1,12 @@
 // Indexes by their names.
-ghost use Rattle.std.specs.Prelude.{◌≡◌, ◌≤◌, ℕ, IsTrue, List, length, option_map};
+ghost use Rattle.std.specs.Prelude.{◌≡◌, ◌≤◌, ℕ, IsTrue, List, length};
 ghost use Rattle.std.specs.List.{list_all};
 ghost use Rattle.std.specs.Str.{bytes_eq};
 ghost use Rattle.tce_space.specs.Limits.{max_indexes};
 ghost use Rattle.tce_space.specs.IndexSet.{members};
 ghost use Rattle.tce_space.specs.Name.{is_name};
 ghost use Rattle.tce_fields.specs.Names.{IsNamed, AreNamed, IsSetNamed};
-ghost use Rattle.tce_fields.specs.Reading.{GivesExactly, texts};
+ghost use Rattle.tce_fields.specs.Reading.{GivesExactly, texts, items_if_some};
 
 use arrayvec::ArrayVec;
 use std::str;
@@ -27,7 +27,7 @@ fn index_named(space: &Space, name: &[u8]) -> Option<u8>
 pub fn indexes_named<const N: usize>(space: &Space, names: &[&[u8]]) -> Option<ArrayVec<u8, N>>
     requires named { IsTrue (list_all is_name (texts names.now)) }
     requires few { length names.now ≤ N }
-    ensures { GivesExactly (option_map (λ indexes. indexes.items) result) (AreNamed space.now (texts names.now)) }
+    ensures { GivesExactly (items_if_some result) (AreNamed space.now (texts names.now)) }
 {
     let mut indexes = ArrayVec::new();
     for name in names {

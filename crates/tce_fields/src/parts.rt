@@ -1,8 +1,8 @@
 // Parts of a text with a separator between them.
-ghost use Rattle.std.specs.Prelude.{◌≡◌, ◌<◌, ◌==◌, [], ◌∷◌, length, option_map, position, MatchOption, IfSome};
+ghost use Rattle.std.specs.Prelude.{◌≡◌, ◌<◌, ◌==◌, [], ◌∷◌, length, position, MatchOption, IfSome};
 ghost use Rattle.std.specs.List.{slice_split};
 ghost use Rattle.tce_fields.specs.Fields.{AreParts};
-ghost use Rattle.tce_fields.specs.Reading.{GivesExactly, texts};
+ghost use Rattle.tce_fields.specs.Reading.{GivesExactly, texts_if_some};
 
 use arrayvec::ArrayVec;
 
@@ -28,7 +28,7 @@ fn cut_first(text: &[u8], separator: u8) -> Option<(&[u8], &[u8])>
 
 /// The parts of a text between its separators, the empty ones too; the empty text is one part. `None` where there are more than `N`.
 pub fn split_parts<const N: usize>(text: &[u8], separator: u8) -> Option<ArrayVec<&[u8], N>>
-    ensures { GivesExactly (option_map (λ parts. texts parts.items) result) (AreParts separator N text.now) }
+    ensures { GivesExactly (texts_if_some result) (AreParts separator N text.now) }
 {
     let mut parts = ArrayVec::new();
     let mut rest = text;
