@@ -10,7 +10,7 @@ use tce_space::IndexSet;
 const GROUPS: usize = 4093;
 
 // How many spans are kept. Rows of other ones are asked where no other row stands for a state.
-const SPANS: usize = 32_768;
+const SPANS: usize = 16_384;
 
 // How many rows have marks.
 const MARKED: usize = 393_216;
@@ -18,18 +18,20 @@ const MARKED: usize = 393_216;
 // The greatest prime for which all remainders are bits of a mark.
 const MARKS: u32 = 13;
 
-// Neighbours among the rows with the same least and largest upper part, by the place of the first and that behind the last.
-#[derive(Clone, Copy)]
-struct Span {
-    from: u32,
-    until: u32,
-}
-
 // The least and the largest part of the outer loops that is above the others, each without loops where there is none.
 #[derive(Clone, Copy, Default)]
 struct Parts {
     least: IndexSet,
     largest: IndexSet,
+}
+
+// Neighbours among the rows with the same parts, whose bits are kept, by the place of the first and that behind the last.
+#[derive(Clone, Copy)]
+struct Span {
+    least: u32,
+    largest: u32,
+    from: u32,
+    until: u32,
 }
 
 // The rows of a node by their least and largest upper part: the outer loops that they put above the others. A table whose
@@ -97,6 +99,11 @@ fn are_same(first: &Parts, other: &Parts) -> bool {
     first.least.bits() == other.least.bits() && first.largest.bits() == other.largest.bits()
 }
 
+// Whether the rows of a span have these parts.
+fn has_parts(span: &Span, parts: &Parts) -> bool {
+    span.least == parts.least.bits() && span.largest == parts.largest.bits()
+}
+
 // The place behind the neighbours that have the same parts as the row at a place.
 fn span_end(rows: &[Row], from: usize, outer: IndexSet) -> usize
     requires { from < length rows.now }
@@ -145,7 +152,12 @@ impl Groups {
     pub(crate) fn new() -> Groups {
         Groups {
             ends: [0; GROUPS],
-            spans: [Span { from: 0, until: 0 }; SPANS],
+            spans: [Span {
+                least: 0,
+                largest: 0,
+                from: 0,
+                until: 0,
+            }; SPANS],
             marks: [0; MARKED],
         }
     }
@@ -174,6 +186,8 @@ impl Groups {
         let at = self.ends[group] as usize;
         if at < SPANS && until < 4_294_967_296 {
             self.spans[at] = Span {
+                least: parts.least.bits(),
+                largest: parts.largest.bits(),
                 from: from as u32,
                 until: until as u32,
             };
@@ -231,7 +245,7 @@ impl Groups {
         ensures { IsTrue result → Any (StandsFor sought.now.outer (above sought.now.state.now.classes) sought.now.state.now.cost) sought.now.rows.now }
     {
         for span in self.spans_of(parts) {
-            if self.span_stands(span, sought) {
+            if has_parts(span, parts) && self.span_stands(span, sought) {
                 return true;
             }
         }
