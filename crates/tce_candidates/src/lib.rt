@@ -19,4 +19,4 @@ mod upper;
 pub use candidate::{Candidate, joined_sets};
 pub use laws::{covered_pairs_cover_steps, leaves_have_states, steps_are_states};
 pub use steps::{is_stood_for, join_rows, stands_for, step};
-pub use table::candidates_of;
+pub use table::{NodeLoops, candidates_of};

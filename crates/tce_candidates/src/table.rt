@@ -91,33 +91,39 @@ fn add_all_steps(
     Ok(())
 }
 
-/// The candidates of a node: of the steps from its operands' candidates with one of the choices so many that for each step one of them is coarser on the outer loops, those of the node's parent, and costs no more. None of them is so for another.
+/// The loops of a node, and the outer ones, which are those of its parent.
+#[derive(Clone, Copy, Debug)]
+pub struct NodeLoops {
+    pub own: IndexSet,
+    pub outer: IndexSet,
+}
+
+/// The candidates of a node: of the steps from its operands' candidates with one of the choices so many that for each step one of them is coarser on the outer loops and costs no more. None of them is so for another.
 ///
 /// Steps that cost the limit or more are not among them. One candidate without classes and sets, which costs as much as the limit, stands for these.
 pub fn candidates_of(
     alloc: Global,
     lefts: &[Candidate],
     rights: &[Candidate],
-    loops: IndexSet,
+    loops: NodeLoops,
     choices: &[Choice],
-    outer: IndexSet,
     limit: u128,
 ) -> Result<Vec<Candidate>, AllocError>
-    requires loops { count loops ≤ max_loops }
+    requires loops { count loops.own ≤ max_loops }
     requires lefts { All IsLimited lefts.now }
     requires rights { All IsLimited rights.now }
     requires room { HaveRoom lefts.now rights.now }
     requires choices { All IsSmall choices.now }
-    ensures covered { IfOk result (λ table. All (λ left. All (PairCovered loops outer choices.now table.items left) rights.now) lefts.now) }
-    ensures reached { IfOk result (λ table. All (λ x. IsReachedBelow limit loops choices.now lefts.now rights.now x ⊎ (x ≡ limit_candidate limit)) table.items) }
-    ensures apart { IfOk result (λ table. AllPairs (AreApart outer) table.items) }
+    ensures covered { IfOk result (λ table. All (λ left. All (PairCovered loops.own loops.outer choices.now table.items left) rights.now) lefts.now) }
+    ensures reached { IfOk result (λ table. All (λ x. IsReachedBelow limit loops.own choices.now lefts.now rights.now x ⊎ (x ≡ limit_candidate limit)) table.items) }
+    ensures apart { IfOk result (λ table. AllPairs (AreApart loops.outer) table.items) }
 {
-    let _number = loops.bits();
-    let joins = joins_of(alloc, lefts, rights, loops, limit)?;
-    let mut list = CandidateList::new(alloc, outer, joins.len())?;
+    let _number = loops.own.bits();
+    let joins = joins_of(alloc, lefts, rights, loops.own, limit)?;
+    let mut list = CandidateList::new(alloc, loops.outer, joins.len())?;
     list.push(at_limit(limit))?;
     add_all_steps(&mut list, joins.as_slice(), choices, limit)?;
     let kept = thinned(alloc, list)?;
-    let table = by_ends(kept, outer)?;
+    let table = by_ends(kept, loops.outer)?;
     Ok(table)
 }

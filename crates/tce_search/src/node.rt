@@ -9,7 +9,7 @@ use crate::bounds::Bounds;
 use crate::found::Found;
 use crate::limit::limit_of;
 use std::alloc::{AllocError, Global};
-use tce_candidates::{Candidate, candidates_of};
+use tce_candidates::{Candidate, NodeLoops, candidates_of};
 use tce_nesting::choices;
 use tce_space::{IndexSet, Space};
 use tce_tree::Tree;
@@ -64,15 +64,11 @@ fn candidates_of_node(
     let mut choices = choices(space, tree, v);
     // What fuses more mostly stands for what fuses less, so it comes first.
     choices.reverse();
-    candidates_of(
-        alloc,
-        lefts,
-        rights,
-        tree.loops(v),
-        choices.as_slice(),
-        outer_loops(tree, v),
-        limit,
-    )
+    let loops = NodeLoops {
+        own: tree.loops(v),
+        outer: outer_loops(tree, v),
+    };
+    candidates_of(alloc, lefts, rights, loops, choices.as_slice(), limit)
 }
 
 // The loops of the node's parent, and none at the root.

@@ -5,7 +5,7 @@ ghost use Rattle.tce_candidates.specs.Candidates.{HaveRoom, IsLimited, IsSmall, 
 use arrayvec::ArrayVec;
 use std::alloc::Global;
 use std::process::Abort;
-use tce_candidates::{Candidate, candidates_of};
+use tce_candidates::{Candidate, NodeLoops, candidates_of};
 use tce_nesting::{Choice, Nesting, Row, subsets};
 use tce_space::IndexSet;
 
@@ -80,13 +80,16 @@ fn found(
     choices: &[Choice],
     loops: Loops,
 ) -> Vec<Candidate> {
-    let (all, outer) = (set(rt, loops.all), set(rt, loops.outer));
-    assert!(rt; all.count() <= 10);
+    let node = NodeLoops {
+        own: set(rt, loops.all),
+        outer: set(rt, loops.outer),
+    };
+    assert!(rt; node.own.count() <= 10);
     assert!(rt; are_limited(lefts));
     assert!(rt; are_limited(rights));
     assert!(rt; have_room(lefts, rights));
     assert!(rt; are_small(choices));
-    match candidates_of(alloc, lefts, rights, all, choices, outer, 100) {
+    match candidates_of(alloc, lefts, rights, node, choices, 100) {
         Ok(candidates) => candidates,
         Err(_) => panic!(rt; "no memory"),
     }

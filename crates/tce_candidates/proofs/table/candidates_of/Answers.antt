@@ -29,9 +29,9 @@ thinned-requires c =
 
 pub returns-clause-covered : goal.returns-clause-covered
 returns-clause-covered c =
-    let outer = c.args.outer in
+    let outer = c.args.loops.outer in
     let limit = c.args.limit in
-    let loops = c.args.loops in
+    let loops = c.args.loops.own in
     let choices = c.args.choices.now in
     let lefts = c.args.lefts.now in
     let rights = c.args.rights.now in
@@ -54,7 +54,7 @@ returns-clause-covered c =
 pub returns-clause-reached : goal.returns-clause-reached
 returns-clause-reached c =
     let limit = c.args.limit in
-    let loops = c.args.loops in
+    let loops = c.args.loops.own in
     let choices = c.args.choices.now in
     let lefts = c.args.lefts.now in
     let rights = c.args.rights.now in
@@ -67,7 +67,7 @@ returns-clause-reached c =
     let origin : All from mid = subst (λ js. All (λ (x : Candidate). Contains start.candidates x ⊎ Any (λ (join : Candidate). IsSomeStepFrom limit choices join x) js) mid) c.as_slice.ensures.value c.in_ok-add_all_steps.ensures.origin in
     let all : All reached mid = All-weaker from reached
     (λ x h. elim h [
-      | inl there ↦ inr (all_at_limit c.args.outer limit start.candidates is x there)
+      | inl there ↦ inr (all_at_limit c.args.loops.outer limit start.candidates is x there)
       | inr found ↦ inl (step_reached limit loops choices lefts rights found.1 x
           (All-contains (IsSomeJoinBelow limit loops lefts rights) joins found.1 c.in_ok-joins.ensures.joins (found.0, found.2, found.3)) found.4)
     ]) mid origin in
@@ -79,5 +79,5 @@ pub returns-clause-apart : goal.returns-clause-apart
 returns-clause-apart c =
     let same = c.in_ok-push.ensures.outer ∙ ap (λ (l : Listed). l.outer) c.in_ok-list.ensures in
     let kept = c.in_ok-kept.kept.items in
-    apart_permuted c.args.outer kept c.in_ok-table.table.items c.in_ok-table.ensures
+    apart_permuted c.args.loops.outer kept c.in_ok-table.table.items c.in_ok-table.ensures
     (subst (λ o. AllPairs (AreApart o) kept) (c.in_ok-add_all_steps.ensures.outer ∙ same) c.in_ok-kept.ensures.apart)
