@@ -136,7 +136,10 @@ fn grown_by_four(words: &Words, word: u64, left: u64, right: u64) -> u64
     let b = words.get(left + 1).wrapping_mul(words.get(right + 1));
     let c = words.get(left + 2).wrapping_mul(words.get(right + 2));
     let d = words.get(left + 3).wrapping_mul(words.get(right + 3));
-    word.wrapping_add(a).wrapping_add(b).wrapping_add(c).wrapping_add(d)
+    word.wrapping_add(a)
+        .wrapping_add(b)
+        .wrapping_add(c)
+        .wrapping_add(d)
 }
 
 // A word and the products of the operands' words in the turns of a short loop.
