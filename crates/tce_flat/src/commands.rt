@@ -1,15 +1,11 @@
 // The commands.
-ghost use Rattle.std.specs.Prelude.{◌≡◌, ◌≢◌, Err, IfOk, IfErr};
-ghost use Rattle.std.specs.Option.{ForSome};
-ghost use Rattle.std.specs.String.{string_bytes};
+ghost use Rattle.std.specs.Prelude.{◌≡◌, Err, IfErr};
 ghost use Rattle.tce_outside.specs.Files.{others};
 ghost use Rattle.tce_outside.specs.Fault.{HasCause, TellsFaults};
 ghost use Rattle.tce_command.specs.Command as commands;
 ghost use Rattle.tce_command.specs.Command.{KeepsRules};
-ghost use Rattle.tce_flat.specs.Tensors.{array_file, converted_file};
-ghost use Rattle.tce_flat.specs.Refusals.{IsPackRefusal, IsUnpackRefusal, IsConvertRefusal, IsExpandRefusal};
 ghost use Rattle.tce_flat.specs.Done.{IsPacked, IsUnpacked, IsConverted, IsExpanded};
-ghost use Rattle.tce_flat.specs.NoHalf.{LeavesFor, LeavesPacking, LeavesUnpacking, LeavesConverting, LeavesExpanding};
+ghost use Rattle.tce_flat.specs.Told.{RefusesPack, RefusesUnpack, RefusesConvert, RefusesExpand, LeavesPack, LeavesUnpack, LeavesConvert, LeavesExpand, ArrayAlone, ConvertedAlone, KeepsFiles, Reports};
 
 use crate::expanding::expand_tensor;
 use crate::moving::{convert_tensor, pack_tensor, unpack_tensor};
@@ -30,11 +26,13 @@ pub fn pack<D: Disk>(
     disk: &mut D,
 ) -> Result<String, Refusal>
     requires { KeepsRules (commands.pack spec.now tensor.now flat.now) }
-    ensures done { IfOk result (λ report. IsPacked (D.files disk.old) (D.files disk.new) spec.now tensor.now flat.now (string_bytes report)) }
-    ensures refused { IfErr result (λ refusal. ForSome (D.files disk.old) (λ files. IsPackRefusal files spec.now tensor.now flat.now refusal)) }
-    ensures unchanged { IfErr result (λ refusal. refusal ≢ Refusal.Disk → D.files disk.new ≡ D.files disk.old) }
-    ensures no_half { LeavesFor (LeavesPacking tensor.now flat.now) spec.now tensor.now (D.files disk.old) (D.files disk.new) }
-    ensures others { others (array_file tensor.now) (D.files disk.new) ≡ others (array_file tensor.now) (D.files disk.old) }
+    ensures done { Reports result
+        (IsPacked (D.files disk.old) (D.files disk.new) spec.now tensor.now flat.now) }
+    ensures refused { IfErr result (RefusesPack (D.files disk.old) spec.now tensor.now flat.now) }
+    ensures unchanged { KeepsFiles result (D.files disk.old) (D.files disk.new) }
+    ensures no_half { LeavesPack spec.now tensor.now flat.now
+        (D.files disk.old) (D.files disk.new) }
+    ensures others { ArrayAlone tensor.now (D.files disk.old) (D.files disk.new) }
     ensures cause { HasCause (D.faults disk.old) (D.faults disk.new) (result ≡ Err Refusal.Disk) }
     ensures told { TellsFaults (D.faults disk.old) (D.faults disk.new) (result ≡ Err Refusal.Disk) }
 {
@@ -54,10 +52,12 @@ pub fn unpack<D: Disk>(
     disk: &mut D,
 ) -> Result<String, Refusal>
     requires { KeepsRules (commands.unpack spec.now tensor.now flat.now) }
-    ensures done { IfOk result (λ report. IsUnpacked (D.files disk.old) (D.files disk.new) spec.now tensor.now flat.now (string_bytes report)) }
-    ensures refused { IfErr result (λ refusal. ForSome (D.files disk.old) (λ files. IsUnpackRefusal files spec.now tensor.now refusal)) }
-    ensures unchanged { IfErr result (λ refusal. refusal ≢ Refusal.Disk → D.files disk.new ≡ D.files disk.old) }
-    ensures no_half { LeavesFor (LeavesUnpacking tensor.now flat.now) spec.now tensor.now (D.files disk.old) (D.files disk.new) }
+    ensures done { Reports result
+        (IsUnpacked (D.files disk.old) (D.files disk.new) spec.now tensor.now flat.now) }
+    ensures refused { IfErr result (RefusesUnpack (D.files disk.old) spec.now tensor.now) }
+    ensures unchanged { KeepsFiles result (D.files disk.old) (D.files disk.new) }
+    ensures no_half { LeavesUnpack spec.now tensor.now flat.now
+        (D.files disk.old) (D.files disk.new) }
     ensures others { others flat.now (D.files disk.new) ≡ others flat.now (D.files disk.old) }
     ensures cause { HasCause (D.faults disk.old) (D.faults disk.new) (result ≡ Err Refusal.Disk) }
     ensures told { TellsFaults (D.faults disk.old) (D.faults disk.new) (result ≡ Err Refusal.Disk) }
@@ -79,11 +79,12 @@ pub fn convert<D: Disk>(
     disk: &mut D,
 ) -> Result<String, Refusal>
     requires { KeepsRules (commands.convert spec.now tensor.now form) }
-    ensures done { IfOk result (λ report. IsConverted (D.files disk.old) (D.files disk.new) spec.now tensor.now form (string_bytes report)) }
-    ensures refused { IfErr result (λ refusal. ForSome (D.files disk.old) (λ files. IsConvertRefusal files spec.now tensor.now form refusal)) }
-    ensures unchanged { IfErr result (λ refusal. refusal ≢ Refusal.Disk → D.files disk.new ≡ D.files disk.old) }
-    ensures no_half { LeavesFor (LeavesConverting tensor.now form) spec.now tensor.now (D.files disk.old) (D.files disk.new) }
-    ensures others { others (converted_file tensor.now) (D.files disk.new) ≡ others (converted_file tensor.now) (D.files disk.old) }
+    ensures done { Reports result
+        (IsConverted (D.files disk.old) (D.files disk.new) spec.now tensor.now form) }
+    ensures refused { IfErr result (RefusesConvert (D.files disk.old) spec.now tensor.now form) }
+    ensures unchanged { KeepsFiles result (D.files disk.old) (D.files disk.new) }
+    ensures no_half { LeavesConvert spec.now tensor.now form (D.files disk.old) (D.files disk.new) }
+    ensures others { ConvertedAlone tensor.now (D.files disk.old) (D.files disk.new) }
     ensures cause { HasCause (D.faults disk.old) (D.faults disk.new) (result ≡ Err Refusal.Disk) }
     ensures told { TellsFaults (D.faults disk.old) (D.faults disk.new) (result ≡ Err Refusal.Disk) }
 {
@@ -103,11 +104,12 @@ pub fn expand<D: Disk>(
     disk: &mut D,
 ) -> Result<String, Refusal>
     requires { KeepsRules (commands.expand spec.now tensor.now) }
-    ensures done { IfOk result (λ report. IsExpanded (D.files disk.old) (D.files disk.new) spec.now tensor.now (string_bytes report)) }
-    ensures refused { IfErr result (λ refusal. ForSome (D.files disk.old) (λ files. IsExpandRefusal files spec.now tensor.now refusal)) }
-    ensures unchanged { IfErr result (λ refusal. refusal ≢ Refusal.Disk → D.files disk.new ≡ D.files disk.old) }
-    ensures no_half { LeavesFor (LeavesExpanding tensor.now) spec.now tensor.now (D.files disk.old) (D.files disk.new) }
-    ensures others { others (array_file tensor.now) (D.files disk.new) ≡ others (array_file tensor.now) (D.files disk.old) }
+    ensures done { Reports result
+        (IsExpanded (D.files disk.old) (D.files disk.new) spec.now tensor.now) }
+    ensures refused { IfErr result (RefusesExpand (D.files disk.old) spec.now tensor.now) }
+    ensures unchanged { KeepsFiles result (D.files disk.old) (D.files disk.new) }
+    ensures no_half { LeavesExpand spec.now tensor.now (D.files disk.old) (D.files disk.new) }
+    ensures others { ArrayAlone tensor.now (D.files disk.old) (D.files disk.new) }
     ensures cause { HasCause (D.faults disk.old) (D.faults disk.new) (result ≡ Err Refusal.Disk) }
     ensures told { TellsFaults (D.faults disk.old) (D.faults disk.new) (result ≡ Err Refusal.Disk) }
 {

@@ -1,21 +1,16 @@
 // A tensor of a known shape, expanded from the elements that are stored once for each pair.
-ghost use Rattle.std.specs.Prelude.{◌≡◌, ◌≢◌, ◌⊎◌, ◌≤◌, Err, IfOk, IfErr, OnOk, IsErrOf, length};
-ghost use Rattle.std.specs.Option.{ForSome, IsSomeAnd};
-ghost use Rattle.std.specs.String.{string_bytes};
+ghost use Rattle.std.specs.Prelude.{◌≡◌, ◌≢◌, ◌≤◌, Err, IfErr, OnOk, IsErrOf, length};
 ghost use Rattle.tce_space.specs.Limits.{max_name_bytes};
 ghost use Rattle.tce_outside.specs.Files.{file, others};
 ghost use Rattle.tce_outside.specs.Fault.{HasCause, TellsFaults};
-ghost use Rattle.tce_array.specs.Forms.{head_len, array_bytes};
-ghost use Rattle.tce_tools.specs.Flat.{contents};
-ghost use Rattle.tce_tools.specs.Storage.{holding_by};
-ghost use Rattle.tce_tools.specs.NoHalf.{LeavesNoHalfOf};
-ghost use Rattle.tce_sym.specs.Storage.{AreRight, IsStored, full_cell};
-ghost use Rattle.tce_command.specs.Refusals.{IsFree};
-ghost use Rattle.tce_flat.specs.Tensors.{array_file, sym_file};
-ghost use Rattle.tce_flat.specs.Refusals.{IsSymRefusal};
+ghost use Rattle.tce_tools.specs.Told.{HasFailed};
+ghost use Rattle.tce_sym.specs.Storage.{AreRight};
+ghost use Rattle.tce_sym.specs.Told.{IsStoredIn, Expands, MayExpand};
+ghost use Rattle.tce_flat.specs.Tensors.{sym_file};
 ghost use Rattle.tce_flat.specs.Done.{IsExpanding};
 ghost use Rattle.tce_flat.specs.NoHalf.{LeavesExpanding};
 ghost use Rattle.tce_flat.specs.Tools.{SymStands};
+ghost use Rattle.tce_flat.specs.Told.{RefusesSym, ArrayAlone, KeepsFiles, Reports};
 
 use crate::naming::{file_of, report};
 use std::alloc::Global;
@@ -60,13 +55,15 @@ fn expand_file<D: Disk>(
 ) -> Result<(), OutFault>
     requires names { packed.now ≢ array.now }
     requires right { AreRight shape.now.extents s.now }
-    requires file { ForSome (D.files disk.old) (λ fs. IsSomeAnd (file fs packed.now) (λ bytes. IsStored shape.now.extents s.now bytes)) }
-    ensures expanded { OnOk result (D.files disk.new ≡ holding_by array.now (λ fs. array_bytes shape.now (full_cell shape.now.extents s.now (contents fs packed.now))) (D.files disk.old)) }
+    requires file { IsStoredIn (D.files disk.old) packed.now shape.now.extents s.now }
+    ensures expanded { OnOk result
+        (Expands packed.now s.now array.now shape.now (D.files disk.old) (D.files disk.new)) }
     ensures memory { IsErrOf result OutFault.Memory → D.files disk.new ≡ D.files disk.old }
-    ensures no_half { LeavesNoHalfOf array.now (head_len Form.One shape.now) (λ fs. array_bytes shape.now (full_cell shape.now.extents s.now (contents fs packed.now))) (D.files disk.old) (D.files disk.new) }
+    ensures no_half { MayExpand packed.now s.now array.now shape.now
+        (D.files disk.old) (D.files disk.new) }
     ensures others { others array.now (D.files disk.new) ≡ others array.now (D.files disk.old) }
-    ensures cause { HasCause (D.faults disk.old) (D.faults disk.new) (IsErrOf result OutFault.Failed) }
-    ensures told { TellsFaults (D.faults disk.old) (D.faults disk.new) (IsErrOf result OutFault.Failed) }
+    ensures cause { HasCause (D.faults disk.old) (D.faults disk.new) (HasFailed result) }
+    ensures told { TellsFaults (D.faults disk.old) (D.faults disk.new) (HasFailed result) }
 {
     let Ok(mut lines) = vec![in alloc; 0; line_words(shape)] else {
         return expand(disk, shape, s, packed, array);
@@ -83,11 +80,12 @@ pub fn expand_tensor<D: Disk>(
     disk: &mut D,
 ) -> Result<String, Refusal>
     requires { length tensor.now ≤ max_name_bytes }
-    ensures done { IfOk result (λ report. IsExpanding (D.files disk.old) (D.files disk.new) shape.now tensor.now (string_bytes report)) }
-    ensures refused { IfErr result (λ refusal. ForSome (D.files disk.old) (λ files. IsFree refusal ⊎ IsSymRefusal files tensor.now shape.now refusal)) }
-    ensures unchanged { IfErr result (λ refusal. refusal ≢ Refusal.Disk → D.files disk.new ≡ D.files disk.old) }
+    ensures done { Reports result
+        (IsExpanding (D.files disk.old) (D.files disk.new) shape.now tensor.now) }
+    ensures refused { IfErr result (RefusesSym (D.files disk.old) tensor.now shape.now) }
+    ensures unchanged { KeepsFiles result (D.files disk.old) (D.files disk.new) }
     ensures no_half { LeavesExpanding tensor.now shape.now (D.files disk.old) (D.files disk.new) }
-    ensures others { others (array_file tensor.now) (D.files disk.new) ≡ others (array_file tensor.now) (D.files disk.old) }
+    ensures others { ArrayAlone tensor.now (D.files disk.old) (D.files disk.new) }
     ensures cause { HasCause (D.faults disk.old) (D.faults disk.new) (result ≡ Err Refusal.Disk) }
     ensures told { TellsFaults (D.faults disk.old) (D.faults disk.new) (result ≡ Err Refusal.Disk) }
 {

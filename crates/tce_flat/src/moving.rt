@@ -1,15 +1,12 @@
 // Elements of a tensor of a known shape, moved between its files.
-ghost use Rattle.std.specs.Prelude.{◌≡◌, ◌≢◌, ◌⊎◌, ◌≤◌, Err, IfOk, IfErr, length};
-ghost use Rattle.std.specs.Option.{ForSome};
-ghost use Rattle.std.specs.String.{string_bytes};
+ghost use Rattle.std.specs.Prelude.{◌≡◌, ◌≢◌, ◌≤◌, Err, IfErr, length};
 ghost use Rattle.tce_space.specs.Limits.{max_name_bytes};
 ghost use Rattle.tce_outside.specs.Files.{others};
 ghost use Rattle.tce_outside.specs.Fault.{HasCause, TellsFaults};
-ghost use Rattle.tce_command.specs.Refusals.{IsFree};
-ghost use Rattle.tce_flat.specs.Tensors.{array_file, converted_file};
-ghost use Rattle.tce_flat.specs.Refusals.{IsFlatRefusal, IsArrayRefusal, IsFormRefusal};
+ghost use Rattle.tce_flat.specs.Tensors.{array_file};
 ghost use Rattle.tce_flat.specs.Done.{IsPacking, IsUnpacking, IsConverting};
 ghost use Rattle.tce_flat.specs.NoHalf.{LeavesPacking, LeavesUnpacking, LeavesConverting};
+ghost use Rattle.tce_flat.specs.Told.{RefusesFlat, RefusesArray, RefusesForm, ArrayAlone, ConvertedAlone, KeepsFiles, Reports};
 
 use crate::naming::{file_of, report};
 use crate::refusals::refusal_of;
@@ -31,11 +28,13 @@ pub fn pack_tensor<D: Disk>(
     requires tensor { length tensor.now ≤ max_name_bytes }
     requires flat { length flat.now ≤ 200 }
     requires apart { flat.now ≢ array_file tensor.now }
-    ensures done { IfOk result (λ report. IsPacking (D.files disk.old) (D.files disk.new) shape.now tensor.now flat.now (string_bytes report)) }
-    ensures refused { IfErr result (λ refusal. ForSome (D.files disk.old) (λ files. IsFree refusal ⊎ IsFlatRefusal files flat.now shape.now refusal)) }
-    ensures unchanged { IfErr result (λ refusal. refusal ≢ Refusal.Disk → D.files disk.new ≡ D.files disk.old) }
-    ensures no_half { LeavesPacking tensor.now flat.now shape.now (D.files disk.old) (D.files disk.new) }
-    ensures others { others (array_file tensor.now) (D.files disk.new) ≡ others (array_file tensor.now) (D.files disk.old) }
+    ensures done { Reports result
+        (IsPacking (D.files disk.old) (D.files disk.new) shape.now tensor.now flat.now) }
+    ensures refused { IfErr result (RefusesFlat (D.files disk.old) flat.now shape.now) }
+    ensures unchanged { KeepsFiles result (D.files disk.old) (D.files disk.new) }
+    ensures no_half { LeavesPacking tensor.now flat.now shape.now
+        (D.files disk.old) (D.files disk.new) }
+    ensures others { ArrayAlone tensor.now (D.files disk.old) (D.files disk.new) }
     ensures cause { HasCause (D.faults disk.old) (D.faults disk.new) (result ≡ Err Refusal.Disk) }
     ensures told { TellsFaults (D.faults disk.old) (D.faults disk.new) (result ≡ Err Refusal.Disk) }
 {
@@ -60,10 +59,12 @@ pub fn unpack_tensor<D: Disk>(
 ) -> Result<String, Refusal>
     requires tensor { length tensor.now ≤ max_name_bytes }
     requires apart { array_file tensor.now ≢ flat.now }
-    ensures done { IfOk result (λ report. IsUnpacking (D.files disk.old) (D.files disk.new) shape.now tensor.now flat.now (string_bytes report)) }
-    ensures refused { IfErr result (λ refusal. ForSome (D.files disk.old) (λ files. IsFree refusal ⊎ IsArrayRefusal files tensor.now shape.now refusal)) }
-    ensures unchanged { IfErr result (λ refusal. refusal ≢ Refusal.Disk → D.files disk.new ≡ D.files disk.old) }
-    ensures no_half { LeavesUnpacking tensor.now flat.now shape.now (D.files disk.old) (D.files disk.new) }
+    ensures done { Reports result
+        (IsUnpacking (D.files disk.old) (D.files disk.new) shape.now tensor.now flat.now) }
+    ensures refused { IfErr result (RefusesArray (D.files disk.old) tensor.now shape.now) }
+    ensures unchanged { KeepsFiles result (D.files disk.old) (D.files disk.new) }
+    ensures no_half { LeavesUnpacking tensor.now flat.now shape.now
+        (D.files disk.old) (D.files disk.new) }
     ensures others { others flat.now (D.files disk.new) ≡ others flat.now (D.files disk.old) }
     ensures cause { HasCause (D.faults disk.old) (D.faults disk.new) (result ≡ Err Refusal.Disk) }
     ensures told { TellsFaults (D.faults disk.old) (D.faults disk.new) (result ≡ Err Refusal.Disk) }
@@ -88,11 +89,13 @@ pub fn convert_tensor<D: Disk>(
     disk: &mut D,
 ) -> Result<String, Refusal>
     requires tensor { length tensor.now ≤ max_name_bytes }
-    ensures done { IfOk result (λ report. IsConverting (D.files disk.old) (D.files disk.new) shape.now tensor.now form (string_bytes report)) }
-    ensures refused { IfErr result (λ refusal. ForSome (D.files disk.old) (λ files. IsFree refusal ⊎ IsFormRefusal files tensor.now form shape.now refusal)) }
-    ensures unchanged { IfErr result (λ refusal. refusal ≢ Refusal.Disk → D.files disk.new ≡ D.files disk.old) }
-    ensures no_half { LeavesConverting tensor.now form shape.now (D.files disk.old) (D.files disk.new) }
-    ensures others { others (converted_file tensor.now) (D.files disk.new) ≡ others (converted_file tensor.now) (D.files disk.old) }
+    ensures done { Reports result
+        (IsConverting (D.files disk.old) (D.files disk.new) shape.now tensor.now form) }
+    ensures refused { IfErr result (RefusesForm (D.files disk.old) tensor.now form shape.now) }
+    ensures unchanged { KeepsFiles result (D.files disk.old) (D.files disk.new) }
+    ensures no_half { LeavesConverting tensor.now form shape.now
+        (D.files disk.old) (D.files disk.new) }
+    ensures others { ConvertedAlone tensor.now (D.files disk.old) (D.files disk.new) }
     ensures cause { HasCause (D.faults disk.old) (D.faults disk.new) (result ≡ Err Refusal.Disk) }
     ensures told { TellsFaults (D.faults disk.old) (D.faults disk.new) (result ≡ Err Refusal.Disk) }
 {

@@ -1,11 +1,9 @@
 // Tensors, found by their names in the file of a specification.
 ghost use Rattle.std.specs.Prelude.{◌≡◌, ◌<◌, ◌≤◌, Err, IfOk, IfErr, length};
-ghost use Rattle.std.specs.Option.{ForSome};
 ghost use Rattle.tce_space.specs.Limits.{max_name_bytes};
 ghost use Rattle.tce_outside.specs.Fault.{HasCause, TellsFaults};
 ghost use Rattle.tce_spec.specs.Operands.{shape_of};
-ghost use Rattle.tce_flat.specs.Tensors.{HasTensor};
-ghost use Rattle.tce_flat.specs.Refusals.{IsTensorRefusal};
+ghost use Rattle.tce_flat.specs.Told.{FindsTensor, RefusesTensor};
 
 use std::alloc::Global;
 use tce_command::Refusal;
@@ -40,8 +38,9 @@ pub fn find_tensor<D: Disk>(
 ) -> Result<Found, Refusal>
     requires spec { length spec.now ≤ 200 }
     requires tensor { length tensor.now ≤ max_name_bytes }
-    ensures found { IfOk result (λ found. ForSome (D.files disk.old) (λ files. HasTensor files spec.now tensor.now (shape_of found.spec found.number))) }
-    ensures refused { IfErr result (λ refusal. ForSome (D.files disk.old) (λ files. IsTensorRefusal files spec.now tensor.now refusal)) }
+    ensures found { IfOk result
+        (λ found. FindsTensor (D.files disk.old) spec.now tensor.now found.spec found.number) }
+    ensures refused { IfErr result (RefusesTensor (D.files disk.old) spec.now tensor.now) }
     ensures same { D.files disk.new ≡ D.files disk.old }
     ensures cause { HasCause (D.faults disk.old) (D.faults disk.new) (result ≡ Err Refusal.Disk) }
     ensures told { TellsFaults (D.faults disk.old) (D.faults disk.new) (result ≡ Err Refusal.Disk) }
