@@ -1,15 +1,10 @@
 -- The lines that are written of a plan that fits.
-use Rattle.std.proofs.Common.{◌≡◌, ℕ, ◌+◌, ◌-◌, ◌<◌, ◌≤◌, ◌^◌, List, length, get_or, All, slice_index, refl, sym, ap, ◌∙◌, ◌⊎◌, inl, inr, arith}
+use Rattle.std.proofs.Common.{ℕ, ◌<◌, ◌^◌, List, length, All, slice_index, refl, ap, ◌∙◌, inl, inr, arith}
 use Rattle.std.proofs.lemmas.Bool.{cases_lt}
 use Rattle.std.proofs.lemmas.List.{get_or_past}
-use Rattle.tce_space.specs.IndexSet.{empty}
-use Rattle.tce_space.specs.Space.{IndexSpace}
-use Rattle.tce_tree.specs.ContractionTree.{ContractionTree, operations}
 use Rattle.tce_tree.specs.Fusion.{fused_at}
-use Rattle.tce_nesting.specs.Plan.{PlanFits}
-use Rattle.tce_nesting.specs.declared.plan.Plan.{Plan}
 use Rattle.tce_report.specs.Laws.{WrittenLinesSayThePlan}
-use Rattle.tce_report.specs.NodeLine.{Says, MaySay, stated, said_of, node_line}
+use Rattle.tce_report.specs.NodeLine.{node_line}
 
 size_limit : (sizes : List ℕ) (v : ℕ) → All (λ n. n < 2 ^ 96) sizes → slice_index sizes v < 2 ^ 96
 size_limit sizes v small = elim (cases_lt v (length sizes)) [

@@ -46,3 +46,7 @@ form_text form = loops_written form.node form.kind form.order ++ array_text form
 -- the line has one of the two forms of a node line
 abbrev pub HasForm : List ℕ → Type 0
 HasForm line = (form : Form) × IsForm form × (line ≡ form_text form)
+
+-- the line has this form
+abbrev pub IsFormOf : List ℕ → Form → Type 0
+IsFormOf line form = IsForm form × (line ≡ form_text form)

@@ -87,3 +87,7 @@ pub record MaySay (tree : ContractionTree) (v : ℕ) (said : Said) : Type 0 wher
 pub record Says (space : IndexSpace) (tree : ContractionTree) (v : ℕ) (line : List ℕ) (said : Said) : Type 0 where
   pub allowed : MaySay tree v said
   pub text_is : line ≡ line_saying space tree v said
+
+-- the end of the line of an intermediate: its fused indexes and the size of its array
+abbrev pub fused_text : IndexSpace → ℕ → ℕ → List ℕ
+fused_text space fused size = codes " fused " ++ (set_text space fused ++ (codes " size " ++ decimal size))

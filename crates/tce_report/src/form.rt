@@ -2,9 +2,9 @@
 ghost use Rattle.std.specs.Prelude.{◌≡◌, option_map};
 ghost use Rattle.std.specs.Str.{bytes_eq};
 ghost use Rattle.tce_fields.specs.Reading.{GivesExactly, texts};
-ghost use Rattle.tce_report.specs.Fields.{array_fields, form_fields};
+ghost use Rattle.tce_report.specs.Fields.{HasArrayFields, HasFormFields};
 ghost use Rattle.tce_report.specs.FormCode.{array_form, form};
-ghost use Rattle.tce_report.specs.NodeForm.{IsArrayForm, IsForm, form_text};
+ghost use Rattle.tce_report.specs.NodeForm.{IsFormOf};
 ghost use Rattle.tce_report.specs.NodeLine as lines;
 
 use arrayvec::ArrayVec;
@@ -70,7 +70,7 @@ fn read_kind(word: &[u8]) -> Option<Kind>
 
 // What stands behind the loops.
 fn read_array<'a>(fields: &[&'a [u8]]) -> Option<Option<WrittenArray<'a>>>
-    ensures { GivesExactly (option_map array_form result) (λ array. IsArrayForm array × (texts fields.now ≡ array_fields array)) }
+    ensures { GivesExactly (option_map array_form result) (HasArrayFields (texts fields.now)) }
 {
     match fields {
         [result_word] if is_word(*result_word, RESULT) => Some(None),
@@ -89,7 +89,7 @@ fn read_array<'a>(fields: &[&'a [u8]]) -> Option<Option<WrittenArray<'a>>>
 }
 
 fn read_fields<'a>(fields: &[&'a [u8]]) -> Option<WrittenLine<'a>>
-    ensures { GivesExactly (option_map form result) (λ form. IsForm form × (texts fields.now ≡ form_fields form)) }
+    ensures { GivesExactly (option_map form result) (HasFormFields (texts fields.now)) }
 {
     let [node_word, number, kind_word, loops_word, names, rest @ ..] = fields else {
         return None;
@@ -119,7 +119,7 @@ fn read_fields<'a>(fields: &[&'a [u8]]) -> Option<WrittenLine<'a>>
 
 // The line as it is written; `None` where it has neither of the two forms of a node line.
 pub(crate) fn read_form(line: &[u8]) -> Option<WrittenLine<'_>>
-    ensures { GivesExactly (option_map form result) (λ form. IsForm form × (line.now ≡ form_text form)) }
+    ensures { GivesExactly (option_map form result) (IsFormOf line.now) }
 {
     let Some(fields) = split_parts::<9>(line, b' ') else {
         return None;

@@ -1,5 +1,5 @@
 // The line of a node in reports and certificates.
-ghost use Rattle.std.specs.Prelude.{◌≡◌, ◌<◌, ◌≤◌, ◌+◌, ◌++◌, length, codes, All};
+ghost use Rattle.std.specs.Prelude.{◌≡◌, ◌<◌, ◌≤◌, ◌+◌, ◌++◌, length, All};
 ghost use Rattle.std.specs.Fmt.{decimal};
 ghost use Rattle.tce_space.specs.Limits.{cost_limit, max_loops, max_nodes};
 ghost use Rattle.tce_space.specs.IndexSet.{members, count};
@@ -56,7 +56,7 @@ fn push_array(line: &mut Line, space: &Space, fused: IndexSet, size: u128)
     requires few { count fused ≤ max_loops }
     requires small { size < cost_limit }
     requires room { length line.old.bytes ≤ 193 }
-    ensures { line.new.bytes ≡ line.old.bytes ++ (codes " fused " ++ (lines.set_text space.now fused ++ (codes " size " ++ decimal size))) }
+    ensures { line.new.bytes ≡ line.old.bytes ++ lines.fused_text space.now fused size }
 {
     line.push_str(" fused ");
     push_names(line, space, members_of(fused).as_slice());

@@ -2,16 +2,15 @@
 ghost use Rattle.std.specs.Prelude.{◌≡◌, ◌<◌, ◌≤◌, ◌↔◌, ◌&&◌, not, IsTrue, IsPermutation, length, option_map};
 ghost use Rattle.std.specs.List.{list_all};
 ghost use Rattle.tce_space.specs.Limits.{max_indexes, max_loops};
-ghost use Rattle.tce_space.specs.IndexSet.{IsIndexSet, IsWithin, has, members};
+ghost use Rattle.tce_space.specs.IndexSet.{IsIndexSet, has, members};
 ghost use Rattle.tce_space.specs.Name.{is_name};
 ghost use Rattle.tce_tree.specs.ContractionTree.{operations};
 ghost use Rattle.tce_tree.specs.WellFormed.{IsDeclaredTree};
-ghost use Rattle.tce_fields.specs.Names.{AreNamed, IsSetNamed};
 ghost use Rattle.tce_fields.specs.Reading.{GivesExactly, texts};
 ghost use Rattle.tce_report.specs.FormCode.{form};
 ghost use Rattle.tce_report.specs.NodeForm.{IsForm, HasForm};
-ghost use Rattle.tce_report.specs.NodeLine.{Said, MaySay, Says};
-ghost use Rattle.tce_report.specs.ReadLine.{said, said_if_read, form_saying};
+ghost use Rattle.tce_report.specs.NodeLine.{Says};
+ghost use Rattle.tce_report.specs.ReadLine.{said, said_if_read, DoesNotFit, IsFusedNamed, IsOrderNamed, IsWrongTree, WrittenSays};
 
 use crate::form::{WrittenLine, read_form};
 use tce_fields::{indexes_named, set_named};
@@ -69,7 +68,8 @@ fn read_order(space: &Space, loops: IndexSet, names: &[&[u8]]) -> Option<LoopOrd
     requires loops { IsIndexSet loops }
     requires named { IsTrue (list_all is_name (texts names.now)) }
     requires few { length names.now ≤ max_loops }
-    ensures { GivesExactly (option_map (λ order. order.0.items) result) (λ order. IsPermutation (members loops) order × AreNamed space.now (texts names.now) order) }
+    ensures { GivesExactly (option_map (λ order. order.0.items) result)
+        (IsOrderNamed space.now loops (texts names.now)) }
 {
     let Some(order) = indexes_named::<10>(space, names) else {
         return None;
@@ -85,7 +85,7 @@ fn read_order(space: &Space, loops: IndexSet, names: &[&[u8]]) -> Option<LoopOrd
 fn read_fused(space: &Space, dims: IndexSet, names: &[&[u8]]) -> Option<IndexSet>
     requires named { IsTrue (list_all is_name (texts names.now)) }
     requires few { length names.now ≤ max_indexes }
-    ensures { GivesExactly result (λ fused. IsWithin fused dims × IsSetNamed space.now (texts names.now) fused) }
+    ensures { GivesExactly result (IsFusedNamed space.now dims (texts names.now)) }
 {
     let Some(fused) = set_named(space, names) else {
         return None;
@@ -102,7 +102,7 @@ fn read_written(space: &Space, tree: &Tree, v: u8, line: &WrittenLine<'_>) -> Op
     requires declared { IsDeclaredTree space.now tree.now }
     requires inside { v < operations tree.now }
     requires form { IsForm (form line.now) }
-    ensures { GivesExactly (option_map said result) (λ s. MaySay tree.now v s × (form line.now ≡ form_saying space.now tree.now v s)) }
+    ensures { GivesExactly (option_map said result) (WrittenSays space.now tree.now v line.now) }
 {
     let _declared = space.index_count();
     let is_root = tree.count() == v + 1;
@@ -145,7 +145,7 @@ pub fn read_node_line(space: &Space, tree: &Tree, v: u8, line: &[u8]) -> Result<
     requires inside { v < operations tree.now }
     ensures read { GivesExactly (said_if_read result) (Says space.now tree.now v line.now) }
     ensures bad_text { (result ≡ Err LineFault.BadText) ↔ ¬ HasForm line.now }
-    ensures wrong_tree { (result ≡ Err LineFault.WrongTree) ↔ (HasForm line.now × ((s : Said) → ¬ Says space.now tree.now v line.now s)) }
+    ensures wrong_tree { IsWrongTree result ↔ DoesNotFit space.now tree.now v line.now }
 {
     let _declared = space.index_count();
     let _count = tree.count();

@@ -2,7 +2,6 @@
 ghost use Rattle.std.specs.Prelude.{◌≡◌, ◌++◌, OnOk, IfOk};
 ghost use Rattle.tce_tree.specs.WellFormed.{IsDeclaredTree};
 ghost use Rattle.tce_nesting.specs.Plan.{PlanFits};
-ghost use Rattle.tce_report.specs.NodeLine.{stated};
 ghost use Rattle.tce_report.specs.Report as reports;
 
 use crate::line::node_line;
@@ -20,7 +19,8 @@ fn push_node_lines(
 ) -> Result<(), AllocError>
     requires declared { IsDeclaredTree space.now tree.now }
     requires fits { PlanFits tree.now plan.now }
-    ensures { OnOk result (text.new.items ≡ text.old.items ++ reports.node_lines space.now tree.now (stated plan.now)) }
+    ensures { OnOk result (text.new.items
+        ≡ text.old.items ++ reports.plan_lines space.now tree.now plan.now) }
 {
     for v in 0..tree.count() {
         text.extend_from_slice(node_line(space, tree, plan, v).as_str().as_bytes())?;
@@ -38,7 +38,7 @@ pub fn plan_text(
 ) -> Result<Vec<u8>, AllocError>
     requires declared { IsDeclaredTree space.now tree.now }
     requires fits { PlanFits tree.now plan.now }
-    ensures { IfOk result (λ text. text.items ≡ reports.plan_text space.now tree.now (stated plan.now)) }
+    ensures { IfOk result (λ text. text.items ≡ reports.plan_report space.now tree.now plan.now) }
 {
     let mut text = Vec::new(alloc);
     text.extend_from_slice(b"tce plan 1\n")?;
@@ -60,7 +60,8 @@ pub fn run_text(
 ) -> Result<Vec<u8>, AllocError>
     requires declared { IsDeclaredTree space.now tree.now }
     requires fits { PlanFits tree.now plan.now }
-    ensures { IfOk result (λ text. text.items ≡ reports.run_text space.now tree.now (stated plan.now) tiles file.now.bytes bytes) }
+    ensures { IfOk result (λ text. text.items
+        ≡ reports.run_report space.now tree.now plan.now tiles file.now.bytes bytes) }
 {
     let mut text = Vec::new(alloc);
     text.extend_from_slice(b"tce run 1\n")?;
