@@ -6,11 +6,10 @@ ghost use Rattle.tce_grammar.specs.Code.{names, formula, line as line_view};
 ghost use Rattle.tce_grammar.specs.Grammar.{AreNames, IsLine};
 ghost use Rattle.tce_grammar.specs.Reading.{line_of};
 ghost use Rattle.tce_declarations.specs.FaultCode.{Shows};
-ghost use Rattle.tce_declarations.specs.TextCode.{fault_in};
 ghost use Rattle.tce_formula.specs.Places.{IsNamed};
-ghost use Rattle.tce_spec.specs.SpecCode.{specification_of, IsKept};
-ghost use Rattle.tce_batch.specs.Outcome.{together};
-ghost use Rattle.tce_batch.specs.Reading.{specified_by, of_line, as_found, as_list, may_follow};
+ghost use Rattle.tce_spec.specs.SpecCode.{IsKept};
+ghost use Rattle.tce_batch.specs.Reading.{may_follow};
+ghost use Rattle.tce_batch.specs.BatchCode.{line_fault, HasFormula, HasFormulaFault, ReadsLine};
 
 use std::alloc::{AllocError, Global};
 use tce_declarations::{Declarations, SpecFault};
@@ -38,8 +37,8 @@ pub(crate) fn contraction_of(
     requires indexes { AreNames (names indexes.now) }
     requires written { IsNamed (formula written.now) }
     ensures kept { IfOk result (IsKept declarations.now) }
-    ensures specified { IfOk result (λ c. specified_by line declarations.now name.now (names indexes.now) (formula written.now) ≡ Ok (specification_of declarations.now c)) }
-    ensures fault { IfErr result (Shows (fault_in (specified_by line declarations.now name.now (names indexes.now) (formula written.now)))) }
+    ensures specified { HasFormula line declarations.now name.now indexes.now written.now result }
+    ensures fault { HasFormulaFault line declarations.now name.now indexes.now written.now result }
 {
     let _space = declarations.space();
     read_formula(alloc, line, declarations, name, indexes, written)
@@ -53,8 +52,8 @@ pub(crate) fn read_next(
     text: &[u8],
 ) -> Result<Option<Contraction>, SpecFault>
     ensures kept { IfOk result (λ read. IfSome read (IsKept declarations.now)) }
-    ensures read { IfOk result (λ read. of_line line declarations.now (line_of text.now) ≡ as_found declarations.now (as_list read)) }
-    ensures fault { IfErr result (Shows (fault_in (together (of_line line declarations.now (line_of text.now))))) }
+    ensures read { IfOk result (ReadsLine line declarations.now text.now) }
+    ensures fault { IfErr result (Shows (line_fault line declarations.now text.now)) }
 {
     match read_named(alloc, text)? {
         Line::Says(

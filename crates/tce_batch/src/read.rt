@@ -1,17 +1,12 @@
 //! The reader of several formulas.
 
-ghost use Rattle.std.specs.Prelude.{◌≡◌, ◌+◌, ◌<◌, ◌^◌, ◌∷◌, ◌++◌, List, map, All, IfOk, IfErr, OnOk, Result, length};
+ghost use Rattle.std.specs.Prelude.{◌≡◌, ◌+◌, ◌<◌, ◌^◌, ◌++◌, All, IfOk, IfErr, OnOk, length};
 ghost use Rattle.tce_grammar.specs.Lines.{lines};
-ghost use Rattle.tce_grammar.specs.Reading.{line_of};
-ghost use Rattle.tce_declarations.specs.Faults.{Fault};
 ghost use Rattle.tce_declarations.specs.FaultCode.{Shows};
-ghost use Rattle.tce_declarations.specs.Text.{closing_fault};
-ghost use Rattle.tce_declarations.specs.TextCode.{AnswersFault, fault_in};
-ghost use Rattle.tce_spec.specs.Specification.{Specification};
-ghost use Rattle.tce_spec.specs.SpecCode.{specification_of, IsKept};
-ghost use Rattle.tce_batch.specs.Outcome.{IsBatchOutcome, together};
-ghost use Rattle.tce_batch.specs.Reading.{without_formulas, of_lines, as_found, as_list};
-ghost use Rattle.tce_batch.specs.BatchCode.{Answers};
+ghost use Rattle.tce_declarations.specs.TextCode.{AnswersFault};
+ghost use Rattle.tce_spec.specs.SpecCode.{IsKept};
+ghost use Rattle.tce_batch.specs.Reading.{as_list};
+ghost use Rattle.tce_batch.specs.BatchCode.{behind_fault, further_fault, AnswersBatch, ReadsFurther};
 
 use crate::batch::Batch;
 use crate::line::{contraction_of, may_follow, read_next};
@@ -24,7 +19,7 @@ use tce_grammar::first_line;
 /// `first_number` is the number of the first.
 fn check_behind(alloc: Global, first_number: u64, text: &[u8]) -> Result<(), SpecFault>
     requires { first_number + length text.now < 2 ^ 64 }
-    ensures { AnswersFault (closing_fault first_number (without_formulas (map line_of (lines text.now)))) result }
+    ensures { AnswersFault (behind_fault first_number text.now) result }
 {
     let mut number = first_number;
     let mut rest = text;
@@ -60,8 +55,9 @@ fn read_further(
     requires kept { IsKept declarations.now first }
     requires few { first_number + length text.now < 2 ^ 64 }
     ensures kept { IfOk result (λ cs. All (IsKept declarations.now) cs.items) }
-    ensures read { IfOk result (λ cs. Ok (specification_of declarations.now first) ∷ of_lines first_number declarations.now (map line_of (lines text.now)) ≡ as_found declarations.now cs.items) }
-    ensures fault { IfErr result (Shows (fault_in (together (of_lines first_number declarations.now (map line_of (lines text.now)))))) }
+    ensures read { IfOk result (λ cs.
+        ReadsFurther declarations.now first first_number text.now cs.items) }
+    ensures fault { IfErr result (Shows (further_fault first_number declarations.now text.now)) }
 {
     let mut contractions = Vec::new(alloc);
     keep(&mut contractions, Some(first))?;
@@ -84,7 +80,7 @@ fn read_further(
 /// forms, or a declaration behind a formula, comes before every fault of the second formula. Without a formula line the
 /// text is refused as one specification is. The text is read in time linear in its length.
 pub fn read_batch(alloc: Global, text: &[u8]) -> Result<Batch, SpecFault>
-    ensures { (found : Result (List Specification) Fault) → IsBatchOutcome text.now found → Answers found result }
+    ensures { AnswersBatch text.now result }
 {
     let head = read_head(alloc, text)?;
     let first = contraction_of(
