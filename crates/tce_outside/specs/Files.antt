@@ -37,6 +37,18 @@ part files name at len = take len (drop at (unwrap_or (file files name) []))
 abbrev pub with_part : Files → List ℕ → ℕ → List ℕ → Files
 with_part files name at bytes = with_file files name (overwritten (unwrap_or (file files name) []) at bytes)
 
+-- the files with so many zero bytes under this name
+abbrev pub with_zeros : Files → List ℕ → ℕ → Files
+with_zeros files name len = with_file files name (replicate len 0)
+
+-- the length of a file, if it is there
+abbrev pub length_of : Files → List ℕ → Option ℕ
+length_of files name = option_map length (file files name)
+
+-- all files but the one of this name are the same
+abbrev pub SameOthers : List ℕ → Files → Files → Type 0
+SameOthers name old new = without_file new name ≡ without_file old name
+
 -- Of a disk that tells its files, or tells nothing.
 
 -- all files but the one of this name
@@ -46,6 +58,10 @@ others name told = option_map (λ files. without_file files name) told
 -- the files with these bytes under this name
 abbrev pub holding : List ℕ → List ℕ → Option Files → Option Files
 holding name bytes told = option_map (λ files. with_file files name bytes) told
+
+-- the files with so many zero bytes under this name
+abbrev pub holding_zeros : List ℕ → ℕ → Option Files → Option Files
+holding_zeros name len told = option_map (λ files. with_zeros files name len) told
 
 -- the files with these bytes written over a part of the one of this name
 abbrev pub written : List ℕ → ℕ → List ℕ → Option Files → Option Files
@@ -62,3 +78,21 @@ bytes_from name at told = option_map (λ files. option_map (λ bytes. drop at by
 abbrev pub IsKeptOrZeros : List ℕ → Option Files → Option Files → Type 0
 IsKeptOrZeros name before after =
     ForSome before (λ old. ForSome after (λ new. (file new name ≡ file old name) ⊎ IfSome (file new name) (λ bytes. bytes ≡ replicate (length bytes) 0)))
+
+-- the number is the length of a file, and the bytes are a part of it
+abbrev pub IsLengthIn : Option Files → List ℕ → Option ℕ → Type 0
+IsLengthIn told name len = ForSome told (λ files. len ≡ length_of files name)
+
+abbrev pub IsPartIn : Option Files → List ℕ → ℕ → ℕ → List ℕ → Type 0
+IsPartIn told name at len bytes = ForSome told (λ files. bytes ≡ part files name at len)
+
+-- a file keeps what it has before a place, and what it has from one on
+abbrev pub KeepsBefore : List ℕ → ℕ → Option Files → Option Files → Type 0
+KeepsBefore name at before after = bytes_before name at after ≡ bytes_before name at before
+
+abbrev pub KeepsFrom : List ℕ → ℕ → Option Files → Option Files → Type 0
+KeepsFrom name at before after = bytes_from name at after ≡ bytes_from name at before
+
+-- Of a sink that tells its bytes, or tells nothing: these bytes behind them
+abbrev pub appended : List ℕ → Option (List ℕ) → Option (List ℕ)
+appended piece told = option_map (λ bytes. bytes ++ piece) told

@@ -1,8 +1,8 @@
 // A disk and a sink, with what they mean and how often they failed.
-ghost use Rattle.std.specs.Prelude.{◌≡◌, ◌+◌, ◌++◌, List, ℕ, length, replicate, Option, IfOk, OnOk, IsErr, IsErrOf, take};
-ghost use Rattle.std.specs.Option.{ForSome, option_map};
-ghost use Rattle.tce_outside.specs.Files.{Files, file, HasPart, part, others, holding, written, bytes_before, bytes_from, IsKeptOrZeros};
-ghost use Rattle.tce_outside.specs.Fault.{HasCause, TellsFaults};
+ghost use Rattle.std.specs.Prelude.{◌≡◌, ◌+◌, List, ℕ, length, Option, IfOk, OnOk, IsErr, IsErrOf, take};
+ghost use Rattle.std.specs.Option.{ForSome};
+ghost use Rattle.tce_outside.specs.Files.{Files, HasPart, others, written, IsKeptOrZeros, holding_zeros, appended, IsLengthIn, IsPartIn, KeepsBefore, KeepsFrom};
+ghost use Rattle.tce_outside.specs.Fault.{HasCause, TellsFaults, HasFailed};
 
 use thiserror::Error;
 
@@ -40,7 +40,7 @@ pub trait Disk {
 
     /// The length of a file in bytes, or `None` exactly where there is no file of this name. Nothing changes.
     fn size(&mut self, name: &str) -> Result<Option<u64>, Failed>
-        ensures length { IfOk result (λ len. ForSome (files self.old) (λ fs. len ≡ option_map length (file fs name.now))) }
+        ensures length { IfOk result (IsLengthIn (files self.old) name.now) }
         ensures same { files self.new ≡ files self.old }
         ensures cause { HasCause (faults self.old) (faults self.new) (IsErr result) }
         ensures told { TellsFaults (faults self.old) (faults self.new) (IsErr result) };
@@ -50,18 +50,19 @@ pub trait Disk {
     /// For want of memory no file changes. Where the disk fails, the file of this name may be as it was, have
     /// zeros alone, fewer or more of them, or be absent. All other files stay in every case.
     fn make(&mut self, name: &str, len: u64) -> Result<(), OutFault>
-        ensures made { OnOk result (files self.new ≡ holding name.now (replicate len 0) (files self.old)) }
+        ensures made { OnOk result (files self.new ≡ holding_zeros name.now len (files self.old)) }
         ensures memory { IsErrOf result OutFault.Memory → files self.new ≡ files self.old }
         ensures zeros { IsKeptOrZeros name.now (files self.old) (files self.new) }
         ensures others { others name.now (files self.new) ≡ others name.now (files self.old) }
-        ensures cause { HasCause (faults self.old) (faults self.new) (IsErrOf result OutFault.Failed) }
-        ensures told { TellsFaults (faults self.old) (faults self.new) (IsErrOf result OutFault.Failed) };
+        ensures cause { HasCause (faults self.old) (faults self.new) (HasFailed result) }
+        ensures told { TellsFaults (faults self.old) (faults self.new) (HasFailed result) };
 
     /// Reads the bytes of a file from place `at` on until `out` is full. Where the disk fails, `out` may hold
     /// anything. Nothing changes on the disk.
     fn read_at(&mut self, name: &str, at: u64, out: &mut [u8]) -> Result<(), Failed>
         requires { ForSome (files self.old) (λ fs. HasPart fs name.now at (length out.old)) }
-        ensures read { OnOk result (ForSome (files self.old) (λ fs. out.new ≡ part fs name.now at (length out.old))) }
+        ensures read { OnOk result
+            (IsPartIn (files self.old) name.now at (length out.old) out.new) }
         ensures same { files self.new ≡ files self.old }
         ensures cause { HasCause (faults self.old) (faults self.new) (IsErr result) }
         ensures told { TellsFaults (faults self.old) (faults self.new) (IsErr result) };
@@ -72,9 +73,11 @@ pub trait Disk {
     /// the part and behind it, if anything, stays in every case, and so do all other files.
     fn write_at(&mut self, name: &str, at: u64, bytes: &[u8]) -> Result<(), Failed>
         requires { ForSome (files self.old) (λ fs. HasPart fs name.now at (length bytes.now)) }
-        ensures written { OnOk result (files self.new ≡ written name.now at bytes.now (files self.old)) }
-        ensures before { bytes_before name.now at (files self.new) ≡ bytes_before name.now at (files self.old) }
-        ensures behind { bytes_from name.now (at + length bytes.now) (files self.new) ≡ bytes_from name.now (at + length bytes.now) (files self.old) }
+        ensures written { OnOk result
+            (files self.new ≡ written name.now at bytes.now (files self.old)) }
+        ensures before { KeepsBefore name.now at (files self.old) (files self.new) }
+        ensures behind { KeepsFrom name.now (at + length bytes.now)
+            (files self.old) (files self.new) }
         ensures others { others name.now (files self.new) ≡ others name.now (files self.old) }
         ensures cause { HasCause (faults self.old) (faults self.new) (IsErr result) }
         ensures told { TellsFaults (faults self.old) (faults self.new) (IsErr result) };
@@ -94,9 +97,9 @@ pub trait Sink {
     /// Puts all of a piece behind what was put before. For want of memory nothing is put; where the sink
     /// fails, a prefix of the piece may have been put.
     fn put(&mut self, piece: &[u8]) -> Result<(), OutFault>
-        ensures whole { OnOk result (bytes self.new ≡ option_map (λ put. put ++ piece.now) (bytes self.old)) }
+        ensures whole { OnOk result (bytes self.new ≡ appended piece.now (bytes self.old)) }
         ensures memory { IsErrOf result OutFault.Memory → bytes self.new ≡ bytes self.old }
-        ensures prefix { (k : ℕ) × (bytes self.new ≡ option_map (λ put. put ++ take k piece.now) (bytes self.old)) }
-        ensures cause { HasCause (faults self.old) (faults self.new) (IsErrOf result OutFault.Failed) }
-        ensures told { TellsFaults (faults self.old) (faults self.new) (IsErrOf result OutFault.Failed) };
+        ensures prefix { (k : ℕ) × (bytes self.new ≡ appended (take k piece.now) (bytes self.old)) }
+        ensures cause { HasCause (faults self.old) (faults self.new) (HasFailed result) }
+        ensures told { TellsFaults (faults self.old) (faults self.new) (HasFailed result) };
 }

@@ -1,7 +1,6 @@
 // A disk in memory that fails at stated calls.
-ghost use Rattle.std.specs.Prelude.{◌≡◌, ◌+◌, ◌↔◌, IsTrue, IsErr, IsErrOf, OnOk, OnErr, IfOk, Some, length, replicate};
-ghost use Rattle.std.specs.Option.{option_map};
-ghost use Rattle.tce_outside.specs.Files.{file, with_file, without_file, with_part, HasPart, part, bytes_before, bytes_from, IsKeptOrZeros};
+ghost use Rattle.std.specs.Prelude.{◌≡◌, ◌+◌, ◌↔◌, IsTrue, IsErr, IsErrOf, OnOk, OnErr, IfOk, Some, length};
+ghost use Rattle.tce_outside.specs.Files.{with_part, HasPart, part, IsKeptOrZeros, with_zeros, length_of, KeepsBefore, KeepsFrom, SameOthers};
 ghost use Rattle.tce_outside.specs.Schedule.{new_schedule, fails_next, after_call};
 
 use crate::schedule::FaultSchedule;
@@ -63,7 +62,7 @@ impl Disk for FaultyDisk {
 
     fn size(&mut self, name: &str) -> Result<Option<u64>, Failed>
         ensures fails { IsErr result ↔ IsTrue (fails_next self.old.schedule) }
-        ensures length { IfOk result (λ len. len ≡ option_map length (file self.old.files name.now)) }
+        ensures length { IfOk result (λ len. len ≡ length_of self.old.files name.now) }
         ensures same { self.new.files ≡ self.old.files }
         ensures counted { self.new.schedule ≡ after_call self.old.schedule }
     {
@@ -75,10 +74,10 @@ impl Disk for FaultyDisk {
 
     fn make(&mut self, name: &str, len: u64) -> Result<(), OutFault>
         ensures fails { IsErrOf result OutFault.Failed ↔ IsTrue (fails_next self.old.schedule) }
-        ensures made { OnOk result (self.new.files ≡ with_file self.old.files name.now (replicate len 0)) }
+        ensures made { OnOk result (self.new.files ≡ with_zeros self.old.files name.now len) }
         ensures err { OnErr result (self.new.files ≡ self.old.files) }
         ensures zeros { IsKeptOrZeros name.now (Some self.old.files) (Some self.new.files) }
-        ensures others { without_file self.new.files name.now ≡ without_file self.old.files name.now }
+        ensures others { SameOthers name.now self.old.files self.new.files }
         ensures counted { self.new.schedule ≡ after_call self.old.schedule }
     {
         if self.schedule.count_call() {
@@ -104,11 +103,13 @@ impl Disk for FaultyDisk {
     fn write_at(&mut self, name: &str, at: u64, bytes: &[u8]) -> Result<(), Failed>
         requires { HasPart self.old.files name.now at (length bytes.now) }
         ensures fails { IsErr result ↔ IsTrue (fails_next self.old.schedule) }
-        ensures written { OnOk result (self.new.files ≡ with_part self.old.files name.now at bytes.now) }
+        ensures written { OnOk result
+            (self.new.files ≡ with_part self.old.files name.now at bytes.now) }
         ensures err { OnErr result (self.new.files ≡ self.old.files) }
-        ensures before { bytes_before name.now at (Some self.new.files) ≡ bytes_before name.now at (Some self.old.files) }
-        ensures behind { bytes_from name.now (at + length bytes.now) (Some self.new.files) ≡ bytes_from name.now (at + length bytes.now) (Some self.old.files) }
-        ensures others { without_file self.new.files name.now ≡ without_file self.old.files name.now }
+        ensures before { KeepsBefore name.now at (Some self.old.files) (Some self.new.files) }
+        ensures behind { KeepsFrom name.now (at + length bytes.now)
+            (Some self.old.files) (Some self.new.files) }
+        ensures others { SameOthers name.now self.old.files self.new.files }
         ensures counted { self.new.schedule ≡ after_call self.old.schedule }
     {
         if self.schedule.count_call() {

@@ -4,8 +4,8 @@ ghost use Rattle.std.specs.Option.{option_copied};
 ghost use Rattle.std.specs.Str.{bytes_eq};
 ghost use Rattle.std.specs.String.{string_bytes};
 ghost use Rattle.std.specs.FinMap as map;
-ghost use Rattle.tce_outside.specs.Files.{file, with_file, without_file, HasPart, with_part, overwritten};
-ghost use Rattle.tce_outside.specs.Memory.{files_of};
+ghost use Rattle.tce_outside.specs.Files.{file, with_file, HasPart, overwritten};
+ghost use Rattle.tce_outside.specs.Memory.{files_of, OthersStay, PutsFile, PutsPart};
 
 use crate::{Disk, Failed, OutFault, Sink};
 use std::alloc::{AllocError, Global};
@@ -98,9 +98,9 @@ fn set_file(
     name: &str,
     bytes: Vec<u8>,
 ) -> Result<(), AllocError>
-    ensures ok { OnOk result (files_of files.new.items ≡ with_file (files_of files.old.items) name.now bytes.items) }
+    ensures ok { OnOk result (PutsFile name.now bytes.items files.old.items files.new.items) }
     ensures err { OnErr result (files_of files.new.items ≡ files_of files.old.items) }
-    ensures others { without_file (files_of files.new.items) name.now ≡ without_file (files_of files.old.items) name.now }
+    ensures others { OthersStay name.now files.old.items files.new.items }
 {
     match place_of(files, name) {
         Some(place) => {
@@ -118,8 +118,8 @@ fn set_file(
 // Writes over a part of the first file of this name.
 fn set_part(files: &mut Vec<MemFile>, name: &str, at: usize, bytes: &[u8])
     requires { HasPart (files_of files.old.items) name.now at (length bytes.now) }
-    ensures part { files_of files.new.items ≡ with_part (files_of files.old.items) name.now at bytes.now }
-    ensures others { without_file (files_of files.new.items) name.now ≡ without_file (files_of files.old.items) name.now }
+    ensures part { PutsPart name.now at bytes.now files.old.items files.new.items }
+    ensures others { OthersStay name.now files.old.items files.new.items }
 {
     let Some(place) = place_of(files, name) else {
         unreachable!()
