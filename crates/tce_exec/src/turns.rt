@@ -15,7 +15,9 @@ use tce_block::Block;
 use tce_space::{Numbers, Space};
 use tce_strides::Operation;
 use tce_walk::Tail;
-use tce_windows::{LoopSequence, Window, compute, grow, grow_by_products};
+use tce_windows::{
+    BlockLoops, LoopSequence, OperandWindows, Window, compute, grow, grow_by_products,
+};
 use tce_words::Words;
 
 /// One block of a tail, at the numbers of the loops round it.
@@ -38,6 +40,28 @@ pub(crate) fn begin_block(space: &Space, first: &mut Position, tail: &Tail, bloc
     first.begin(space, tail.loops.0.as_slice(), block.from.as_slice());
 }
 
+// The loops of the block.
+fn loops_in<'a>(at: &TailBlock<'a>) -> BlockLoops<'a>
+    ensures indexes { result.indexes.now ≡ loops_of at.now.tail.now }
+    ensures lens { result.lens.now ≡ (part_in at.now).len }
+{
+    BlockLoops {
+        indexes: at.tail.loops.0.as_slice(),
+        lens: at.block.len.as_slice(),
+    }
+}
+
+// Where the words of the operands stand.
+fn operands_of(windows: &Windows) -> OperandWindows<'_>
+    ensures left { result.left.now ≡ windows.now.left }
+    ensures right { result.right.now ≡ windows.now.right }
+{
+    OperandWindows {
+        left: &windows.left,
+        right: &windows.right,
+    }
+}
+
 /// Adds the left words to the result's.
 pub(crate) fn grow_turns(
     words: &mut Words,
@@ -55,14 +79,7 @@ pub(crate) fn grow_turns(
     ensures made { AreMade (loops_of at.now.tail.now) (part_in at.now).len
         (λ inner. grown words.old (place_along windows.now.left inner)) windows.now.out words.old words.new }
 {
-    grow(
-        words,
-        sequence,
-        at.tail.loops.0.as_slice(),
-        at.block.len.as_slice(),
-        &windows.out,
-        &windows.left,
-    );
+    grow(words, sequence, &loops_in(at), &windows.out, &windows.left);
 }
 
 /// Adds the products of the operands' words to the result's.
@@ -91,11 +108,9 @@ pub(crate) fn grow_turns_by_products(
     grow_by_products(
         words,
         sequence,
-        at.tail.loops.0.as_slice(),
-        at.block.len.as_slice(),
+        &loops_in(at),
         &windows.out,
-        &windows.left,
-        &windows.right,
+        &operands_of(windows),
     );
 }
 
@@ -127,10 +142,8 @@ pub(crate) fn compute_turns(
         words,
         operation,
         sequence,
-        at.tail.loops.0.as_slice(),
-        at.block.len.as_slice(),
+        &loops_in(at),
         out,
-        &windows.left,
-        &windows.right,
+        &operands_of(windows),
     );
 }

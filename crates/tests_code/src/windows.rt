@@ -5,7 +5,9 @@ ghost use Rattle.tce_space.specs.Limits.{max_indexes};
 use std::alloc::Global;
 use std::process::Abort;
 use tce_strides::Operation;
-use tce_windows::{LoopSequence, Window, compute, grow, grow_by_products, laws};
+use tce_windows::{
+    BlockLoops, LoopSequence, OperandWindows, Window, compute, grow, grow_by_products, laws,
+};
 use tce_words::{HeapRoom, Room, Words};
 
 // The loops of a product of matrices: rows, columns and what is between them.
@@ -108,25 +110,21 @@ fn multiply(words: &mut Words)
         &LEFT,
         &RIGHT,
     );
-    grow_by_products(
-        words,
-        &mut sequence,
-        &[ROW, COLUMN, BETWEEN],
-        &[2, 2, 3],
-        &PRODUCT,
-        &LEFT,
-        &RIGHT,
-    );
+    let loops = BlockLoops {
+        indexes: &[ROW, COLUMN, BETWEEN],
+        lens: &[2, 2, 3],
+    };
+    let operands = OperandWindows {
+        left: &LEFT,
+        right: &RIGHT,
+    };
+    grow_by_products(words, &mut sequence, &loops, &PRODUCT, &operands);
     let mut other = LoopSequence::of(&[BETWEEN, ROW, COLUMN], &[3, 2, 2], &PRODUCT, &LEFT, &RIGHT);
-    grow_by_products(
-        words,
-        &mut other,
-        &[BETWEEN, ROW, COLUMN],
-        &[3, 2, 2],
-        &PRODUCT,
-        &LEFT,
-        &RIGHT,
-    );
+    let turned = BlockLoops {
+        indexes: &[BETWEEN, ROW, COLUMN],
+        lens: &[3, 2, 2],
+    };
+    grow_by_products(words, &mut other, &turned, &PRODUCT, &operands);
 }
 
 // The sums of the rows of the first matrix, and its first word once more.
@@ -135,9 +133,17 @@ fn sum_rows(words: &mut Words)
     ensures { length words.new ≡ max_indexes }
 {
     let mut sequence = LoopSequence::of(&[BETWEEN, ROW], &[3, 2], &SUMS, &LEFT, &LEFT);
-    grow(words, &mut sequence, &[BETWEEN, ROW], &[3, 2], &SUMS, &LEFT);
+    let loops = BlockLoops {
+        indexes: &[BETWEEN, ROW],
+        lens: &[3, 2],
+    };
+    grow(words, &mut sequence, &loops, &SUMS, &LEFT);
     let mut none = LoopSequence::of(&[], &[], &SUMS, &LEFT, &LEFT);
-    grow(words, &mut none, &[], &[], &SUMS, &LEFT);
+    let no_loops = BlockLoops {
+        indexes: &[],
+        lens: &[],
+    };
+    grow(words, &mut none, &no_loops, &SUMS, &LEFT);
 }
 
 // The last products in the rows, and the differences of the rows.
@@ -146,26 +152,38 @@ fn put_results(words: &mut Words)
     ensures { length words.new ≡ max_indexes }
 {
     let mut sequence = LoopSequence::of(&[BETWEEN, ROW], &[3, 2], &LAST, &LEFT, &RIGHT);
+    let loops = BlockLoops {
+        indexes: &[BETWEEN, ROW],
+        lens: &[3, 2],
+    };
+    let factors = OperandWindows {
+        left: &LEFT,
+        right: &RIGHT,
+    };
     compute(
         words,
         Operation::Multiply,
         &mut sequence,
-        &[BETWEEN, ROW],
-        &[3, 2],
+        &loops,
         &LAST,
-        &LEFT,
-        &RIGHT,
+        &factors,
     );
     let mut alone = LoopSequence::of(&[BETWEEN], &[3], &DIFFERENCES, &SECOND_ROW, &LEFT);
+    let along = BlockLoops {
+        indexes: &[BETWEEN],
+        lens: &[3],
+    };
+    let rows = OperandWindows {
+        left: &SECOND_ROW,
+        right: &LEFT,
+    };
     compute(
         words,
         Operation::Subtract,
         &mut alone,
-        &[BETWEEN],
-        &[3],
+        &along,
         &DIFFERENCES,
-        &SECOND_ROW,
-        &LEFT,
+        &rows,
     );
 }
 
