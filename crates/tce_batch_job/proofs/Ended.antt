@@ -18,8 +18,7 @@ use Rattle.tce_job.specs.Refusals.{IsAffordable, IsCause, MayBeRefused, IsFree}
 use Rattle.tce_job.specs.Prepared.{IsRoomLeft as IsRoomLeftByOne}
 use Rattle.tce_job.proofs.Causes.{granted}
 use Rattle.tce_batch.specs.BatchCode.{IsBatch}
-use Rattle.tce_batch_job.specs.Files.{files_after}
-use Rattle.tce_batch_job.specs.Reports.{HasTaken}
+use Rattle.tce_job.specs.Several.{files_after, HasTakenEach}
 use Rattle.tce_batch_job.specs.Refusals.{AffordableBelow, SourcesBelow, IsCauseAt}
 use Rattle.tce_batch_job.specs.Left.{files_at, IsLeftAt, IsRoomLeftAt}
 use Rattle.tce_batch_job.proofs.Afforded.{some_at}
@@ -98,16 +97,16 @@ failed_left start now after batch budget number s Memory h (inl is) rest half = 
 failed_left start now after batch budget number s Memory h (inr same) rest half = record { number = number; specification = s; counted = refl; at = h.at; here = inl (same ∙ h.is) }
 
 pub failed_takings : (start now : Option Files) (batch : List Specification) (budget number : ℕ) (s : Specification) (fault : JobFault) (before then after : List (ℕ × ℕ)) → HasFailed start now batch budget number s fault
-    → HasTaken (take number batch) budget before then → IsRoomLeftByOne fault s budget then after → IsRoomLeftAt before after batch budget (number + 1) fault
+    → HasTakenEach (take number batch) budget before then → IsRoomLeftByOne fault s budget then after → IsRoomLeftAt before after batch budget (number + 1) fault
 failed_takings start now batch budget number s (BudgetTooSmall n) before then after h front left = within_budget s budget n (MayBeRefused now s) (able_at start now batch budget number s (BudgetTooSmall n) h) h.why
 failed_takings start now batch budget number s (IntermediatesTooLarge n) before then after h front left = within_memory s budget n (MayBeRefused now s) (able_at start now batch budget number s (IntermediatesTooLarge n) h) h.why
 failed_takings start now batch budget number s (Array t u) before then after h front left =
-    record { number = number; specification = s; counted = refl; at = h.at; here = inr (subst (HasTaken (take number batch) budget before) (sym left) front) }
+    record { number = number; specification = s; counted = refl; at = h.at; here = inr (subst (HasTakenEach (take number batch) budget before) (sym left) front) }
 failed_takings start now batch budget number s Disk before then after h front (inl same) =
-    record { number = number; specification = s; counted = refl; at = h.at; here = inl (subst (HasTaken (take number batch) budget before) (sym same) front) }
+    record { number = number; specification = s; counted = refl; at = h.at; here = inl (subst (HasTakenEach (take number batch) budget before) (sym same) front) }
 failed_takings start now batch budget number s Disk before then after h front (inr one) = record { number = number; specification = s; counted = refl; at = h.at; here = inr (taken_more budget batch number s before then after h.at front one) }
 failed_takings start now batch budget number s Memory before then after h front (inl same) =
-    record { number = number; specification = s; counted = refl; at = h.at; here = inl (subst (HasTaken (take number batch) budget before) (sym same) front) }
+    record { number = number; specification = s; counted = refl; at = h.at; here = inl (subst (HasTakenEach (take number batch) budget before) (sym same) front) }
 failed_takings start now batch budget number s Memory before then after h front (inr one) = record { number = number; specification = s; counted = refl; at = h.at; here = inr (taken_more budget batch number s before then after h.at front one) }
 
 -- where a batch is refused before any formula is run, all is as it was

@@ -23,14 +23,11 @@ use Rattle.tce_tensors.proofs.Names.{different_files}
 use Rattle.tce_tensors.proofs.Results.{result_holds}
 use Rattle.tce_tensors.specs.Opened.{HasArray}
 use Rattle.tce_batch_job.specs.Refusals.{IsSource}
-use Rattle.tce_batch_job.specs.Files.{files_after}
+use Rattle.tce_job.specs.Several.{files_after}
+use Rattle.tce_job.proofs.Several.{after_more}
 use Rattle.tce_batch_job.specs.Left.{files_at}
 
 -- one formula more
-pub after_more : (ss : List Specification) (s : Specification) (files : Files) → files_after (ss ++ s ∷ []) files ≡ with_result s (files_after ss files)
-after_more [] s files = refl
-after_more (t ∷ ss) s files = after_more ss s (with_result t files)
-
 pub take_one : (batch : List Specification) (number : ℕ) (s : Specification) → slice_get batch number ≡ Some s → take (number + 1) batch ≡ take number batch ++ s ∷ []
 take_one batch number s at =
     let on : number + 1 ≡ suc number = omega arith in

@@ -10,8 +10,8 @@ use Rattle.tce_tensors.specs.TensorFiles.{file_of}
 use Rattle.tce_tensors.specs.ResultBytes.{with_result, result_bytes}
 use Rattle.tce_job.specs.declared.fault.JobFault.{JobFault}
 use Rattle.tce_job.specs.declared.fault.JobFault.TheVariants.{BudgetTooSmall, IntermediatesTooLarge, Array, Disk, Memory}
-use Rattle.tce_batch_job.specs.Files.{files_after}
-use Rattle.tce_batch_job.specs.Left.{files_at, IsLeftAt, OnlyResultsDiffer}
+use Rattle.tce_job.specs.Several.{files_after, OnlyResultsDiffer}
+use Rattle.tce_batch_job.specs.Left.{files_at, IsLeftAt}
 use Rattle.tce_batch_job.proofs.Files.{all_first, all_rest}
 use Rattle.tce_batch_job.proofs.Ended.{at_all}
 

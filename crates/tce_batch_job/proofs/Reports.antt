@@ -10,25 +10,14 @@ use Rattle.tce_spec.specs.Specification.{Specification}
 use Rattle.tce_job.specs.declared.report.RunReport.{RunReport}
 use Rattle.tce_job.specs.Prepared.{taking_of, HasTaken as HasTakenOne}
 use Rattle.tce_job.specs.Run.{IsReported}
-use Rattle.tce_batch_job.specs.Reports.{takings_of, sections_of, section_of, text_of, HasTaken, HasRun}
+use Rattle.tce_batch_job.specs.Reports.{sections_of, section_of, text_of, HasRun}
+use Rattle.tce_job.specs.Several.{takings_of, HasTakenEach}
+use Rattle.tce_job.proofs.Several.{zip_more, takings_more}
 use Rattle.tce_batch_job.proofs.Files.{take_one}
 
 -- a least plan of the formula
 abbrev Least : Specification → Plan → Type 0
 Least s plan = IsLeastPlan s.declarations.space s.tree plan
-
-pub zip_more : {A B : Type 0} (R : A → B → Type 0) (xs : List A) (ys : List B) (x : A) (y : B) → AllZip R xs ys → R x y → AllZip R (xs ++ x ∷ []) (ys ++ y ∷ [])
-zip_more R [] [] x y all one = (one, tt)
-zip_more R [] (z ∷ ys) x y all one = absurd all
-zip_more R (w ∷ xs) [] x y all one = absurd all
-zip_more R (w ∷ xs) (z ∷ ys) x y all one = (all.0, zip_more R xs ys x y all.1 one)
-
-pub takings_more : (R : Specification → Plan → Type 0) (budget : ℕ) (ss : List Specification) (plans : List Plan) (s : Specification) (plan : Plan) → AllZip R ss plans
-    → takings_of budget (ss ++ s ∷ []) (plans ++ plan ∷ []) ≡ takings_of budget ss plans ++ taking_of s budget plan ∷ []
-takings_more R budget [] [] s plan all = refl
-takings_more R budget [] (p ∷ plans) s plan all = absurd all
-takings_more R budget (t ∷ ss) [] s plan all = absurd all
-takings_more R budget (t ∷ ss) (p ∷ plans) s plan all = ap (λ (xs : List (ℕ × ℕ)). taking_of t budget p ∷ xs) (takings_more R budget ss plans s plan all.1)
 
 sections_more : (R : Specification → Plan → Type 0) (number last budget : ℕ) (ss : List Specification) (plans : List Plan) (s : Specification) (plan : Plan) → AllZip R ss plans → last ≡ number + length ss
     → sections_of number budget (ss ++ s ∷ []) (plans ++ plan ∷ []) ≡ sections_of number budget ss plans ++ section_of last (text_of s budget plan)
@@ -49,18 +38,18 @@ more_taken budget ss plans s plan before now after all is then =
     ∙ ap (λ xs. before ++ xs) (sym (takings_more Least budget ss plans s plan all))
 
 pub taken_more : (budget : ℕ) (batch : List Specification) (number : ℕ) (s : Specification) (before now after : List (ℕ × ℕ)) → slice_get batch number ≡ Some s
-    → HasTaken (take number batch) budget before now → HasTakenOne s budget now after → HasTaken (take (number + 1) batch) budget before after
-taken_more budget batch number s before now after at front one = subst (λ ss. HasTaken ss budget before after) (sym (take_one batch number s at)) (record {
+    → HasTakenEach (take number batch) budget before now → HasTakenOne s budget now after → HasTakenEach (take (number + 1) batch) budget before after
+taken_more budget batch number s before now after at front one = subst (λ ss. HasTakenEach ss budget before after) (sym (take_one batch number s at)) (record {
   plans = front.plans ++ one.plan ∷ [];
   least = zip_more Least (take number batch) front.plans s one.plan front.least one.least;
   taken = more_taken budget (take number batch) front.plans s one.plan before now after front.least front.taken one.taken;
 })
 
 -- what was run took its takings
-pub run_taken : (ss : List Specification) (budget : ℕ) (before after : List (ℕ × ℕ)) (text : List ℕ) → HasRun ss budget before after text → HasTaken ss budget before after
+pub run_taken : (ss : List Specification) (budget : ℕ) (before after : List (ℕ × ℕ)) (text : List ℕ) → HasRun ss budget before after text → HasTakenEach ss budget before after
 run_taken ss budget before after text run = record { plans = run.plans; least = run.least; taken = run.taken }
 
-pub none_taken : (batch : List Specification) (budget : ℕ) (before : List (ℕ × ℕ)) → HasTaken (take 0 batch) budget before before
+pub none_taken : (batch : List Specification) (budget : ℕ) (before : List (ℕ × ℕ)) → HasTakenEach (take 0 batch) budget before before
 none_taken batch budget before = record { plans = []; least = tt; taken = sym (append-nil before) }
 
 pub none_run : (batch : List Specification) (budget : ℕ) (before : List (ℕ × ℕ)) (text : List ℕ) → text ≡ codes "tce batch 1\n" → HasRun (take 0 batch) budget before before text

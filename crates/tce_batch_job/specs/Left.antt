@@ -1,14 +1,13 @@
 -- What refused formulas leave.
-use Rattle.std.specs.Prelude.{◌≡◌, ◌≢◌, ◌⊎◌, ℕ, ◌+◌, List, take, All, Option}
+use Rattle.std.specs.Prelude.{◌≡◌, ◌⊎◌, ℕ, ◌+◌, List, take, Option}
 use Rattle.std.specs.Option.{option_map}
-use Rattle.tce_outside.specs.Files.{Files, file, others}
+use Rattle.tce_outside.specs.Files.{Files, others}
 use Rattle.tce_spec.specs.Specification.{Specification}
 use Rattle.tce_tensors.specs.TensorFiles.{file_of}
 use Rattle.tce_tensors.specs.Laws.{LeavesNoHalfResult}
 use Rattle.tce_job.specs.declared.fault.JobFault.{JobFault}
 use Rattle.tce_job.specs.declared.fault.JobFault.TheVariants.{Array, Disk, Memory}
-use Rattle.tce_batch_job.specs.Files.{files_after}
-use Rattle.tce_batch_job.specs.Reports.{HasTaken}
+use Rattle.tce_job.specs.Several.{files_after, HasTakenEach}
 use Rattle.tce_batch_job.specs.Refusals.{IsAt}
 use Rattle.tce_batch_job.specs.declared.fault.BatchFault.{BatchFault}
 
@@ -26,16 +25,11 @@ IsLeftAt before after batch formula fault = after ≡ before
 abbrev pub IsLeft : Option Files → Option Files → List Specification → BatchFault → Type 0
 IsLeft before after batch refused = IsLeftAt before after batch refused.formula refused.fault
 
--- no file differs but those of the results
-abbrev pub OnlyResultsDiffer : List Specification → Option Files → Option Files → Type 0
-OnlyResultsDiffer batch before after =
-    (name : List ℕ) → All (λ (s : Specification). name ≢ file_of s s.result) batch → option_map (λ files. file files name) after ≡ option_map (λ files. file files name) before
-
 -- the takings of the formulas in front of the one that failed, or of that one too; where an operand is refused there are none, or those of the formulas in front; after any other refusal there are none
 abbrev pub IsRoomLeftAt : List (ℕ × ℕ) → List (ℕ × ℕ) → List Specification → ℕ → ℕ → JobFault → Type 0
-IsRoomLeftAt before after batch budget formula Disk = IsAt batch formula (λ number s. HasTaken (take number batch) budget before after ⊎ HasTaken (take (number + 1) batch) budget before after)
-IsRoomLeftAt before after batch budget formula Memory = IsAt batch formula (λ number s. HasTaken (take number batch) budget before after ⊎ HasTaken (take (number + 1) batch) budget before after)
-IsRoomLeftAt before after batch budget formula (Array t fault) = IsAt batch formula (λ number s. (after ≡ before) ⊎ HasTaken (take number batch) budget before after)
+IsRoomLeftAt before after batch budget formula Disk = IsAt batch formula (λ number s. HasTakenEach (take number batch) budget before after ⊎ HasTakenEach (take (number + 1) batch) budget before after)
+IsRoomLeftAt before after batch budget formula Memory = IsAt batch formula (λ number s. HasTakenEach (take number batch) budget before after ⊎ HasTakenEach (take (number + 1) batch) budget before after)
+IsRoomLeftAt before after batch budget formula (Array t fault) = IsAt batch formula (λ number s. (after ≡ before) ⊎ HasTakenEach (take number batch) budget before after)
 IsRoomLeftAt before after batch budget formula fault = after ≡ before
 
 abbrev pub IsRoomLeft : List (ℕ × ℕ) → List (ℕ × ℕ) → List Specification → ℕ → BatchFault → Type 0

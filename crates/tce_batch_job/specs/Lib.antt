@@ -1,4 +1,3 @@
-pub mod Files
 pub mod Reports
 pub mod Plans
 pub mod Refusals

@@ -12,7 +12,7 @@ use Rattle.tce_spec.specs.Specification.{Specification}
 use Rattle.tce_spec.specs.Operands.{shape_of}
 use Rattle.tce_tensors.specs.TensorFiles.{file_of}
 use Rattle.tce_tensors.specs.Takings.{tile_take}
-use Rattle.tce_job.specs.Prepared.{taking_of}
+use Rattle.tce_job.specs.Several.{takings_of}
 
 -- the lines of a run behind the first, which is `tce run 1`
 abbrev pub without_first_line : List ℕ → List ℕ
@@ -25,24 +25,13 @@ section_of number run = codes "formula " ++ (decimal number ++ (codes "\n" ++ wi
 abbrev pub text_of : Specification → ℕ → Plan → List ℕ
 text_of s budget plan = run_text s.declarations.space s.tree (stated plan) (tile_take s budget) (file_of s s.result) (form_len One (shape_of s s.result))
 
--- the takings of formulas by these plans, and the lines of their runs; `number` is that of the first
-abbrev pub takings_of : ℕ → List Specification → List Plan → List (ℕ × ℕ)
-takings_of budget [] plans = []
-takings_of budget (s ∷ ss) [] = []
-takings_of budget (s ∷ ss) (plan ∷ plans) = taking_of s budget plan ∷ takings_of budget ss plans
-
+-- the lines of the runs of formulas by these plans; `number` is that of the first
 abbrev pub sections_of : ℕ → ℕ → List Specification → List Plan → List ℕ
 sections_of number budget [] plans = []
 sections_of number budget (s ∷ ss) [] = []
 sections_of number budget (s ∷ ss) (plan ∷ plans) = section_of number (text_of s budget plan) ++ sections_of (number + 1) budget ss plans
 
--- each formula by a least plan: its memory and its words for tiles were taken in turn
-pub record HasTaken (ss : List Specification) (budget : ℕ) (before after : List (ℕ × ℕ)) : Type 0 where
-  pub plans : List Plan
-  pub least : AllZip (λ (s : Specification) (plan : Plan). IsLeastPlan s.declarations.space s.tree plan) ss plans
-  pub taken : after ≡ before ++ takings_of budget ss plans
-
--- and the text has the lines of each run
+-- each formula by a least plan: its memory and its words for tiles were taken in turn, and the text has the lines of each run
 pub record HasRun (ss : List Specification) (budget : ℕ) (before after : List (ℕ × ℕ)) (text : List ℕ) : Type 0 where
   pub plans : List Plan
   pub least : AllZip (λ (s : Specification) (plan : Plan). IsLeastPlan s.declarations.space s.tree plan) ss plans

@@ -9,7 +9,7 @@ use Rattle.tce_job.specs.declared.fault.JobFault.TheVariants.{Disk}
 use Rattle.tce_job.specs.Refusals.{IsFree}
 use Rattle.tce_batch.specs.BatchCode.{results_before}
 use Rattle.tce_batch_job.specs.declared.fault.BatchFault.{BatchFault}
-use Rattle.tce_batch_job.specs.Files.{files_after}
+use Rattle.tce_job.specs.Several.{files_after}
 use Rattle.tce_batch_job.specs.Left.{IsRoomLeft}
 use Rattle.tce_batch_job.specs.Refusals.{IsSource, HasSources, SourcesBelow, IsSourceFault}
 

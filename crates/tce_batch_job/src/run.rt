@@ -10,9 +10,10 @@ ghost use Rattle.tce_outside.specs.Fault.{HasCause, TellsFaults};
 ghost use Rattle.tce_job.specs.declared.fault.JobFault.{JobFault as Fault};
 ghost use Rattle.tce_job.specs.Told.{IsRefusalOf, FailsOrKeeps, WritesResult, ResultAlone, Reports, LeavesRoom as LeavesRoomByOne};
 ghost use Rattle.tce_batch_job.specs.Reports.{HasRun};
+ghost use Rattle.tce_job.specs.Several.{OnlyResultsDiffer};
 ghost use Rattle.tce_batch_job.specs.Plans.{AreKept, IsKeptFor, IsKeptIn};
 ghost use Rattle.tce_batch_job.specs.Refusals.{AffordableBelow, IsBatchCause, IsExact};
-ghost use Rattle.tce_batch_job.specs.Left.{IsLeft, OnlyResultsDiffer};
+ghost use Rattle.tce_batch_job.specs.Left.{IsLeft};
 ghost use Rattle.tce_batch_job.specs.Told.{HoldsOf, HasAllSources, WritesResults, IsFreeIn, HasDiskFault, TakesTested, LeavesRoom};
 
 use crate::fault::BatchFault;

@@ -3,3 +3,4 @@ pub mod Plans
 pub mod Begun
 pub mod Made
 pub mod Ended
+pub mod Several

@@ -10,10 +10,10 @@ use Rattle.tce_job.specs.declared.fault.JobFault.{JobFault}
 use Rattle.tce_job.specs.declared.fault.JobFault.TheVariants as faults
 use Rattle.tce_job.specs.Refusals.{NamesDeclared, IsFree as IsFreeFault}
 use Rattle.tce_batch_job.specs.declared.fault.BatchFault.{BatchFault}
-use Rattle.tce_batch_job.specs.Files.{files_after}
+use Rattle.tce_job.specs.Several.{files_after, OnlyResultsDiffer}
 use Rattle.tce_batch_job.specs.Refusals.{AffordableBelow, SourcesBelow, IsAt, IsOneOf, IsCauseAt}
 use Rattle.tce_batch_job.specs.Reports.{HasRun}
-use Rattle.tce_batch_job.specs.Left.{IsLeftAt, IsRoomLeftAt, OnlyResultsDiffer}
+use Rattle.tce_batch_job.specs.Left.{IsLeftAt, IsRoomLeftAt}
 use Rattle.tce_command.specs.Refusals.{IsFree}
 use Rattle.tce_command.specs.declared.refusal.Refusal.{Refusal}
 use Rattle.tce_command.specs.declared.refusal.Refusal.TheVariants.{Disk, Memory}

@@ -6,7 +6,7 @@ use Rattle.tce_array.specs.declared.fault.ArrayFault.{ArrayFault}
 use Rattle.tce_array.specs.declared.fault.ArrayFault.TheVariants as array_fault
 use Rattle.tce_spec.specs.Specification.{Specification}
 use Rattle.tce_tensors.specs.Takings.{tile_take}
-use Rattle.tce_batch_job.specs.Left.{OnlyResultsDiffer}
+use Rattle.tce_job.specs.Several.{OnlyResultsDiffer}
 use Rattle.tce_spill.specs.Refusals.{IsFree as IsFreeFault}
 use Rattle.tce_spill.specs.declared.fault.SpillFault.{SpillFault}
 use Rattle.tce_spill.specs.declared.fault.SpillFault.TheVariants as faults

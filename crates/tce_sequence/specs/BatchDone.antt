@@ -6,10 +6,10 @@ use Rattle.tce_spec.specs.Specification.{Specification}
 use Rattle.tce_tensors.specs.TensorFiles.{file_of}
 use Rattle.tce_tensors.specs.Laws.{LeavesNoHalfResult}
 use Rattle.tce_tensors.specs.Takings.{tile_take}
-use Rattle.tce_batch_job.specs.Files.{files_after}
-use Rattle.tce_batch_job.specs.Reports.{HasRun, HasTaken}
+use Rattle.tce_job.specs.Several.{files_after, OnlyResultsDiffer, HasTakenEach}
+use Rattle.tce_batch_job.specs.Reports.{HasRun}
 use Rattle.tce_batch_job.specs.Refusals.{AffordableBelow, SourcesBelow}
-use Rattle.tce_batch_job.specs.Left.{files_at, OnlyResultsDiffer}
+use Rattle.tce_batch_job.specs.Left.{files_at}
 use Rattle.tce_command.specs.Refusals.{IsFree}
 use Rattle.tce_command.specs.declared.refusal.Refusal.{Refusal}
 use Rattle.tce_command.specs.declared.refusal.Refusal.TheVariants.{Disk, Memory}
@@ -35,7 +35,7 @@ pub record IsBatchTaking (before : Option Files) (taken taken_after : List (ℕ 
   pub specified : ForSome before (λ files. HasBatch files spec formulas)
   pub count : ℕ
   pub within : count ≤ length formulas
-  pub taking : HasTaken (take count formulas) budget taken taken_after
+  pub taking : HasTakenEach (take count formulas) budget taken taken_after
 
 -- what is left of the room: its takings as they were, or those of the first formulas besides; the latter only after a failure or want of memory, where the disk tells its files
 pub record IsBatchRoomLeft (refusal : Refusal) (before : Option Files) (taken taken_after : List (ℕ × ℕ)) (spec : List ℕ) (budget : ℕ) : Type 0 where

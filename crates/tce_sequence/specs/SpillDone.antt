@@ -4,7 +4,7 @@ use Rattle.std.specs.Option.{ForSome}
 use Rattle.tce_outside.specs.Files.{Files}
 use Rattle.tce_spec.specs.Specification.{Specification}
 use Rattle.tce_tensors.specs.Takings.{tile_take}
-use Rattle.tce_batch_job.specs.Left.{OnlyResultsDiffer}
+use Rattle.tce_job.specs.Several.{OnlyResultsDiffer}
 use Rattle.tce_spill_job.specs.Pieces.{pieces_of}
 use Rattle.tce_spill_job.specs.Refusals.{WithCuts}
 use Rattle.tce_spill_job.specs.Reports.{IsReportedFor}

@@ -13,8 +13,7 @@ use Rattle.tce_spec.proofs.PieceSources.{own_count, own_source, own_last, source
 use Rattle.tce_tensors.specs.TensorFiles.{file_of, name_of}
 use Rattle.tce_tensors.specs.Laws.{LeavesNoHalfResult}
 use Rattle.tce_job.specs.Prepared.{HasTaken as HasTakenOne}
-use Rattle.tce_batch_job.specs.Files.{files_after}
-use Rattle.tce_batch_job.specs.Reports.{HasTaken}
+use Rattle.tce_job.specs.Several.{files_after, HasTakenEach}
 use Rattle.tce_spill.specs.declared.fault.SpillFault.{SpillFault}
 use Rattle.tce_spill.specs.declared.fault.SpillFault.TheVariants.{TooManyTensors, LimitTooSmall, BudgetTooSmall, Array, Disk, Memory}
 use Rattle.tce_spill_job.specs.Pieces.{pieces_below}
@@ -107,9 +106,9 @@ late_fault before now s cut v (LimitTooSmall u n) rules inside root is why = abs
 late_fault before now s cut v (BudgetTooSmall n) rules inside root is why = absurd why
 
 -- the takings of the pieces in front, or of this one too
-pub failed_takings : (s : Specification) (cut : Cuts) (v budget : ℕ) (before now after : List (ℕ × ℕ)) → v < operations s.tree → is_root s.tree cut v ≡ true → HasTaken (pieces_below s cut v) budget before now
+pub failed_takings : (s : Specification) (cut : Cuts) (v budget : ℕ) (before now after : List (ℕ × ℕ)) → v < operations s.tree → is_root s.tree cut v ≡ true → HasTakenEach (pieces_below s cut v) budget before now
     → (after ≡ now) ⊎ HasTakenOne (piece_of s cut v) budget now after → HasTakenTo s cut budget before after
 failed_takings s cut v budget before now after inside root front (inl same) =
-    record { end = v; inside = omega (arith, inside); taken = subst (HasTaken (pieces_below s cut v) budget before) (sym same) front }
+    record { end = v; inside = omega (arith, inside); taken = subst (HasTakenEach (pieces_below s cut v) budget before) (sym same) front }
 failed_takings s cut v budget before now after inside root front (inr one) =
     record { end = v + 1; inside = omega (arith, inside); taken = taken_more s cut v budget before now after root front one }

@@ -16,8 +16,8 @@ use Rattle.tce_tensors.specs.Takings.{tile_take}
 use Rattle.tce_job.specs.declared.report.RunReport.{RunReport}
 use Rattle.tce_job.specs.Prepared.{taking_of, HasTaken as HasTakenOne}
 use Rattle.tce_job.specs.Run.{IsReported as IsRunReported}
-use Rattle.tce_batch_job.specs.Reports.{takings_of, HasTaken}
-use Rattle.tce_batch_job.proofs.Reports.{zip_more, takings_more}
+use Rattle.tce_job.specs.Several.{takings_of, HasTakenEach}
+use Rattle.tce_job.proofs.Several.{zip_more, takings_more}
 use Rattle.tce_spill.specs.Parts.{FitsMemory}
 use Rattle.tce_spill.specs.CutsFor.{MeetLimit}
 use Rattle.tce_spill.proofs.Renumbered.{renumbered_is_alike}
@@ -56,7 +56,7 @@ module _ (s : Specification) (cut : Cuts) (n budget : ℕ) (before now after : L
   more_least : (plans : List Plan) (plan : Plan) → is_root s.tree cut n ≡ true → AreLeast (pieces_below s cut n) plans → Least p plan → AreLeast (pieces_below s cut (n + 1)) (plans ++ plan ∷ [])
   more_least plans plan root all one = subst (λ ps. AreLeast ps (plans ++ plan ∷ [])) (sym (pieces_more s cut n root)) (zip_more Least (pieces_below s cut n) plans p plan all one)
 
-  pub taken_more : is_root s.tree cut n ≡ true → HasTaken (pieces_below s cut n) budget before now → HasTakenOne p budget now after → HasTaken (pieces_below s cut (n + 1)) budget before after
+  pub taken_more : is_root s.tree cut n ≡ true → HasTakenEach (pieces_below s cut n) budget before now → HasTakenOne p budget now after → HasTakenEach (pieces_below s cut (n + 1)) budget before after
   taken_more root front one = record {
     plans = front.plans ++ one.plan ∷ [];
     least = more_least front.plans one.plan root front.least one.least;
@@ -92,7 +92,7 @@ pub none_reported : (s : Specification) (cut : Cuts) (budget : ℕ) (before : Li
 none_reported s cut budget before text is = record { plans = []; least = tt; taken = sym (append-nil before); told = is ∙ sym (append-nil (codes "tce spill 1\n")) }
 
 -- what was run took its takings
-pub run_taken : (s : Specification) (cut : Cuts) (n budget : ℕ) (before after : List (ℕ × ℕ)) (text : List ℕ) → HasRun s cut n budget before after text → HasTaken (pieces_below s cut n) budget before after
+pub run_taken : (s : Specification) (cut : Cuts) (n budget : ℕ) (before after : List (ℕ × ℕ)) (text : List ℕ) → HasRun s cut n budget before after text → HasTakenEach (pieces_below s cut n) budget before after
 run_taken s cut n budget before after text run = record { plans = run.plans; least = run.least; taken = run.taken }
 
 pub none_taken : (s : Specification) (cut : Cuts) (budget : ℕ) (before : List (ℕ × ℕ)) → HasTakenTo s cut budget before before

@@ -8,8 +8,8 @@ use Rattle.tce_pieces.specs.Pieces.{Cuts, is_root}
 use Rattle.tce_spec.specs.Specification.{Specification}
 use Rattle.tce_spec.specs.PieceSpecification.{piece_of}
 use Rattle.tce_tensors.specs.ResultBytes.{with_result}
-use Rattle.tce_batch_job.specs.Files.{files_after}
-use Rattle.tce_batch_job.proofs.Files.{after_more}
+use Rattle.tce_job.specs.Several.{files_after}
+use Rattle.tce_job.proofs.Several.{after_more}
 use Rattle.tce_spill_job.specs.Pieces.{roots_below, pieces_below}
 use Rattle.tce_spill_job.specs.Left.{files_at}
 

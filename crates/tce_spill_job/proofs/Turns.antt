@@ -7,8 +7,8 @@ use Rattle.tce_pieces.specs.Pieces.{Cuts, is_root}
 use Rattle.tce_spec.specs.Specification.{Specification, IsSpecification}
 use Rattle.tce_spec.specs.PieceSpecification.{piece_of}
 use Rattle.tce_tensors.specs.Opened.{HasOperands, operand_count}
-use Rattle.tce_batch_job.specs.Files.{files_after}
-use Rattle.tce_batch_job.proofs.Files.{after_more}
+use Rattle.tce_job.specs.Several.{files_after}
+use Rattle.tce_job.proofs.Several.{after_more}
 use Rattle.tce_spill_job.specs.Pieces.{pieces_below}
 use Rattle.tce_spill_job.specs.Values.{HasRunTo, IsSpilled}
 use Rattle.tce_spill_job.specs.Refusals.{CanSpill}

@@ -8,9 +8,7 @@ use Rattle.tce_spec.specs.Specification.{Specification}
 use Rattle.tce_spec.specs.PieceSpecification.{piece_of}
 use Rattle.tce_tensors.specs.TensorFiles.{file_of}
 use Rattle.tce_tensors.specs.Laws.{LeavesNoHalfResult}
-use Rattle.tce_batch_job.specs.Files.{files_after}
-use Rattle.tce_batch_job.specs.Reports.{HasTaken}
-use Rattle.tce_batch_job.specs.Left.{OnlyResultsDiffer}
+use Rattle.tce_job.specs.Several.{files_after, OnlyResultsDiffer, HasTakenEach}
 use Rattle.tce_spill.specs.declared.fault.SpillFault.{SpillFault}
 use Rattle.tce_spill.specs.declared.fault.SpillFault.TheVariants.{TooManyTensors, LimitTooSmall, BudgetTooSmall, Disk, Memory}
 use Rattle.tce_spill_job.specs.Pieces.{pieces_below, pieces_of}
@@ -58,7 +56,7 @@ OnlyPiecesDiffer before after s limit = (after ≡ before) ⊎ WithCuts s limit 
 pub record HasTakenTo (s : Specification) (cut : Cuts) (budget : ℕ) (before after : List (ℕ × ℕ)) : Type 0 where
   pub end : ℕ
   pub inside : end ≤ operations s.tree
-  pub taken : HasTaken (pieces_below s cut end) budget before after
+  pub taken : HasTakenEach (pieces_below s cut end) budget before after
 
 -- nothing was taken, or, where the pieces were begun, the pairs of the first of them
 abbrev pub IsRoomLeft : List (ℕ × ℕ) → List (ℕ × ℕ) → Specification → ℕ → ℕ → SpillFault → Type 0

@@ -13,7 +13,7 @@ use Rattle.tce_spec.specs.Operands.{shape_of}
 use Rattle.tce_spec.specs.PieceSpecification.{piece_of}
 use Rattle.tce_tensors.specs.TensorFiles.{file_of}
 use Rattle.tce_tensors.specs.Takings.{tile_take}
-use Rattle.tce_batch_job.specs.Reports.{takings_of}
+use Rattle.tce_job.specs.Several.{takings_of}
 use Rattle.tce_spill.specs.CutsFor.{AreCutsFor}
 use Rattle.tce_spill_job.specs.Pieces.{roots_below, pieces_below}
 

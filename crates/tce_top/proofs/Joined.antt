@@ -18,7 +18,8 @@ use Rattle.tce_command.specs.declared.trouble.EinsumTrouble.TheVariants as einsu
 use Rattle.tce_command.specs.declared.status.Status.{Status}
 use Rattle.tce_command.specs.declared.status.Status.TheVariants.{Done, SpecRefused, EinsumRefused, DiskFault, SinkFault, WantOfMemory}
 use Rattle.tce_spec.specs.Specification.{Specification as Specified}
-use Rattle.tce_batch_job.specs.Reports.{HasRun, HasTaken}
+use Rattle.tce_batch_job.specs.Reports.{HasRun}
+use Rattle.tce_job.specs.Several.{HasTakenEach}
 use Rattle.tce_tree.specs.ContractionTree.{operations}
 use Rattle.tce_sequence.specs.SpillDone.{IsSpillRun, IsSpillTaking}
 use Rattle.tce_source.proofs.Outcomes.{not_both, one_refusal as one_source_refusal}
@@ -103,9 +104,9 @@ done_can (einsum text path spec) before after taken taken_after report done = λ
 done_can (demo seed v o) before after taken taken_after report done = λ files told. tt
 
 -- all formulas took in turn
-all_taken : (formulas : List Specified) (budget : ℕ) (taken taken_after : List (ℕ × ℕ)) (report : List ℕ) → HasRun formulas budget taken taken_after report → HasTaken (take (length formulas) formulas) budget taken taken_after
+all_taken : (formulas : List Specified) (budget : ℕ) (taken taken_after : List (ℕ × ℕ)) (report : List ℕ) → HasRun formulas budget taken taken_after report → HasTakenEach (take (length formulas) formulas) budget taken taken_after
 all_taken formulas budget taken taken_after report h =
-    subst (λ (ss : List Specified). HasTaken ss budget taken taken_after) (sym (take-length formulas)) (record { plans = h.plans; least = h.least; taken = h.taken })
+    subst (λ (ss : List Specified). HasTakenEach ss budget taken taken_after) (sym (take-length formulas)) (record { plans = h.plans; least = h.least; taken = h.taken })
 
 -- and so did all pieces
 all_pieces_taken : (before after : Option Files) (taken taken_after : List (ℕ × ℕ)) (spec : List ℕ) (budget limit : ℕ) (report : List ℕ) → IsSpillRun before after taken taken_after spec budget limit report

@@ -25,7 +25,7 @@ use Rattle.tce_command.specs.declared.status.Status.TheVariants.{Done, BadWords,
 use Rattle.tce_top.specs.Performed.{HasIndexes, IsCommandRefusal, IsDone, KeepsRoom, LeavesCutOff, LeavesInTurn, MayLeaveOther, NamesItsIndexes}
 use Rattle.tce_command.proofs.Commands.{one_command}
 use Rattle.tce_top.specs.Outcome.{AreNamed, IsDemonstration, IsPartOfBatch, IsPartOfSpill, IsTensorOf, IsWholeBatch, IsWholeEinsum, IsWholeRun, IsWholeSpill}
-use Rattle.tce_batch_job.specs.Files.{files_after}
+use Rattle.tce_job.specs.Several.{files_after}
 use Rattle.tce_tree.specs.ContractionTree.{operations}
 use Rattle.tce_spill_job.specs.Pieces.{pieces_below}
 use Rattle.tce_top.proofs.Joined.{Kept, Put, free_fault}

@@ -4,3 +4,4 @@ pub mod Left
 pub mod Expansions
 pub mod Batches
 pub mod Spills
+pub mod Written

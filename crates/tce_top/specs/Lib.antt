@@ -1,3 +1,4 @@
 pub mod Performed
 pub mod Cause
 pub mod Outcome
+pub mod Laws

@@ -17,7 +17,7 @@ use Rattle.tce_einsum.specs.HasValue.{HasValueOfEinsum}
 use Rattle.tce_tensors.specs.TensorFiles.{file_of}
 use Rattle.tce_tensors.specs.ResultBytes.{result_bytes}
 use Rattle.tce_tensors.specs.Takings.{tile_take}
-use Rattle.tce_batch_job.specs.Files.{files_after}
+use Rattle.tce_job.specs.Several.{files_after}
 use Rattle.tce_batch_job.specs.Reports.{HasRun}
 use Rattle.tce_pieces.specs.Pieces.{Cuts}
 use Rattle.tce_spill.specs.CutsFor.{AreCutsFor}

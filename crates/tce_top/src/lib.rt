@@ -5,9 +5,11 @@
 //! `specs/Performed.antt`. All that a status holds is exported beside it.
 #![tactic(auto)]
 
+mod laws;
 mod perform;
 mod top;
 
+pub use laws::written_is_verified;
 pub use tce_array::ArrayFault;
 pub use tce_cert::CertFault;
 pub use tce_check::Verdict;

@@ -1,16 +1,8 @@
--- What is accepted is least, and what was written is accepted.
-use Rattle.std.proofs.Common.{◌≡◌, ◌≢◌, refl, sym, ap, subst, ℕ, List, Some}
-use Rattle.std.specs.Option.{IsSomeAnd}
-use Rattle.tce_outside.specs.Files.{Files, file, with_file}
-use Rattle.tce_outside.proofs.Files.{without_file-with_file}
-use Rattle.tce_outside.proofs.Told.{other_files}
-use Rattle.tce_array.proofs.MadeFiles.{file-with_file}
+-- What is accepted is least.
+use Rattle.std.proofs.Common.{subst}
 use Rattle.tce_states.specs.Cover.{Covers}
 use Rattle.tce_states.proofs.Covers.{least_by_cover}
-use Rattle.tce_source.specs.Source.{Specifies}
-use Rattle.tce_verify.specs.Done.{CanVerify}
-use Rattle.tce_verify.specs.Laws.{AcceptedIsLeast, WrittenIsVerified}
-use Rattle.tce_verify.proofs.Names.{apart}
+use Rattle.tce_verify.specs.Laws.{AcceptedIsLeast}
 
 pub accepted_is_least : AcceptedIsLeast
 accepted_is_least files spec cert can =
@@ -18,23 +10,3 @@ accepted_is_least files spec cert can =
     let tree = can.specification.tree in
     least_by_cover space tree can.plan.fusion.0.items can.plan.tables can.certifies.fits.fusion can.accepted.0.0.0.0.0
     (subst (Covers space tree can.plan.tables) can.accepted.0.0.1 (record { nodes = can.accepted.0.1; root = can.accepted.1 }))
-
--- a file beside one that was set
-file_beside : (files : Files) (name bytes other : List ℕ) → other ≢ name → file (with_file files name bytes) other ≡ file files other
-file_beside files name bytes other differs = other_files name other files (with_file files name bytes) (ap Some (without_file-with_file files name bytes)) differs
-
-pub written_is_verified : WrittenIsVerified
-written_is_verified files after spec cert report named other written =
-    let made = written.certified in
-    let s = written.specification in
-    let beside = file_beside files cert written.text spec (apart spec cert named other) in
-    let can : CanVerify (with_file files cert written.text) spec cert = record {
-      specification = s;
-      specified = subst (λ found. IsSomeAnd found (λ text. Specifies text s)) (sym beside) (written.specified files refl);
-      text = written.text;
-      held = file-with_file files cert written.text;
-      plan = made.plan;
-      certifies = record { space = made.space; tree = made.tree; declared = made.declared; fits = made.least.fits; nestings = made.nestings; text_is = made.text_is };
-      accepted = (((((made.least.least.legal, made.least.carried), made.least.sizes), made.least.memory_is), made.least.covers.nodes), made.least.covers.root);
-    } in
-    subst (λ left. IsSomeAnd left (λ files. (can : CanVerify files spec cert) × (can.plan ≡ made.plan))) (sym written.written) (can, refl)

@@ -1,12 +1,9 @@
--- The command has one answer, and accepts what is least and what was written.
-use Rattle.std.specs.Prelude.{◌≡◌, ◌⊎◌, ℕ, List, Option, Some}
-use Rattle.std.specs.Option.{IsSomeAnd}
+-- The command has one answer, and accepts what is least.
+use Rattle.std.specs.Prelude.{◌≡◌, ◌⊎◌, ℕ, List}
 use Rattle.tce_outside.specs.Files.{Files}
 use Rattle.tce_fusion.specs.Least.{IsLeast}
-use Rattle.tce_command.specs.Command.{NamesSpec, NamesCertificate}
 use Rattle.tce_command.specs.CommandRefusals.{MayReplace, EndsAlike}
 use Rattle.tce_command.specs.declared.command_refusal.CommandRefusal.{CommandRefusal}
-use Rattle.tce_certify.specs.Done.{IsCertified}
 use Rattle.tce_verify.specs.Done.{CanVerify, IsVerified}
 use Rattle.tce_verify.specs.Refusals.{IsVerifyRefusal}
 
@@ -20,9 +17,3 @@ pub record VerificationsHaveOneAnswer : Type 0 where
 -- whoever wrote the certificate, no legal fusion takes less memory than that of an accepted plan
 abbrev pub AcceptedIsLeast : Type 0
 AcceptedIsLeast = (files : Files) (spec cert : List ℕ) (can : CanVerify files spec cert) → IsLeast can.specification.declarations.space can.specification.tree can.plan.fusion.0.items
-
--- the certificate that is written for a specification can be verified for it, with the same memory
-abbrev pub WrittenIsVerified : Type 0
-WrittenIsVerified =
-    (files : Files) (after : Option Files) (spec cert report : List ℕ) → NamesSpec spec → NamesCertificate cert → (written : IsCertified (Some files) after spec cert report)
-    → IsSomeAnd after (λ left. (can : CanVerify left spec cert) × (can.plan ≡ written.certified.plan))

@@ -1,6 +1,6 @@
 //! Laws of the definitions. These functions do nothing: their contracts are the laws.
 
-ghost use Rattle.tce_verify.specs.Laws.{AcceptedIsLeast, VerificationsHaveOneAnswer, WrittenIsVerified};
+ghost use Rattle.tce_verify.specs.Laws.{AcceptedIsLeast, VerificationsHaveOneAnswer};
 
 /// What can be verified is not refused, what is refused has one reason, and what is accepted has one report.
 pub fn verifications_have_one_answer()
@@ -10,9 +10,4 @@ pub fn verifications_have_one_answer()
 /// No legal fusion takes less memory than that of an accepted plan, whoever wrote the certificate.
 pub fn accepted_is_least()
     ensures { AcceptedIsLeast }
-{}
-
-/// The certificate that is written for a specification is accepted for it.
-pub fn written_is_verified()
-    ensures { WrittenIsVerified }
 {}

@@ -9,4 +9,4 @@ mod laws;
 mod reading;
 
 pub use command::verify;
-pub use laws::{accepted_is_least, verifications_have_one_answer, written_is_verified};
+pub use laws::{accepted_is_least, verifications_have_one_answer};

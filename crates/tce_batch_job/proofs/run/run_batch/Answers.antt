@@ -2,7 +2,7 @@ use Rattle.std.proofs.Common.{Option, refl, subst, arith}
 use Rattle.std.proofs.lemmas.Result.{err_from_is_err_and}
 use Rattle.tce_outside.specs.Files.{Files}
 use Rattle.tce_batch_job.specs.Refusals.{IsCauseAt}
-use Rattle.tce_batch_job.specs.Left.{OnlyResultsDiffer}
+use Rattle.tce_job.specs.Several.{OnlyResultsDiffer}
 use Rattle.tce_batch_job.proofs.Causes.{one_cause, no_cause}
 use Rattle.tce_batch_job.proofs.Ended.{left_before, takings_before}
 use Rattle.tce_batch_job.proofs.Others.{left_others, same_others, told_others}

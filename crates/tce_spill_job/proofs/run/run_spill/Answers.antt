@@ -2,7 +2,7 @@ use Rattle.std.proofs.Common.{inr, Option, subst}
 use Rattle.std.proofs.lemmas.Result.{err_from_is_err_and}
 use Rattle.tce_outside.specs.Files.{Files}
 use Rattle.tce_space.specs.IndexSet.{has}
-use Rattle.tce_batch_job.specs.Left.{OnlyResultsDiffer}
+use Rattle.tce_job.specs.Several.{OnlyResultsDiffer}
 use Rattle.tce_spill_job.specs.Pieces.{pieces_of}
 use Rattle.tce_spill_job.specs.Refusals.{IsLateFault}
 use Rattle.tce_spill_job.proofs.Causes.{test_cause, test_exact, no_cause, late_cause, late_exact, late_free}

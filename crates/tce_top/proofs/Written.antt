@@ -1,0 +1,31 @@
+-- What was written is accepted.
+use Rattle.std.proofs.Common.{◌≡◌, ◌≢◌, refl, sym, ap, subst, ℕ, List, Some}
+use Rattle.std.specs.Option.{IsSomeAnd}
+use Rattle.tce_outside.specs.Files.{Files, file, with_file}
+use Rattle.tce_outside.proofs.Files.{without_file-with_file}
+use Rattle.tce_outside.proofs.Told.{other_files}
+use Rattle.tce_array.proofs.MadeFiles.{file-with_file}
+use Rattle.tce_source.specs.Source.{Specifies}
+use Rattle.tce_verify.specs.Done.{CanVerify}
+use Rattle.tce_verify.proofs.Names.{apart}
+use Rattle.tce_top.specs.Laws.{WrittenIsVerified}
+
+-- a file beside one that was set
+file_beside : (files : Files) (name bytes other : List ℕ) → other ≢ name → file (with_file files name bytes) other ≡ file files other
+file_beside files name bytes other differs = other_files name other files (with_file files name bytes) (ap Some (without_file-with_file files name bytes)) differs
+
+pub written_is_verified : WrittenIsVerified
+written_is_verified files after spec cert report named other written =
+    let made = written.certified in
+    let s = written.specification in
+    let beside = file_beside files cert written.text spec (apart spec cert named other) in
+    let can : CanVerify (with_file files cert written.text) spec cert = record {
+      specification = s;
+      specified = subst (λ found. IsSomeAnd found (λ text. Specifies text s)) (sym beside) (written.specified files refl);
+      text = written.text;
+      held = file-with_file files cert written.text;
+      plan = made.plan;
+      certifies = record { space = made.space; tree = made.tree; declared = made.declared; fits = made.least.fits; nestings = made.nestings; text_is = made.text_is };
+      accepted = (((((made.least.least.legal, made.least.carried), made.least.sizes), made.least.memory_is), made.least.covers.nodes), made.least.covers.root);
+    } in
+    subst (λ left. IsSomeAnd left (λ files. (can : CanVerify files spec cert) × (can.plan ≡ made.plan))) (sym written.written) (can, refl)

@@ -1,0 +1,13 @@
+-- What one command writes another accepts.
+use Rattle.std.specs.Prelude.{◌≡◌, ℕ, List, Option, Some}
+use Rattle.std.specs.Option.{IsSomeAnd}
+use Rattle.tce_outside.specs.Files.{Files}
+use Rattle.tce_command.specs.Command.{NamesSpec, NamesCertificate}
+use Rattle.tce_certify.specs.Done.{IsCertified}
+use Rattle.tce_verify.specs.Done.{CanVerify}
+
+-- the certificate that is written for a specification can be verified for it, with the same memory
+abbrev pub WrittenIsVerified : Type 0
+WrittenIsVerified =
+    (files : Files) (after : Option Files) (spec cert report : List ℕ) → NamesSpec spec → NamesCertificate cert → (written : IsCertified (Some files) after spec cert report)
+    → IsSomeAnd after (λ left. (can : CanVerify left spec cert) × (can.plan ≡ written.certified.plan))
