@@ -12,7 +12,7 @@ use Rattle.tce_candidates.specs.declared.candidate.Candidate.{Candidate}
 use Rattle.tce_candidates.specs.declared.groups.Entry.{Entry}
 use Rattle.tce_candidates.specs.Candidates.{Stands}
 use Rattle.tce_candidates.specs.Parts.{IsUpperPart, AreMarksOf}
-use Rattle.tce_candidates.specs.Groups.{IsEntered, AreEntered, StandsAt, PartStands, group_of}
+use Rattle.tce_candidates.specs.Groups.{IsEntered, AreEntered, AreFalling, StandsAt, PartStands, key_of, group_of}
 use Rattle.tce_candidates.proofs.Parts.{upper_of_coarser}
 
 -- some group of the parts has an entry of a candidate that stands for the state
@@ -22,7 +22,7 @@ HasCover outer relation limit marks groups candidates parts = Any (PartStands ou
 pub cover_stands : (outer : ℕ) (relation : Relation) (limit marks : ℕ) (groups : List (List Entry)) (candidates : List Candidate) (parts : List ℕ)
     → HasCover outer relation limit marks groups candidates parts → Any (Stands outer relation limit) candidates
 cover_stands outer relation limit marks groups candidates parts found =
-    let entry = found.4.some.4.1 in
+    let entry = found.4.some.4.some.4.1 in
     (entry.1.place, entry.4.candidate, entry.4.inside, entry.4.is, entry.4.stands)
 
 -- marks of parts that are among others
@@ -41,8 +41,10 @@ cover_found outer relation limit marks groups candidates parts entered listed ma
     let at = subst (IsEntered outer groups k) found.3 (entered k x found.2) in
     let among = λ (part : ℕ) (inn : Contains at.parts part). listed part
     (upper_of_coarser outer (above x.row.classes) relation part found.4.coarser (All-contains (IsUpperPart outer (above x.row.classes)) at.parts part at.upper inn)) in
-    let place = among at.part at.among in
-    let other = among at.under at.too in
+    let falling = at.falling in
+    let first = among at.part falling.first in
+    let second = among at.under falling.second in
+    let last = among at.third falling.last in
     let entry : Entry = record { cost = x.row.cost; place = k; marks = at.marks } in
     let here : StandsAt outer relation limit marks candidates entry = record {
       cheap = found.4.cheap;
@@ -51,12 +53,28 @@ cover_found outer relation limit marks groups candidates parts entered listed ma
       inside = found.2;
       is = found.3;
       stands = found.4;
-    } in
-    (place.0, at.part, place.1, place.2, record { some = (other.0, at.under, other.1, other.2, (at.order, (at.entered.0, entry, at.entered.1, at.entered.2, here))) })
+    } in (
+      first.0,
+      at.part,
+      first.1,
+      first.2,
+      record {
+        some = (
+          second.0,
+          at.under,
+          second.1,
+          second.2,
+          record {
+            below = falling.below;
+            some = (last.0, at.third, last.1, last.2, (falling.lowest, (at.entered.0, entry, at.entered.1, at.entered.2, here)));
+          },
+        );
+      },
+    )
 
 -- entries stay where groups only grow
 abbrev pub StayEntered : List (List Entry) → List (List Entry) → Type 0
-StayEntered old new = (p q : ℕ) (entry : Entry) → Contains (group_of old p q) entry → Contains (group_of new p q) entry
+StayEntered old new = (key : ℕ) (entry : Entry) → Contains (group_of old key) entry → Contains (group_of new key) entry
 
 pub entered_later : (outer : ℕ) (old new : List (List Entry)) (candidates : List Candidate) → StayEntered old new → AreEntered outer old candidates → AreEntered outer new candidates
 entered_later outer old new candidates stay entered k d low =
@@ -65,20 +83,19 @@ entered_later outer old new candidates stay entered k d low =
       parts = at.parts;
       part = at.part;
       under = at.under;
+      third = at.third;
       marks = at.marks;
       upper = at.upper;
-      among = at.among;
-      too = at.too;
-      order = at.order;
+      falling = at.falling;
       marked = at.marked;
-      entered = stay at.part at.under _ at.entered;
+      entered = stay (key_of at.part at.under at.third) _ at.entered;
     }
 
 -- one more candidate, with an entry
-pub entered_last : (outer : ℕ) (groups : List (List Entry)) (old new : List Candidate) (last : Candidate) (parts : List ℕ) (part under marks place : ℕ) → AreEntered outer groups old → new ≡ old ++ last ∷ []
-    → All (IsUpperPart outer (above last.row.classes)) parts → Contains parts part → Contains parts under → under ≤ part → AreMarksOf parts marks → place ≡ length old
-    → Contains (group_of groups part under) (record { cost = last.row.cost; place = place; marks = marks }) → AreEntered outer groups new
-entered_last outer groups old new last parts part under marks place entered is upper among too order marked here inn = subst (AreEntered outer groups) (sym is) all
+pub entered_last : (outer : ℕ) (groups : List (List Entry)) (old new : List Candidate) (last : Candidate) (parts : List ℕ) (part under third marks place key : ℕ) → AreEntered outer groups old → new ≡ old ++ last ∷ []
+    → All (IsUpperPart outer (above last.row.classes)) parts → AreFalling parts part under third → AreMarksOf parts marks → place ≡ length old
+    → key ≡ key_of part under third → Contains (group_of groups key) (record { cost = last.row.cost; place = place; marks = marks }) → AreEntered outer groups new
+entered_last outer groups old new last parts part under third marks place key entered is upper falling marked here named inn = subst (AreEntered outer groups) (sym is) all
   where
     before : (k n m : ℕ) → m ≡ n + 1 → k < m → (k ≡ n → ⊥) → k < n
     before k n m is_more low other = omega (arith, is_more, low, other)
@@ -86,7 +103,7 @@ entered_last outer groups old new last parts part under marks place entered is u
     all : AreEntered outer groups (old ++ last ∷ [])
     all k d low = elim (cases_eq k (length old)) [
       | inl at ↦ subst (IsEntered outer groups k) (sym (get_or_push old last d k (sym at)))
-          (subst (λ n. IsEntered outer groups n last) (here ∙ sym at) (record { parts = parts; part = part; under = under; marks = marks; upper = upper; among = among; too = too; order = order; marked = marked; entered = inn }))
+          (subst (λ n. IsEntered outer groups n last) (here ∙ sym at) (record { parts = parts; part = part; under = under; third = third; marks = marks; upper = upper; falling = falling; marked = marked; entered = subst (λ k. Contains (group_of groups k) (record { cost = last.row.cost; place = place; marks = marks })) named inn }))
       | inr other ↦
           let inside = before k (length old) (length (old ++ last ∷ [])) (length_push old last) low other in
           subst (IsEntered outer groups k) (sym (get_or_append_left old (last ∷ []) d k inside)) (entered k d inside)
@@ -107,25 +124,25 @@ module _ (old : List (List Entry)) (number : ℕ) (entry : Entry) (low : number 
   ]
 
   entries_stay : StayEntered old (set old number more)
-  entries_stay p q e inn =
-      subst (λ n. Contains (get_or (set old number more) ((p * 1021 + q) % n) []) e) (sym (length-set old number more))
-      (stays_at ((p * 1021 + q) % length old) e inn)
+  entries_stay key e inn =
+      subst (λ n. Contains (get_or (set old number more) (key % n) []) e) (sym (length-set old number more))
+      (stays_at (key % length old) e inn)
 
-pub number_named : {X : Type 0} (lists : List X) (count number part under : ℕ) → number ≡ (part * 1021 + under) % count → count ≡ length lists → number ≡ (part * 1021 + under) % length lists
-number_named lists count number part under is same = is ∙ ap (λ n. (part * 1021 + under) % n) same
+pub number_named : {X : Type 0} (lists : List X) (count number key : ℕ) → number ≡ key % count → count ≡ length lists → number ≡ key % length lists
+number_named lists count number key is same = is ∙ ap (λ n. key % n) same
 
-module _ {X : Type 0} (lists : List X) (f : X → List Entry) (groups : List (List Entry)) (number part under : ℕ) (old new : X)
-    (shown : map f lists ≡ groups) (named : number ≡ (part * 1021 + under) % length lists) (low : number < length lists) (is : old ≡ get_or lists number old) where
+module _ {X : Type 0} (lists : List X) (f : X → List Entry) (groups : List (List Entry)) (number key : ℕ) (old new : X)
+    (shown : map f lists ≡ groups) (named : number ≡ key % length lists) (low : number < length lists) (is : old ≡ get_or lists number old) where
   shown_set : (more : List Entry) → f new ≡ f old ++ more → map f (set lists number new) ≡ set groups number (get_or groups number [] ++ more)
   shown_set more grown = appended_at lists f number old new more low is grown ∙ ap (λ gs. set gs number (get_or gs number [] ++ more)) shown
 
   inside : number < length groups
   inside = subst (λ gs. number < length gs) shown (omega (arith, low, length-map lists f))
 
-  pub groups_added : (entry : Entry) → f new ≡ f old ++ entry ∷ [] → Contains (group_of (map f (set lists number new)) part under) entry
+  pub groups_added : (entry : Entry) → f new ≡ f old ++ entry ∷ [] → Contains (group_of (map f (set lists number new)) key) entry
   groups_added entry grown =
-      let at : (part * 1021 + under) % length (map f (set lists number new)) ≡ number =
-      ap (λ n. (part * 1021 + under) % n) (length-map (set lists number new) f ∙ length-set lists number new) ∙ sym named in
+      let at : key % length (map f (set lists number new)) ≡ number =
+      ap (λ n. key % n) (length-map (set lists number new) f ∙ length-set lists number new) ∙ sym named in
       subst (λ k. Contains (get_or (map f (set lists number new)) k []) entry) (sym at)
       (subst (λ gs. Contains (get_or gs number []) entry) (sym (shown_set (entry ∷ []) grown))
       (subst (λ xs. Contains xs entry) (sym (get_or-set_same groups number (get_or groups number [] ++ entry ∷ []) [] inside))
@@ -135,7 +152,7 @@ module _ {X : Type 0} (lists : List X) (f : X → List Entry) (groups : List (Li
   groups_kept entry grown = subst (StayEntered groups) (sym (shown_set (entry ∷ []) grown)) (entries_stay groups number entry inside)
 
   pub groups_unchanged : f new ≡ f old → StayEntered groups (map f (set lists number new))
-  groups_unchanged same = subst (StayEntered groups) (sym (unchanged_at lists f number old new is same ∙ shown)) (λ p q e inn. inn)
+  groups_unchanged same = subst (StayEntered groups) (sym (unchanged_at lists f number old new is same ∙ shown)) (λ k e inn. inn)
 
 -- the parts of a state, as they are looked up
 pub covers_from : (outer limit marks : ℕ) (inner classes : List ℕ) (groups : List (List Entry)) (slice candidates : List Candidate) (read parts : List ℕ) (result : Bool)

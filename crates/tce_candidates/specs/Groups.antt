@@ -1,5 +1,5 @@
 -- Groups of candidates by upper parts of the outer loops.
-use Rattle.std.specs.Prelude.{◌≡◌, ℕ, ◌+◌, ◌*◌, ◌<◌, ◌≤◌, ◌%◌, List, [], length, slice_index_or}
+use Rattle.std.specs.Prelude.{◌≡◌, ℕ, ◌+◌, ◌-◌, ◌*◌, ◌<◌, ◌≤◌, ◌%◌, List, [], length, slice_index_or}
 use Rattle.std.specs.List.{All, Any, Contains}
 use Rattle.tce_space.specs.IndexSet.{IsWithin}
 use Rattle.tce_states.specs.Relation.{Relation, above}
@@ -17,22 +17,33 @@ pub record Listed : Type 0 where
 abbrev pub LeavesOpen : ℕ → Candidate → Candidate → Type 0
 LeavesOpen outer x y = Stands outer (above y.row.classes) y.row.cost x → ⊥
 
--- the entries of the group of two sets of loops
-abbrev pub group_of : List (List Entry) → ℕ → ℕ → List Entry
-group_of groups part under = slice_index_or groups ((part * 1021 + under) % length groups) []
+-- the key of three sets of loops
+abbrev pub key_of : ℕ → ℕ → ℕ → ℕ
+key_of part under third = (part * 1021 + under) * 1021 + third
 
--- the candidate has an entry in the group of two of its upper parts, with the marks of some of them
+-- the entries of the group of a key
+abbrev pub group_of : List (List Entry) → ℕ → List Entry
+group_of groups key = slice_index_or groups (key % length groups) []
+
+-- three of the parts fall as numbers, or end in empty ones
+pub record AreFalling (parts : List ℕ) (part under third : ℕ) : Type 0 where
+  pub first : Contains parts part
+  pub second : Contains parts under
+  pub last : Contains parts third
+  pub below : under ≤ part - 1
+  pub lowest : third ≤ under - 1
+
+-- the candidate has an entry in the group of three of its upper parts, with the marks of some of them
 pub record IsEntered (outer : ℕ) (groups : List (List Entry)) (place : ℕ) (candidate : Candidate) : Type 0 where
   pub parts : List ℕ
   pub part : ℕ
   pub under : ℕ
+  pub third : ℕ
   pub marks : ℕ
   pub upper : All (IsUpperPart outer (above candidate.row.classes)) parts
-  pub among : Contains parts part
-  pub too : Contains parts under
-  pub order : under ≤ part
+  pub falling : AreFalling parts part under third
   pub marked : AreMarksOf parts marks
-  pub entered : Contains (group_of groups part under) (record { cost = candidate.row.cost; place = place; marks = marks })
+  pub entered : Contains (group_of groups (key_of part under third)) (record { cost = candidate.row.cost; place = place; marks = marks })
 
 -- so does each
 abbrev pub AreEntered : ℕ → List (List Entry) → List Candidate → Type 0
@@ -48,10 +59,16 @@ pub record StandsAt (outer : ℕ) (relation : Relation) (limit marks : ℕ) (can
   pub is : slice_index_or candidates entry.place candidate ≡ candidate
   pub stands : Stands outer relation limit candidate
 
--- of two parts the second is no greater as a number, and some entry of their group is at a candidate that stands for a state
-abbrev pub PairStands : ℕ → Relation → ℕ → ℕ → List (List Entry) → List Candidate → ℕ → ℕ → Type 0
-PairStands outer relation limit marks groups candidates part under = (under ≤ part) × Any (StandsAt outer relation limit marks candidates) (group_of groups part under)
+-- of the last two of three parts the second is less as a number, or both are empty, and some entry of the group of all three is at a candidate that stands for a state
+abbrev pub TripleStands : ℕ → Relation → ℕ → ℕ → List (List Entry) → List Candidate → ℕ → ℕ → ℕ → Type 0
+TripleStands outer relation limit marks groups candidates part under third =
+    (third ≤ under - 1) × Any (StandsAt outer relation limit marks candidates) (group_of groups (key_of part under third))
 
--- so do a part and some of the parts
+-- of two parts the second is less as a number, or both are empty, and they and some of the parts are such three
+pub record PairStands (outer : ℕ) (relation : Relation) (limit marks : ℕ) (groups : List (List Entry)) (candidates : List Candidate) (parts : List ℕ) (part under : ℕ) : Type 0 where
+  pub below : under ≤ part - 1
+  pub some : Any (TripleStands outer relation limit marks groups candidates part under) parts
+
+-- a part and some of the parts are such two
 pub record PartStands (outer : ℕ) (relation : Relation) (limit marks : ℕ) (groups : List (List Entry)) (candidates : List Candidate) (parts : List ℕ) (part : ℕ) : Type 0 where
-  pub some : Any (PairStands outer relation limit marks groups candidates part) parts
+  pub some : Any (PairStands outer relation limit marks groups candidates parts part) parts

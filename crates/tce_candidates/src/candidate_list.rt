@@ -1,11 +1,12 @@
 // Lists of candidates in which those that stand for a state are found quickly.
-ghost use Rattle.std.specs.Prelude.{◌≡◌, ◌↔◌, ◌<◌, ◌≤◌, [], ◌∷◌, ◌++◌, length, IsTrue, IfOk, OnOk, Any, Contains};
+ghost use Rattle.std.specs.Prelude.{◌≡◌, ◌↔◌, ◌-◌, ◌<◌, ◌≤◌, [], ◌∷◌, ◌++◌, length, IsTrue, IfOk, OnOk, Any, Contains};
+ghost use Rattle.tce_space.specs.IndexSet.{empty};
 ghost use Rattle.tce_states.specs.Relation.{above};
 ghost use Rattle.tce_candidates.specs.Candidates.{Stands};
-ghost use Rattle.tce_candidates.specs.Groups.{StandsAt, PairStands, PartStands};
+ghost use Rattle.tce_candidates.specs.Groups.{StandsAt, TripleStands, PairStands, PartStands};
 
 use crate::candidate::Candidate;
-use crate::groups::{Entry, Groups};
+use crate::groups::{Entry, Groups, key_of};
 use crate::stands_for;
 use crate::upper::{marks_of, upper_parts};
 use std::alloc::{AllocError, Global};
@@ -18,7 +19,7 @@ const LEAST_GROUPS: usize = 61;
 
 /// Candidates of a node in the order in which they came, to be compared on outer loops.
 ///
-/// Each has an entry in the group of its two largest upper parts. The upper parts of what stands for a state are upper parts of the state too, so a candidate that does is in the group of two of these.
+/// Each has an entry in the group of its three largest upper parts. The upper parts of what stands for a state are upper parts of the state too, so a candidate that does is in the group of three of these.
 #[derive(Drop)]
 pub(crate) struct CandidateList {
     outer: IndexSet,
@@ -80,13 +81,14 @@ impl CandidateList {
     {
         let parts = upper_parts(&candidate.row.classes, self.outer);
         let part = last_of(parts.as_slice());
-        let under = under_of(parts.as_slice(), part);
+        let under = next_below(parts.as_slice(), part);
+        let third = next_below(parts.as_slice(), under);
         let entry = Entry {
             cost: candidate.row.cost,
             place: self.count(),
             marks: marks_of(parts.as_slice()),
         };
-        self.groups.push(part, under, entry)?;
+        self.groups.push(key_of(part, under, third), entry)?;
         self.candidates.push(candidate)?;
         Ok(())
     }
@@ -115,21 +117,16 @@ fn last_of(parts: &[IndexSet]) -> IndexSet
     parts[parts.len() - 1]
 }
 
-// The last but one of the parts, where there is one and it is no greater as a number than the last one, and else that.
-#[tactic(auto, using(crate::proofs::Covers::read_contains))]
-fn under_of(parts: &[IndexSet], part: IndexSet) -> IndexSet
-    requires { Contains parts.now part }
+// The last of the parts that are less than one of them as numbers. Below the empty part stands the empty one again.
+fn next_below(parts: &[IndexSet], part: IndexSet) -> IndexSet
+    requires { Contains parts.now empty }
     ensures among { Contains parts.now result }
-    ensures order { result ≤ part }
+    ensures order { result ≤ part - 1 }
 {
-    if parts.len() < 2 {
-        return part;
-    }
-    let under = parts[parts.len() - 2];
-    if under.bits() <= part.bits() {
-        under
-    } else {
-        part
+    let most = part.bits().saturating_sub(1);
+    match parts.iter().rev().find(|below| below.bits() <= most) {
+        Some(below) => *below,
+        None => IndexSet::empty(),
     }
 }
 
@@ -169,12 +166,18 @@ fn some_pair_covers(
     sought: &Sought,
     part: IndexSet,
 ) -> bool
-    ensures { IsTrue result ↔ Any (PairStands sought.now.outer (above sought.now.state.now.classes) sought.now.state.now.cost sought.now.marks groups.now candidates.now part) sought.now.parts.now }
+    ensures { IsTrue result ↔ Any (PairStands sought.now.outer (above sought.now.state.now.classes) sought.now.state.now.cost sought.now.marks groups.now candidates.now sought.now.parts.now part) sought.now.parts.now }
 {
-    sought.parts.iter().any(|under| pair_covers(candidates, groups, sought, part, *under))
+    let parts = sought.parts;
+    for under in parts {
+        if pair_covers(candidates, groups, sought, part, *under) {
+            return true;
+        }
+    }
+    false
 }
 
-// Whether some candidate of the group of two parts, of which the second is no greater as a number, stands for the state.
+// Whether the second of two parts is less as a number, or both are empty, and some candidate of the groups of both and each other part stands for the state.
 fn pair_covers(
     candidates: &[Candidate],
     groups: &Groups,
@@ -182,9 +185,38 @@ fn pair_covers(
     part: IndexSet,
     under: IndexSet,
 ) -> bool
-    ensures { IsTrue result ↔ PairStands sought.now.outer (above sought.now.state.now.classes) sought.now.state.now.cost sought.now.marks groups.now candidates.now part under }
+    ensures { IsTrue result ↔ PairStands sought.now.outer (above sought.now.state.now.classes) sought.now.state.now.cost sought.now.marks groups.now candidates.now sought.now.parts.now part under }
 {
-    under.bits() <= part.bits() && group_covers(candidates, groups.of(part, under), sought)
+    under.bits() <= part.bits().saturating_sub(1)
+        && some_triple_covers(candidates, groups, sought, part, under)
+}
+
+// Whether some candidate of the groups of two parts and each other one stands for the state.
+fn some_triple_covers(
+    candidates: &[Candidate],
+    groups: &Groups,
+    sought: &Sought,
+    part: IndexSet,
+    under: IndexSet,
+) -> bool
+    ensures { IsTrue result ↔ Any (TripleStands sought.now.outer (above sought.now.state.now.classes) sought.now.state.now.cost sought.now.marks groups.now candidates.now part under) sought.now.parts.now }
+{
+    sought.parts.iter().any(|third| triple_covers(candidates, groups, sought, part, under, *third))
+}
+
+// Whether the third of three parts is less than the second as a number, or both are empty, and some candidate of their group stands for the state.
+fn triple_covers(
+    candidates: &[Candidate],
+    groups: &Groups,
+    sought: &Sought,
+    part: IndexSet,
+    under: IndexSet,
+    third: IndexSet,
+) -> bool
+    ensures { IsTrue result ↔ TripleStands sought.now.outer (above sought.now.state.now.classes) sought.now.state.now.cost sought.now.marks groups.now candidates.now part under third }
+{
+    third.bits() <= under.bits().saturating_sub(1)
+        && group_covers(candidates, groups.of(key_of(part, under, third)), sought)
 }
 
 // Whether some candidate of a group stands for the state. What came last is asked first: it mostly costs least.

@@ -1,6 +1,6 @@
 // Places of candidates in groups, so that few of them need be compared with a state.
 ghost use Rattle.std.specs.Prelude.{◌≡◌, ◌<◌, ◌+◌, ◌*◌, ◌%◌, ℕ, replicate, [], IfOk, OnOk, Contains};
-ghost use Rattle.tce_candidates.specs.Groups.{group_of};
+ghost use Rattle.tce_candidates.specs.Groups.{key_of, group_of};
 ghost use Rattle.tce_candidates.specs.declared.groups.Entry.{Entry};
 
 use std::alloc::{AllocError, Global};
@@ -15,7 +15,7 @@ pub(crate) struct Entry {
     pub(crate) marks: IndexSet,
 }
 
-/// Lists of entries, one for each remainder of two sets of loops as a number.
+/// Lists of entries, one for each remainder of a key.
 #[derive(Drop)]
 pub(crate) struct Groups {
     lists: Vec<Vec<Entry>>,
@@ -32,13 +32,20 @@ impl Model for Groups {
     ghost invariant = { λ g. 0 < length g.lists.items };
 }
 
-// The group of a pair, where there are so many. A prime keeps pairs apart that differ in few loops.
-fn number_of(part: IndexSet, under: IndexSet, count: usize) -> usize
+/// The key of three sets of loops. Its factor is a prime, which keeps sets apart that differ in few loops.
+pub(crate) fn key_of(part: IndexSet, under: IndexSet, third: IndexSet) -> usize
+    ensures { result ≡ key_of part under third }
+{
+    (part.bits() as usize * 1021 + under.bits() as usize) * 1021 + third.bits() as usize
+}
+
+// The group of a key, where there are so many.
+fn number_of(key: usize, count: usize) -> usize
     requires { 0 < count }
-    ensures value { result ≡ (part * 1021 + under) % count }
+    ensures value { result ≡ key % count }
     ensures inside { result < count }
 {
-    (part.bits() as usize * 1021 + under.bits() as usize) % count
+    key % count
 }
 
 impl Groups {
@@ -54,24 +61,19 @@ impl Groups {
         Ok(Groups { lists })
     }
 
-    /// The entries of the group of these two sets of loops.
-    pub(crate) fn of(&self, part: IndexSet, under: IndexSet) -> &[Entry]
-        ensures { result.now ≡ group_of self.now part under }
+    /// The entries of the group of a key.
+    pub(crate) fn of(&self, key: usize) -> &[Entry]
+        ensures { result.now ≡ group_of self.now key }
     {
-        self.lists[number_of(part, under, self.lists.len())].as_slice()
+        self.lists[number_of(key, self.lists.len())].as_slice()
     }
 
-    /// Appends an entry to the group of these two sets of loops.
-    pub(crate) fn push(
-        &mut self,
-        part: IndexSet,
-        under: IndexSet,
-        entry: Entry,
-    ) -> Result<(), AllocError>
-        ensures added { OnOk result (Contains (group_of self.new part under) entry) }
-        ensures kept { (p q : ℕ) (e : Entry) → Contains (group_of self.old p q) e → Contains (group_of self.new p q) e }
+    /// Appends an entry to the group of a key.
+    pub(crate) fn push(&mut self, key: usize, entry: Entry) -> Result<(), AllocError>
+        ensures added { OnOk result (Contains (group_of self.new key) entry) }
+        ensures kept { (k : ℕ) (e : Entry) → Contains (group_of self.old k) e → Contains (group_of self.new k) e }
     {
-        let number = number_of(part, under, self.lists.len());
+        let number = number_of(key, self.lists.len());
         self.lists[number].push(entry)?;
         Ok(())
     }

@@ -1,5 +1,6 @@
 // Parts of the outer loops that a state puts above the others.
-ghost use Rattle.std.specs.Prelude.{ℕ, ◌<◌, length, All, Contains};
+ghost use Rattle.std.specs.Prelude.{ℕ, All, Contains};
+ghost use Rattle.tce_space.specs.IndexSet.{empty};
 ghost use Rattle.tce_states.specs.Relation.{above};
 ghost use Rattle.tce_candidates.specs.Parts.{IsUpperPart, AreMarksOf};
 
@@ -14,7 +15,7 @@ const MARKS: u32 = 23;
 pub(crate) fn upper_parts(classes: &Nesting, outer: IndexSet) -> ArrayVec<IndexSet, 11>
     ensures all { (part : ℕ) → IsUpperPart outer (above classes.now) part → Contains result.items part }
     ensures each { All (IsUpperPart outer (above classes.now)) result.items }
-    ensures some { 0 < length result.items }
+    ensures least { Contains result.items empty }
 {
     let mut parts = ArrayVec::<IndexSet, 11>::new();
     let mut reached = IndexSet::empty();

@@ -3,16 +3,16 @@ use Rattle.tce_candidates.proofs.Grouping.{groups_added, groups_kept, groups_unc
 use Rattle.tce_candidates.proofs.groups.Groups.push.Goals as goal
 
 pub returns-in_err-push-clause-kept : goal.returns-in_err-push-clause-kept
-returns-in_err-push-clause-kept c p q e inn =
-    groups_unchanged c.self.inside.lists.items (λ list. list.items) c.args.self.now c.number_of-number.result c.args.part c.args.under c.index_mut.result.now c.push.new.self c.self.view_is (number_named c.self.inside.lists.items c.len.result c.number_of-number.result c.args.part c.args.under c.number_of-number.ensures.value (omega (arith, c.len.ensures, c.self.inside.lists.ok.0))) (omega (arith, c.number_of-number.ensures.inside, c.len.ensures, c.self.inside.lists.ok.0)) c.index_mut.ensures.value
-    c.in_err-push.ensures.items p q e inn
+returns-in_err-push-clause-kept c k e inn =
+    groups_unchanged c.self.inside.lists.items (λ list. list.items) c.args.self.now c.number_of-number.result c.args.key c.index_mut.result.now c.push.new.self c.self.view_is (number_named c.self.inside.lists.items c.len.result c.number_of-number.result c.args.key c.number_of-number.ensures.value (omega (arith, c.len.ensures, c.self.inside.lists.ok.0))) (omega (arith, c.number_of-number.ensures.inside, c.len.ensures, c.self.inside.lists.ok.0)) c.index_mut.ensures.value
+    c.in_err-push.ensures.items k e inn
 
 pub returns-clause-added : goal.returns-clause-added
 returns-clause-added c =
-    groups_added c.self.inside.lists.items (λ list. list.items) c.args.self.now c.number_of-number.result c.args.part c.args.under c.index_mut.result.now c.push.new.self c.self.view_is (number_named c.self.inside.lists.items c.len.result c.number_of-number.result c.args.part c.args.under c.number_of-number.ensures.value (omega (arith, c.len.ensures, c.self.inside.lists.ok.0))) (omega (arith, c.number_of-number.ensures.inside, c.len.ensures, c.self.inside.lists.ok.0)) c.index_mut.ensures.value
+    groups_added c.self.inside.lists.items (λ list. list.items) c.args.self.now c.number_of-number.result c.args.key c.index_mut.result.now c.push.new.self c.self.view_is (number_named c.self.inside.lists.items c.len.result c.number_of-number.result c.args.key c.number_of-number.ensures.value (omega (arith, c.len.ensures, c.self.inside.lists.ok.0))) (omega (arith, c.number_of-number.ensures.inside, c.len.ensures, c.self.inside.lists.ok.0)) c.index_mut.ensures.value
     c.args.entry c.in_ok-push.ensures.items
 
 pub returns-clause-kept : goal.returns-clause-kept
-returns-clause-kept c p q e inn =
-    groups_kept c.self.inside.lists.items (λ list. list.items) c.args.self.now c.number_of-number.result c.args.part c.args.under c.index_mut.result.now c.push.new.self c.self.view_is (number_named c.self.inside.lists.items c.len.result c.number_of-number.result c.args.part c.args.under c.number_of-number.ensures.value (omega (arith, c.len.ensures, c.self.inside.lists.ok.0))) (omega (arith, c.number_of-number.ensures.inside, c.len.ensures, c.self.inside.lists.ok.0)) c.index_mut.ensures.value
-    c.args.entry c.in_ok-push.ensures.items p q e inn
+returns-clause-kept c k e inn =
+    groups_kept c.self.inside.lists.items (λ list. list.items) c.args.self.now c.number_of-number.result c.args.key c.index_mut.result.now c.push.new.self c.self.view_is (number_named c.self.inside.lists.items c.len.result c.number_of-number.result c.args.key c.number_of-number.ensures.value (omega (arith, c.len.ensures, c.self.inside.lists.ok.0))) (omega (arith, c.number_of-number.ensures.inside, c.len.ensures, c.self.inside.lists.ok.0)) c.index_mut.ensures.value
+    c.args.entry c.in_ok-push.ensures.items k e inn
