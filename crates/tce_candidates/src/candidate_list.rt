@@ -62,7 +62,8 @@ impl CandidateList {
 
     /// Whether some candidate stands for the state.
     pub(crate) fn covers(&self, state: &Row) -> bool
-        ensures { IsTrue result ↔ Any (Stands self.now.outer (above state.now.classes) state.now.cost) self.now.candidates }
+        ensures { IsTrue result ↔ Any (Stands self.now.outer (above state.now.classes)
+            state.now.cost) self.now.candidates }
     {
         let parts = upper_parts(&state.classes, self.outer);
         let sought = Sought {
@@ -77,7 +78,8 @@ impl CandidateList {
     /// Appends a candidate.
     pub(crate) fn push(&mut self, candidate: Candidate) -> Result<(), AllocError>
         ensures outer { self.new.outer ≡ self.old.outer }
-        ensures candidates { OnOk result (self.new.candidates ≡ self.old.candidates ++ candidate ∷ []) }
+        ensures candidates { OnOk result (self.new.candidates ≡ self.old.candidates ++ candidate ∷
+            []) }
     {
         let parts = upper_parts(&candidate.row.classes, self.outer);
         let part = last_of(parts.as_slice());
@@ -141,7 +143,9 @@ struct Sought<'a> {
 
 // Whether some candidate of the groups of the parts stands for the state.
 fn some_group_covers(candidates: &[Candidate], groups: &Groups, sought: &Sought) -> bool
-    ensures { IsTrue result ↔ Any (PartStands sought.now.outer (above sought.now.state.now.classes) sought.now.state.now.cost sought.now.marks groups.now candidates.now sought.now.parts.now) sought.now.parts.now }
+    ensures { IsTrue result ↔ Any (PartStands sought.now.outer (above sought.now.state.now.classes)
+        sought.now.state.now.cost sought.now.marks groups.now candidates.now sought.now.parts.now)
+        sought.now.parts.now }
 {
     let parts = sought.parts;
     for part in parts {
@@ -154,7 +158,9 @@ fn some_group_covers(candidates: &[Candidate], groups: &Groups, sought: &Sought)
 
 // The same of one part.
 fn part_covers(candidates: &[Candidate], groups: &Groups, sought: &Sought, part: IndexSet) -> bool
-    ensures { IsTrue result ↔ PartStands sought.now.outer (above sought.now.state.now.classes) sought.now.state.now.cost sought.now.marks groups.now candidates.now sought.now.parts.now part }
+    ensures { IsTrue result ↔ PartStands sought.now.outer (above sought.now.state.now.classes)
+        sought.now.state.now.cost sought.now.marks groups.now candidates.now sought.now.parts.now
+        part }
 {
     some_pair_covers(candidates, groups, sought, part)
 }
@@ -166,7 +172,9 @@ fn some_pair_covers(
     sought: &Sought,
     part: IndexSet,
 ) -> bool
-    ensures { IsTrue result ↔ Any (PairStands sought.now.outer (above sought.now.state.now.classes) sought.now.state.now.cost sought.now.marks groups.now candidates.now sought.now.parts.now part) sought.now.parts.now }
+    ensures { IsTrue result ↔ Any (PairStands sought.now.outer (above sought.now.state.now.classes)
+        sought.now.state.now.cost sought.now.marks groups.now candidates.now sought.now.parts.now
+        part) sought.now.parts.now }
 {
     let parts = sought.parts;
     for under in parts {
@@ -185,7 +193,9 @@ fn pair_covers(
     part: IndexSet,
     under: IndexSet,
 ) -> bool
-    ensures { IsTrue result ↔ PairStands sought.now.outer (above sought.now.state.now.classes) sought.now.state.now.cost sought.now.marks groups.now candidates.now sought.now.parts.now part under }
+    ensures { IsTrue result ↔ PairStands sought.now.outer (above sought.now.state.now.classes)
+        sought.now.state.now.cost sought.now.marks groups.now candidates.now sought.now.parts.now
+        part under }
 {
     under.bits() <= part.bits().saturating_sub(1)
         && some_triple_covers(candidates, groups, sought, part, under)
@@ -199,7 +209,9 @@ fn some_triple_covers(
     part: IndexSet,
     under: IndexSet,
 ) -> bool
-    ensures { IsTrue result ↔ Any (TripleStands sought.now.outer (above sought.now.state.now.classes) sought.now.state.now.cost sought.now.marks groups.now candidates.now part under) sought.now.parts.now }
+    ensures { IsTrue result ↔ Any (TripleStands sought.now.outer
+        (above sought.now.state.now.classes) sought.now.state.now.cost sought.now.marks groups.now
+        candidates.now part under) sought.now.parts.now }
 {
     sought.parts.iter().any(|third| triple_covers(candidates, groups, sought, part, under, *third))
 }
@@ -213,7 +225,8 @@ fn triple_covers(
     under: IndexSet,
     third: IndexSet,
 ) -> bool
-    ensures { IsTrue result ↔ TripleStands sought.now.outer (above sought.now.state.now.classes) sought.now.state.now.cost sought.now.marks groups.now candidates.now part under third }
+    ensures { IsTrue result ↔ TripleStands sought.now.outer (above sought.now.state.now.classes)
+        sought.now.state.now.cost sought.now.marks groups.now candidates.now part under third }
 {
     third.bits() <= under.bits().saturating_sub(1)
         && group_covers(candidates, groups.of(key_of(part, under, third)), sought)
@@ -221,7 +234,8 @@ fn triple_covers(
 
 // Whether some candidate of a group stands for the state. What came last is asked first: it mostly costs least.
 fn group_covers(candidates: &[Candidate], group: &[Entry], sought: &Sought) -> bool
-    ensures { IsTrue result ↔ Any (StandsAt sought.now.outer (above sought.now.state.now.classes) sought.now.state.now.cost sought.now.marks candidates.now) group.now }
+    ensures { IsTrue result ↔ Any (StandsAt sought.now.outer (above sought.now.state.now.classes)
+        sought.now.state.now.cost sought.now.marks candidates.now) group.now }
 {
     group
         .iter()
@@ -231,7 +245,8 @@ fn group_covers(candidates: &[Candidate], group: &[Entry], sought: &Sought) -> b
 
 // Whether there is a candidate at the entry's place that stands for the state, the entry's cost is no more, and its marks are among those of the state.
 fn stands_at(candidates: &[Candidate], entry: &Entry, sought: &Sought) -> bool
-    ensures { IsTrue result ↔ StandsAt sought.now.outer (above sought.now.state.now.classes) sought.now.state.now.cost sought.now.marks candidates.now entry.now }
+    ensures { IsTrue result ↔ StandsAt sought.now.outer (above sought.now.state.now.classes)
+        sought.now.state.now.cost sought.now.marks candidates.now entry.now }
 {
     let state = sought.state;
     if state.cost < entry.cost || !entry.marks.within(sought.marks) {

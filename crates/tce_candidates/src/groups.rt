@@ -71,7 +71,8 @@ impl Groups {
     /// Appends an entry to the group of a key.
     pub(crate) fn push(&mut self, key: usize, entry: Entry) -> Result<(), AllocError>
         ensures added { OnOk result (Contains (group_of self.new key) entry) }
-        ensures kept { (k : ℕ) (e : Entry) → Contains (group_of self.old k) e → Contains (group_of self.new k) e }
+        ensures kept { (k : ℕ) (e : Entry) → Contains (group_of self.old k) e
+            → Contains (group_of self.new k) e }
     {
         let number = number_of(key, self.lists.len());
         self.lists[number].push(entry)?;

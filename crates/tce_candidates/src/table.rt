@@ -27,11 +27,15 @@ fn add_step(
     requires limit { Any (Stands list.old.outer none limit) list.old.candidates }
     requires next { HasNext join.now }
     requires size { IsSmall choice.now }
-    ensures covered { OnOk result (ChoiceCovered list.old.outer join.now.row list.new.candidates choice.now) }
+    ensures covered { OnOk result (ChoiceCovered list.old.outer join.now.row list.new.candidates
+        choice.now) }
     ensures outer { OnOk result (list.new.outer ≡ list.old.outer) }
-    ensures others { OnOk result (StandForAll list.old.outer list.old.candidates list.new.candidates) }
-    ensures later { OnOk result (AllPairs (LeavesOpen list.old.outer) list.old.candidates → AllPairs (LeavesOpen list.old.outer) list.new.candidates) }
-    ensures origin { OnOk result (All (λ x. Contains list.old.candidates x ⊎ (IsStepFrom join.now choice.now x × (x.row.cost < limit))) list.new.candidates) }
+    ensures others { OnOk result (StandForAll list.old.outer list.old.candidates
+        list.new.candidates) }
+    ensures later { OnOk result (AllPairs (LeavesOpen list.old.outer) list.old.candidates
+        → AllPairs (LeavesOpen list.old.outer) list.new.candidates) }
+    ensures origin { OnOk result (All (λ x. Contains list.old.candidates x
+        ⊎ (IsStepFrom join.now choice.now x × (x.row.cost < limit))) list.new.candidates) }
 {
     if limit <= join.row.cost + choice.size {
         return Ok(());
@@ -57,11 +61,15 @@ fn add_steps(
     requires limit { Any (Stands list.old.outer none limit) list.old.candidates }
     requires next { HasNext join.now }
     requires choices { All IsSmall choices.now }
-    ensures covered { OnOk result (All (ChoiceCovered list.old.outer join.now.row list.new.candidates) choices.now) }
+    ensures covered { OnOk result (All (ChoiceCovered list.old.outer join.now.row
+        list.new.candidates) choices.now) }
     ensures outer { OnOk result (list.new.outer ≡ list.old.outer) }
-    ensures others { OnOk result (StandForAll list.old.outer list.old.candidates list.new.candidates) }
-    ensures later { OnOk result (AllPairs (LeavesOpen list.old.outer) list.old.candidates → AllPairs (LeavesOpen list.old.outer) list.new.candidates) }
-    ensures origin { OnOk result (All (λ x. Contains list.old.candidates x ⊎ IsSomeStepFrom limit choices.now join.now x) list.new.candidates) }
+    ensures others { OnOk result (StandForAll list.old.outer list.old.candidates
+        list.new.candidates) }
+    ensures later { OnOk result (AllPairs (LeavesOpen list.old.outer) list.old.candidates
+        → AllPairs (LeavesOpen list.old.outer) list.new.candidates) }
+    ensures origin { OnOk result (All (λ x. Contains list.old.candidates x
+        ⊎ IsSomeStepFrom limit choices.now join.now x) list.new.candidates) }
 {
     for choice in choices {
         add_step(list, join, choice, limit)?;
@@ -79,11 +87,15 @@ fn add_all_steps(
     requires limit { Any (Stands list.old.outer none limit) list.old.candidates }
     requires next { All HasNext joins.now }
     requires choices { All IsSmall choices.now }
-    ensures covered { OnOk result (All (λ join. All (ChoiceCovered list.old.outer join.row list.new.candidates) choices.now) joins.now) }
+    ensures covered { OnOk result (All (λ join. All
+        (ChoiceCovered list.old.outer join.row list.new.candidates) choices.now) joins.now) }
     ensures outer { OnOk result (list.new.outer ≡ list.old.outer) }
-    ensures others { OnOk result (StandForAll list.old.outer list.old.candidates list.new.candidates) }
-    ensures later { OnOk result (AllPairs (LeavesOpen list.old.outer) list.old.candidates → AllPairs (LeavesOpen list.old.outer) list.new.candidates) }
-    ensures origin { OnOk result (All (λ x. Contains list.old.candidates x ⊎ Any (λ join. IsSomeStepFrom limit choices.now join x) joins.now) list.new.candidates) }
+    ensures others { OnOk result (StandForAll list.old.outer list.old.candidates
+        list.new.candidates) }
+    ensures later { OnOk result (AllPairs (LeavesOpen list.old.outer) list.old.candidates
+        → AllPairs (LeavesOpen list.old.outer) list.new.candidates) }
+    ensures origin { OnOk result (All (λ x. Contains list.old.candidates x
+        ⊎ Any (λ join. IsSomeStepFrom limit choices.now join x) joins.now) list.new.candidates) }
 {
     for join in joins {
         add_steps(list, join, choices, limit)?;
@@ -114,8 +126,12 @@ pub fn candidates_of(
     requires rights { All IsLimited rights.now }
     requires room { HaveRoom lefts.now rights.now }
     requires choices { All IsSmall choices.now }
-    ensures covered { IfOk result (λ table. All (λ left. All (PairCovered loops.own loops.outer choices.now table.items left) rights.now) lefts.now) }
-    ensures reached { IfOk result (λ table. All (λ x. IsReachedBelow limit loops.own choices.now lefts.now rights.now x ⊎ (x ≡ limit_candidate limit)) table.items) }
+    ensures covered { IfOk result (λ table. All
+        (λ left. All (PairCovered loops.own loops.outer choices.now table.items left) rights.now)
+        lefts.now) }
+    ensures reached { IfOk result (λ table. All
+        (λ x. IsReachedBelow limit loops.own choices.now lefts.now rights.now x
+        ⊎ (x ≡ limit_candidate limit)) table.items) }
     ensures apart { IfOk result (λ table. AllPairs (AreApart loops.outer) table.items) }
 {
     let _number = loops.own.bits();

@@ -13,7 +13,8 @@ const MARKS: u32 = 23;
 
 // The upper parts of the outer loops, smallest first. What is coarser on these loops has no others.
 pub(crate) fn upper_parts(classes: &Nesting, outer: IndexSet) -> ArrayVec<IndexSet, 11>
-    ensures all { (part : ℕ) → IsUpperPart outer (above classes.now) part → Contains result.items part }
+    ensures all { (part : ℕ) → IsUpperPart outer (above classes.now) part
+        → Contains result.items part }
     ensures each { All (IsUpperPart outer (above classes.now)) result.items }
     ensures least { Contains result.items empty }
 {
