@@ -1,4 +1,3 @@
-pub mod Ends
 pub mod First
 pub mod Joint
 pub mod Verdict

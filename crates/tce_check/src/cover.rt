@@ -4,14 +4,13 @@ ghost use Rattle.tce_space.specs.Limits.{cost_limit, max_volume};
 ghost use Rattle.tce_tree.specs.ContractionTree.{operations, node_loops};
 ghost use Rattle.tce_states.specs.Cover.{StepsCovered};
 ghost use Rattle.tce_nesting.specs.Choices.{AreChoices};
-ghost use Rattle.tce_check.specs.Ends.{AreRuns};
+ghost use Rattle.tce_nesting.specs.Ends.{AreRuns};
 ghost use Rattle.tce_check.specs.Verdict.{WhereJoined};
 ghost use Rattle.tce_check.specs.Joint.{IsBound};
 
-use crate::ends::{ends_of, have_conflict};
-use crate::runs::{BLOCK, Run, runs_of};
+use crate::runs::{BLOCK, runs_of};
 use crate::steps::Node;
-use tce_nesting::Row;
+use tce_nesting::{Row, Run, ends_of, have_conflict};
 
 impl<'a> Node<'a> {
     // Whether some row stands for each step from two rows.

@@ -3,7 +3,6 @@
 
 mod bound;
 mod cover;
-mod ends;
 mod groups;
 mod joint;
 mod operands;

@@ -1,21 +1,13 @@
-// Runs of neighbours with the same ends, which are told to have a conflict together.
+// Runs of neighbours with the same ends, block by block.
 ghost use Rattle.std.specs.Prelude.{◌≤◌, ◌<◌, ◌+◌, ℕ, length, slice_index_or};
-ghost use Rattle.tce_check.specs.Ends.{AreRuns, IsRun, IsLonger};
-ghost use Rattle.tce_check.specs.declared.runs.Run as own;
+ghost use Rattle.tce_nesting.specs.Ends.{AreRuns, IsRun};
+ghost use Rattle.tce_nesting.specs.declared.runs.Run as own;
 
-use crate::ends::{Ends, ends_of};
-use tce_nesting::Row;
+use tce_nesting::{Row, Run};
 use tce_space::IndexSet;
 
 // The runs of so many rows are kept at once.
 pub(crate) const BLOCK: usize = 1024;
-
-// The ends of a row, which are those of all from it on up to a later place.
-#[derive(Clone, Copy, Default)]
-pub(crate) struct Run {
-    pub(crate) ends: Ends,
-    pub(crate) until: usize,
-}
 
 // For each row the longest run from it on.
 pub(crate) fn runs_of(rows: &[Row], loops: IndexSet) -> [Run; BLOCK]
@@ -39,28 +31,9 @@ fn run_from(rows: &[Row], runs: &[Run], place: usize, loops: IndexSet) -> Run
     requires later { (k : ℕ) (r : own.Run) → place + 1 ≤ k → k < length rows.now → IsRun loops rows.now k (slice_index_or runs.now k r) }
     ensures { IsRun loops rows.now place result }
 {
-    let alone = Run {
-        ends: ends_of(&rows[place], loops),
-        until: place + 1,
-    };
+    let alone = Run::alone(&rows[place], loops, place);
     if place + 1 == rows.len() {
         return alone;
     }
-    longer_run(&alone, &runs[place + 1])
-}
-
-// The first run, and with it the next one where that has the same ends.
-fn longer_run(first: &Run, next: &Run) -> Run
-    ensures { IsLonger first.now next.now result }
-{
-    if first.ends.least.bits() != next.ends.least.bits() {
-        return *first;
-    }
-    if first.ends.largest.bits() != next.ends.largest.bits() {
-        return *first;
-    }
-    Run {
-        ends: first.ends,
-        until: next.until,
-    }
+    alone.and_next(&runs[place + 1])
 }

@@ -5,3 +5,5 @@ pub mod Cuts
 pub mod RowLists
 pub mod NestingLaws
 pub mod SubsetLists
+pub mod RunParts
+pub mod Tops

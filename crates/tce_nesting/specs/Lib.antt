@@ -3,3 +3,4 @@ pub mod Subsets
 pub mod Choices
 pub mod Plan
 pub mod Laws
+pub mod Ends

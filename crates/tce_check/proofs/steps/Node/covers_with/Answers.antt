@@ -1,10 +1,11 @@
 use Rattle.std.proofs.Common.{arith, subst}
 use Rattle.tce_states.specs.Cover.{StepsCovered}
 use Rattle.tce_check.specs.Verdict.{WhereJoined}
-use Rattle.tce_check.specs.Ends.{AreEnds}
+use Rattle.tce_nesting.specs.Ends.{AreEnds}
 use Rattle.tce_tree.specs.ContractionTree.{node_loops}
 use Rattle.tce_check.proofs.Firsts.{one_more}
-use Rattle.tce_check.proofs.RunParts.{run_at, run_skipped}
+use Rattle.tce_nesting.proofs.RunParts.{run_at}
+use Rattle.tce_check.proofs.RunParts.{run_skipped}
 use Rattle.tce_check.proofs.steps.Node.covers_with.Goals as goal
 
 pub loop-place-preserved-then-have_conflict : goal.loop-place-preserved-then-have_conflict

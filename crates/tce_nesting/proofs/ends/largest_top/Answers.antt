@@ -1,8 +1,8 @@
 use Rattle.std.proofs.Common.{◌+◌, subst, drop}
 use Rattle.tce_states.specs.Relation.{above}
 use Rattle.tce_nesting.proofs.Classes.{drop-item}
-use Rattle.tce_check.proofs.Tops.{IsReached, reached_none, no_top, reached_further, reached_is_top}
-use Rattle.tce_check.proofs.ends.largest_top.Goals as goal
+use Rattle.tce_nesting.proofs.Tops.{IsReached, reached_none, no_top, reached_further, reached_is_top}
+use Rattle.tce_nesting.proofs.ends.largest_top.Goals as goal
 
 pub loop-class-init : goal.loop-class-init
 loop-class-init c = record {

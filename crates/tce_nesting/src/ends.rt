@@ -1,20 +1,21 @@
 // The ends of rows, by which most pairs that have a conflict are told before they are joined.
 ghost use Rattle.std.specs.Prelude.{IsTrue};
 ghost use Rattle.tce_states.specs.Relation.{above};
-ghost use Rattle.tce_check.specs.Ends.{IsTopOf, AreEnds, DoCross, HaveConflict};
+ghost use Rattle.tce_nesting.specs.Ends.{IsTopOf, AreEnds, DoCross, HaveConflict};
 
-use tce_nesting::{Nesting, Row};
+use crate::nesting::Nesting;
+use crate::row::Row;
 use tce_space::IndexSet;
 
-// The least and the largest part of a node's loops that a row puts above all others of them.
-#[derive(Clone, Copy, Default)]
-pub(crate) struct Ends {
-    pub(crate) least: IndexSet,
-    pub(crate) largest: IndexSet,
+/// Two parts of some loops that a row puts above all others of them: the least and the largest that is not all of the loops, each without members where there is none.
+#[derive(Clone, Copy, Debug, Default, PartialEq, Eq)]
+pub struct Ends {
+    pub least: IndexSet,
+    pub largest: IndexSet,
 }
 
-// The ends of a row.
-pub(crate) fn ends_of(row: &Row, loops: IndexSet) -> Ends
+/// The ends of a row.
+pub fn ends_of(row: &Row, loops: IndexSet) -> Ends
     ensures { AreEnds loops row.now result }
 {
     Ends {
@@ -23,14 +24,18 @@ pub(crate) fn ends_of(row: &Row, loops: IndexSet) -> Ends
     }
 }
 
-// The loops of the first class, which are above all others.
+// The loops of the first class, which are above all others, where there are others.
 fn least_top(classes: &Nesting, loops: IndexSet) -> IndexSet
     ensures { IsTopOf loops (above classes.now) result }
 {
-    match classes.classes().first() {
-        Some(class) => class.meet(loops),
-        None => IndexSet::empty(),
+    let Some(class) = classes.classes().first() else {
+        return IndexSet::empty();
+    };
+    let top = class.meet(loops);
+    if loops.within(top) {
+        return IndexSet::empty();
     }
+    top
 }
 
 // The loops of all classes before the one that has the last of the loops.
@@ -49,8 +54,8 @@ fn largest_top(classes: &Nesting, loops: IndexSet) -> IndexSet
     top
 }
 
-// Whether two rows are seen to have a conflict.
-pub(crate) fn have_conflict(left: &Ends, right: &Ends) -> bool
+/// Whether two rows are seen to have a conflict.
+pub fn have_conflict(left: &Ends, right: &Ends) -> bool
     ensures { IsTrue result → HaveConflict left.now right.now }
 {
     if cross(left.least, right.least) {

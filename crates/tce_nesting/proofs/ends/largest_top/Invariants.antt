@@ -1,8 +1,8 @@
 use Rattle.std.proofs.Common.{drop}
 use Rattle.tce_states.specs.Relation.{above}
-use Rattle.tce_check.specs.Ends.{IsTopOf}
-use Rattle.tce_check.proofs.Tops.{IsReached}
-use Rattle.tce_check.proofs.ends.largest_top.Given as goal
+use Rattle.tce_nesting.specs.Ends.{IsTopOf}
+use Rattle.tce_nesting.proofs.Tops.{IsReached}
+use Rattle.tce_nesting.proofs.ends.largest_top.Given as goal
 
 abbrev pub invariant-loop-class : goal.invariant-loop-class
 invariant-loop-class l = record {

@@ -1,5 +1,5 @@
-use Rattle.tce_check.proofs.Tops.{crossing_ends}
-use Rattle.tce_check.proofs.ends.have_conflict.Goals as goal
+use Rattle.tce_nesting.proofs.Tops.{crossing_ends}
+use Rattle.tce_nesting.proofs.ends.have_conflict.Goals as goal
 
 pub returns-then-cross : goal.returns-then-cross
 returns-then-cross c _ =

@@ -5,8 +5,8 @@ use Rattle.std.proofs.lemmas.Bool.{cases_Bool, both_ways}
 use Rattle.tce_space.specs.IndexSet.{IsWithin, has}
 use Rattle.tce_states.specs.Relation.{Relation, above, joined, HasNoConflict}
 use Rattle.tce_states.specs.Row.{Row}
-use Rattle.tce_check.specs.declared.ends.Ends.{Ends}
-use Rattle.tce_check.specs.Ends.{IsTopOf, AreEnds, DoCross, HaveConflict}
+use Rattle.tce_nesting.specs.declared.ends.Ends.{Ends}
+use Rattle.tce_nesting.specs.Ends.{IsTopOf, AreEnds, DoCross, HaveConflict}
 
 module _ (loops : ℕ) (r s : Relation) (a b : ℕ) (left : IsTopOf loops r a) (right : IsTopOf loops s b) (quiet : HasNoConflict loops (joined r s)) where
   in_right : (x y : Bool) → y ≡ true → (x || y) ≡ true
