@@ -1,9 +1,9 @@
 pub mod Agreeing
 pub mod Covers
-pub mod EndParts
 pub mod Existing
 pub mod Grouping
 pub mod Growing
+pub mod JoinedLists
 pub mod Joining
 pub mod Marks
 pub mod Parts
@@ -12,6 +12,7 @@ pub mod ReachedStates
 pub mod Reaching
 pub mod Reordered
 pub mod RunParts
+pub mod StartParts
 pub mod Standing
 pub mod Steppings
 pub mod Thinning

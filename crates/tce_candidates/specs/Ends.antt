@@ -1,43 +1,46 @@
--- The least and the largest upper part of a state, by which pairs of candidates are told that are not to be joined.
+-- Runs of right candidates that left ones with the same ends need not be joined with.
 use Rattle.std.specs.Prelude.{◌≡◌, ◌⊎◌, ℕ, ◌+◌, ◌<◌, ◌≤◌, List, length, slice_index_or}
-use Rattle.tce_space.specs.IndexSet.{IsWithin}
-use Rattle.tce_states.specs.Relation.{above, HasNoConflict}
+use Rattle.std.specs.List.{All, Contains}
+use Rattle.tce_states.specs.Relation.{HasNoConflict}
 use Rattle.tce_states.specs.Row.{Row, rows_joined}
-use Rattle.tce_candidates.specs.declared.candidate.Candidate.{Candidate}
-use Rattle.tce_candidates.specs.declared.ends.Ends.{Ends}
-use Rattle.tce_candidates.specs.declared.runs.Run.{Run}
-use Rattle.tce_candidates.specs.Parts.{IsUpperPart}
+use Rattle.tce_nesting.specs.declared.ends.Ends.{Ends}
+use Rattle.tce_nesting.specs.declared.runs.Run.{Run}
+use Rattle.tce_nesting.specs.Ends.{AreEnds, AreRuns}
+use Rattle.tce_candidates.specs.declared.starts.Rights.{Rights}
+use Rattle.tce_candidates.specs.declared.starts.Starts.{Starts}
+use Rattle.tce_candidates.specs.Laws.{rows_of}
 
--- two upper parts of the row, and no more than its cost
-pub record AreEnds (loops : ℕ) (row : Row) (ends : Ends) : Type 0 where
-  pub least : IsUpperPart loops (above row.classes) ends.least
-  pub largest : IsUpperPart loops (above row.classes) ends.largest
-  pub cost : ends.cost ≤ row.cost
+-- the runs are those of the right candidates
+abbrev pub KnowsRuns : ℕ → Rights → Type 0
+KnowsRuns loops rights = AreRuns loops (rows_of rights.candidates.now) rights.runs.now
 
--- the ends are those of each candidate from a place on up to a later one
-pub record IsRun (loops : ℕ) (candidates : List Candidate) (place : ℕ) (run : Run) : Type 0 where
-  pub later : place < run.until
-  pub inside : run.until ≤ length candidates
-  pub each : (k : ℕ) (x : Candidate) → place ≤ k → k < run.until → AreEnds loops (slice_index_or candidates k x).row run.ends
+-- each row with the ends that costs no less and each of the run have a conflict, or cost the limit or more together
+abbrev pub IsRuledOut : ℕ → Ends → ℕ → Run → Type 0
+IsRuledOut limit ends cost run =
+    (loops : ℕ) (x y : Row) → AreEnds loops x ends → cost ≤ x.cost → AreEnds loops y run.ends → run.cost ≤ y.cost
+    → HasNoConflict loops (rows_joined x y) → x.cost + y.cost < limit → ⊥
 
--- each candidate has a run at its place
-pub record AreRuns (loops : ℕ) (candidates : List Candidate) (runs : List Run) : Type 0 where
-  pub count : length runs ≡ length candidates
-  pub each : (k : ℕ) (r : Run) → k < length candidates → IsRun loops candidates k (slice_index_or runs k r)
+-- a place lies in a run that starts at one of the places, or is ruled out
+pub record IsSettled (limit : ℕ) (runs : List Run) (ends : Ends) (cost : ℕ) (places : List ℕ) (place : ℕ) : Type 0 where
+  pub start : ℕ
+  pub run : Run
+  pub is : slice_index_or runs start run ≡ run
+  pub from : start ≤ place
+  pub until : place < run.until
+  pub either : Contains places start ⊎ IsRuledOut limit ends cost run
 
--- what is a run wherever the first one is and the next one is behind it
-abbrev pub IsLonger : Run → Run → Run → Type 0
-IsLonger first next run = (loops k : ℕ) (candidates : List Candidate) → IsRun loops candidates k first → IsRun loops candidates (k + 1) next → IsRun loops candidates k run
+-- the place of each right candidate does so
+pub record AreStarts (rights : Rights) (starts : Starts) : Type 0 where
+  pub inside : All (λ place. place < length rights.candidates.now) starts.places.items
+  pub each : (k : ℕ) → k < length rights.candidates.now → IsSettled rights.limit rights.runs.now starts.ends starts.cost starts.places.items k
 
--- each of two parts has a member that the other lacks
-abbrev pub DoCross : ℕ → ℕ → Type 0
-DoCross a b = (IsWithin a b → ⊥) × (IsWithin b a → ⊥)
+-- these are the ends of the row, which costs no less
+pub record AreFor (loops : ℕ) (row : Row) (starts : Starts) : Type 0 where
+  pub ends : AreEnds loops row starts.ends
+  pub cost : starts.cost ≤ row.cost
 
--- one of the ends and the part do so
-abbrev pub IsCut : Ends → ℕ → Type 0
-IsCut ends part = DoCross ends.least part ⊎ DoCross ends.largest part
-
--- two rows with these ends have a conflict, or cost the limit or more together
-abbrev pub AreRuledOut : ℕ → Ends → Ends → Type 0
-AreRuledOut limit left right =
-    (loops : ℕ) (x y : Row) → AreEnds loops x left → AreEnds loops y right → HasNoConflict loops (rows_joined x y) → x.cost + y.cost < limit → ⊥
+-- they are for these ends, and for no more than the cost
+pub record IsServed (starts : Starts) (ends : Ends) (cost : ℕ) : Type 0 where
+  pub least : starts.ends.least ≡ ends.least
+  pub largest : starts.ends.largest ≡ ends.largest
+  pub cheap : starts.cost ≤ cost

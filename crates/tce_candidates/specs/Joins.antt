@@ -1,14 +1,18 @@
 -- What two candidates of a node's operands are together, and which of it candidates stand for.
-use Rattle.std.specs.Prelude.{◌≡◌, ℕ, ◌+◌, ◌<◌, ◌^◌, List, [], ◌∷◌, ◌++◌, length}
-use Rattle.std.specs.List.{Any, Contains}
-use Rattle.tce_space.specs.Limits.{max_nodes}
+use Rattle.std.specs.Prelude.{◌≡◌, ◌⊎◌, ℕ, ◌+◌, ◌<◌, ◌≤◌, ◌^◌, List, [], ◌∷◌, ◌++◌, length}
+use Rattle.std.specs.List.{All, AllPairs, AllWithin, Any, Contains}
+use Rattle.tce_space.specs.Limits.{max_loops, max_nodes}
+use Rattle.tce_space.specs.IndexSet.{count}
 use Rattle.tce_states.specs.Relation.{above, HasNoConflict}
 use Rattle.tce_states.specs.Row.{rows_joined}
 use Rattle.tce_nesting.specs.Classes.{AllowsSet}
 use Rattle.tce_nesting.specs.declared.choice.Choice.{Choice}
 use Rattle.tce_candidates.specs.Steps.{IsRowJoin, IsRestricted}
 use Rattle.tce_candidates.specs.declared.candidate.Candidate.{Candidate}
-use Rattle.tce_candidates.specs.Candidates.{Stands}
+use Rattle.tce_candidates.specs.Candidates.{Stands, StandForAll, IsLimited, LeavesRoom}
+use Rattle.tce_candidates.specs.Groups.{Listed, LeavesOpen}
+use Rattle.tce_candidates.specs.Ends.{KnowsRuns}
+use Rattle.tce_candidates.specs.declared.starts.Rights.{Rights}
 
 -- the joined row of two candidates without conflict, with the sets of both
 pub record IsJoin (loops : ℕ) (left right candidate : Candidate) : Type 0 where
@@ -34,6 +38,29 @@ abbrev pub JoinCovered : ℕ → ℕ → List Candidate → Candidate → Candid
 JoinCovered limit loops joins left right =
     HasNoConflict loops (rows_joined left.row right.row) → left.row.cost + right.row.cost < limit
     → Any (Stands loops (rows_joined left.row right.row) (left.row.cost + right.row.cost)) joins
+
+-- a candidate can be joined with each of the right ones, whose runs are known
+pub record AreJoinable (loops : ℕ) (left : Candidate) (rights : Rights) : Type 0 where
+  pub few : count loops ≤ max_loops
+  pub limited_left : IsLimited left
+  pub limited_rights : All IsLimited rights.candidates.now
+  pub room : All (LeavesRoom left) rights.candidates.now
+  pub known : KnowsRuns loops rights
+
+-- what the candidate and those of the right ones from a place on up to another one are together is covered
+abbrev pub RunCovered : ℕ → List Candidate → Candidate → Rights → ℕ → ℕ → Type 0
+RunCovered loops joins left rights from until = AllWithin (JoinCovered rights.limit loops joins left) rights.candidates.now from until
+
+-- so is what it and each of them are
+abbrev pub AllCovered : ℕ → List Candidate → Candidate → Rights → Type 0
+AllCovered loops joins left rights = All (JoinCovered rights.limit loops joins left) rights.candidates.now
+
+-- a list has grown by what the candidate and some of the right ones are together, and by nothing for which one before stands
+pub record HasGrownBy (left : Candidate) (rights : Rights) (old new : Listed) : Type 0 where
+  pub outer : new.outer ≡ old.outer
+  pub others : StandForAll old.outer old.candidates new.candidates
+  pub later : AllPairs (LeavesOpen old.outer) old.candidates → AllPairs (LeavesOpen old.outer) new.candidates
+  pub origin : All (λ x. Contains old.candidates x ⊎ Any (λ right. IsJoinBelow rights.limit old.outer left right x) rights.candidates.now) new.candidates
 
 -- what is left of a joined candidate where the choice's set is fused, with its sets and this one
 pub record IsStepFrom (join : Candidate) (choice : Choice) (candidate : Candidate) : Type 0 where

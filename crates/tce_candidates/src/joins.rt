@@ -1,19 +1,20 @@
 // What the candidates of a node's operands are together, before a set is chosen for the node.
-ghost use Rattle.std.specs.Prelude.{◌≡◌, ◌⊎◌, ◌↔◌, ◌+◌, ◌<◌, ◌≤◌, IsTrue, IfOk, OnOk, All, AllPairs, Any, Contains};
+ghost use Rattle.std.specs.Prelude.{◌≡◌, ◌⊎◌, ◌↔◌, ◌+◌, ◌<◌, ◌≤◌, length, IsTrue, IfOk, OnOk, All, AllPairs, Contains};
 ghost use Rattle.tce_space.specs.Limits.{max_loops};
 ghost use Rattle.tce_space.specs.IndexSet.{count};
 ghost use Rattle.tce_candidates.specs.Candidates.{StandForAll, IsLimited, LeavesRoom, HaveRoom};
-ghost use Rattle.tce_candidates.specs.Ends.{AreRuns};
+ghost use Rattle.tce_candidates.specs.Ends.{AreStarts, AreFor};
 ghost use Rattle.tce_candidates.specs.Groups.{LeavesOpen};
-ghost use Rattle.tce_candidates.specs.Joins.{IsJoinBelow, IsSomeJoinBelow, JoinCovered, HasNext};
+ghost use Rattle.tce_candidates.specs.Joins.{IsJoinBelow, IsSomeJoinBelow, JoinCovered, AreJoinable, RunCovered, AllCovered, HasGrownBy, HasNext};
 
 use crate::candidate::{Candidate, both_sets};
 use crate::candidate_list::CandidateList;
-use crate::ends::{are_ruled_out, ends_of};
 use crate::join_rows;
-use crate::runs::{Run, runs_of};
+use crate::runs::runs_of;
+use crate::starts::{Rights, Starts, starts_for, starts_of};
 use crate::thinned::thinned;
 use std::alloc::{AllocError, Global};
+use tce_nesting::Ends;
 use tce_space::IndexSet;
 
 // Whether two operands' candidates together cost less than the limit.
@@ -56,35 +57,49 @@ fn add_join(
     Ok(())
 }
 
-// Appends what one of the left operand's candidates and those of the right one are together. A run of these whose ends rule it out is passed over at once.
-fn add_joins(
+// Appends what a left candidate and the right ones from a place on up to another one are together. Where it costs the limit or more with one and all later ones of its run, these are passed over.
+fn add_run(
     list: &mut CandidateList,
     left: &Candidate,
-    rights: &[Candidate],
-    runs: &[Run],
-    limit: u128,
+    rights: &Rights,
+    from: usize,
+    until: usize,
 ) -> Result<(), AllocError>
-    requires loops { count list.old.outer ≤ max_loops }
-    requires left { IsLimited left.now }
-    requires rights { All IsLimited rights.now }
-    requires room { All (LeavesRoom left.now) rights.now }
-    requires runs { AreRuns list.old.outer rights.now runs.now }
-    ensures covered { OnOk result (All (JoinCovered limit list.old.outer list.new.candidates left.now) rights.now) }
-    ensures outer { OnOk result (list.new.outer ≡ list.old.outer) }
-    ensures others { OnOk result (StandForAll list.old.outer list.old.candidates list.new.candidates) }
-    ensures later { OnOk result (AllPairs (LeavesOpen list.old.outer) list.old.candidates → AllPairs (LeavesOpen list.old.outer) list.new.candidates) }
-    ensures origin { OnOk result (All (λ x. Contains list.old.candidates x ⊎ Any (λ right. IsJoinBelow limit list.old.outer left.now right x) rights.now) list.new.candidates) }
+    requires joinable { AreJoinable list.old.outer left.now rights.now }
+    requires inside { until ≤ length rights.now.candidates.now }
+    ensures covered { OnOk result
+        (RunCovered list.old.outer list.new.candidates left.now rights.now from until) }
+    ensures grown { OnOk result (HasGrownBy left.now rights.now list.old list.new) }
 {
-    let own = ends_of(&left.row, list.outer());
-    let mut place = 0;
-    while place < rights.len() {
-        let run = runs[place];
-        if are_ruled_out(&own, &run.ends, limit) {
+    let mut place = from;
+    while place < until {
+        let run = rights.runs[place];
+        if rights.limit.saturating_sub(left.row.cost) <= run.cost {
             place = run.until;
             continue;
         }
-        add_join(list, left, &rights[place], limit)?;
+        add_join(list, left, &rights.candidates[place], rights.limit)?;
         place += 1;
+    }
+    Ok(())
+}
+
+// Appends what a left candidate and the right ones are together, of those runs that are not ruled out.
+fn add_joins(
+    list: &mut CandidateList,
+    left: &Candidate,
+    rights: &Rights,
+    starts: &Starts,
+) -> Result<(), AllocError>
+    requires joinable { AreJoinable list.old.outer left.now rights.now }
+    requires starts { AreStarts rights.now starts.now }
+    requires own { AreFor list.old.outer left.now.row starts.now }
+    ensures covered { OnOk result
+        (AllCovered list.old.outer list.new.candidates left.now rights.now) }
+    ensures grown { OnOk result (HasGrownBy left.now rights.now list.old list.new) }
+{
+    for start in starts.places.as_slice() {
+        add_run(list, left, rights, *start, rights.runs[*start].until)?;
     }
     Ok(())
 }
@@ -109,8 +124,15 @@ pub(crate) fn joins_of(
 {
     let mut list = CandidateList::new(alloc, loops, lefts.len().saturating_add(rights.len()))?;
     let runs = runs_of(alloc, rights, loops)?;
+    let side = Rights {
+        candidates: rights,
+        runs: runs.as_slice(),
+        limit,
+    };
+    let mut starts = starts_of(alloc, &side, loops, Ends::default(), 0)?;
     for left in lefts {
-        add_joins(&mut list, left, rights, runs.as_slice(), limit)?;
+        starts = starts_for(alloc, starts, &left.row, &side, loops)?;
+        add_joins(&mut list, left, &side, &starts)?;
     }
     let joins = thinned(alloc, list)?;
     Ok(joins)

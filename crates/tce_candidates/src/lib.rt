@@ -5,12 +5,12 @@
 
 mod candidate;
 mod candidate_list;
-mod ends;
 mod groups;
 mod joins;
 mod laws;
 mod ordered;
 mod runs;
+mod starts;
 mod steps;
 mod table;
 mod thinned;

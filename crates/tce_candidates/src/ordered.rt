@@ -2,9 +2,8 @@
 ghost use Rattle.std.specs.Prelude.{IfOk, IsPermutation};
 
 use crate::candidate::Candidate;
-use crate::ends::ends_of;
 use std::alloc::AllocError;
-use tce_nesting::Row;
+use tce_nesting::{Row, ends_of};
 use tce_space::IndexSet;
 
 /// The candidates by their ends on the outer loops, and then by cost.
@@ -21,5 +20,5 @@ pub(crate) fn by_ends(
 // What candidates are ordered by.
 fn rank_of(row: &Row, outer: IndexSet) -> (u32, u32, u128) {
     let ends = ends_of(row, outer);
-    (ends.least.bits(), ends.largest.bits(), ends.cost)
+    (ends.least.bits(), ends.largest.bits(), row.cost)
 }

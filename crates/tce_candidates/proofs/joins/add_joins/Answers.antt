@@ -1,78 +1,60 @@
-use Rattle.std.proofs.Common.{◌≡◌, ℕ, ◌+◌, ◌≤◌, ◌⊎◌, inl, inr, sym, subst, arith, get_or}
-use Rattle.std.specs.List.{All, Any, Contains}
-use Rattle.std.proofs.lemmas.List.Elements.{AllWithin-none, AllWithin-more, All-from_all_within, All-weaker, All-contains_itself, at_read, AllWithin-upto}
-use Rattle.tce_space.specs.IndexSet.{count}
-use Rattle.tce_candidates.specs.declared.candidate.Candidate.{Candidate}
-use Rattle.tce_candidates.specs.Ends.{AreEnds}
-use Rattle.tce_candidates.specs.Joins.{IsJoinBelow, JoinCovered}
-use Rattle.tce_candidates.proofs.Covers.{from_earlier}
-use Rattle.tce_candidates.proofs.Growing.{Grows, grows_none, grows_from, grows_further}
+use Rattle.std.proofs.Common.{ℕ, ◌<◌, List, length, sym, ap, subst, arith, get_or}
+use Rattle.std.specs.List.{AllWithin}
+use Rattle.std.proofs.lemmas.List.{get_or_default}
+use Rattle.std.proofs.lemmas.List.Elements.{AllWithin-none, AllWithin-more, at_read}
+use Rattle.tce_nesting.specs.declared.runs.Run.{Run}
+use Rattle.tce_candidates.specs.Candidates.{StandForAll}
+use Rattle.tce_candidates.specs.Joins.{AreJoinable, RunCovered}
+use Rattle.tce_candidates.proofs.JoinedLists.{grown_none, grown_further}
 use Rattle.tce_candidates.proofs.Joining.{join_later}
-use Rattle.tce_candidates.proofs.RunParts.{run_at, run_skipped}
+use Rattle.tce_candidates.proofs.RunParts.{rows_count}
+use Rattle.tce_candidates.proofs.StartParts.{IsRunCovered, all_covered}
 use Rattle.tce_candidates.proofs.joins.add_joins.Goals as goal
 
-pub loop-place-init : goal.loop-place-init
-loop-place-init c =
-    let start = c.args.list.now in
+pub loop-start-init : goal.loop-start-init
+loop-start-init c = record {
+  covered = AllWithin-none (IsRunCovered c.args.list.now.outer c.args.list.now.candidates c.args.left.now c.args.rights.now) _ 0;
+  grown = grown_none c.args.left.now c.args.rights.now c.args.list.now;
+}
+
+pub add_run-requires-clause-joinable : goal.add_run-requires-clause-joinable
+add_run-requires-clause-joinable c = subst (λ o. AreJoinable o c.args.left.now c.args.rights.now) (sym c.loop-start.invariant.grown.outer) c.requires.joinable
+
+pub loop-start-preserved : goal.loop-start-preserved
+loop-start-preserved c =
     let rights = c.args.rights.now in
-    let from = λ (x : Candidate). Contains start.candidates x ⊎ Any (λ (right : Candidate). IsJoinBelow c.args.limit start.outer c.args.left.now right x) rights in
-    record {
-      covered = AllWithin-none (JoinCovered c.args.limit start.outer start.candidates c.args.left.now) rights 0;
-      grows = grows_none start;
-      origin = All-weaker (Contains start.candidates) from (λ x inn. inl inn) start.candidates (All-contains_itself start.candidates);
-    }
-
-pub add_join-requires-clause-loops : goal.add_join-requires-clause-loops
-add_join-requires-clause-loops c = subst (λ o. count o ≤ 10) (sym c.loop-place.invariant.grows.outer) c.requires.loops
-
-pub loop-place-preserved-then-are_ruled_out : goal.loop-place-preserved-then-are_ruled_out
-loop-place-preserved-then-are_ruled_out c =
-    let outer = c.args.list.now.outer in
-    let place = c.loop-place.place in
+    let limit = rights.limit in
+    let all = rights.candidates.now in
+    let runs = rights.runs.now in
     let left = c.args.left.now in
-    let rights = c.args.rights.now in
-    let own = c.ends_of-own.result in
-    let run = c.index-runs-place.result in
-    let is = run_at outer place rights c.args.runs.now run c.requires.runs c.loop-place-test.true c.index-runs-place.is in
-    let here = subst (λ o. AreEnds o left.row own) c.outer.ensures c.ends_of-own.ensures in
+    let places = c.args.starts.now.places.items in
+    let k = c.loop-start.start-index in
+    let first = c.args.list.now in
+    let old = c.loop-start.list in
+    let new = c.add_run.new.list in
+    let here = c.in_ok-add_run.ensures in
+    let grown = c.loop-start.invariant.grown in
+    let later = subst (λ o. StandForAll o old.candidates new.candidates) grown.outer here.grown.others in
+    let items = c.as_slice-start-items.result.now in
+    let same = c.as_slice-start-items.ensures.value in
+    let start = get_or items k 0 in
+    let run = get_or runs start c.index-rights-start.result in
+    let is = ap (λ r. get_or runs start r) c.index-rights-start.is in
+    let low : k < length places = omega (arith, c.loop-start-test.true, c.as_slice-start-items.ensures.len) in
+    let inside : start < length runs = let below = subst (λ (xs : List ℕ). get_or xs k 0 < length all) (sym same) (c.requires.starts.inside k 0 low) in let count = c.requires.joinable.known.count in omega (arith, below, count, rows_count all) in
+    let ends = λ (r : Run). RunCovered first.outer new.candidates left rights start r.until in
+    let here_covered = subst (λ o. RunCovered o new.candidates left rights start run.until) grown.outer here.covered in
+    let covers = IsRunCovered first.outer new.candidates left rights in
     record {
-      covered = run_skipped c.args.limit outer place c.loop-place.list.candidates rights left own run here is (c.are_ruled_out.ensures c.if-are_ruled_out.true) c.loop-place.invariant.covered;
-      grows = c.loop-place.invariant.grows;
-      origin = c.loop-place.invariant.origin;
-    }
-
-pub loop-place-smaller-then-are_ruled_out : goal.loop-place-smaller-then-are_ruled_out
-loop-place-smaller-then-are_ruled_out c =
-    let is = run_at c.args.list.now.outer c.loop-place.place c.args.rights.now c.args.runs.now c.index-runs-place.result c.requires.runs c.loop-place-test.true c.index-runs-place.is in
-    omega (arith, is.later, is.inside)
-
-pub loop-place-preserved : goal.loop-place-preserved
-loop-place-preserved c =
-    let limit = c.args.limit in
-    let left = c.args.left.now in
-    let right = c.index-rights-place.result in
-    let rights = c.args.rights.now in
-    let k = c.loop-place.place in
-    let start = c.args.list.now in
-    let old = c.loop-place.list in
-    let new = c.add_join.new.list in
-    let here = c.in_ok-add_join.ensures in
-    let first = c.loop-place.invariant.grows in
-    let second : Grows old new = record { outer = here.outer; others = here.others; later = here.later } in
-    let later = grows_from start old new first.outer second in
-    let covers = JoinCovered limit start.outer new.candidates left in
-    record {
-      covered = AllWithin-more covers rights 0 k
-          (λ m e from low. join_later limit start.outer old.candidates new.candidates left (get_or rights m e) later (c.loop-place.invariant.covered m e from low))
-          (at_read rights covers k right c.loop-place-test.true c.index-rights-place.is (subst (λ o. JoinCovered limit o new.candidates left right) first.outer here.covered));
-      grows = grows_further start old new first second;
-      origin = from_earlier (λ (x : Candidate). Contains start.candidates x ⊎ Any (λ (r : Candidate). IsJoinBelow limit start.outer left r x) rights) (λ (x : Candidate). IsJoinBelow limit start.outer left right x) old.candidates new.candidates
-          (subst (λ o. All (λ (x : Candidate). Contains old.candidates x ⊎ IsJoinBelow limit o left right x) new.candidates) first.outer here.origin)
-          (λ x s. inr (k, right, c.loop-place-test.true, sym c.index-rights-place.is, s))
-          c.loop-place.invariant.origin;
+      covered = AllWithin-more covers places 0 k
+          (λ m d from before. λ r n e a b. join_later limit first.outer old.candidates new.candidates left (get_or all n e) later (c.loop-start.invariant.covered m d from before r n e a b))
+          (λ d. subst covers (get_or_default places k 0 d low) (subst (λ (xs : List ℕ). covers (get_or xs k 0)) same (at_read runs ends start run inside is here_covered)));
+      grown = grown_further left rights first old new grown here.grown;
     }
 
 pub returns-clause-covered : goal.returns-clause-covered
 returns-clause-covered c =
-    let covers = JoinCovered c.args.limit c.args.list.now.outer c.loop-place.list.candidates c.args.left.now in
-    All-from_all_within covers c.args.rights.now (AllWithin-upto covers c.args.rights.now 0 c.loop-place.place _ c.loop-place-test.false c.loop-place.invariant.covered)
+    let rights = c.args.rights.now in
+    let places = c.args.starts.now.places.items in
+    all_covered c.args.list.now.outer c.loop-start.list.candidates c.args.left.now rights c.args.starts.now c.requires.joinable.known c.requires.starts c.requires.own
+    (λ k d low. c.loop-start.invariant.covered k d (omega arith) (omega (arith, low, c.loop-start-test.false, c.as_slice-start-items.ensures.len)))

@@ -17,19 +17,20 @@ loop-left-preserved c =
     let same = c.loop-left.invariant.outer in
     let old = c.loop-left.list.candidates in
     let new = c.add_joins.new.list.candidates in
-    let later = subst (λ o. StandForAll o old new) same here.others in
+    let later = subst (λ o. StandForAll o old new) same here.grown.others in
     let left = c.left-item.result in
     let lefts = c.args.lefts.now in
     let rights = c.args.rights.now in
     let k = c.loop-left.left-index in
     let covers = λ (x : Candidate). All (JoinCovered limit loops new x) rights in
     record {
-      outer = here.outer ∙ same;
+      outer = here.grown.outer ∙ same;
+      starts = c.in_ok-starts-2.ensures.starts;
       covered = AllWithin-more covers lefts 0 k
           (λ n d from low. λ m e inner. join_later limit loops old new (get_or lefts n d) (get_or rights m e) later (c.loop-left.invariant.covered n d from low m e inner))
           (at_read lefts covers k left c.loop-left-test.true c.left-item.is (subst (λ o. All (JoinCovered limit o new left) rights) same here.covered));
       joins = from_earlier (IsSomeJoinBelow limit loops lefts rights) (λ (x : Candidate). Any (λ (right : Candidate). IsJoinBelow limit loops left right x) rights) old new
-          (subst (λ o. All (λ (x : Candidate). Contains old x ⊎ Any (λ (right : Candidate). IsJoinBelow limit o left right x) rights) new) same here.origin)
+          (subst (λ o. All (λ (x : Candidate). Contains old x ⊎ Any (λ (right : Candidate). IsJoinBelow limit o left right x) rights) new) same here.grown.origin)
           (λ x s. record {
             left = left;
             right = s.1;
@@ -38,7 +39,7 @@ loop-left-preserved c =
             join = s.4;
           })
           c.loop-left.invariant.joins;
-      later = subst (λ o. AllPairs (LeavesOpen o) old → AllPairs (LeavesOpen o) new) same here.later c.loop-left.invariant.later;
+      later = subst (λ o. AllPairs (LeavesOpen o) old → AllPairs (LeavesOpen o) new) same here.grown.later c.loop-left.invariant.later;
     }
 
 pub returns-clause-covered : goal.returns-clause-covered
