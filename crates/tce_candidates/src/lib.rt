@@ -5,6 +5,7 @@
 
 mod candidate;
 mod candidate_list;
+mod fewer;
 mod groups;
 mod joins;
 mod laws;
@@ -17,6 +18,7 @@ mod thinned;
 mod upper;
 
 pub use candidate::{Candidate, joined_sets};
+pub use fewer::cheapest_few;
 pub use laws::{covered_pairs_cover_steps, leaves_have_states, steps_are_states};
 pub use steps::{is_stood_for, join_rows, stands_for, step};
 pub use table::{NodeLoops, candidates_of};
