@@ -61,10 +61,10 @@ module _ (space : IndexSpace) (tree : ContractionTree) (limit : ℕ) (found : Se
   is_root = omega arith
 
   pub nodes_covered : NodesCovered space tree (tables_of found.lists)
-  nodes_covered v p is = let up = parent_is tree v p is in (all.each v (omega (arith, up.above, up.inside, next, last))).candidates.covered p is
+  nodes_covered v p is = let up = parent_is tree v p is in (all.each v (omega (arith, up.above, up.inside, next, last))).covered p is
 
   pub pruned : ArePruned tree (tables_of found.lists)
-  pruned v p is = let up = parent_is tree v p is in rw (tables-at found.lists v) ((all.each v (omega (arith, up.above, up.inside, next, last))).candidates.apart p is)
+  pruned v p is = let up = parent_is tree v p is in rw (tables-at found.lists v) ((all.each v (omega (arith, up.above, up.inside, next, last))).apart p is)
 
   pub root_joins : (loops : ℕ) (best : Option WholeFusion) → loops ≡ node_loops tree root
       → IsBoundOfAll loops best (left_candidates tree found.lists root) (right_candidates tree found.lists root) → IsSome best
@@ -96,8 +96,8 @@ module _ (space : IndexSpace) (tree : ContractionTree) (limit : ℕ) (found : Se
       let sum = from.made.memory_is in
       let beside_left = All-contains (λ (other : Candidate). limit ≤ left_limit tree found root + other.row.cost) (right_candidates tree found.lists root) from.right is_limit.left from.from_right in
       let beside_right = All-contains (λ (other : Candidate). limit ≤ right_limit tree found root + other.row.cost) (left_candidates tree found.lists root) from.left is_limit.right from.from_left in
-      let left_within = All-contains (IsStateWithin space (left_below tree root) (left_limit tree found root)) (left_candidates tree found.lists root) from.left (left_kept space tree found all root inside next) from.from_left in
-      let right_within = All-contains (IsStateWithin space (right_below tree root) (right_limit tree found root)) (right_candidates tree found.lists root) from.right (right_kept space tree found all root inside next) from.from_right in
+      let left_within = All-contains (IsStateWithin space (left_below tree root) (left_limit tree found root)) (left_candidates tree found.lists root) from.left (left_kept space tree found all.states root inside next) from.from_left in
+      let right_within = All-contains (IsStateWithin space (right_below tree root) (right_limit tree found root)) (right_candidates tree found.lists root) from.right (right_kept space tree found all.states root inside next) from.from_right in
       let left = state_of (left_below tree root) from.left (state_below space (left_below tree root) (left_limit tree found root) from.left left_within (omega (arith, low, sum, beside_left))) in
       let right = state_of (right_below tree root) from.right (state_below space (right_below tree root) (right_limit tree found root) from.right right_within (omega (arith, low, sum, beside_right))) in
       rw (from.made.sets_are, from.made.memory_is)

@@ -22,7 +22,7 @@ use Rattle.tce_candidates.specs.Candidates.{IsLimited, HaveRoom}
 use Rattle.tce_candidates.specs.Laws.{rows_of}
 use Rattle.tce_candidates.specs.Reached.{IsStateOf}
 use Rattle.tce_candidates.proofs.ReachedStates.{leaves_have_states}
-use Rattle.tce_search.specs.CandidateLists.{candidates_at, tables_of, leaf_candidate, operand_candidates, right_operand_candidates, left_candidates, right_candidates, Searched, operand_limit, right_operand_limit, left_limit, right_limit, IsStateWithin, AreFound, AreAtLeast}
+use Rattle.tce_search.specs.CandidateLists.{candidates_at, tables_of, leaf_candidate, operand_candidates, right_operand_candidates, left_candidates, right_candidates, Searched, operand_limit, right_operand_limit, left_limit, right_limit, IsStateWithin, AreStates, AreAtLeast}
 
 -- ---- their rows
 
@@ -89,7 +89,7 @@ pub state_below : (space : IndexSpace) (tree : ContractionTree) (limit : ℕ) (c
 state_below space tree limit candidate (inl below) low = below.state
 state_below space tree limit candidate (inr at_limit) low = absurd (let cost = ap (λ (c : Candidate). c.row.cost) at_limit in omega (arith, cost, low))
 
-module _ (space : IndexSpace) (tree : ContractionTree) (found : Searched) (all : AreFound space tree found) where
+module _ (space : IndexSpace) (tree : ContractionTree) (found : Searched) (all : AreStates space tree found) where
   leaf_kept : (subtree : ContractionTree) → is_leaf subtree ≡ true → All (IsStateWithin space subtree found.ceiling) (leaf_candidate ∷ [])
   leaf_kept subtree leaf_tree =
       All-cons (IsStateWithin space subtree found.ceiling) leaf_candidate [] (inl (record { state = leaves_have_states space subtree leaf_candidate leaf_tree refl refl; cheap = all.some }))
@@ -98,7 +98,7 @@ module _ (space : IndexSpace) (tree : ContractionTree) (found : Searched) (all :
   operand_kept : (operand : Operand) → IsBefore (length found.lists) operand → All (IsStateWithin space (tree_of_operand tree operand) (operand_limit found operand)) (operand_candidates found.lists operand)
   operand_kept (Leaf reference) before = leaf_kept (leaf reference.tensor reference.indexes.items) refl
   operand_kept (Constant number) before = leaf_kept (constant number) refl
-  operand_kept (Node v) before = (all.each v before).candidates.states
+  operand_kept (Node v) before = (all.each v before).states
 
   right_operand_kept : (operand : Option Operand) → IfSome operand (IsBefore (length found.lists)) → All (IsStateWithin space (tree_of_right tree operand) (right_operand_limit found operand)) (right_operand_candidates found.lists operand)
   right_operand_kept None before = leaf_kept (constant 0) refl
@@ -142,7 +142,7 @@ operand_sizes tree v inside =
     let whole = operations-node (node tree v) (node_of_some (node tree v) bounds.0) in
     rw (both.0, both.1) (omega (arith, whole, bounds))
 
-module _ (space : IndexSpace) (tree : ContractionTree) (found : Searched) (v : ℕ) (few : operations tree ≤ 32) (all : AreFound space tree found)
+module _ (space : IndexSpace) (tree : ContractionTree) (found : Searched) (v : ℕ) (few : operations tree ≤ 32) (all : AreStates space tree found)
     (inside : v < operations tree) (next : length found.lists ≡ v) where
   pub left_limited : All IsLimited (left_candidates tree found.lists v)
   left_limited k d low =

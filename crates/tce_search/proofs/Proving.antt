@@ -32,8 +32,8 @@ rows_fit_node space tree limit found v small kept =
 rows_fit : (space : IndexSpace) (tree : ContractionTree) (found : Searched) → AreFound space tree found → RowsFit tree (tables_of found.lists)
 rows_fit space tree found all v low =
     let inside : v < length found.lists = rw length-map at low in
-    let here = all.each v inside in
-    rw (tables-at found.lists v) (rows_fit_node space tree (limit_at found.limits v) found.lists v (omega (arith, here.low, all.small)) here.candidates)
+    let low_limit = (all.states.each v inside).low in
+    rw (tables-at found.lists v) (rows_fit_node space tree (limit_at found.limits v) found.lists v (omega (arith, low_limit, all.states.small)) (all.each v inside))
 
 -- the plan of a legal fusion has its memory
 pub plan_memory : (space : IndexSpace) (tree : ContractionTree) (fusion : List ℕ) (total : ℕ) (tables : List (List Row)) (plan : Plan)

@@ -25,7 +25,7 @@ use Rattle.tce_candidates.specs.Laws.{rows_of}
 use Rattle.tce_candidates.specs.Reached.{IsStateOf}
 use Rattle.tce_candidates.proofs.ReachedStates.{steps_are_states}
 use Rattle.tce_candidates.proofs.Steppings.{covered_pairs_cover_steps}
-use Rattle.tce_search.specs.CandidateLists.{candidates_at, tables_of, leaf_candidate, left_candidates, right_candidates, left_limit, right_limit, Searched, IsStateWithin, HasClassesWithin, AreCandidates, IsLimitOf, AreFound}
+use Rattle.tce_search.specs.CandidateLists.{candidates_at, tables_of, leaf_candidate, left_candidates, right_candidates, left_limit, right_limit, Searched, IsStateWithin, HasClassesWithin, AreCandidates, IsLimitOf, AreStates}
 use Rattle.tce_search.proofs.Operands.{tables-at, left_rows-are, right_rows-are, left_candidates-push, right_candidates-push, left_kept, right_kept, state_below}
 
 -- each class of what is left lies within the fused set
@@ -56,7 +56,7 @@ rows_apart outer table apart i j d order low =
     rw (first, second) (apart i j leaf_candidate order inner)
 
 module _ (space : IndexSpace) (tree : ContractionTree) (limit : ℕ) (found : Searched) (v outer : ℕ) (choices : List Choice) (table : List Candidate)
-    (all : AreFound space tree found) (is_limit : IsLimitOf tree found v limit) (inside : v < operations tree) (next : length found.lists ≡ v)
+    (all : AreStates space tree found) (is_limit : IsLimitOf tree found v limit) (inside : v < operations tree) (next : length found.lists ≡ v)
     (parent_loops : (p : ℕ) → parent tree v ≡ Some p → outer ≡ node_loops tree p)
     (are_choices : AreChoices space tree v choices)
     (covered : All (λ (left : Candidate). All (PairCovered (node_loops tree v) outer choices table left) (right_candidates tree found.lists v)) (left_candidates tree found.lists v))
@@ -175,7 +175,7 @@ reached_reversed limit loops choices lefts rights candidate (inl from) =
 
 -- the same of what the call that makes them from the choices in the other order answers
 pub candidates_of_operands_are : {T : Type 0} {E : Type 0} (space : IndexSpace) (tree : ContractionTree) (limit : ℕ) (found : Searched) (v outer loops : ℕ) (choices given : List Choice) (lefts rights : List Candidate)
-    (answer : Result (Vec Candidate T) E) → AreFound space tree found → IsLimitOf tree found v limit → v < operations tree → length found.lists ≡ v
+    (answer : Result (Vec Candidate T) E) → AreStates space tree found → IsLimitOf tree found v limit → v < operations tree → length found.lists ≡ v
     → ((p : ℕ) → parent tree v ≡ Some p → outer ≡ node_loops tree p) → AreChoices space tree v choices
     → loops ≡ node_loops tree v → given ≡ reverse choices → lefts ≡ left_candidates tree found.lists v → rights ≡ right_candidates tree found.lists v
     → IfOk answer (λ table. All (λ (left : Candidate). All (PairCovered loops outer given table.items left) rights) lefts)

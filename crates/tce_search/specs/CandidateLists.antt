@@ -114,14 +114,19 @@ pub record IsLimitOf (tree : ContractionTree) (found : Searched) (v limit : ℕ)
   pub left : IsBeside limit (left_limit tree found v) (right_candidates tree found.lists v)
   pub right : IsBeside limit (right_limit tree found v) (left_candidates tree found.lists v)
 
--- the candidates of node `v` are found below its limit
-pub record IsFoundAt (space : IndexSpace) (tree : ContractionTree) (found : Searched) (v : ℕ) : Type 0 where
+-- the candidates of node `v` are states of its subtree below the limit of the node, or that at the limit
+pub record AreStatesAt (space : IndexSpace) (tree : ContractionTree) (found : Searched) (v : ℕ) : Type 0 where
   pub low : limit_at found.limits v ≤ found.ceiling
-  pub candidates : AreCandidates space tree (limit_at found.limits v) found.lists v
+  pub states : All (IsStateWithin space (node tree v) (limit_at found.limits v)) (candidates_at found.lists v)
 
 -- so it is at each node that has a list, and the ceiling is a number of a plan
-pub record AreFound (space : IndexSpace) (tree : ContractionTree) (found : Searched) : Type 0 where
+pub record AreStates (space : IndexSpace) (tree : ContractionTree) (found : Searched) : Type 0 where
   pub some : 0 < found.ceiling
   pub small : found.ceiling < cost_limit
   pub count : length found.limits ≡ length found.lists
-  pub each : (v : ℕ) → v < length found.lists → IsFoundAt space tree found v
+  pub each : (v : ℕ) → v < length found.lists → AreStatesAt space tree found v
+
+-- and at each node they are all that are needed
+pub record AreFound (space : IndexSpace) (tree : ContractionTree) (found : Searched) : Type 0 where
+  pub states : AreStates space tree found
+  pub each : (v : ℕ) → v < length found.lists → AreCandidates space tree (limit_at found.limits v) found.lists v

@@ -1,5 +1,5 @@
 // What one round of the search may cost, and what earlier rounds showed subtrees to cost at least.
-ghost use Rattle.std.specs.Prelude.{◌≡◌, ◌<◌, ◌≤◌, true, false};
+ghost use Rattle.std.specs.Prelude.{◌≡◌, ◌<◌, ◌≤◌, true, false, IfSome};
 ghost use Rattle.tce_space.specs.Limits.{cost_limit};
 ghost use Rattle.tce_tree.specs.ContractionTree.{operations};
 
@@ -9,6 +9,12 @@ use tce_tree::{Operand, Tree};
 
 // A round that keeps fewer candidates is so short that the next one may go twice as far.
 const FEW: usize = 4096;
+
+// After a round that keeps more candidates a pass tells how far the next one has to go.
+const MANY: usize = 50_000;
+
+// A pass goes so many times as far as the round before it.
+const FARTHER: u128 = 4;
 
 /// A round that is over: its ceiling, and how many candidates it kept.
 #[derive(Clone, Copy)]
@@ -25,8 +31,10 @@ pub(crate) struct Bounds {
     pub(crate) ceiling: u128,
     // Whether they are used; else each subtree is searched up to the ceiling.
     pub(crate) learns: bool,
-    // One round ends here, where it would go past.
+    // What the least memory is guessed or known to be below: one round ends here, where it would go past.
     near: u128,
+    // Whether it is known: then the next round ends here, however far that is.
+    known: bool,
     least: [u128; MAX_NODES],
     kept: usize,
     earlier: Round,
@@ -42,6 +50,7 @@ impl Bounds {
             ceiling: 0,
             learns: true,
             near,
+            known: false,
             least: [0; MAX_NODES],
             kept: 0,
             earlier: Round {
@@ -114,6 +123,30 @@ impl Bounds {
         }
     }
 
+    /// The bounds of a pass after this round, where one is worth its time: the round kept many candidates, and no fusion is known that takes less than the end. The ceiling is a few times as high, at most the end.
+    pub(crate) fn ahead(&self, end: u128) -> Option<Bounds>
+        requires small { end < cost_limit }
+        requires some { 0 < self.now.ceiling }
+        ensures some { IfSome result (λ ahead. 0 < ahead.ceiling) }
+        ensures small { IfSome result (λ ahead. ahead.ceiling < cost_limit) }
+    {
+        if self.kept < MANY || end <= self.ceiling || (self.known && self.ceiling < self.near) {
+            return None;
+        }
+        let mut ahead = *self;
+        ahead.ceiling = end.min(self.ceiling * FARTHER);
+        Some(ahead)
+    }
+
+    /// Takes note of a fusion that takes this much memory: the next round ends where that is below its ceiling.
+    pub(crate) fn expect(&mut self, memory: u128)
+        ensures ceiling { self.new.ceiling ≡ self.old.ceiling }
+        ensures learns { self.new.learns ≡ self.old.learns }
+    {
+        self.near = memory.saturating_add(1);
+        self.known = true;
+    }
+
     // Whether the candidates grew little against the ceiling since the round before: by at most three to two.
     fn grew_slowly(&self) -> bool {
         let more = self.kept.saturating_sub(self.earlier.kept) as u128;
@@ -146,7 +179,7 @@ impl Bounds {
             return self.near / 2 + 1;
         }
         let next = self.ceiling + self.step() + 1;
-        if self.ceiling < self.near && self.near < next {
+        if self.ceiling < self.near && (self.known || self.near < next) {
             self.near
         } else {
             next

@@ -5,6 +5,7 @@ mod bounds;
 mod found;
 mod limit;
 mod node;
+mod pass;
 mod plan;
 mod root;
 

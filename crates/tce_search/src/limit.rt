@@ -3,7 +3,7 @@ ghost use Rattle.std.specs.Prelude.{◌≡◌, ℕ, ◌+◌, ◌<◌, ◌≤◌,
 ghost use Rattle.tce_space.specs.Limits.{cost_limit};
 ghost use Rattle.tce_tree.specs.ContractionTree.{operations};
 ghost use Rattle.tce_candidates.specs.Candidates.{IsLimited};
-ghost use Rattle.tce_search.specs.CandidateLists.{AreFound, IsLimitOf, AreFull};
+ghost use Rattle.tce_search.specs.CandidateLists.{AreStates, IsLimitOf, AreFull};
 
 use crate::found::Found;
 use tce_candidates::Candidate;
@@ -12,7 +12,7 @@ use tce_tree::Tree;
 
 /// The limit of the next node: no more than the target, nor than what stands for dropped states of an operand costs together with any candidate of the other one.
 pub(crate) fn limit_of(space: &Space, tree: &Tree, found: &Found, v: u8, target: u128) -> u128
-    requires found { AreFound space.now tree.now found.now }
+    requires states { AreStates space.now tree.now found.now }
     requires inside { v < operations tree.now }
     requires next { length found.now.lists ≡ v }
     requires target { target ≤ found.now.ceiling }

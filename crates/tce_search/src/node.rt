@@ -3,7 +3,7 @@ ghost use Rattle.std.specs.Prelude.{◌≡◌, ℕ, false, ◌+◌, ◌<◌, [],
 ghost use Rattle.tce_space.specs.Limits.{cost_limit};
 ghost use Rattle.tce_tree.specs.ContractionTree.{operations, node_loops, parent};
 ghost use Rattle.tce_tree.specs.Measure.{IsMeasured};
-ghost use Rattle.tce_search.specs.CandidateLists.{AreCandidates, AreFound, IsLimitOf, AreFull};
+ghost use Rattle.tce_search.specs.CandidateLists.{AreCandidates, AreStates, AreFound, IsLimitOf, AreFull};
 
 use crate::bounds::Bounds;
 use crate::found::Found;
@@ -41,8 +41,8 @@ pub(crate) fn find_candidates(
     Ok(found)
 }
 
-// The candidates of the node whose number is next.
-fn candidates_of_node(
+/// The candidates of the node whose number is next.
+pub(crate) fn candidates_of_node(
     alloc: Global,
     space: &Space,
     tree: &Tree,
@@ -53,7 +53,7 @@ fn candidates_of_node(
     requires measured { IsMeasured space.now tree.now }
     requires inside { v < operations tree.now }
     requires next { length found.now.lists ≡ v }
-    requires found { AreFound space.now tree.now found.now }
+    requires states { AreStates space.now tree.now found.now }
     requires limit { IsLimitOf tree.now found.now v limit }
     ensures { IfOk result (λ candidates. AreCandidates space.now tree.now limit (found.now.lists ++ candidates.items ∷ []) v) }
 {
@@ -71,8 +71,8 @@ fn candidates_of_node(
     candidates_of(alloc, lefts, rights, loops, choices.as_slice(), limit)
 }
 
-// The loops of the node's parent, and none at the root.
-fn outer_loops(tree: &Tree, v: u8) -> IndexSet
+/// The loops of the node's parent, and none at the root.
+pub(crate) fn outer_loops(tree: &Tree, v: u8) -> IndexSet
     requires { v < operations tree.now }
     ensures { (p : ℕ) → parent tree.now v ≡ Some p → result ≡ node_loops tree.now p }
 {

@@ -16,6 +16,7 @@ use crate::bounds::Bounds;
 use crate::found::Found;
 use crate::limit::limit_of;
 use crate::node::find_candidates;
+use crate::pass::look_ahead;
 use crate::root::least_fusion;
 use arrayvec::ArrayVec;
 use std::alloc::{AllocError, Global};
@@ -93,6 +94,7 @@ fn search_below(
             Answer::Least(plan) => return Ok(Some(plan)),
             Answer::AtLeast(memory) => least = memory,
         }
+        look_ahead(alloc, space, tree, &mut bounds, end)?;
     }
     Ok(None)
 }

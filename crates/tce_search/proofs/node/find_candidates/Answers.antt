@@ -4,6 +4,12 @@ use Rattle.tce_tree.specs.ContractionTree.{operations}
 use Rattle.tce_search.proofs.Growing.{one_more, still_full}
 use Rattle.tce_search.proofs.node.find_candidates.Goals as goal
 
+pub limit_of-limit-requires-clause-states : goal.limit_of-limit-requires-clause-states
+limit_of-limit-requires-clause-states c = c.loop-v.invariant.found.states
+
+pub candidates_of_node-requires-clause-states : goal.candidates_of_node-requires-clause-states
+candidates_of_node-requires-clause-states c = c.loop-v.invariant.found.states
+
 pub loop-v-preserved : goal.loop-v-preserved
 loop-v-preserved c =
     let found = c.loop-v.found in

@@ -6,23 +6,26 @@ use Rattle.tce_search.proofs.Joining.{nodes_covered, pruned, root_joins, whole_l
 use Rattle.tce_search.proofs.Proving.{least_plan, plan_memory}
 use Rattle.tce_search.proofs.plan.plan_below.Goals as goal
 
+pub limit_of-limit-requires-clause-states : goal.limit_of-limit-requires-clause-states
+limit_of-limit-requires-clause-states c = c.requires.found.states
+
 pub least_fusion-requires-clause-lefts : goal.least_fusion-requires-clause-lefts
 least_fusion-requires-clause-lefts c =
     let inside : c.count-root.result - 1 < operations c.args.tree.now = omega arith in
     let next : length c.args.found.now.lists ≡ c.count-root.result - 1 = omega (arith, c.requires.count) in
-    rw c.of_left-lefts.ensures (left_limited c.args.space.now c.args.tree.now c.args.found.now (c.count-root.result - 1) (omega arith) c.requires.found inside next)
+    rw c.of_left-lefts.ensures (left_limited c.args.space.now c.args.tree.now c.args.found.now (c.count-root.result - 1) (omega arith) c.requires.found.states inside next)
 
 pub least_fusion-requires-clause-rights : goal.least_fusion-requires-clause-rights
 least_fusion-requires-clause-rights c =
     let inside : c.count-root.result - 1 < operations c.args.tree.now = omega arith in
     let next : length c.args.found.now.lists ≡ c.count-root.result - 1 = omega (arith, c.requires.count) in
-    rw c.of_right-rights.ensures (right_limited c.args.space.now c.args.tree.now c.args.found.now (c.count-root.result - 1) (omega arith) c.requires.found inside next)
+    rw c.of_right-rights.ensures (right_limited c.args.space.now c.args.tree.now c.args.found.now (c.count-root.result - 1) (omega arith) c.requires.found.states inside next)
 
 pub least_fusion-requires-clause-room : goal.least_fusion-requires-clause-room
 least_fusion-requires-clause-room c =
     let inside : c.count-root.result - 1 < operations c.args.tree.now = omega arith in
     let next : length c.args.found.now.lists ≡ c.count-root.result - 1 = omega (arith, c.requires.count) in
-    rw (c.of_left-lefts.ensures, c.of_right-rights.ensures) (have_room c.args.space.now c.args.tree.now c.args.found.now (c.count-root.result - 1) (omega arith) c.requires.found inside next)
+    rw (c.of_left-lefts.ensures, c.of_right-rights.ensures) (have_room c.args.space.now c.args.tree.now c.args.found.now (c.count-root.result - 1) (omega arith) c.requires.found.states inside next)
 
 pub unwrap-whole-requires : goal.unwrap-whole-requires
 unwrap-whole-requires c =

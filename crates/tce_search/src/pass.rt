@@ -1,0 +1,84 @@
+// A short pass over few candidates of each node, which tells how far the search has to go.
+ghost use Rattle.std.specs.Prelude.{◌≡◌, ◌+◌, ◌<◌, length, IfOk};
+ghost use Rattle.tce_space.specs.Limits.{cost_limit};
+ghost use Rattle.tce_tree.specs.ContractionTree.{operations};
+ghost use Rattle.tce_tree.specs.Measure.{IsMeasured};
+ghost use Rattle.tce_search.specs.CandidateLists.{AreStates};
+
+use crate::bounds::Bounds;
+use crate::found::Found;
+use crate::limit::limit_of;
+use crate::node::{candidates_of_node, outer_loops};
+use crate::root::least_fusion;
+use std::alloc::{AllocError, Global};
+use tce_candidates::{Candidate, cheapest_few};
+use tce_space::Space;
+use tce_tree::Tree;
+
+// So many candidates of a node are kept for each largest upper part on the outer loops.
+const KEPT: usize = 10;
+
+/// Takes note of how far the next round has to go, where a pass is worth its time and finds a fusion below the end.
+///
+/// It only chooses the next ceiling: what the next round finds is shown to be least without it.
+pub(crate) fn look_ahead(
+    alloc: Global,
+    space: &Space,
+    tree: &Tree,
+    bounds: &mut Bounds,
+    end: u128,
+) -> Result<(), AllocError>
+    requires measured { IsMeasured space.now tree.now }
+    requires some { 0 < bounds.old.ceiling }
+    requires small { end < cost_limit }
+    ensures ceiling { bounds.new.ceiling ≡ bounds.old.ceiling }
+    ensures learns { bounds.new.learns ≡ bounds.old.learns }
+{
+    let Some(ahead) = bounds.ahead(end) else {
+        return Ok(());
+    };
+    let found = few_candidates(alloc, space, tree, &ahead)?;
+    if let Some(memory) = memory_at_root(space, tree, &found) {
+        bounds.expect(memory);
+    }
+    Ok(())
+}
+
+// A few candidates of all nodes but the root, of those that the few of its operands lead to: states that cost less than the node's limit, and what stands for others.
+fn few_candidates(
+    alloc: Global,
+    space: &Space,
+    tree: &Tree,
+    bounds: &Bounds,
+) -> Result<Found, AllocError>
+    requires measured { IsMeasured space.now tree.now }
+    requires some { 0 < bounds.now.ceiling }
+    requires small { bounds.now.ceiling < cost_limit }
+    ensures count { IfOk result (λ found. length found.lists + 1 ≡ operations tree.now) }
+    ensures states { IfOk result (AreStates space.now tree.now) }
+{
+    let mut found = Found::new(alloc, bounds.ceiling);
+    for v in 0..tree.count() - 1 {
+        let limit = limit_of(space, tree, &found, v, bounds.target(tree, v));
+        let candidates = candidates_of_node(alloc, space, tree, &found, v, limit)?;
+        let few = cheapest_few(alloc, candidates, outer_loops(tree, v), KEPT)?;
+        found.push(few, limit)?;
+    }
+    Ok(found)
+}
+
+// The memory of the least fusion that the candidates make, where it takes less than the limit of the root.
+fn memory_at_root(space: &Space, tree: &Tree, found: &Found) -> Option<u128>
+    requires count { length found.now.lists + 1 ≡ operations tree.now }
+    requires states { AreStates space.now tree.now found.now }
+{
+    let root = tree.count() - 1;
+    let limit = limit_of(space, tree, found, root, found.ceiling());
+    let leaf = [Candidate::default()];
+    let lefts = found.of_left(tree, root, &leaf);
+    let rights = found.of_right(tree, root, &leaf);
+    match least_fusion(lefts, rights, tree.loops(root)) {
+        Some(whole) if whole.memory < limit => Some(whole.memory),
+        _ => None,
+    }
+}
