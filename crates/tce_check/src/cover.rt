@@ -14,7 +14,7 @@ use tce_nesting::{Row, Run, ends_of, have_conflict};
 
 impl<'a> Node<'a> {
     // Whether some row stands for each step from two rows.
-    fn covers_pair(&self, left: &Row, right: &Row) -> bool
+    fn covers_pair(&self, left: &Row, right: &Row, hints: &mut [u32]) -> bool
         requires inside { self.now.number < operations self.now.tree.now }
         requires choices { AreChoices self.now.space.now self.now.tree.now self.now.number self.now.choices.now }
         requires sizes { All (λ choice. choice.size ≤ max_volume) self.now.choices.now }
@@ -28,7 +28,7 @@ impl<'a> Node<'a> {
     }
 
     // Whether of one left row and each of the right ones the ends show that no step from them needs a row, or else some row stands for each.
-    fn covers_with(&self, left: &Row, rights: &[Row], runs: &[Run]) -> bool
+    fn covers_with(&self, left: &Row, rights: &[Row], runs: &[Run], hints: &mut [u32]) -> bool
         requires inside { self.now.number < operations self.now.tree.now }
         requires choices { AreChoices self.now.space.now self.now.tree.now self.now.number self.now.choices.now }
         requires sizes { All (λ choice. choice.size ≤ max_volume) self.now.choices.now }
@@ -47,7 +47,7 @@ impl<'a> Node<'a> {
                 place = run.until;
                 continue;
             }
-            if !self.covers_pair(left, &rights[place]) {
+            if !self.covers_pair(left, &rights[place], hints) {
                 return false;
             }
             place += 1;
@@ -56,7 +56,7 @@ impl<'a> Node<'a> {
     }
 
     // The same of each left row and each of a few right ones.
-    fn covers_few(&self, lefts: &[Row], rights: &[Row]) -> bool
+    fn covers_few(&self, lefts: &[Row], rights: &[Row], hints: &mut [u32]) -> bool
         requires few { length rights.now ≤ 1024 }
         requires inside { self.now.number < operations self.now.tree.now }
         requires choices { AreChoices self.now.space.now self.now.tree.now self.now.number self.now.choices.now }
@@ -69,7 +69,7 @@ impl<'a> Node<'a> {
     {
         let runs = runs_of(rights, self.tree.loops(self.number));
         for left in lefts {
-            if !self.covers_with(left, rights, &runs) {
+            if !self.covers_with(left, rights, &runs, hints) {
                 return false;
             }
         }
@@ -77,7 +77,7 @@ impl<'a> Node<'a> {
     }
 
     // The same of each left row and each right one.
-    pub(crate) fn covers(&self, lefts: &[Row], rights: &[Row]) -> bool
+    pub(crate) fn covers(&self, lefts: &[Row], rights: &[Row], hints: &mut [u32]) -> bool
         requires inside { self.now.number < operations self.now.tree.now }
         requires choices { AreChoices self.now.space.now self.now.tree.now self.now.number self.now.choices.now }
         requires sizes { All (λ choice. choice.size ≤ max_volume) self.now.choices.now }
@@ -90,7 +90,7 @@ impl<'a> Node<'a> {
         let mut rest = rights;
         while !rest.is_empty() {
             let (few, later) = rest.split_at(rest.len().min(BLOCK));
-            if !self.covers_few(lefts, few) {
+            if !self.covers_few(lefts, few, hints) {
                 return false;
             }
             rest = later;

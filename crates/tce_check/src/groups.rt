@@ -1,304 +1,294 @@
 // Rows of a node by what they put above all else, so that few of them need be compared with a state.
-ghost use Rattle.std.specs.Prelude.{◌↔◌, ◌<◌, ◌≤◌, length, IsTrue, IsNone, IfSome, Any};
+ghost use Rattle.std.specs.Prelude.{◌↔◌, ◌<◌, IsTrue, IsNone, IfSome, Any};
 ghost use Rattle.tce_states.specs.Relation.{above};
 ghost use Rattle.tce_states.specs.Row.{StandsFor};
 
+use arrayvec::ArrayVec;
 use tce_nesting::{Nesting, Row};
-use tce_space::IndexSet;
+use tce_space::{IndexSet, MAX_LOOPS};
 
 // A prime, so that parts which differ in few loops mostly have different groups.
-const GROUPS: usize = 4093;
+pub(crate) const GROUPS: usize = 32_749;
 
-// How many spans are kept. Rows of other ones are asked where no other row stands for a state.
-const SPANS: usize = 16_384;
+// How many rows have an entry. Others are asked where no other row stands for a state.
+pub(crate) const ENTRIES: usize = 458_752;
 
-// How many rows have marks.
-const MARKED: usize = 393_216;
+// An entry is the place of a row, below this, and above it the marks.
+const PLACES: u32 = 524_288;
 
 // The greatest prime for which all remainders are bits of a mark.
 const MARKS: u32 = 13;
 
-// The least and the largest part of the outer loops that is above the others, each without loops where there is none.
+// How many hints there are, a prime.
+pub(crate) const HINTS: usize = 16_381;
+
+// The three largest parts of the outer loops that are above the others, the largest first, without loops where there are fewer.
 #[derive(Clone, Copy, Default)]
 struct Parts {
-    least: IndexSet,
-    largest: IndexSet,
+    first: IndexSet,
+    second: IndexSet,
+    third: IndexSet,
 }
 
-// Neighbours among the rows with the same parts, whose bits are kept, by the place of the first and that behind the last.
-#[derive(Clone, Copy)]
-struct Span {
-    least: u32,
-    largest: u32,
-    from: u32,
-    until: u32,
-}
-
-// The rows of a node by their least and largest upper part: the outer loops that they put above the others. A table whose
-// rows with the same ones are neighbours has few spans.
+// The rows of a node by their three largest upper parts: the outer loops that they put above the others.
 //
 // The upper parts of a row that stands for a state are upper parts of the state too, so the row is looked for in the
-// groups of two of these. No answer rests on it: where no row of a group stands for the state, all rows are asked.
+// groups of three of these. No answer rests on it: where no row of a group stands for the state, all rows are asked. So
+// groups without room give the same answers.
 #[derive(Drop)]
-pub(crate) struct Groups {
-    // For each group the place behind its last span. It begins where the group before it ends.
-    ends: [u32; GROUPS],
-    spans: [Span; SPANS],
-    marks: [u16; MARKED],
+pub(crate) struct Groups<'a> {
+    // For each group the place behind its last entry. It begins where the group before it ends.
+    pub(crate) ends: &'a mut [u32],
+    pub(crate) entries: &'a mut [u32],
 }
 
-// A state for which a row is sought, and the marks of its upper parts.
-#[derive(Clone, Copy)]
+// A state for which a row is sought, its upper parts, the least first, and their marks.
+#[derive(Drop)]
 struct Sought<'a, 'b> {
     rows: &'a [Row],
     state: &'b Row,
     outer: IndexSet,
-    marks: u16,
+    uppers: ArrayVec<IndexSet, MAX_LOOPS>,
+    marks: u32,
 }
 
-// The least and the largest upper part.
-fn parts_of(classes: &Nesting, outer: IndexSet) -> Parts {
-    let mut parts = Parts::default();
+// The upper parts, the least first.
+fn uppers_of(classes: &Nesting, outer: IndexSet) -> ArrayVec<IndexSet, MAX_LOOPS> {
+    let mut uppers = ArrayVec::<IndexSet, MAX_LOOPS>::new();
     let mut reached = IndexSet::empty();
     for class in classes.classes() {
         reached = reached.union(class.meet(outer));
         if outer.within(reached) {
-            return parts;
+            return uppers;
         }
-        if parts.least.bits() == 0 {
-            parts.least = reached;
+        if uppers.len() < MAX_LOOPS {
+            uppers.push(reached);
         }
-        parts.largest = reached;
     }
-    parts
+    uppers
 }
 
-// A bit for each part of the outer loops that is above the others, and mostly another one for another part.
-fn marks_of(classes: &Nesting, outer: IndexSet) -> u16 {
+// A bit for each upper part, and mostly another one for another part.
+fn marks_of(uppers: &[IndexSet]) -> u32 {
     let mut marks = 0;
-    let mut reached = IndexSet::empty();
-    for class in classes.classes() {
-        reached = reached.union(class.meet(outer));
-        if outer.within(reached) {
-            return marks;
-        }
-        marks |= 1 << (reached.bits() % MARKS);
+    for part in uppers {
+        marks |= 1 << (part.bits() % MARKS);
     }
     marks
 }
 
-// The number of the group of two parts.
-fn group_of(parts: &Parts) -> usize
-    ensures { result < 4093 }
-{
-    (parts.least.bits() as usize * 1021 + parts.largest.bits() as usize) % GROUPS
-}
-
-// Whether two rows have the same parts.
-fn are_same(first: &Parts, other: &Parts) -> bool {
-    first.least.bits() == other.least.bits() && first.largest.bits() == other.largest.bits()
-}
-
-// Whether the rows of a span have these parts.
-fn has_parts(span: &Span, parts: &Parts) -> bool {
-    span.least == parts.least.bits() && span.largest == parts.largest.bits()
-}
-
-// The place behind the neighbours that have the same parts as the row at a place.
-fn span_end(rows: &[Row], from: usize, outer: IndexSet) -> usize
-    requires { from < length rows.now }
-    ensures later { from < result }
-    ensures inside { result ≤ length rows.now }
-{
-    let first = parts_at(rows, from, outer);
-    let mut until = from + 1;
-    while until < rows.len() {
-        if !are_same(&first, &parts_at(rows, until, outer)) {
-            return until;
-        }
-        until += 1;
+// The three largest upper parts.
+fn parts_of(uppers: &[IndexSet]) -> Parts {
+    let mut parts = Parts::default();
+    for part in uppers {
+        parts = Parts {
+            first: *part,
+            second: parts.first,
+            third: parts.second,
+        };
     }
-    until
+    parts
 }
 
-// The parts of the row at a place.
-fn parts_at(rows: &[Row], place: usize, outer: IndexSet) -> Parts
-    requires { place < length rows.now }
-{
-    let row = &rows[place];
-    parts_of(&row.classes, outer)
+// The number of the group of three parts.
+fn group_of(parts: &Parts) -> usize {
+    let two = parts.first.bits() as u64 * 1021 + parts.second.bits() as u64;
+    ((two * 1021 + parts.third.bits() as u64) % GROUPS as u64) as usize
 }
 
-// Where the spans of each group begin.
-fn starts_of(rows: &[Row], outer: IndexSet) -> [u32; GROUPS] {
-    let mut starts = [0; GROUPS];
-    let mut place = 0;
-    while place < rows.len() {
-        let group = group_of(&parts_at(rows, place, outer));
-        starts[group] = u32::saturating_add(starts[group], 1);
-        place = span_end(rows, place, outer);
+// The hint for states with these classes.
+fn hint_of(classes: &Nesting) -> usize {
+    let mut number = 0;
+    for class in classes.classes() {
+        number = (number % HINTS * 1021 + class.bits() as usize) % HINTS;
     }
-    let mut next: u32 = 0;
-    for group in 0..GROUPS {
-        let count = starts[group];
-        starts[group] = next;
-        next = next.saturating_add(count);
-    }
-    starts
+    number
 }
 
-impl Groups {
-    // No rows.
-    pub(crate) fn new() -> Groups {
-        Groups {
-            ends: [0; GROUPS],
-            spans: [Span {
-                least: 0,
-                largest: 0,
-                from: 0,
-                until: 0,
-            }; SPANS],
-            marks: [0; MARKED],
-        }
-    }
-
+impl<'a> Groups<'a> {
     // Takes the rows of a node in the place of those that it had.
     pub(crate) fn fill(&mut self, rows: &[Row], outer: IndexSet) {
-        self.ends = starts_of(rows, outer);
-        for (place, row) in rows.iter().enumerate() {
-            if place < MARKED {
-                self.marks[place] = marks_of(&row.classes, outer);
+        let kept = &rows[..rows.len().min(self.entries.len())];
+        self.count(kept, outer);
+        self.begin();
+        for (place, row) in kept.iter().enumerate() {
+            self.add(place, row, outer);
+        }
+    }
+
+    // Counts the rows of each group.
+    fn count(&mut self, rows: &[Row], outer: IndexSet) {
+        self.ends.fill(0);
+        for row in rows {
+            let group = group_of(&parts_of(uppers_of(&row.classes, outer).as_slice()));
+            if let Some(count) = self.ends.get_mut(group) {
+                *count = u32::saturating_add(*count, 1);
             }
         }
-        let mut from = 0;
-        while from < rows.len() {
-            let until = span_end(rows, from, outer);
-            self.add(&parts_at(rows, from, outer), from, until);
-            from = until;
+    }
+
+    // Has each group begin behind so many entries as those before it count, and end there.
+    fn begin(&mut self) {
+        let mut next: u32 = 0;
+        for place in 0..self.ends.len() {
+            let count = self.ends[place];
+            self.ends[place] = next;
+            next = next.saturating_add(count);
         }
     }
 
-    // Adds neighbours to the group of their parts.
-    fn add(&mut self, parts: &Parts, from: usize, until: usize)
-        requires { from < until }
-    {
-        let group = group_of(parts);
-        let at = self.ends[group] as usize;
-        if at < SPANS && until < 4_294_967_296 {
-            self.spans[at] = Span {
-                least: parts.least.bits(),
-                largest: parts.largest.bits(),
-                from: from as u32,
-                until: until as u32,
-            };
-            self.ends[group] = at as u32 + 1;
+    // Adds a row to its group.
+    fn add(&mut self, place: usize, row: &Row, outer: IndexSet) {
+        let uppers = uppers_of(&row.classes, outer);
+        let group = group_of(&parts_of(uppers.as_slice()));
+        if place < PLACES as usize {
+            if let Some(end) = self.ends.get_mut(group) {
+                if let Some(entry) = self.entries.get_mut(*end as usize) {
+                    *entry = place as u32 | marks_of(uppers.as_slice()) << 19;
+                    *end = u32::saturating_add(*end, 1);
+                }
+            }
         }
     }
 
-    // The spans of the group of two parts.
-    fn spans_of<'a>(&'a self, parts: &Parts) -> &'a [Span] {
+    // The entries of the group of three parts.
+    fn entries_of(&self, parts: &Parts) -> &[u32] {
         let group = group_of(parts);
         let from = if group == 0 {
             0
         } else {
-            self.ends[group - 1] as usize
+            self.end_of(group - 1)
         };
-        let to = self.ends[group] as usize;
-        if from <= to && to <= SPANS {
-            &self.spans[from..to]
+        let to = self.end_of(group);
+        if from <= to && to <= self.entries.len() {
+            &self.entries[from..to]
         } else {
-            &self.spans[0..0]
+            &self.entries[0..0]
         }
     }
 
-    // Whether the row at a place may stand for a state with these marks.
-    fn may_stand(&self, place: usize, marks: u16) -> bool {
-        match self.marks.get(place) {
-            Some(own) => *own & !marks == 0,
-            None => true,
+    // The place behind the last entry of a group.
+    fn end_of(&self, group: usize) -> usize {
+        match self.ends.get(group) {
+            Some(end) => *end as usize,
+            None => 0,
         }
     }
 
-    // Whether a row of a span stands for the state. The rows of a span mostly stand by their cost.
-    fn span_stands(&self, span: &Span, sought: &Sought) -> bool
-        ensures { IsTrue result → Any (StandsFor sought.now.outer (above sought.now.state.now.classes) sought.now.state.now.cost) sought.now.rows.now }
+    // The place of a row in the group of three parts that stands for the state.
+    fn place_with(&self, parts: &Parts, sought: &Sought) -> Option<u32>
+        ensures { IfSome result (λ place. Any (StandsFor sought.now.outer (above sought.now.state.now.classes) sought.now.state.now.cost) sought.now.rows.now) }
     {
-        let rows = sought.rows;
-        let state = sought.state;
-        for place in span.from as usize..span.until as usize {
-            if self.may_stand(place, sought.marks) {
-                if let Some(row) = rows.get(place) {
-                    if state.cost < row.cost {
-                        return false;
-                    }
-                    if stands_for(row, state, sought.outer) {
-                        return true;
+        for entry in self.entries_of(parts) {
+            if *entry / PLACES & !sought.marks == 0 {
+                let place = *entry % PLACES;
+                if let Some(row) = sought.rows.get(place as usize) {
+                    if stands_for(row, sought.state, sought.outer) {
+                        return Some(place);
                     }
                 }
             }
         }
-        false
+        None
     }
 
-    // Whether a row in the group of two parts stands for the state.
-    fn group_stands(&self, parts: &Parts, sought: &Sought) -> bool
-        ensures { IsTrue result → Any (StandsFor sought.now.outer (above sought.now.state.now.classes) sought.now.state.now.cost) sought.now.rows.now }
+    // The place of a row whose largest upper part is this one of the state's, where those below it are known.
+    fn place_under(&self, first: IndexSet, lower: &[IndexSet], sought: &Sought) -> Option<u32>
+        ensures { IfSome result (λ place. Any (StandsFor sought.now.outer (above sought.now.state.now.classes) sought.now.state.now.cost) sought.now.rows.now) }
     {
-        for span in self.spans_of(parts) {
-            if has_parts(span, parts) && self.span_stands(span, sought) {
-                return true;
+        let mut parts = Parts {
+            first,
+            second: IndexSet::empty(),
+            third: IndexSet::empty(),
+        };
+        if let Some(place) = self.place_with(&parts, sought) {
+            return Some(place);
+        }
+        for (count, second) in lower.iter().enumerate() {
+            parts.second = *second;
+            parts.third = IndexSet::empty();
+            if let Some(place) = self.place_with(&parts, sought) {
+                return Some(place);
+            }
+            for third in &lower[..count] {
+                parts.third = *third;
+                if let Some(place) = self.place_with(&parts, sought) {
+                    return Some(place);
+                }
             }
         }
-        false
+        None
     }
 
-    // Whether a row in the group of a part and one of the state's that has it stands for the state.
-    fn stands_above(&self, least: IndexSet, sought: &Sought) -> bool
-        ensures { IsTrue result → Any (StandsFor sought.now.outer (above sought.now.state.now.classes) sought.now.state.now.cost) sought.now.rows.now }
+    // The place of a row in the group of three of the state's upper parts that stands for it.
+    fn likely_place(&self, rows: &[Row], state: &Row, outer: IndexSet) -> Option<u32>
+        ensures { IfSome result (λ place. Any (StandsFor outer (above state.now.classes) state.now.cost) rows.now) }
     {
-        let state = sought.state;
-        let mut largest = IndexSet::empty();
-        for class in state.classes.classes() {
-            largest = largest.union(class.meet(sought.outer));
-            if least.within(largest) && self.group_stands(&Parts { least, largest }, sought) {
-                return true;
-            }
-        }
-        false
-    }
-
-    // Whether a row in the group of two of the state's upper parts stands for it.
-    fn is_likely(&self, rows: &[Row], state: &Row, outer: IndexSet) -> bool
-        ensures { IsTrue result → Any (StandsFor outer (above state.now.classes) state.now.cost) rows.now }
-    {
+        let uppers = uppers_of(&state.classes, outer);
+        let marks = marks_of(uppers.as_slice());
         let sought = Sought {
             rows,
             state,
             outer,
-            marks: marks_of(&state.classes, outer),
+            uppers,
+            marks,
         };
-        if self.group_stands(&Parts::default(), &sought) {
-            return true;
+        if let Some(place) = self.place_with(&Parts::default(), &sought) {
+            return Some(place);
         }
-        let mut least = IndexSet::empty();
-        for class in state.classes.classes() {
-            least = least.union(class.meet(outer));
-            if self.stands_above(least, &sought) {
-                return true;
+        let uppers = sought.uppers.as_slice();
+        for (count, first) in uppers.iter().enumerate() {
+            if let Some(place) = self.place_under(*first, &uppers[..count], &sought) {
+                return Some(place);
             }
         }
-        false
+        None
     }
 
     // Whether some row stands for a state.
     pub(crate) fn is_stood_for(&self, rows: &[Row], state: &Row, outer: IndexSet) -> bool
         ensures { IsTrue result ↔ Any (StandsFor outer (above state.now.classes) state.now.cost) rows.now }
     {
-        if self.is_likely(rows, state, outer) {
+        if self.likely_place(rows, state, outer).is_some() {
             return true;
         }
         place_of(rows, state, outer).is_some()
     }
+
+    // The same, where the place of the row that last stood for a state with the same hint is asked first.
+    pub(crate) fn is_soon_stood_for(
+        &self,
+        hints: &mut [u32],
+        rows: &[Row],
+        state: &Row,
+        outer: IndexSet,
+    ) -> bool
+        ensures { IsTrue result → Any (StandsFor outer (above state.now.classes) state.now.cost) rows.now }
+    {
+        let number = hint_of(&state.classes);
+        if stands_at(rows, hints.get(number).copied(), state, outer) {
+            return true;
+        }
+        if let Some(place) = self.likely_place(rows, state, outer) {
+            if let Some(hint) = hints.get_mut(number) {
+                *hint = place;
+            }
+            return true;
+        }
+        place_of(rows, state, outer).is_some()
+    }
+}
+
+// Whether there is a place, and the row at it stands for a state.
+fn stands_at(rows: &[Row], place: Option<u32>, state: &Row, outer: IndexSet) -> bool
+    ensures { IsTrue result → Any (StandsFor outer (above state.now.classes) state.now.cost) rows.now }
+{
+    if let Some(place) = place {
+        if let Some(row) = rows.get(place as usize) {
+            return stands_for(row, state, outer);
+        }
+    }
+    false
 }
 
 // The place of the first row that stands for a state.

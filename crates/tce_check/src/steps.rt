@@ -28,7 +28,7 @@ pub(crate) struct Node<'a> {
     pub(crate) outer: IndexSet,
     pub(crate) choices: &'a [Choice],
     pub(crate) rows: &'a [Row],
-    pub(crate) groups: &'a Groups,
+    pub(crate) groups: &'a Groups<'a>,
     // Some row stands for every state that costs no less.
     pub(crate) bound: Option<u128>,
 }
@@ -158,7 +158,12 @@ impl<'a> Node<'a> {
     }
 
     // The first such step, by the left row and then by the right one.
-    pub(crate) fn first_uncovered(&self, lefts: &[Row], rights: &[Row]) -> Option<Step>
+    pub(crate) fn first_uncovered(
+        &self,
+        lefts: &[Row],
+        rights: &[Row],
+        hints: &mut [u32],
+    ) -> Option<Step>
         requires inside { self.now.number < operations self.now.tree.now }
         requires choices { AreChoices self.now.space.now self.now.tree.now self.now.number self.now.choices.now }
         requires sizes { All (λ choice. choice.size ≤ max_volume) self.now.choices.now }
@@ -170,7 +175,7 @@ impl<'a> Node<'a> {
             (λ found. FirstPair (WhereJoined self.now.tree.now self.now.number (StepsCovered self.now.space.now self.now.tree.now self.now.outer self.now.number self.now.rows.now))
             (IsLeastUncovered self.now.space.now self.now.tree.now self.now.outer self.now.number self.now.rows.now found.fused found.state) lefts.now rights.now) }
     {
-        if self.covers(lefts, rights) {
+        if self.covers(lefts, rights, hints) {
             return None;
         }
         for left in lefts {

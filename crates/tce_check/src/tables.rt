@@ -8,7 +8,7 @@ ghost use Rattle.tce_check.specs.First.{IsFirst};
 ghost use Rattle.tce_check.specs.Verdict.{CoversAt, FailsAt};
 
 use crate::bound::bound_of;
-use crate::groups::Groups;
+use crate::groups::{ENTRIES, GROUPS, Groups, HINTS};
 use crate::operands::{leaf_row, left_rows, right_rows};
 use crate::steps::{Node, Step};
 use tce_nesting::{Tables, choices};
@@ -21,6 +21,7 @@ fn first_uncovered_at(
     tree: &Tree,
     tables: &Tables,
     groups: &mut Groups,
+    hints: &mut [u32],
     v: u8,
 ) -> Option<Step>
     requires measured { IsMeasured space.now tree.now }
@@ -48,13 +49,24 @@ fn first_uncovered_at(
     node.first_uncovered(
         left_rows(tree, tables, v, &leaf),
         right_rows(tree, tables, v, &leaf),
+        hints,
     )
 }
 
+// How many rows a table has at least whose rows go by groups.
+const MANY: usize = 96;
+
+// Whether some table has many rows.
+fn has_many_rows(tables: &Tables) -> bool {
+    for v in 0..tables.lists() {
+        if MANY <= tables.rows(v).len() {
+            return true;
+        }
+    }
+    false
+}
+
 // The least node whose rows do not cover the steps at it, with the first of these.
-//
-// The groups take a mebibyte of stack, which is not to stand in the frame of what calls this.
-#[inline(never)]
 pub(crate) fn first_uncovered_node(
     space: &Space,
     tree: &Tree,
@@ -66,9 +78,53 @@ pub(crate) fn first_uncovered_node(
     ensures { MatchOption result (NodesCovered space.now tree.now tables.now)
         (λ found. IsFirst (operations tree.now - 1) (CoversAt space.now tree.now tables.now) (FailsAt space.now tree.now tables.now found.1.fused found.1.state) found.0) }
 {
-    let mut groups = Groups::new();
+    if has_many_rows(tables) {
+        return first_uncovered_of_many(space, tree, tables);
+    }
+    let mut groups = Groups {
+        ends: &mut [],
+        entries: &mut [],
+    };
+    first_uncovered_of(space, tree, tables, &mut groups, &mut [])
+}
+
+// The same, where the rows go by groups.
+//
+// These take two mebibytes of stack, which are not to stand in the frame of what calls this.
+#[inline(never)]
+fn first_uncovered_of_many(space: &Space, tree: &Tree, tables: &Tables) -> Option<(u8, Step)>
+    requires measured { IsMeasured space.now tree.now }
+    requires lists { length tables.now + 1 ≡ operations tree.now }
+    requires rows { RowsFit tree.now tables.now }
+    ensures { MatchOption result (NodesCovered space.now tree.now tables.now)
+        (λ found. IsFirst (operations tree.now - 1) (CoversAt space.now tree.now tables.now) (FailsAt space.now tree.now tables.now found.1.fused found.1.state) found.0) }
+{
+    let mut ends = [0; GROUPS];
+    let mut entries = [0; ENTRIES];
+    let mut hints = [0; HINTS];
+    let mut groups = Groups {
+        ends: &mut ends,
+        entries: &mut entries,
+    };
+    first_uncovered_of(space, tree, tables, &mut groups, &mut hints)
+}
+
+// The same, with the groups of rows and the hints that are kept from state to state.
+fn first_uncovered_of(
+    space: &Space,
+    tree: &Tree,
+    tables: &Tables,
+    groups: &mut Groups,
+    hints: &mut [u32],
+) -> Option<(u8, Step)>
+    requires measured { IsMeasured space.now tree.now }
+    requires lists { length tables.now + 1 ≡ operations tree.now }
+    requires rows { RowsFit tree.now tables.now }
+    ensures { MatchOption result (NodesCovered space.now tree.now tables.now)
+        (λ found. IsFirst (operations tree.now - 1) (CoversAt space.now tree.now tables.now) (FailsAt space.now tree.now tables.now found.1.fused found.1.state) found.0) }
+{
     for v in 0..tree.count() - 1 {
-        if let Some(step) = first_uncovered_at(space, tree, tables, &mut groups, v) {
+        if let Some(step) = first_uncovered_at(space, tree, tables, groups, hints, v) {
             return Some((v, step));
         }
     }

@@ -2,7 +2,7 @@ use Rattle.std.proofs.Common.{inl, inr, sym, subst, arith}
 use Rattle.std.proofs.lemmas.Bool.{cases_eq}
 use Rattle.tce_check.specs.Verdict.{CoversAt}
 use Rattle.tce_check.proofs.FromTables.{nodes_covered}
-use Rattle.tce_check.proofs.tables.first_uncovered_node.Goals as goal
+use Rattle.tce_check.proofs.tables.first_uncovered_of.Goals as goal
 
 pub loop-v-preserved : goal.loop-v-preserved
 loop-v-preserved c w low = elim (cases_eq w c.loop-v.v) [
