@@ -10,6 +10,17 @@ use arrayvec::ArrayVec;
 use tce_space::MAX_LOOPS;
 use tce_strides::{Loop, SumLoop};
 
+/// How far in a loop runs best. They are compared field by field, the first one first: the greater, the better the loop is as
+/// the innermost one.
+#[derive(Clone, Copy, Debug, Default, PartialEq, Eq, PartialOrd, Ord)]
+pub(crate) struct Rank {
+    // Whether there are so many turns that a run pays for its call.
+    long: bool,
+    // How many of the three places stay or move word by word.
+    near: u8,
+    len: u64,
+}
+
 /// A loop: its index, where it stands among the loops, how many numbers it has in the block that runs, and how far in it
 /// runs best.
 #[derive(Clone, Copy, Debug, Default)]
@@ -17,21 +28,22 @@ pub(crate) struct Axis {
     pub(crate) index: u8,
     pub(crate) at: usize,
     pub(crate) len: u64,
-    pub(crate) rank: u64,
+    pub(crate) rank: Rank,
 }
 
 // From so many turns on a run pays for its call.
 const LONG: u64 = 8;
 
-// The greater, the better the loop is as the innermost one: of two long runs, or of two short ones, the one in which more
-// places stay or move word by word, and of equals the longer. A loop of one turn is best outside.
-fn rank(len: u64, out: u64, left: u64, right: u64) -> u64 {
+// A loop of one turn is best outside.
+fn rank_of(len: u64, out: u64, left: u64, right: u64) -> Rank {
     if len <= 1 {
-        return 0;
+        return Rank::default();
     }
-    let runs = u64::from(out <= 1) + u64::from(left <= 1) + u64::from(right <= 1);
-    let class = if len < LONG { runs } else { runs + 4 };
-    class * 0x1_0000_0000 + len.min(0xffff_ffff)
+    Rank {
+        long: LONG <= len,
+        near: u8::from(out <= 1) + u8::from(left <= 1) + u8::from(right <= 1),
+        len,
+    }
 }
 
 fn ranked(index: u8, at: usize, len: u64, out: &Window, left: &Window, right: &Window) -> Axis
@@ -44,7 +56,7 @@ fn ranked(index: u8, at: usize, len: u64, out: &Window, left: &Window, right: &W
         index,
         at,
         len,
-        rank: rank(len, out.steps[i], left.steps[i], right.steps[i]),
+        rank: rank_of(len, out.steps[i], left.steps[i], right.steps[i]),
     }
 }
 

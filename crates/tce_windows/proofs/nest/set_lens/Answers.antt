@@ -1,4 +1,4 @@
-use Rattle.std.proofs.Common.{◌≡◌, ◌+◌, ◌<◌, ◌∙◌, ℕ, length, get_or, slice_set, take, ap, arith, length-set}
+use Rattle.std.proofs.Common.{false, ◌≡◌, ◌+◌, ◌<◌, ◌∙◌, ℕ, length, get_or, slice_set, take, ap, arith, length-set}
 use Rattle.tce_windows.specs.Nests.{with_len}
 use Rattle.tce_windows.specs.declared.nest.Axis.{Axis}
 use Rattle.tce_windows.proofs.Nests.{one_set, get_behind, same_element}
@@ -6,7 +6,7 @@ use Rattle.tce_windows.proofs.nest.set_lens.Goals as goal
 
 pub loop-d-preserved : goal.loop-d-preserved
 loop-d-preserved c =
-    let none : Axis = record { index = 0; at = 0; len = 0; rank = 0 } in
+    let none : Axis = record { index = 0; at = 0; len = 0; rank = record { long = false; near = 0; len = 0 } } in
     let d : ℕ = c.loop-d.d in
     let axes = c.loop-d.axes in
     let old = c.args.axes.now in
