@@ -3,3 +3,4 @@ pub mod Transfers
 pub mod Tiles
 pub mod Lists
 pub mod Steps
+pub mod Runs

@@ -10,7 +10,7 @@ use Rattle.tce_frames.proofs.Current.{tile_cases, tests, tests_not, current_held
 use Rattle.tce_cache.specs.declared.array.ArrayRef.{ArrayRef}
 use Rattle.tce_cache.specs.Transfer.{HasFile}
 use Rattle.tce_cache.specs.Cache.{State, IsArrayAt, Exists, IsWritable, IsCache, IsReady, words_of_tile, layout, stored, current_word, OnlyWritableDiffers}
-use Rattle.tce_cache.specs.Touch.{with_held, front, IsSameArrays, IsTileWritten, IsPlaced}
+use Rattle.tce_cache.specs.Touch.{with_held, front, IsSameArrays, IsPlaced}
 use Rattle.tce_cache.proofs.Lists.{IsPartOf, IsOldest, IsCleaned, IsGivenUp, cleaned_part, front_part, length-cleaned, touched_part, given_up}
 
 -- ---- what always holds of a cache
@@ -98,18 +98,19 @@ same_stay c n fs words is ready = record {
   bytes = λ i a e are. are;
 }
 
-pub same_written : (c : State) (n : ℕ) (fs gs : Files) (words : List ℕ) (a t : ℕ) (h : Held) → IsCache c → IsReady c fs words → look_up c.held a t ≡ Some h → IsTileWritten c fs gs words a t h.frame
-    → IsSameArrays c (with_held c (cleaned a t c.held) n) fs gs words words
-same_written c n fs gs words a t h is ready found w =
-    let kept = write_kept (layout c) (stored c fs) (stored c gs) c.held (cleaned a t c.held) words a t h is.apart ready.clean found refl w.here w.others in
+-- a mark is taken away of a tile whose file has its words
+pub same_cleaned : (c : State) (n : ℕ) (fs : Files) (words : List ℕ) (a t : ℕ) (h : Held) → IsCache c → IsReady c fs words → look_up c.held a t ≡ Some h → ((k : ℕ) → k < words_of_tile (slice_get c.arrays a) → stored c fs a t k ≡ slice_index words (place (layout c) h.frame + k))
+    → IsSameArrays c (with_held c (cleaned a t c.held) n) fs fs words words
+same_cleaned c n fs words a t h is ready found here =
+    let kept = write_kept (layout c) (stored c fs) (stored c fs) c.held (cleaned a t c.held) words a t h is.apart ready.clean found refl here (λ b u k other lt. refl) in
     record {
       kept = kept;
       ready = record {
-        files_of_held = λ b u x e. has_after c fs gs b w.fronts (ready.files_of_held b u ((cleaned_part a t c.held b u x e).0) ((cleaned_part a t c.held b u x e).1));
+        files_of_held = λ b u x e. ready.files_of_held b u ((cleaned_part a t c.held b u x e).0) ((cleaned_part a t c.held b u x e).1);
         clean = kept.clean;
       };
-      fronts = w.fronts;
-      bytes = w.bytes;
+      fronts = λ i a e. refl;
+      bytes = λ i a e are. are;
     }
 
 pub same_dropped : (c : State) (rest : List Held) (z : Held) (n m : ℕ) (fs : Files) (words : List ℕ) → AreApart c.frames (rest ++ z ∷ []) → z.marked ≡ false → IsReady (with_held c (rest ++ z ∷ []) n) fs words

@@ -1,5 +1,5 @@
 -- Tiles of arrays, in files and in frames.
-use Rattle.std.proofs.Common.{◌≡◌, ◌≢◌, ◌∙◌, ◌⊎◌, ℕ, suc, ◌+◌, ◌*◌, ◌<◌, ◌≤◌, true, List, [], length, take, slice_get, slice_index, get_or, Option, Some, None, is_some, unwrap_or, sym, refl, ap, subst, inl, inr, arith}
+use Rattle.std.proofs.Common.{◌≡◌, ◌≢◌, ◌∙◌, ◌⊎◌, ℕ, suc, ◌+◌, ◌-◌, ◌*◌, ◌<◌, ◌≤◌, true, List, [], length, take, slice_get, slice_index, get_or, Option, Some, None, is_some, unwrap_or, sym, refl, ap, subst, inl, inr, arith}
 use Rattle.std.specs.Option.{IsSomeAnd, option_map}
 use Rattle.std.proofs.lemmas.Bool.{cases_lt, cases_eq}
 use Rattle.std.proofs.lemmas.Option.{slice_get_read, slice_get_cases}
@@ -16,7 +16,9 @@ use Rattle.tce_frames.specs.Current.{place, IsSameOutside}
 use Rattle.tce_cache.specs.declared.array.ArrayRef.{ArrayRef}
 use Rattle.tce_cache.specs.Transfer.{contents, HasFile, word_in_file, AreWordsOf, IsSameBut, IsWritten}
 use Rattle.tce_cache.specs.Cache.{State, IsArrayAt, AreArrays, words_of_tile, layout, word_of_tile, stored, HasRoom, OnlyWritableDiffers, IsSameOutsideFrames}
-use Rattle.tce_cache.specs.Touch.{front, IsTileWritten}
+use Rattle.tce_cache.specs.declared.cache.Run.{Run}
+use Rattle.tce_cache.specs.Touch.{front}
+use Rattle.tce_cache.specs.Runs.{IsRun, IsRunWritten}
 use Rattle.tce_cache.proofs.Transfers.{file_there}
 
 -- ---- the array with a number
@@ -71,62 +73,69 @@ tile_read c a files array tile frame n at words here n_is at_is read k lt =
     ∙ ap (λ m. word_in_file a files (m * tile + k)) n_is
     ∙ ap (λ o. word_of_tile o files tile k) (sym here)
 
--- ---- a tile that was written
+-- ---- tiles that were written
 file_of_other : (c : State) (a : ArrayRef) (before after : Files) (array i : ℕ) (b : ArrayRef) → AreArrays c.arrays c.frame_words → slice_get c.arrays array ≡ Some a → slice_get c.arrays i ≡ Some b → i ≢ array
     → others a.file.bytes (Some after) ≡ others a.file.bytes (Some before) → file after b.file.bytes ≡ file before b.file.bytes
 file_of_other c a before after array i b are here there n same = other_files a.file.bytes b.file.bytes before after same (λ e. n (are.different i array b a there here e))
 
-pub tile_written : (c : State) (a : ArrayRef) (before after : Files) (array tile frame n at : ℕ) (words : List ℕ) → AreArrays c.arrays c.frame_words → slice_get c.arrays array ≡ Some a → n ≡ tile_words a.shape → at ≡ place (layout c) frame
-    → HasFile a before → others a.file.bytes (Some after) ≡ others a.file.bytes (Some before) → IsWritten a before after (n * tile) words at n → IsTileWritten c before after words array tile frame
-tile_written c a before after array tile frame n at words are here n_is at_is has same w = record {
-  here = λ k lt.
+pub run_written : (c : State) (a : ArrayRef) (before after : Files) (run : Run) (n at : ℕ) (words : List ℕ) → AreArrays c.arrays c.frame_words → IsRun c run → slice_get c.arrays run.array ≡ Some a → n ≡ tile_words a.shape → at ≡ place (layout c) run.frame
+    → HasFile a before → others a.file.bytes (Some after) ≡ others a.file.bytes (Some before) → IsWritten a before after (n * run.tile) words at (n * run.n) → IsRunWritten c before after words run
+run_written c a before after run n at words are r here n_is at_is has same w = record {
+  here = λ i k first lt.
       let low : k < n = subst (λ m. k < m) (sym n_is) (subst (λ o. k < words_of_tile o) here lt) in
-      ap (λ o. word_of_tile o after tile k) here
-      ∙ ap (λ m. word_in_file a after (m * tile + k)) (sym n_is)
-      ∙ sym (w.written k low)
-      ∙ ap (λ p. slice_index words (p + k)) at_is;
-  others = λ b u k other lt. elim (cases_eq b array) [
+      let inside : n * i + k < n * run.n = word-lt n run.n i k first low in
+      let close : n * i ≡ i * c.frame_words = ap (λ m. m * i) (n_is ∙ sym (ap words_of_tile here)) ∙ r.close i first in
+      let word : n * (run.tile + i) + k ≡ n * run.tile + (n * i + k) = omega arith in
+      let there : at + (n * i + k) ≡ place (layout c) (run.frame + i) + k = omega arith in
+      ap (λ o. word_of_tile o after (run.tile + i) k) here
+      ∙ ap (λ m. word_in_file a after (m * (run.tile + i) + k)) (sym n_is)
+      ∙ ap (word_in_file a after) word
+      ∙ sym (w.written (n * i + k) inside)
+      ∙ ap (slice_index words) there;
+  others = λ b u k other lt. elim (cases_eq b run.array) [
     | inl e ↦
         let at_b : slice_get c.arrays b ≡ Some a = ap (slice_get c.arrays) e ∙ here in
         let low : k < n = subst (λ m. k < m) (sym n_is) (subst (λ o. k < words_of_tile o) at_b lt) in
         ap (λ o. word_of_tile o after u k) at_b
         ∙ ap (λ m. word_in_file a after (m * u + k)) (sym n_is)
-        ∙ w.others (n * u + k) (outside u k low (other e))
+        ∙ w.others (n * u + k) (outside u k low (λ i first. other i first e))
         ∙ ap (λ m. word_in_file a before (m * u + k)) n_is
         ∙ sym (ap (λ o. word_of_tile o before u k) at_b)
     | inr differs ↦ by_array b u k differs (slice_get c.arrays b) refl
   ];
-  fronts = λ i b there. elim (cases_eq i array) [
+  fronts = λ i b there. elim (cases_eq i run.array) [
     | inl e ↦
         let both : Some b ≡ Some a = sym there ∙ ap (slice_get c.arrays) e ∙ here in
         let is : b ≡ a = cc in
         subst (λ (x : ArrayRef). option_map (front x) (file after x.file.bytes) ≡ option_map (front x) (file before x.file.bytes)) (sym is) same_front
-    | inr differs ↦ ap (option_map (front b)) (file_of_other c a before after array i b are here there differs same)
+    | inr differs ↦ ap (option_map (front b)) (file_of_other c a before after run.array i b are here there differs same)
   ];
-  bytes = λ i b there were. elim (cases_eq i array) [
+  bytes = λ i b there were. elim (cases_eq i run.array) [
     | inl e ↦
         let both : Some b ≡ Some a = sym there ∙ ap (slice_get c.arrays) e ∙ here in
         let is : b ≡ a = cc in
         subst (λ (x : ArrayRef). AreBytes (contents x before) → AreBytes (contents x after)) (sym is) w.bytes were
-    | inr differs ↦ subst (λ o. AreBytes (unwrap_or o [])) (sym (file_of_other c a before after array i b are here there differs same)) were
+    | inr differs ↦ subst (λ o. AreBytes (unwrap_or o [])) (sym (file_of_other c a before after run.array i b are here there differs same)) were
   ];
 }
   where
-    outside : (u k : ℕ) → k < n → (u ≡ tile → ⊥) → (n * u + k < n * tile) ⊎ (n * tile + n ≤ n * u + k)
+    outside : (u k : ℕ) → k < n → ((i : ℕ) → i < run.n → u ≡ run.tile + i → ⊥) → (n * u + k < n * run.tile) ⊎ (n * run.tile + n * run.n ≤ n * u + k)
     outside u k low differs =
-        elim (cases_lt u tile) [
-          | inl below ↦ inl (word-lt n tile u k below low)
-          | inr above ↦
-              let next : suc tile ≤ u = elim (cases_eq u tile) [ inl e ↦ absurd (differs e) | inr m ↦ omega arith ] in
-              let more : n * suc tile ≤ n * u = mul-le-mul_left n next in
-              inr (omega arith)
+        elim (cases_lt u run.tile) [
+          | inl below ↦ inl (word-lt n run.tile u k below low)
+          | inr above ↦ elim (cases_lt u (run.tile + run.n)) [
+            | inl within ↦ absurd (differs (u - run.tile) (omega arith) (omega arith))
+            | inr past ↦
+                let more : n * (run.tile + run.n) ≤ n * u = mul-le-mul_left n past in
+                inr (omega arith)
+          ]
         ]
 
-    by_array : (b u k : ℕ) → b ≢ array → (o : Option ArrayRef) → slice_get c.arrays b ≡ o → word_of_tile (slice_get c.arrays b) after u k ≡ word_of_tile (slice_get c.arrays b) before u k
+    by_array : (b u k : ℕ) → b ≢ run.array → (o : Option ArrayRef) → slice_get c.arrays b ≡ o → word_of_tile (slice_get c.arrays b) after u k ≡ word_of_tile (slice_get c.arrays b) before u k
     by_array b u k differs None e = ap (λ o. word_of_tile o after u k) e ∙ sym (ap (λ o. word_of_tile o before u k) e)
     by_array b u k differs (Some x) e =
         ap (λ o. word_of_tile o after u k) e
-        ∙ ap (λ o. word_at x.form x.shape (unwrap_or o []) (tile_words x.shape * u + k)) (file_of_other c a before after array b x are here e differs same)
+        ∙ ap (λ o. word_at x.form x.shape (unwrap_or o []) (tile_words x.shape * u + k)) (file_of_other c a before after run.array b x are here e differs same)
         ∙ sym (ap (λ o. word_of_tile o before u k) e)
 
     same_front : option_map (front a) (file after a.file.bytes) ≡ option_map (front a) (file before a.file.bytes)

@@ -1,4 +1,5 @@
 pub mod Transfer
 pub mod Cache
 pub mod Touch
+pub mod Runs
 pub mod Parts

@@ -5,7 +5,7 @@ use Rattle.tce_outside.specs.Files.{Files, file}
 use Rattle.tce_array.specs.Files.{AreBytes}
 use Rattle.tce_array.specs.Forms.{head_len}
 use Rattle.tce_frames.specs.Held.{Held, look_up, touched, IsFree}
-use Rattle.tce_frames.specs.Current.{place, AreOther, IsKept}
+use Rattle.tce_frames.specs.Current.{place, IsKept}
 use Rattle.tce_cache.specs.declared.array.ArrayRef.{ArrayRef}
 use Rattle.tce_cache.specs.Transfer.{contents}
 use Rattle.tce_cache.specs.Cache.{State, layout, stored, current_word, IsReady, words_of_tile}
@@ -59,16 +59,6 @@ AreWritten c before after words =
     ForSome before (λ fs. ForSome after (λ gs. (array tile k : ℕ) → k < words_of_tile (slice_get c.arrays array) → stored c gs array tile k ≡ current_word c fs words array tile k))
 
 -- ---- parts of a touch
-
--- a tile of an array was written from its frame, and no other word of a file changed
-pub record IsTileWritten (c : State) (before after : Files) (words : List ℕ) (array tile frame : ℕ) : Type 0 where
-  pub here : (k : ℕ) → k < words_of_tile (slice_get c.arrays array) → stored c after array tile k ≡ slice_index words (place (layout c) frame + k)
-  pub others : (b u k : ℕ) → AreOther array tile b u → k < words_of_tile (slice_get c.arrays b) → stored c after b u k ≡ stored c before b u k
-  pub fronts : (i : ℕ) (a : ArrayRef) → slice_get c.arrays i ≡ Some a → option_map (front a) (file after a.file.bytes) ≡ option_map (front a) (file before a.file.bytes)
-  pub bytes : (i : ℕ) (a : ArrayRef) → slice_get c.arrays i ≡ Some a → AreBytes (contents a before) → AreBytes (contents a after)
-
-abbrev pub WritesTile : State → Option Files → Option Files → List ℕ → ℕ → ℕ → ℕ → Type 0
-WritesTile c before after words array tile frame = ForSome before (λ fs. ForSome after (λ gs. IsTileWritten c fs gs words array tile frame))
 
 -- the words of the frame are those of a tile in its file
 abbrev pub IsTileRead : State → Option Files → List ℕ → ℕ → ℕ → ℕ → Type 0

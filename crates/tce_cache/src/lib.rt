@@ -6,8 +6,9 @@
 //! current word of a tile, which is the one in its frame or else the one in its file, never changes by a call here.
 //!
 //! Tiles pass between files and frames in pieces of at most 32 KiB, which stand outside the words of the run. The tables
-//! are taken when a cache is made. `specs/Cache.antt` has the model, `specs/Touch.antt` says what a touch and a flush
-//! do, and `specs/Transfer.antt` what is read and written.
+//! are taken when a cache is made. A flush writes marked tiles that follow one another, in their file and in the frames,
+//! as one span. `specs/Cache.antt` has the model, `specs/Touch.antt` says what a touch and a flush do, `specs/Runs.antt`
+//! what is done with such tiles, and `specs/Transfer.antt` what is read and written.
 #![tactic(auto)]
 
 mod array;

@@ -1,18 +1,27 @@
-use Rattle.std.proofs.Common.{◌≡◌, ◌∙◌, ℕ, Some, false, length, map, ap, sym, subst, arith, rules}
-use Rattle.tce_frames.specs.Held.{Held, look_up, cleaned}
+use Rattle.std.proofs.Common.{◌≡◌, ◌∙◌, ℕ, ◌+◌, ◌-◌, Some, false, length, map, ap, sym, subst, arith, rules}
+use Rattle.tce_frames.specs.Held.{Held, look_up}
 use Rattle.tce_cache.specs.Cache.{State, OnlyWritableDiffers}
 use Rattle.tce_cache.specs.Touch.{with_held, unmarked, IsSameArrays}
 use Rattle.tce_cache.proofs.Tiles.{told_from, both_differ}
-use Rattle.tce_cache.proofs.Lists.{length-cleaned, cleaned_part, unmarked_cleaned, all_unmarked, one_cleaned}
+use Rattle.tce_cache.proofs.Lists.{all_unmarked}
+use Rattle.tce_cache.proofs.Runs.{length-run, run_part, unmarked_run, frames_cleaned}
 use Rattle.tce_cache.proofs.Steps.{same_trans, all_written, differ_again}
 use Rattle.tce_cache.proofs.cache.Cache.flush.Goals as goal
 
-pub returns-in_err-write_back-clause-others : goal.returns-in_err-write_back-clause-others
-returns-in_err-write_back-clause-others g c =
+pub returns-in_err-frame-clause-others : goal.returns-in_err-frame-clause-others
+returns-in_err-frame-clause-others g c =
     let s = c.args.self.now in
     let l = c.loop-frame.self in
     let before = c.loop-frame.invariant in
-    both_differ s _ _ _ before.others (differ_again s l.held s.touches _ _ (subst (λ (z : State). OnlyWritableDiffers z (g.D.Disk.files c.loop-frame.disk) (g.D.Disk.files c.write_back.new.disk)) before.state c.in_err-write_back.ensures.others))
+    both_differ s _ _ _ before.others (differ_again s l.held s.touches _ _ (subst (λ (z : State). OnlyWritableDiffers z (g.D.Disk.files c.loop-frame.disk) (g.D.Disk.files c.write_back.new.disk)) before.state c.in_err-frame.ensures.others))
+
+pub overflow_add-frame : goal.overflow_add-frame
+overflow_add-frame g c =
+    let n = c.in_ok-frame.field-0 in
+    let few = c.in_ok-frame.ensures.few in
+    let are = c.in_ok-frame.ensures.cleaned in
+    let last = c.loop-frame.invariant.low are.array (are.tile + (n - 1)) _ (are.held (n - 1) (omega arith)) in
+    omega arith
 
 pub loop-frame-preserved : goal.loop-frame-preserved
 loop-frame-preserved g c =
@@ -20,23 +29,21 @@ loop-frame-preserved g c =
     let l = c.loop-frame.self in
     let n = c.write_back.new.self in
     let before = c.loop-frame.invariant in
-    let back = c.in_ok-write_back.ensures in
+    let back = c.in_ok-frame.ensures in
     let words = c.args.words.now in
-    let h = back.found.0 in
-    let found = back.found.1 in
-    let at = back.found.2 in
-    let held_is : n.held ≡ cleaned h.array h.tile l.held = back.cleaned h.array h.tile h found at in
+    let are = back.cleaned in
+    let count = c.in_ok-frame.field-0 in
     let state : n ≡ with_held s n.held s.touches = back.same ∙ ap (λ (z : State). with_held z n.held z.touches) before.state in
     record {
       state = state;
       cache = back.cache;
-      last = before.last ∙ sym (ap length held_is ∙ length-cleaned h.array h.tile l.held);
+      last = before.last ∙ sym (ap length are.list ∙ length-run are.array are.tile count l.held);
       low = λ a t x e.
-          let part = cleaned_part h.array h.tile l.held a t x (ap (λ q. look_up q a t) (sym held_is) ∙ e) in
+          let part = run_part are.array are.tile count l.held a t x (ap (λ q. look_up q a t) (sym are.list) ∙ e) in
           let below = before.low a t part.0 part.1 in
           omega (arith, below, part.3);
-      clean = one_cleaned l.frames c.loop-frame.frame l.held n.held h before.cache.apart found at held_is before.clean;
-      held = ap (map unmarked) held_is ∙ unmarked_cleaned h.array h.tile l.held ∙ before.held;
+      clean = λ a t x e. frames_cleaned l.frames c.loop-frame.frame are.array are.tile are.marked l.held count before.cache.apart are.held before.clean a t x (ap (λ q. look_up q a t) (sym are.list) ∙ e);
+      held = ap (map unmarked) are.list ∙ unmarked_run are.array are.tile count l.held ∙ before.held;
       arrays = λ x told y now.
           let middle = told_from _ _ y back.others.tells now in
           let first = subst (λ (z : State). IsSameArrays s z x middle.0 words words) before.state (before.arrays x told middle.0 middle.1) in

@@ -6,6 +6,7 @@ use Rattle.tce_cache.specs.declared.array.ArrayRef.{ArrayRef}
 use Rattle.tce_cache.specs.Cache.{State, IsCache}
 use Rattle.tce_cache.proofs.Tiles.{array_low}
 use Rattle.tce_cache.proofs.Lists.{IsOldest, IsCleaned, IsGivenUp, oldest_there, oldest_absent}
+use Rattle.tce_cache.proofs.Runs.{frame_cleaned}
 use Rattle.tce_cache.proofs.Steps.{up_over, cache_over, state_over, same_over}
 use Rattle.tce_cache.proofs.cache.Cache.take_frame.Goals as goal
 
@@ -37,7 +38,9 @@ replace-requires-clause-frame g c =
     let is : IsCache now = subst IsCache c.self.view_is c.self.invariant.cache in
     let full : now.frames ≤ length now.held = subst (λ (z : State). z.frames ≤ length z.held) c.self.view_is (omega (arith, c.len.ensures.count, c.frames.ensures, c.if-len-frames.false)) in
     let oldest : IsOldest now.held c.oldest-oldest.result = subst (λ (z : State). IsOldest z.held c.oldest-oldest.result) c.self.view_is c.oldest-oldest.ensures.last in
-    let clean : IsCleaned now.held v.held c.oldest-oldest.result = λ a t h found at. ap (λ (z : State). z.held) c.self-2.view_is ∙ c.in_ok-write_back.ensures.cleaned a t h found at in
+    let back = c.in_ok-write_back.ensures in
+    let cleaned : IsCleaned now.held w.held c.oldest-oldest.result = frame_cleaned now.frames c.oldest-oldest.result c.in_ok-write_back.field-0 now.held w.held is.apart back.few.0 back.few.1 back.cleaned in
+    let clean : IsCleaned now.held v.held c.oldest-oldest.result = λ a t h found at. ap (λ (z : State). z.held) c.self-2.view_is ∙ cleaned a t h found at in
     let some : 0 < length now.held = omega (arith, full, is.frames) in
     oldest_there now.frames now.held v.held c.oldest-oldest.result is.apart some oldest clean
 
@@ -50,7 +53,9 @@ replace-requires-clause-absent g c =
     let is : IsCache now = subst IsCache c.self.view_is c.self.invariant.cache in
     let full : now.frames ≤ length now.held = subst (λ (z : State). z.frames ≤ length z.held) c.self.view_is (omega (arith, c.len.ensures.count, c.frames.ensures, c.if-len-frames.false)) in
     let oldest : IsOldest now.held c.oldest-oldest.result = subst (λ (z : State). IsOldest z.held c.oldest-oldest.result) c.self.view_is c.oldest-oldest.ensures.last in
-    let clean : IsCleaned now.held v.held c.oldest-oldest.result = λ a t h found at. ap (λ (z : State). z.held) c.self-2.view_is ∙ c.in_ok-write_back.ensures.cleaned a t h found at in
+    let back = c.in_ok-write_back.ensures in
+    let cleaned : IsCleaned now.held w.held c.oldest-oldest.result = frame_cleaned now.frames c.oldest-oldest.result c.in_ok-write_back.field-0 now.held w.held is.apart back.few.0 back.few.1 back.cleaned in
+    let clean : IsCleaned now.held v.held c.oldest-oldest.result = λ a t h found at. ap (λ (z : State). z.held) c.self-2.view_is ∙ cleaned a t h found at in
     let some : 0 < length now.held = omega (arith, full, is.frames) in
     oldest_absent now.frames now.held v.held c.oldest-oldest.result c.args.array c.args.tile is.apart some oldest clean c.requires.absent
 
@@ -71,7 +76,9 @@ returns-clause-placed g c =
     let full : now.frames ≤ length now.held = subst (λ (z : State). z.frames ≤ length z.held) c.self.view_is (omega (arith, c.len.ensures.count, c.frames.ensures, c.if-len-frames.false)) in
     let oldest : IsOldest now.held c.oldest-oldest.result = subst (λ (z : State). IsOldest z.held c.oldest-oldest.result) c.self.view_is c.oldest-oldest.ensures.last in
     let x : Held = record { array = c.args.array; tile = c.args.tile; frame = c.oldest-oldest.result; marked = c.args.marked } in
-    let up : IsGivenUp now.frames now.held v.held c.replace.new.self.held x = up_over now w v c.replace.new.self.held c.oldest-oldest.result x is full oldest c.in_ok-write_back.ensures.cleaned c.self-2.view_is c.requires.absent refl c.replace.ensures.held in
+    let back = c.in_ok-write_back.ensures in
+    let cleaned : IsCleaned now.held w.held c.oldest-oldest.result = frame_cleaned now.frames c.oldest-oldest.result c.in_ok-write_back.field-0 now.held w.held is.apart back.few.0 back.few.1 back.cleaned in
+    let up : IsGivenUp now.frames now.held v.held c.replace.new.self.held x = up_over now w v c.replace.new.self.held c.oldest-oldest.result x is full oldest cleaned c.self-2.view_is c.requires.absent refl c.replace.ensures.held in
     record {
       rest = up.rest;
       state = state_over now w v c.replace.new.self (x ∷ up.rest) c.self-2.view_is c.in_ok-write_back.ensures.same c.replace.ensures.same.0 up.second_is;
@@ -91,7 +98,9 @@ returns-clause-cache g c =
     let full : now.frames ≤ length now.held = subst (λ (z : State). z.frames ≤ length z.held) c.self.view_is (omega (arith, c.len.ensures.count, c.frames.ensures, c.if-len-frames.false)) in
     let oldest : IsOldest now.held c.oldest-oldest.result = subst (λ (z : State). IsOldest z.held c.oldest-oldest.result) c.self.view_is c.oldest-oldest.ensures.last in
     let x : Held = record { array = c.args.array; tile = c.args.tile; frame = c.oldest-oldest.result; marked = c.args.marked } in
-    let up : IsGivenUp now.frames now.held v.held c.replace.new.self.held x = up_over now w v c.replace.new.self.held c.oldest-oldest.result x is full oldest c.in_ok-write_back.ensures.cleaned c.self-2.view_is c.requires.absent refl c.replace.ensures.held in
+    let back = c.in_ok-write_back.ensures in
+    let cleaned : IsCleaned now.held w.held c.oldest-oldest.result = frame_cleaned now.frames c.oldest-oldest.result c.in_ok-write_back.field-0 now.held w.held is.apart back.few.0 back.few.1 back.cleaned in
+    let up : IsGivenUp now.frames now.held v.held c.replace.new.self.held x = up_over now w v c.replace.new.self.held c.oldest-oldest.result x is full oldest cleaned c.self-2.view_is c.requires.absent refl c.replace.ensures.held in
     let state = state_over now w v c.replace.new.self c.replace.new.self.held c.self-2.view_is c.in_ok-write_back.ensures.same c.replace.ensures.same.0 refl in
     subst IsCache (sym state) (cache_over now v.held c.replace.new.self.held x is up c.requires.exists c.requires.writable)
 
@@ -105,7 +114,9 @@ invariant_of-self-2 g c =
     let full : now.frames ≤ length now.held = subst (λ (z : State). z.frames ≤ length z.held) c.self.view_is (omega (arith, c.len.ensures.count, c.frames.ensures, c.if-len-frames.false)) in
     let oldest : IsOldest now.held c.oldest-oldest.result = subst (λ (z : State). IsOldest z.held c.oldest-oldest.result) c.self.view_is c.oldest-oldest.ensures.last in
     let x : Held = record { array = c.args.array; tile = c.args.tile; frame = c.oldest-oldest.result; marked = c.args.marked } in
-    let up : IsGivenUp now.frames now.held v.held c.replace.new.self.held x = up_over now w v c.replace.new.self.held c.oldest-oldest.result x is full oldest c.in_ok-write_back.ensures.cleaned c.self-2.view_is c.requires.absent refl c.replace.ensures.held in
+    let back = c.in_ok-write_back.ensures in
+    let cleaned : IsCleaned now.held w.held c.oldest-oldest.result = frame_cleaned now.frames c.oldest-oldest.result c.in_ok-write_back.field-0 now.held w.held is.apart back.few.0 back.few.1 back.cleaned in
+    let up : IsGivenUp now.frames now.held v.held c.replace.new.self.held x = up_over now w v c.replace.new.self.held c.oldest-oldest.result x is full oldest cleaned c.self-2.view_is c.requires.absent refl c.replace.ensures.held in
     let state = state_over now w v c.replace.new.self c.replace.new.self.held c.self-2.view_is c.in_ok-write_back.ensures.same c.replace.ensures.same.0 refl in
     record {
       table_arrays = c.replace.ensures.same.1 ∙ c.self-2.invariant.table_arrays;
@@ -122,5 +133,7 @@ returns-clause-arrays g c y told z after =
     let full : now.frames ≤ length now.held = subst (λ (z : State). z.frames ≤ length z.held) c.self.view_is (omega (arith, c.len.ensures.count, c.frames.ensures, c.if-len-frames.false)) in
     let oldest : IsOldest now.held c.oldest-oldest.result = subst (λ (z : State). IsOldest z.held c.oldest-oldest.result) c.self.view_is c.oldest-oldest.ensures.last in
     let x : Held = record { array = c.args.array; tile = c.args.tile; frame = c.oldest-oldest.result; marked = c.args.marked } in
-    let up : IsGivenUp now.frames now.held v.held c.replace.new.self.held x = up_over now w v c.replace.new.self.held c.oldest-oldest.result x is full oldest c.in_ok-write_back.ensures.cleaned c.self-2.view_is c.requires.absent refl c.replace.ensures.held in
+    let back = c.in_ok-write_back.ensures in
+    let cleaned : IsCleaned now.held w.held c.oldest-oldest.result = frame_cleaned now.frames c.oldest-oldest.result c.in_ok-write_back.field-0 now.held w.held is.apart back.few.0 back.few.1 back.cleaned in
+    let up : IsGivenUp now.frames now.held v.held c.replace.new.self.held x = up_over now w v c.replace.new.self.held c.oldest-oldest.result x is full oldest cleaned c.self-2.view_is c.requires.absent refl c.replace.ensures.held in
     same_over now w v c.replace.new.self.held x y z c.args.words.now is up c.self-2.view_is c.in_ok-write_back.ensures.same (c.in_ok-write_back.ensures.arrays y told z after)
