@@ -1,10 +1,11 @@
 -- Candidates that stand for a state have entries in the groups of its upper parts.
-use Rattle.std.proofs.Common.{◌≡◌, ◌↔◌, ℕ, ◌+◌, ◌*◌, ◌<◌, ◌≤◌, ◌%◌, ◌∙◌, Bool, inl, inr, sym, ap, subst, arith, List, [], ◌∷◌, ◌++◌, length, map, get_or, set}
+use Rattle.std.proofs.Common.{◌≡◌, ◌↔◌, ℕ, ◌+◌, ◌*◌, ◌<◌, ◌≤◌, ◌%◌, ◌∙◌, ◌⊎◌, Bool, inl, inr, sym, ap, subst, arith, List, [], ◌∷◌, ◌++◌, length, map, get_or, set, replicate}
 use Rattle.std.specs.Prelude.{IsTrue}
 use Rattle.std.specs.List.{All, Any, Contains}
-use Rattle.std.proofs.lemmas.Bool.{cases_eq}
-use Rattle.std.proofs.lemmas.List.{length_push, length-map, get_or_append_left, get_or_push, get_or-set_same, get_or-set_other, length-set}
-use Rattle.std.proofs.lemmas.List.Elements.{All-contains, Contains-append_left, Contains-push}
+use Rattle.std.proofs.lemmas.Bool.{cases_eq, cases_lt}
+use Rattle.std.proofs.lemmas.List.{length_push, length-map, get_or_append_left, get_or_push, get_or-set_same, get_or-set_other, length-set, get_or-replicate, get_or_past, length-replicate}
+use Rattle.std.proofs.lemmas.List.Elements.{All-contains, Contains-append_left, Contains-push, Contains-push_cases}
+use Rattle.std.proofs.lemmas.Grind.{get_or_default_zero}
 use Rattle.tce_space.specs.IndexSet.{IsWithin, has}
 use Rattle.tce_states.specs.Relation.{Relation, above}
 use Rattle.tce_nesting.proofs.RowLists.{unchanged_at, appended_at}
@@ -12,7 +13,7 @@ use Rattle.tce_candidates.specs.declared.candidate.Candidate.{Candidate}
 use Rattle.tce_candidates.specs.declared.groups.Entry.{Entry}
 use Rattle.tce_candidates.specs.Candidates.{Stands}
 use Rattle.tce_candidates.specs.Parts.{IsUpperPart, AreMarksOf}
-use Rattle.tce_candidates.specs.Groups.{IsEntered, AreEntered, AreFalling, StandsAt, PartStands, key_of, group_of}
+use Rattle.tce_candidates.specs.Groups.{IsEntered, AreEntered, AreFalling, HaveLeasts, StandsAt, PartStands, key_of, group_of}
 use Rattle.tce_candidates.proofs.Parts.{upper_of_coarser}
 
 -- some group of the parts has an entry of a candidate that stands for the state
@@ -128,6 +129,62 @@ module _ (old : List (List Entry)) (number : ℕ) (entry : Entry) (low : number 
       subst (λ n. Contains (get_or (set old number more) (key % n) []) e) (sym (length-set old number more))
       (stays_at (key % length old) e inn)
 
+  -- so does its least cost
+  least_stays : (leasts lower : List ℕ) → HaveLeasts old leasts → length lower ≡ length leasts → ((k : ℕ) → get_or lower k 0 ≤ get_or leasts k 0) → get_or lower number 0 ≤ entry.cost
+      → HaveLeasts (set old number more) lower
+  least_stays leasts lower before same below at = record {
+    some = subst (λ n. 0 < n) (sym (length-set old number more)) before.some;
+    each = same ∙ before.each ∙ sym (length-set old number more);
+    least = least;
+  }
+    where
+      here : (e : Entry) → Contains more e → get_or lower number 0 ≤ e.cost
+      here e inn = elim (Contains-push_cases (get_or old number []) entry e inn) [
+        | inl was ↦ omega (arith, below number, before.least number e was)
+        | inr same_entry ↦ subst (λ (x : Entry). get_or lower number 0 ≤ x.cost) same_entry at
+      ]
+
+      least : (k : ℕ) (e : Entry) → Contains (get_or (set old number more) k []) e → get_or lower k 0 ≤ e.cost
+      least k e inn = elim (cases_eq k number) [
+        | inl is ↦
+            let at_number = subst (λ n. Contains (get_or (set old number more) n []) e) is inn in
+            subst (λ n. get_or lower n 0 ≤ e.cost) (sym is) (here e (subst (λ xs. Contains xs e) (get_or-set_same old number more [] low) at_number))
+        | inr other ↦ omega (arith, below k, before.least k e (subst (λ xs. Contains xs e) (get_or-set_other old number k more [] other) inn))
+      ]
+
+-- without entries
+pub leasts_of_none : (groups : List (List Entry)) (leasts : List ℕ) (count : ℕ) → 0 < count → groups ≡ replicate {A = List Entry} count [] → length leasts ≡ length groups → HaveLeasts groups leasts
+leasts_of_none groups leasts count some is each = record {
+  some = subst (λ gs. 0 < length gs) (sym is) (omega (arith, some, length-replicate {A = List Entry} count []));
+  each = each;
+  least = λ k e inn. absurd (none k e (subst (λ gs. Contains (get_or gs k []) e) is inn));
+}
+  where
+    nothing : (e : Entry) → Contains {X = Entry} [] e → ⊥
+    nothing e inn = omega (arith, inn.2)
+
+    none : (k : ℕ) (e : Entry) → Contains (get_or (replicate {A = List Entry} count []) k []) e → ⊥
+    none k e inn = elim (cases_lt k count) [
+      | inl low ↦ nothing e (subst (λ xs. Contains xs e) (get_or-replicate {A = List Entry} count k [] [] low) inn)
+      | inr past ↦ nothing e (subst (λ xs. Contains xs e) (get_or_past (replicate {A = List Entry} count []) k [] (omega (arith, past, length-replicate {A = List Entry} count []))) inn)
+    ]
+
+-- the least cost of a group, as it is read
+pub least_found : {X : Type 0} (lists : List X) (f : X → List Entry) (groups : List (List Entry)) (leasts : List ℕ) (count number key least : ℕ) → map f lists ≡ groups
+    → HaveLeasts (map f lists) leasts → number ≡ key % count → number < count → count ≡ length lists → least ≡ get_or leasts number least
+    → (entry : Entry) → Contains (group_of groups key) entry → least ≤ entry.cost
+least_found lists f groups leasts count number key least shown have named low same is e inn =
+    let at : key % length groups ≡ number = sym (named ∙ ap (λ n. key % n) (same ∙ sym (length-map lists f) ∙ ap length shown)) in
+    let read : least ≡ get_or leasts number 0 = is ∙ get_or_default_zero leasts number least (omega (arith, low, same, have.each, length-map lists f)) in
+    subst (λ n. n ≤ e.cost) (sym read)
+    (have.least number e (subst (λ gs. Contains (get_or gs number []) e) (sym shown) (subst (λ k. Contains (get_or groups k []) e) at inn)))
+
+-- nothing in a group whose least cost is more than a limit stands for a state
+pub none_stands : (outer : ℕ) (relation : Relation) (limit marks : ℕ) (candidates : List Candidate) (group : List Entry) (least : ℕ) → ((entry : Entry) → Contains group entry → least ≤ entry.cost) → limit < least
+    → Any (StandsAt outer relation limit marks candidates) group → ⊥
+none_stands outer relation limit marks candidates group least each dear found =
+    omega (arith, each found.1 (found.0, found.2, found.3), found.4.cheap, dear)
+
 pub number_named : {X : Type 0} (lists : List X) (count number key : ℕ) → number ≡ key % count → count ≡ length lists → number ≡ key % length lists
 number_named lists count number key is same = is ∙ ap (λ n. key % n) same
 
@@ -153,6 +210,20 @@ module _ {X : Type 0} (lists : List X) (f : X → List Entry) (groups : List (Li
 
   pub groups_unchanged : f new ≡ f old → StayEntered groups (map f (set lists number new))
   groups_unchanged same = subst (StayEntered groups) (sym (unchanged_at lists f number old new is same ∙ shown)) (λ k e inn. inn)
+
+  pub leasts_kept : (entry : Entry) (leasts lower : List ℕ) → f new ≡ f old ++ entry ∷ [] → HaveLeasts groups leasts → length lower ≡ length leasts
+      → ((k : ℕ) → get_or lower k 0 ≤ get_or leasts k 0) → get_or lower number 0 ≤ entry.cost → HaveLeasts (map f (set lists number new)) lower
+  leasts_kept entry leasts lower grown before same below at =
+      subst (λ gs. HaveLeasts gs lower) (sym (shown_set (entry ∷ []) grown)) (least_stays groups number entry inside leasts lower before same below at)
+
+  pub leasts_unchanged : (leasts lower : List ℕ) → f new ≡ f old → HaveLeasts groups leasts → length lower ≡ length leasts
+      → ((k : ℕ) → get_or lower k 0 ≤ get_or leasts k 0) → HaveLeasts (map f (set lists number new)) lower
+  leasts_unchanged leasts lower same before count below =
+      subst (λ gs. HaveLeasts gs lower) (sym (unchanged_at lists f number old new is same ∙ shown)) (record {
+        some = before.some;
+        each = count ∙ before.each;
+        least = λ k e inn. omega (arith, below k, before.least k e inn);
+      })
 
 -- the parts of a state, as they are looked up
 pub covers_from : (outer limit marks : ℕ) (inner classes : List ℕ) (groups : List (List Entry)) (slice candidates : List Candidate) (read parts : List ℕ) (result : Bool)

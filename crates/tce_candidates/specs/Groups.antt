@@ -25,6 +25,12 @@ key_of part under third = (part * 1021 + under) * 1021 + third
 abbrev pub group_of : List (List Entry) → ℕ → List Entry
 group_of groups key = slice_index_or groups (key % length groups) []
 
+-- there are groups, and for each a cost that none of its entries is below
+pub record HaveLeasts (groups : List (List Entry)) (leasts : List ℕ) : Type 0 where
+  pub some : 0 < length groups
+  pub each : length leasts ≡ length groups
+  pub least : (k : ℕ) (entry : Entry) → Contains (slice_index_or groups k []) entry → slice_index_or leasts k 0 ≤ entry.cost
+
 -- three of the parts fall as numbers, or end in empty ones
 pub record AreFalling (parts : List ℕ) (part under third : ℕ) : Type 0 where
   pub first : Contains parts part

@@ -3,7 +3,7 @@ ghost use Rattle.std.specs.Prelude.{◌≡◌, ◌↔◌, ◌-◌, ◌<◌, ◌�
 ghost use Rattle.tce_space.specs.IndexSet.{empty};
 ghost use Rattle.tce_states.specs.Relation.{above};
 ghost use Rattle.tce_candidates.specs.Candidates.{Stands};
-ghost use Rattle.tce_candidates.specs.Groups.{StandsAt, TripleStands, PairStands, PartStands};
+ghost use Rattle.tce_candidates.specs.Groups.{group_of, StandsAt, TripleStands, PairStands, PartStands};
 
 use crate::candidate::Candidate;
 use crate::groups::{Entry, Groups, key_of};
@@ -229,7 +229,20 @@ fn triple_covers(
         sought.now.state.now.cost sought.now.marks groups.now candidates.now part under third }
 {
     third.bits() <= under.bits().saturating_sub(1)
-        && group_covers(candidates, groups.of(key_of(part, under, third)), sought)
+        && key_covers(candidates, groups, sought, key_of(part, under, third))
+}
+
+// Whether some candidate of the group of a key stands for the state. None does where the least cost there is more.
+fn key_covers(candidates: &[Candidate], groups: &Groups, sought: &Sought, key: usize) -> bool
+    ensures { IsTrue result ↔ Any (StandsAt sought.now.outer (above sought.now.state.now.classes)
+        sought.now.state.now.cost sought.now.marks candidates.now) (group_of groups.now key) }
+{
+    let state = sought.state;
+    let least = groups.least_of(key);
+    if state.cost < least {
+        return false;
+    }
+    group_covers(candidates, groups.of(key), sought)
 }
 
 // Whether some candidate of a group stands for the state. What came last is asked first: it mostly costs least.

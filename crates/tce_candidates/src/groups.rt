@@ -1,5 +1,5 @@
 // Places of candidates in groups, so that few of them need be compared with a state.
-ghost use Rattle.std.specs.Prelude.{◌≡◌, ◌<◌, ◌+◌, ◌*◌, ◌%◌, ℕ, replicate, [], IfOk, OnOk, Contains};
+ghost use Rattle.std.specs.Prelude.{◌≡◌, ◌<◌, ◌≤◌, ◌+◌, ◌*◌, ◌%◌, ℕ, replicate, slice_index_or, [], length, IfOk, OnOk, Contains};
 ghost use Rattle.tce_candidates.specs.Groups.{key_of, group_of};
 ghost use Rattle.tce_candidates.specs.declared.groups.Entry.{Entry};
 
@@ -15,21 +15,23 @@ pub(crate) struct Entry {
     pub(crate) marks: IndexSet,
 }
 
-/// Lists of entries, one for each remainder of a key.
+/// Lists of entries, one for each remainder of a key, with a cost for each that none of its entries is below.
 #[derive(Drop)]
 pub(crate) struct Groups {
     lists: Vec<Vec<Entry>>,
+    leasts: Vec<u128>,
 }
 
 impl Model for Groups {
-    ghost use Rattle.std.specs.Prelude.{◌<◌, List, map, length};
+    ghost use Rattle.std.specs.Prelude.{List, map};
     ghost use Rattle.tce_candidates.specs.declared.groups.Entry as kept;
+    ghost use Rattle.tce_candidates.specs.Groups.{HaveLeasts};
 
     ghost Value = { List (List kept.Entry) };
 
     ghost view = { λ g. map (λ list. list.items) g.lists.items };
 
-    ghost invariant = { λ g. 0 < length g.lists.items };
+    ghost invariant = { λ g. HaveLeasts (map (λ list. list.items) g.lists.items) g.leasts.items };
 }
 
 /// The key of three sets of loops. Its factor is a prime, which keeps sets apart that differ in few loops.
@@ -48,6 +50,18 @@ fn number_of(key: usize, count: usize) -> usize
     key % count
 }
 
+// Lowers one of the costs to another, where that is less.
+fn lower(leasts: &mut Vec<u128>, number: usize, cost: u128)
+    requires { number < length leasts.old.items }
+    ensures count { length leasts.new.items ≡ length leasts.old.items }
+    ensures none_raised { (k : ℕ) → slice_index_or leasts.new.items k 0 ≤ slice_index_or leasts.old.items k 0 }
+    ensures at { slice_index_or leasts.new.items number 0 ≤ cost }
+{
+    if cost < leasts[number] {
+        leasts[number] = cost;
+    }
+}
+
 impl Groups {
     /// So many groups without entries.
     pub(crate) fn new(alloc: Global, count: usize) -> Result<Groups, AllocError>
@@ -55,10 +69,12 @@ impl Groups {
         ensures { IfOk result (λ groups. groups ≡ replicate count []) }
     {
         let mut lists = Vec::with_capacity(alloc, count)?;
+        let mut leasts = Vec::with_capacity(alloc, count)?;
         for _ in 0..count {
             lists.push(Vec::new(alloc))?;
+            leasts.push(u128::MAX)?;
         }
-        Ok(Groups { lists })
+        Ok(Groups { lists, leasts })
     }
 
     /// The entries of the group of a key.
@@ -68,6 +84,14 @@ impl Groups {
         self.lists[number_of(key, self.lists.len())].as_slice()
     }
 
+    /// A cost that no entry of the group of a key is below.
+    pub(crate) fn least_of(&self, key: usize) -> u128
+        ensures { (e : Entry) → Contains (group_of self.now key) e → result ≤ e.cost }
+    {
+        let number = number_of(key, self.lists.len());
+        self.leasts[number]
+    }
+
     /// Appends an entry to the group of a key.
     pub(crate) fn push(&mut self, key: usize, entry: Entry) -> Result<(), AllocError>
         ensures added { OnOk result (Contains (group_of self.new key) entry) }
@@ -75,6 +99,7 @@ impl Groups {
             → Contains (group_of self.new k) e }
     {
         let number = number_of(key, self.lists.len());
+        lower(&mut self.leasts, number, entry.cost);
         self.lists[number].push(entry)?;
         Ok(())
     }

@@ -1,5 +1,6 @@
-use Rattle.std.proofs.Common.{arith}
-use Rattle.tce_candidates.proofs.Grouping.{groups_added, groups_kept, groups_unchanged, number_named}
+use Rattle.std.proofs.Common.{subst, arith}
+use Rattle.tce_candidates.specs.Groups.{HaveLeasts}
+use Rattle.tce_candidates.proofs.Grouping.{groups_added, groups_kept, groups_unchanged, leasts_kept, leasts_unchanged, number_named}
 use Rattle.tce_candidates.proofs.groups.Groups.push.Goals as goal
 
 pub returns-in_err-push-clause-kept : goal.returns-in_err-push-clause-kept
@@ -16,3 +17,15 @@ pub returns-clause-kept : goal.returns-clause-kept
 returns-clause-kept c k e inn =
     groups_kept c.self.inside.lists.items (λ list. list.items) c.args.self.now c.number_of-number.result c.args.key c.index_mut.result.now c.push.new.self c.self.view_is (number_named c.self.inside.lists.items c.len.result c.number_of-number.result c.args.key c.number_of-number.ensures.value (omega (arith, c.len.ensures, c.self.inside.lists.ok.0))) (omega (arith, c.number_of-number.ensures.inside, c.len.ensures, c.self.inside.lists.ok.0)) c.index_mut.ensures.value
     c.args.entry c.in_ok-push.ensures.items k e inn
+
+pub invariant_of-self : goal.invariant_of-self
+invariant_of-self c =
+    leasts_unchanged c.self.inside.lists.items (λ list. list.items) c.args.self.now c.number_of-number.result c.args.key c.index_mut.result.now c.push.new.self c.self.view_is (number_named c.self.inside.lists.items c.len.result c.number_of-number.result c.args.key c.number_of-number.ensures.value (omega (arith, c.len.ensures, c.self.inside.lists.ok.0))) (omega (arith, c.number_of-number.ensures.inside, c.len.ensures, c.self.inside.lists.ok.0)) c.index_mut.ensures.value
+    c.self.inside.leasts.items c.lower.new.leasts.items c.in_err-push.ensures.items
+    (subst (λ gs. HaveLeasts gs c.self.inside.leasts.items) c.self.view_is c.self.invariant) c.lower.ensures.count c.lower.ensures.none_raised
+
+pub invariant_of-self-2 : goal.invariant_of-self-2
+invariant_of-self-2 c =
+    leasts_kept c.self.inside.lists.items (λ list. list.items) c.args.self.now c.number_of-number.result c.args.key c.index_mut.result.now c.push.new.self c.self.view_is (number_named c.self.inside.lists.items c.len.result c.number_of-number.result c.args.key c.number_of-number.ensures.value (omega (arith, c.len.ensures, c.self.inside.lists.ok.0))) (omega (arith, c.number_of-number.ensures.inside, c.len.ensures, c.self.inside.lists.ok.0)) c.index_mut.ensures.value
+    c.args.entry c.self.inside.leasts.items c.lower.new.leasts.items c.in_ok-push.ensures.items
+    (subst (λ gs. HaveLeasts gs c.self.inside.leasts.items) c.self.view_is c.self.invariant) c.lower.ensures.count c.lower.ensures.none_raised c.lower.ensures.at
