@@ -3,4 +3,5 @@ pub mod Firsts
 pub mod FromTables
 pub mod Joints
 pub mod RunParts
+pub mod StretchParts
 pub mod Verdicts

@@ -1,3 +1,5 @@
 pub mod First
 pub mod Joint
+pub mod Node
+pub mod Stretches
 pub mod Verdict

@@ -1,43 +1,80 @@
 // Whether rows of a node stand for all steps from rows of its operands, told without the order in which steps are looked for.
-ghost use Rattle.std.specs.Prelude.{◌≡◌, ◌<◌, ◌≤◌, length, IsTrue, All};
+ghost use Rattle.std.specs.Prelude.{◌≡◌, ◌<◌, ◌≤◌, ◌^◌, length, IsTrue, All};
 ghost use Rattle.tce_space.specs.Limits.{cost_limit, max_volume};
-ghost use Rattle.tce_tree.specs.ContractionTree.{operations, node_loops};
-ghost use Rattle.tce_states.specs.Cover.{StepsCovered};
-ghost use Rattle.tce_nesting.specs.Choices.{AreChoices};
+ghost use Rattle.tce_tree.specs.ContractionTree.{node_loops};
 ghost use Rattle.tce_nesting.specs.Ends.{AreRuns};
-ghost use Rattle.tce_check.specs.Verdict.{WhereJoined};
-ghost use Rattle.tce_check.specs.Joint.{IsBound};
+ghost use Rattle.tce_check.specs.Joint.{ChoiceCovered};
+ghost use Rattle.tce_check.specs.Node.{IsReady, PairCovered, AreBelowLimit};
 
+use crate::joint::joint;
 use crate::runs::{BLOCK, runs_of};
-use crate::steps::Node;
-use tce_nesting::{Row, Run, ends_of, have_conflict};
+use crate::steps::{Node, state_of};
+use crate::stretches::allows_none;
+use tce_nesting::{Choice, Row, Run, ends_of, have_conflict};
 
 impl<'a> Node<'a> {
+    // Whether the choice's set may not be fused, or some row is seen to stand for its step.
+    fn covers_choice(&self, joint: &Row, choice: &Choice, hints: &mut [u32]) -> bool
+        requires ready { IsReady self.now }
+        requires small { joint.now.cost < 2 ^ 97 }
+        requires size { choice.now.size ≤ max_volume }
+        ensures { IsTrue result → ChoiceCovered self.now.outer self.now.rows.now joint.now choice.now }
+    {
+        if self.stands_for_all(joint.cost + choice.size) {
+            return true;
+        }
+        if !joint.classes.allowed(choice.fused) {
+            return true;
+        }
+        self.groups
+            .is_soon_stood_for(hints, self.rows, &state_of(joint, choice), self.outer)
+    }
+
+    // The same of each choice. Of most stretches none is allowed.
+    fn covers_choices(&self, joint: &Row, hints: &mut [u32]) -> bool
+        requires ready { IsReady self.now }
+        requires small { joint.now.cost < 2 ^ 97 }
+        ensures { IsTrue result → All (ChoiceCovered self.now.outer self.now.rows.now joint.now) self.now.choices.now }
+    {
+        let loops = self.tree.loops(self.number);
+        let mut place = 0;
+        while place < self.choices.len() {
+            let stretch = self.stretches[place];
+            if allows_none(&joint.classes, &stretch, loops) {
+                place = stretch.until;
+                continue;
+            }
+            if !self.covers_choice(joint, &self.choices[place], hints) {
+                return false;
+            }
+            place += 1;
+        }
+        true
+    }
+
     // Whether some row stands for each step from two rows.
     fn covers_pair(&self, left: &Row, right: &Row, hints: &mut [u32]) -> bool
-        requires inside { self.now.number < operations self.now.tree.now }
-        requires choices { AreChoices self.now.space.now self.now.tree.now self.now.number self.now.choices.now }
-        requires sizes { All (λ choice. choice.size ≤ max_volume) self.now.choices.now }
-        requires bound { IsBound self.now.outer self.now.rows.now self.now.bound }
+        requires ready { IsReady self.now }
         requires left { left.now.cost < cost_limit }
         requires right { right.now.cost < cost_limit }
-        ensures { IsTrue result → WhereJoined self.now.tree.now self.now.number
-            (StepsCovered self.now.space.now self.now.tree.now self.now.outer self.now.number self.now.rows.now) left.now right.now }
+        ensures { IsTrue result → PairCovered self.now left.now right.now }
     {
-        self.first_uncovered_step(left, right).is_none()
+        if self.stands_for_all(left.cost + right.cost) {
+            return true;
+        }
+        match joint(left, right, self.tree.loops(self.number)) {
+            Some(joint) => self.covers_choices(&joint, hints),
+            None => true,
+        }
     }
 
     // Whether of one left row and each of the right ones the ends show that no step from them needs a row, or else some row stands for each.
     fn covers_with(&self, left: &Row, rights: &[Row], runs: &[Run], hints: &mut [u32]) -> bool
-        requires inside { self.now.number < operations self.now.tree.now }
-        requires choices { AreChoices self.now.space.now self.now.tree.now self.now.number self.now.choices.now }
-        requires sizes { All (λ choice. choice.size ≤ max_volume) self.now.choices.now }
-        requires bound { IsBound self.now.outer self.now.rows.now self.now.bound }
+        requires ready { IsReady self.now }
         requires left { left.now.cost < cost_limit }
-        requires rights { All (λ row. row.cost < cost_limit) rights.now }
+        requires rights { AreBelowLimit rights.now }
         requires runs { AreRuns (node_loops self.now.tree.now self.now.number) rights.now runs.now }
-        ensures { IsTrue result → All (WhereJoined self.now.tree.now self.now.number
-            (StepsCovered self.now.space.now self.now.tree.now self.now.outer self.now.number self.now.rows.now) left.now) rights.now }
+        ensures { IsTrue result → All (PairCovered self.now left.now) rights.now }
     {
         let own = ends_of(left, self.tree.loops(self.number));
         let mut place = 0;
@@ -58,14 +95,10 @@ impl<'a> Node<'a> {
     // The same of each left row and each of a few right ones.
     fn covers_few(&self, lefts: &[Row], rights: &[Row], hints: &mut [u32]) -> bool
         requires few { length rights.now ≤ 1024 }
-        requires inside { self.now.number < operations self.now.tree.now }
-        requires choices { AreChoices self.now.space.now self.now.tree.now self.now.number self.now.choices.now }
-        requires sizes { All (λ choice. choice.size ≤ max_volume) self.now.choices.now }
-        requires bound { IsBound self.now.outer self.now.rows.now self.now.bound }
-        requires lefts { All (λ row. row.cost < cost_limit) lefts.now }
-        requires rights { All (λ row. row.cost < cost_limit) rights.now }
-        ensures { IsTrue result → All (λ left. All (WhereJoined self.now.tree.now self.now.number
-            (StepsCovered self.now.space.now self.now.tree.now self.now.outer self.now.number self.now.rows.now) left) rights.now) lefts.now }
+        requires ready { IsReady self.now }
+        requires lefts { AreBelowLimit lefts.now }
+        requires rights { AreBelowLimit rights.now }
+        ensures { IsTrue result → All (λ left. All (PairCovered self.now left) rights.now) lefts.now }
     {
         let runs = runs_of(rights, self.tree.loops(self.number));
         for left in lefts {
@@ -78,14 +111,10 @@ impl<'a> Node<'a> {
 
     // The same of each left row and each right one.
     pub(crate) fn covers(&self, lefts: &[Row], rights: &[Row], hints: &mut [u32]) -> bool
-        requires inside { self.now.number < operations self.now.tree.now }
-        requires choices { AreChoices self.now.space.now self.now.tree.now self.now.number self.now.choices.now }
-        requires sizes { All (λ choice. choice.size ≤ max_volume) self.now.choices.now }
-        requires bound { IsBound self.now.outer self.now.rows.now self.now.bound }
-        requires lefts { All (λ row. row.cost < cost_limit) lefts.now }
-        requires rights { All (λ row. row.cost < cost_limit) rights.now }
-        ensures { IsTrue result → All (λ left. All (WhereJoined self.now.tree.now self.now.number
-            (StepsCovered self.now.space.now self.now.tree.now self.now.outer self.now.number self.now.rows.now) left) rights.now) lefts.now }
+        requires ready { IsReady self.now }
+        requires lefts { AreBelowLimit lefts.now }
+        requires rights { AreBelowLimit rights.now }
+        ensures { IsTrue result → All (λ left. All (PairCovered self.now left) rights.now) lefts.now }
     {
         let mut rest = rights;
         while !rest.is_empty() {

@@ -10,6 +10,7 @@ mod root;
 mod rules;
 mod runs;
 mod steps;
+mod stretches;
 mod tables;
 mod verdict;
 

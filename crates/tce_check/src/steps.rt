@@ -1,19 +1,17 @@
 // The steps at a node from rows of its operands, and whether its rows stand for them.
 ghost use Rattle.std.specs.Prelude.{◌≡◌, ◌+◌, ◌^◌, ◌<◌, ◌≤◌, IsTrue, false, IfSome, MatchOption, All, Any};
 ghost use Rattle.tce_space.specs.Limits.{cost_limit, max_volume};
-ghost use Rattle.tce_tree.specs.ContractionTree.{operations};
 ghost use Rattle.tce_states.specs.Relation.{Relation};
 ghost use Rattle.tce_states.specs.Row.{StandsFor};
-ghost use Rattle.tce_states.specs.Cover.{StepsCovered};
 ghost use Rattle.tce_states.specs.Classes.{IsNesting};
 ghost use Rattle.tce_nesting.specs.Classes.{restricted};
-ghost use Rattle.tce_nesting.specs.Choices.{AreChoices};
 ghost use Rattle.tce_check.specs.First.{First, FirstPair};
-ghost use Rattle.tce_check.specs.Verdict.{WhereJoined, IsLeastUncovered};
-ghost use Rattle.tce_check.specs.Joint.{ChoiceCovered, ChoiceUncovered, IsFirstUncovered, IsBound};
+ghost use Rattle.tce_check.specs.Joint.{ChoiceCovered, ChoiceUncovered, IsFirstUncovered};
+ghost use Rattle.tce_check.specs.Node.{IsReady, PairCovered, IsFailing, AreBelowLimit};
 
 use crate::groups::Groups;
 use crate::joint::joint;
+use crate::stretches::Stretch;
 use crate::verdict::Verdict;
 use tce_nesting::{Choice, Row};
 use tce_space::{IndexSet, Space};
@@ -27,6 +25,7 @@ pub(crate) struct Node<'a> {
     pub(crate) number: u8,
     pub(crate) outer: IndexSet,
     pub(crate) choices: &'a [Choice],
+    pub(crate) stretches: &'a [Stretch],
     pub(crate) rows: &'a [Row],
     pub(crate) groups: &'a Groups<'a>,
     // Some row stands for every state that costs no less.
@@ -51,7 +50,7 @@ impl Step {
 }
 
 // The state to which the joined states of the operands lead with a choice.
-fn state_of(joint: &Row, choice: &Choice) -> Row
+pub(crate) fn state_of(joint: &Row, choice: &Choice) -> Row
     requires small { joint.now.cost < 2 ^ 97 }
     requires size { choice.now.size ≤ max_volume }
     ensures classes { result.classes ≡ restricted joint.now.classes choice.now.fused }
@@ -68,8 +67,8 @@ fn state_of(joint: &Row, choice: &Choice) -> Row
 
 impl<'a> Node<'a> {
     // Whether a row is known to stand for all states of this cost.
-    fn stands_for_all(&self, cost: u128) -> bool
-        requires bound { IsBound self.now.outer self.now.rows.now self.now.bound }
+    pub(crate) fn stands_for_all(&self, cost: u128) -> bool
+        requires { IsReady self.now }
         ensures { IsTrue result → (relation : Relation) → Any (StandsFor self.now.outer relation cost) self.now.rows.now }
     {
         match self.bound {
@@ -80,7 +79,7 @@ impl<'a> Node<'a> {
 
     // Whether the choice's set may not be fused, or some row stands for its step.
     fn is_covered(&self, joint: &Row, choice: &Choice) -> bool
-        requires bound { IsBound self.now.outer self.now.rows.now self.now.bound }
+        requires ready { IsReady self.now }
         requires small { joint.now.cost < 2 ^ 97 }
         requires size { choice.now.size ≤ max_volume }
         ensures yes { IsTrue result → ChoiceCovered self.now.outer self.now.rows.now joint.now choice.now }
@@ -97,11 +96,12 @@ impl<'a> Node<'a> {
 
     // The first choice for whose step no row stands.
     fn first_uncovered_choice(&self, joint: &Row) -> Option<Choice>
-        requires sizes { All (λ choice. choice.size ≤ max_volume) self.now.choices.now }
-        requires bound { IsBound self.now.outer self.now.rows.now self.now.bound }
+        requires ready { IsReady self.now }
         requires small { joint.now.cost < 2 ^ 97 }
-        ensures first { MatchOption result (All (ChoiceCovered self.now.outer self.now.rows.now joint.now) self.now.choices.now)
-            (λ choice. IsFirstUncovered self.now.outer self.now.rows.now joint.now self.now.choices.now choice) }
+        ensures first { MatchOption result
+            (All (ChoiceCovered self.now.outer self.now.rows.now joint.now) self.now.choices.now)
+            (λ choice. IsFirstUncovered self.now.outer self.now.rows.now joint.now
+            self.now.choices.now choice) }
         ensures size { IfSome result (λ choice. choice.size ≤ max_volume) }
     {
         for choice in self.choices {
@@ -114,15 +114,11 @@ impl<'a> Node<'a> {
 
     // Of the steps from two rows the one of the least set for which no row stands.
     pub(crate) fn first_uncovered_step(&self, left: &Row, right: &Row) -> Option<Step>
-        requires inside { self.now.number < operations self.now.tree.now }
-        requires choices { AreChoices self.now.space.now self.now.tree.now self.now.number self.now.choices.now }
-        requires sizes { All (λ choice. choice.size ≤ max_volume) self.now.choices.now }
-        requires bound { IsBound self.now.outer self.now.rows.now self.now.bound }
+        requires ready { IsReady self.now }
         requires left { left.now.cost < cost_limit }
         requires right { right.now.cost < cost_limit }
-        ensures { MatchOption result
-            (WhereJoined self.now.tree.now self.now.number (StepsCovered self.now.space.now self.now.tree.now self.now.outer self.now.number self.now.rows.now) left.now right.now)
-            (λ found. IsLeastUncovered self.now.space.now self.now.tree.now self.now.outer self.now.number self.now.rows.now found.fused found.state left.now right.now) }
+        ensures { MatchOption result (PairCovered self.now left.now right.now)
+            (λ found. IsFailing self.now found.fused found.state left.now right.now) }
     {
         if self.stands_for_all(left.cost + right.cost) {
             return None;
@@ -138,16 +134,11 @@ impl<'a> Node<'a> {
 
     // The first such step with one left row, by the right row.
     fn first_uncovered_with(&self, left: &Row, rights: &[Row]) -> Option<Step>
-        requires inside { self.now.number < operations self.now.tree.now }
-        requires choices { AreChoices self.now.space.now self.now.tree.now self.now.number self.now.choices.now }
-        requires sizes { All (λ choice. choice.size ≤ max_volume) self.now.choices.now }
-        requires bound { IsBound self.now.outer self.now.rows.now self.now.bound }
+        requires ready { IsReady self.now }
         requires left { left.now.cost < cost_limit }
-        requires rights { All (λ row. row.cost < cost_limit) rights.now }
-        ensures { MatchOption result
-            (All (WhereJoined self.now.tree.now self.now.number (StepsCovered self.now.space.now self.now.tree.now self.now.outer self.now.number self.now.rows.now) left.now) rights.now)
-            (λ found. First (WhereJoined self.now.tree.now self.now.number (StepsCovered self.now.space.now self.now.tree.now self.now.outer self.now.number self.now.rows.now) left.now)
-            (IsLeastUncovered self.now.space.now self.now.tree.now self.now.outer self.now.number self.now.rows.now found.fused found.state left.now) rights.now) }
+        requires rights { AreBelowLimit rights.now }
+        ensures { MatchOption result (All (PairCovered self.now left.now) rights.now)
+            (λ found. First (PairCovered self.now left.now) (IsFailing self.now found.fused found.state left.now) rights.now) }
     {
         for right in rights {
             if let Some(step) = self.first_uncovered_step(left, right) {
@@ -164,16 +155,13 @@ impl<'a> Node<'a> {
         rights: &[Row],
         hints: &mut [u32],
     ) -> Option<Step>
-        requires inside { self.now.number < operations self.now.tree.now }
-        requires choices { AreChoices self.now.space.now self.now.tree.now self.now.number self.now.choices.now }
-        requires sizes { All (λ choice. choice.size ≤ max_volume) self.now.choices.now }
-        requires bound { IsBound self.now.outer self.now.rows.now self.now.bound }
-        requires lefts { All (λ row. row.cost < cost_limit) lefts.now }
-        requires rights { All (λ row. row.cost < cost_limit) rights.now }
+        requires ready { IsReady self.now }
+        requires lefts { AreBelowLimit lefts.now }
+        requires rights { AreBelowLimit rights.now }
         ensures { MatchOption result
-            (All (λ left. All (WhereJoined self.now.tree.now self.now.number (StepsCovered self.now.space.now self.now.tree.now self.now.outer self.now.number self.now.rows.now) left) rights.now) lefts.now)
-            (λ found. FirstPair (WhereJoined self.now.tree.now self.now.number (StepsCovered self.now.space.now self.now.tree.now self.now.outer self.now.number self.now.rows.now))
-            (IsLeastUncovered self.now.space.now self.now.tree.now self.now.outer self.now.number self.now.rows.now found.fused found.state) lefts.now rights.now) }
+            (All (λ left. All (PairCovered self.now left) rights.now) lefts.now)
+            (λ found. FirstPair (PairCovered self.now) (IsFailing self.now found.fused found.state)
+            lefts.now rights.now) }
     {
         if self.covers(lefts, rights, hints) {
             return None;

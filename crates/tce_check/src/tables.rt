@@ -11,6 +11,7 @@ use crate::bound::bound_of;
 use crate::groups::{ENTRIES, GROUPS, Groups, HINTS};
 use crate::operands::{leaf_row, left_rows, right_rows};
 use crate::steps::{Node, Step};
+use crate::stretches::stretches_of;
 use tce_nesting::{Tables, choices};
 use tce_space::Space;
 use tce_tree::Tree;
@@ -35,6 +36,7 @@ fn first_uncovered_at(
     let outer = tree.loops(parent);
     let choices = choices(space, tree, v);
     let rows = tables.rows(v);
+    let stretches = stretches_of(choices.as_slice());
     groups.fill(rows, outer);
     let node = Node {
         space,
@@ -42,6 +44,7 @@ fn first_uncovered_at(
         number: v,
         outer,
         choices: choices.as_slice(),
+        stretches: &stretches,
         rows,
         groups,
         bound: bound_of(rows, outer),

@@ -12,16 +12,16 @@ returns-in_err-choice c =
     let join = subst (λ s. IsJointOf s c.args.left.now c.args.right.now c.in_ok-joint.joint) c.loops.ensures.value c.in_ok-joint.ensures.joins in
     rw c.from_residual-in_err-choice.ensures
     (λ quiet. steps_of_choices node.space.now node.tree.now node.outer node.number node.rows.now c.args.left.now c.args.right.now c.in_ok-joint.joint
-    node.choices.now c.requires.inside join c.requires.choices c.in_err-choice.ensures.first)
+    node.choices.now c.requires.ready.inside join c.requires.ready.choices c.in_err-choice.ensures.first)
 
 pub returns : goal.returns
 returns c =
     let node = c.args.self.now in
     let join = subst (λ s. IsJointOf s c.args.left.now c.args.right.now c.in_ok-joint.joint) c.loops.ensures.value c.in_ok-joint.ensures.joins in
     least_of_choices node.space.now node.tree.now node.outer node.number node.rows.now c.args.left.now c.args.right.now c.in_ok-joint.joint
-    node.choices.now c.in_ok-choice.choice c.state_of-state.result c.requires.inside
+    node.choices.now c.in_ok-choice.choice c.state_of-state.result c.requires.ready.inside
     (subst (λ s. HasNoConflict s (rows_joined c.args.left.now c.args.right.now)) c.loops.ensures.value (c.in_ok-joint.ensures.quiet.0 refl))
-    join c.requires.choices c.in_ok-choice.ensures.first c.state_of-state.ensures.nesting c.state_of-state.ensures.classes c.state_of-state.ensures.cost
+    join c.requires.ready.choices c.in_ok-choice.ensures.first c.state_of-state.ensures.nesting c.state_of-state.ensures.classes c.state_of-state.ensures.cost
 
 pub returns-then-stands_for_all : goal.returns-then-stands_for_all
 returns-then-stands_for_all c =

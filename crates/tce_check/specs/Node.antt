@@ -1,0 +1,32 @@
+-- What the functions of a node rest on, and which pairs of rows they tell of.
+use Rattle.std.specs.Prelude.{ℕ, ◌<◌, ◌≤◌, List}
+use Rattle.std.specs.List.{All}
+use Rattle.tce_space.specs.Limits.{cost_limit, max_volume}
+use Rattle.tce_tree.specs.ContractionTree.{operations}
+use Rattle.tce_states.specs.Row.{Row}
+use Rattle.tce_states.specs.Cover.{StepsCovered}
+use Rattle.tce_nesting.specs.Choices.{AreChoices}
+use Rattle.tce_check.specs.Joint.{IsBound}
+use Rattle.tce_check.specs.Stretches.{AreStretches}
+use Rattle.tce_check.specs.Verdict.{WhereJoined, IsLeastUncovered}
+use Rattle.tce_check.specs.declared.steps.Node.{Node}
+
+-- the choices are those of the node, none keeps more than an array, the bound is one of the rows, and the stretches are of the choices
+pub record IsReady (node : Node) : Type 0 where
+  pub inside : node.number < operations node.tree.now
+  pub choices : AreChoices node.space.now node.tree.now node.number node.choices.now
+  pub sizes : All (λ choice. choice.size ≤ max_volume) node.choices.now
+  pub bound : IsBound node.outer node.rows.now node.bound
+  pub stretches : AreStretches node.choices.now node.stretches.now
+
+-- some row of the node stands for each step from two rows
+abbrev pub PairCovered : Node → Row → Row → Type 0
+PairCovered node = WhereJoined node.tree.now node.number (StepsCovered node.space.now node.tree.now node.outer node.number node.rows.now)
+
+-- each of the rows costs less than the limit
+abbrev pub AreBelowLimit : List Row → Type 0
+AreBelowLimit rows = All (λ row. row.cost < cost_limit) rows
+
+-- of the steps from two rows, this is the one of the least set for which no row of the node stands
+abbrev pub IsFailing : Node → ℕ → Row → Row → Row → Type 0
+IsFailing node = IsLeastUncovered node.space.now node.tree.now node.outer node.number node.rows.now
