@@ -1,5 +1,5 @@
 -- A block, from its windows on.
-use Rattle.std.proofs.Common.{◌≡◌, ℕ, ◌<◌, ◌≤◌, ◌^◌, List, length, slice_index, Some, None, sym, ap, ◌∙◌, subst, arith}
+use Rattle.std.proofs.Common.{◌≡◌, ℕ, ◌<◌, ◌≤◌, ◌^◌, List, length, slice_index, Some, None, ap, ◌∙◌, arith}
 use Rattle.tce_tree.specs.ContractionTree.{Arithmetic, multiply, add, subtract, node}
 use Rattle.tce_tree.specs.FlatTree.{left_of, right_of, kind_of, arithmetic_kind}
 use Rattle.tce_tree.specs.Value.{Assignment, arithmetic}
@@ -7,12 +7,11 @@ use Rattle.tce_tree.specs.declared.node.Operand.{Operand}
 use Rattle.tce_tree.specs.declared.node.Kind.{Kind}
 use Rattle.tce_block.specs.Parts.{Part}
 use Rattle.tce_walk.specs.Parts.{after_part}
-use Rattle.tce_strides.specs.Turns.{grown, grown_by_products, computed, operate}
+use Rattle.tce_strides.specs.Turns.{grown, computed, operate}
 use Rattle.tce_strides.specs.declared.loops.Operation.{Operation}
-use Rattle.tce_strides.specs.declared.loops.Operation.TheVariants.{Multiply}
 use Rattle.tce_layout.specs.Layout.{slot_at}
 use Rattle.tce_walk.specs.declared.machine.Tail.{Tail}
-use Rattle.tce_windows.specs.Loops.{AreMade, place_along}
+use Rattle.tce_windows.specs.Loops.{AreMade, AreProductsJoined, place_along}
 use Rattle.tce_windows.specs.declared.window.Window.{Window}
 use Rattle.tce_exec.specs.OperandWindows.{IsSlotWindow}
 use Rattle.tce_workspace.specs.Workspace.{Workspace, setting_in}
@@ -136,22 +135,17 @@ slot_places_ready y tail a part o w first left right own ready same sum_is windo
     places_ready y tail a part o tail.node left right own (omega arith) ready
     (puts_own y tail a part 1 first own ready.block same (own_window y tail a part w first own ready.block sum_is window))
 
-pub within_later : (old new : List ℕ) (order lens : List ℕ) (word : List ℕ → ℕ → List ℕ → ℕ) (out : Window) (tail : Tail) (part : Part) (w : Window) → AreMade order lens word out old new
-    → IsWithin (length old) tail part w → IsWithin (length new) tail part w
-within_later old new order lens word out tail part w made h = subst (λ n. IsWithin n tail part w) (sym made.made.same_length) h
-
-pub joined_runs : (x y : Workspace) (tail : Tail) (a : Assignment) (part : Part) (o : Operand) (w : ℕ) (windows : Windows) (own : Window) (mid new : List ℕ)
+pub joined_runs : (x y : Workspace) (tail : Tail) (a : Assignment) (part : Part) (o : Operand) (w : ℕ) (windows : Windows) (own : Window) (new : List ℕ)
     → IsPrepared x → IsKept x y → IsRead 3 x y → OperandsReady y tail a part o windows.left windows.right → PlacesReady y tail a part tail.node windows.left windows.right own
     → PlacesReady y tail a part w windows.left windows.right windows.out
-    → ((p : ℕ) → slice_index y.words p < 2 ^ 64) → ((p : ℕ) → slice_index mid p < 2 ^ 64) → tail.sum ≡ Some w
-    → AreMade (loops_of tail) part.len (λ inner. computed Multiply y.words (place_along windows.left inner) (place_along windows.right inner)) own y.words mid
-    → AreMade (loops_of tail) part.len (λ inner. grown_by_products mid (place_along windows.left inner) (place_along windows.right inner)) windows.out mid new
+    → ((p : ℕ) → slice_index y.words p < 2 ^ 64) → tail.sum ≡ Some w
+    → AreProductsJoined (loops_of tail) part.len own windows.out windows.left windows.right y.words new
     → IsRun x (with_words y new) (after_part (setting_in x) tail a part)
-joined_runs x y tail a part o w windows own mid new is kept read ready own_places out_places low low_mid sum_is made more =
+joined_runs x y tail a part o w windows own new is kept read ready own_places out_places low sum_is made =
     run_from 3 x y new tail a part (omega arith) is kept read
-    (joined_leaves y tail a part 3 2 1 1 w o windows.left windows.right own windows.out mid new ready.block low low_mid sum_is ready.reads (record {
+    (joined_leaves y tail a part 3 2 1 1 w o windows.left windows.right own windows.out made.mid new ready.block low made.words sum_is ready.reads (record {
       own_is = own_places.puts;
       out_is = out_places.puts;
       left_apart = left_apart y tail a part 1 3 tail.node own windows.left ready.block (omega arith) own_places.puts ready.reads.left_is;
       right_apart = right_apart y tail a part 1 2 tail.node o own windows.right ready.block (omega arith) own_places.puts ready.reads.right_of_is ready.reads.right_is;
-    }) made more)
+    }) made.put made.grown)

@@ -13,7 +13,7 @@ ghost use Rattle.tce_exec.specs.TailBlocks.{part_in, first_in, after_block, IsIn
 
 use crate::plan::Nest;
 use crate::position::Position;
-use crate::turns::{TailBlock, begin_block, compute_turns, grow_turns, grow_turns_by_products};
+use crate::turns::{TailBlock, begin_block, compute_turns, grow_turns, join_turns};
 use crate::windows::{Pairing, node_window, pair_windows, sum_windows};
 use tce_outside::{Disk, Failed};
 use tce_strides::Operation;
@@ -144,19 +144,9 @@ fn run_joined<D: Disk>(
     let node = at.tail.node;
     pair_windows(evaluation, store, node, pairing, first, &mut nest.windows)?;
     node_window(evaluation, store.words, node, first, &mut nest.windows.own);
-    // All words are below 2^64, before and after the products are put.
+    // All words are below 2^64.
     let _len = store.words.len();
-    let windows = &nest.windows;
-    compute_turns(
-        store.words,
-        Operation::Multiply,
-        &mut nest.sequence,
-        at,
-        &windows.own,
-        windows,
-    );
-    let _later = store.words.len();
-    grow_turns_by_products(store.words, &mut nest.sequence, at, &nest.windows);
+    join_turns(store.words, &mut nest.sequence, at, &nest.windows);
     Ok(())
 }
 

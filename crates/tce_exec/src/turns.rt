@@ -1,8 +1,8 @@
 // The turns of one block of a tail.
 ghost use Rattle.std.specs.Prelude.{◌≡◌, ◌<◌, IsTrue, length, slice_index};
 ghost use Rattle.tce_block.specs.Cuts.{part_of};
-ghost use Rattle.tce_strides.specs.Turns.{grown, grown_by_products, computed};
-ghost use Rattle.tce_windows.specs.Loops.{AreLoops, AreMade, place_along};
+ghost use Rattle.tce_strides.specs.Turns.{grown, computed};
+ghost use Rattle.tce_windows.specs.Loops.{AreLoops, AreMade, AreProductsJoined, IsResultWindow, place_along};
 ghost use Rattle.tce_windows.specs.Sequences.{IsLoopSequence};
 ghost use Rattle.tce_windows.specs.Turns.{turns_of};
 ghost use Rattle.tce_exec.specs.Blocks.{loops_of, IsWithin, HaveNone};
@@ -16,7 +16,7 @@ use tce_space::{Numbers, Space};
 use tce_strides::Operation;
 use tce_walk::Tail;
 use tce_windows::{
-    BlockLoops, LoopSequence, OperandWindows, Window, compute, grow, grow_by_products,
+    BlockLoops, LoopSequence, OperandWindows, Window, compute, compute_and_grow, grow,
 };
 use tce_words::Words;
 
@@ -82,8 +82,8 @@ pub(crate) fn grow_turns(
     grow(words, sequence, &loops_in(at), &windows.out, &windows.left);
 }
 
-/// Adds the products of the operands' words to the result's.
-pub(crate) fn grow_turns_by_products(
+/// Puts the products of the operands' words into those of `own`, and adds them after that to the result's.
+pub(crate) fn join_turns(
     words: &mut Words,
     sequence: &mut LoopSequence,
     at: &TailBlock,
@@ -91,24 +91,31 @@ pub(crate) fn grow_turns_by_products(
 )
     requires loops { AreLoops (loops_of at.now.tail.now) (part_in at.now).len }
     requires sequence { IsLoopSequence (loops_of at.now.tail.now) sequence.old }
-    requires out { IsWithin (length words.old) at.now.tail.now (part_in at.now) windows.now.out }
+    requires own { IsResultWindow (length words.old) (loops_of at.now.tail.now) (part_in at.now).len
+        windows.now.own
+        windows.now.left
+        windows.now.right }
+    requires out { IsResultWindow (length words.old) (loops_of at.now.tail.now) (part_in at.now).len
+        windows.now.out
+        windows.now.left
+        windows.now.right }
     requires left { IsWithin (length words.old) at.now.tail.now
         (part_in at.now) windows.now.left }
     requires right { IsWithin (length words.old) at.now.tail.now
         (part_in at.now) windows.now.right }
-    requires apart_from_left { HaveNone at.now.tail.now (part_in at.now)
-        windows.now.out windows.now.left }
-    requires apart_from_right { HaveNone at.now.tail.now (part_in at.now)
-        windows.now.out windows.now.right }
     ensures sequence { IsLoopSequence (loops_of at.now.tail.now) sequence.new }
-    ensures made { AreMade (loops_of at.now.tail.now) (part_in at.now).len
-        (λ inner. grown_by_products words.old (place_along windows.now.left inner) (place_along windows.now.right inner))
-        windows.now.out words.old words.new }
+    ensures made { AreProductsJoined (loops_of at.now.tail.now) (part_in at.now).len windows.now.own
+        windows.now.out
+        windows.now.left
+        windows.now.right
+        words.old
+        words.new }
 {
-    grow_by_products(
+    compute_and_grow(
         words,
         sequence,
         &loops_in(at),
+        &windows.own,
         &windows.out,
         &operands_of(windows),
     );

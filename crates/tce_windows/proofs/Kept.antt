@@ -255,10 +255,10 @@ some_axes order ns axes loops nest =
     all_some [] h = All-nil (λ (x : Axis). 0 < x.len)
     all_some (x ∷ axes) h = All-cons (λ (x : Axis). 0 < x.len) x axes h.0 (all_some axes h.1)
 
-pub runs_kept : (out left right : Window) (axes now other moved : List Axis) (loops : List Loop) (f g : ℕ) → now ≡ axes → f ≡ left.first + sum_by (advanced out left) now
-    → other ≡ axes → g ≡ right.first + sum_by (advanced out right) other → moved ≡ axes → loops ≡ map (pair_loop out left right) (filter (moves out) moved) → RunsKept out left right axes loops f g
-runs_kept out left right axes now other moved loops f g e at i there k made = record {
-  loops_are = made ∙ ap (λ zs. map (pair_loop out left right) (filter (moves out) zs)) k;
+pub runs_kept : (out left right : Window) (axes now : List Axis) (loops : List Loop) (f g : ℕ) → now ≡ axes → f ≡ left.first + sum_by (advanced out left) now
+    → g ≡ right.first + sum_by (advanced out right) now → loops ≡ map (pair_loop out left right) (filter (moves out) now) → RunsKept out left right axes loops f g
+runs_kept out left right axes now loops f g e at there made = record {
+  loops_are = made ∙ ap (λ zs. map (pair_loop out left right) (filter (moves out) zs)) e;
   left_is = at ∙ ap (λ zs. left.first + sum_by (advanced out left) zs) e;
-  right_is = there ∙ ap (λ zs. right.first + sum_by (advanced out right) zs) i;
+  right_is = there ∙ ap (λ zs. right.first + sum_by (advanced out right) zs) e;
 }

@@ -1,5 +1,5 @@
 -- Loops of a block, as the calls take them, and what the calls leave.
-use Rattle.std.specs.Prelude.{◌≡◌, ℕ, ◌<◌, IsTrue, List, map, length}
+use Rattle.std.specs.Prelude.{◌≡◌, ℕ, ◌<◌, ◌^◌, IsTrue, List, map, length, slice_index}
 use Rattle.std.specs.List.Sorted.{IsPermutation}
 use Rattle.tce_space.specs.Limits.{max_indexes}
 use Rattle.tce_space.specs.Box.{places}
@@ -7,6 +7,7 @@ use Rattle.tce_space.specs.Tiling.{ArePositive}
 use Rattle.tce_tree.specs.Value.{assignment}
 use Rattle.tce_tree.specs.WellFormed.{among, is_distinct}
 use Rattle.tce_strides.specs.declared.loops.Operation.{Operation}
+use Rattle.tce_strides.specs.declared.loops.Operation.TheVariants.{Multiply}
 use Rattle.tce_strides.specs.Places.{word_place, AreWithin, AreApart}
 use Rattle.tce_strides.specs.Turns.{IsMade, grown, grown_by_products, computed}
 use Rattle.tce_windows.specs.Windows.{steps_along}
@@ -43,6 +44,12 @@ IsWindowWithin count order lens w = AreWithin count (numbers_along order lens or
 abbrev pub AreWindowsApart : List ℕ → List ℕ → Window → Window → Type 0
 AreWindowsApart order lens w other = AreApart (numbers_along order lens order) (place_along w order) (place_along other order)
 
+-- a result's places are among the words, and none of them is one of an operand
+pub record IsResultWindow (count : ℕ) (order lens : List ℕ) (out left right : Window) : Type 0 where
+  pub within : IsWindowWithin count order lens out
+  pub from_left : AreWindowsApart order lens out left
+  pub from_right : AreWindowsApart order lens out right
+
 -- the operand's words were added
 abbrev pub HasGrown : List ℕ → List ℕ → Window → Window → List ℕ → List ℕ → Type 0
 HasGrown order lens out operand old new = AreMade order lens (λ inner. grown old (place_along operand inner)) out old new
@@ -56,3 +63,10 @@ HasGrownByProducts order lens out left right old new =
 abbrev pub IsComputed : Operation → List ℕ → List ℕ → Window → Window → Window → List ℕ → List ℕ → Type 0
 IsComputed operation order lens out left right old new =
     AreMade order lens (λ inner. computed operation old (place_along left inner) (place_along right inner)) out old new
+
+-- the operands' products were put into the words of `own`, and added after that to those of `out`
+pub record AreProductsJoined (order lens : List ℕ) (own out left right : Window) (old new : List ℕ) : Type 0 where
+  pub mid : List ℕ
+  pub words : (k : ℕ) → slice_index mid k < 2 ^ 64
+  pub put : IsComputed Multiply order lens own left right old mid
+  pub grown : HasGrownByProducts order lens out left right mid new

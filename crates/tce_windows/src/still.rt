@@ -4,41 +4,22 @@ ghost use Rattle.std.specs.List.{All};
 ghost use Rattle.tce_space.specs.Limits.{max_indexes, max_loops};
 ghost use Rattle.tce_windows.specs.Nests.{advanced, moving_loops};
 
+use crate::blocks::OperandWindows;
 use crate::nest::{Axis, put_pair_loop};
 use crate::window::Window;
 use tce_space::MAX_LOOPS;
 use tce_strides::Loop;
 
-/// Puts the loops along which the place of the result moves at the front of a list, and answers how many they are.
-pub(crate) fn fill_moving_loops(
-    axes: &[Axis],
-    out: &Window,
-    left: &Window,
-    right: &Window,
-    loops: &mut [Loop; MAX_LOOPS],
-) -> usize
-    requires few { length axes.now ≤ max_loops }
-    requires below { All (λ x. x.index < max_indexes) axes.now }
-    ensures few { result ≤ max_loops }
-    ensures loops { take result loops.new ≡ moving_loops out.now left.now right.now axes.now }
-{
-    let mut count = 0;
-    for axis in axes {
-        let i = axis.index as usize;
-        if out.steps[i] != 0 {
-            let next = Loop {
-                len: axis.len,
-                out: out.steps[i],
-                left: left.steps[i],
-                right: right.steps[i],
-            };
-            put_pair_loop(loops, count, next);
-            count += 1;
-        }
-    }
-    count
+/// The loops along which the place of a result moves, and where the operands begin: all other loops have their last numbers.
+#[derive(Drop)]
+pub(crate) struct Moving {
+    pub(crate) count: usize,
+    pub(crate) left: u64,
+    pub(crate) right: u64,
 }
 
+// How far the word of a window moves where a loop has its last number, along which that of the result stays.
+#[inline]
 fn advance(axis: Axis, out: &Window, window: &Window) -> u64
     requires below { axis.index < max_indexes }
     requires some { 0 < axis.len }
@@ -53,17 +34,53 @@ fn advance(axis: Axis, out: &Window, window: &Window) -> u64
     }
 }
 
-/// The place of a window's word where the loops along which that of the result stays have their last numbers, and all
-/// others their first ones.
-pub(crate) fn at_last(axes: &[Axis], out: &Window, window: &Window) -> u64
+/// Puts the loops along which the place of the result moves at the front of a list, and answers how many they are, and the
+/// places of the operands' words where all other loops have their last numbers, and these their first ones.
+#[inline]
+pub(crate) fn fill_moving_loops(
+    axes: &[Axis],
+    out: &Window,
+    operands: &OperandWindows,
+    loops: &mut [Loop; MAX_LOOPS],
+) -> Moving
+    requires few { length axes.now ≤ max_loops }
     requires below { All (λ x. x.index < max_indexes) axes.now }
     requires some { All (λ x. 0 < x.len) axes.now }
-    requires fits { window.now.first + sum_by (advanced out.now window.now) axes.now < 2 ^ 60 }
-    ensures { result ≡ window.now.first + sum_by (advanced out.now window.now) axes.now }
+    requires left { operands.now.left.now.first
+        + sum_by (advanced out.now operands.now.left.now) axes.now < 2 ^ 60 }
+    requires right { operands.now.right.now.first
+        + sum_by (advanced out.now operands.now.right.now) axes.now < 2 ^ 60 }
+    ensures few { result.count ≤ max_loops }
+    ensures loops { take result.count loops.new
+        ≡ moving_loops out.now operands.now.left.now operands.now.right.now axes.now }
+    ensures left { result.left
+        ≡ operands.now.left.now.first + sum_by (advanced out.now operands.now.left.now) axes.now }
+    ensures right { result.right ≡ operands.now.right.now.first
+        + sum_by (advanced out.now operands.now.right.now) axes.now }
 {
-    let mut place = window.first;
+    let left = operands.left;
+    let right = operands.right;
+    let mut count = 0;
+    let mut left_first = left.first;
+    let mut right_first = right.first;
     for axis in axes {
-        place += advance(*axis, out, window);
+        let i = axis.index as usize;
+        left_first += advance(*axis, out, left);
+        right_first += advance(*axis, out, right);
+        if out.steps[i] != 0 {
+            let next = Loop {
+                len: axis.len,
+                out: out.steps[i],
+                left: left.steps[i],
+                right: right.steps[i],
+            };
+            put_pair_loop(loops, count, next);
+            count += 1;
+        }
     }
-    place
+    Moving {
+        count,
+        left: left_first,
+        right: right_first,
+    }
 }

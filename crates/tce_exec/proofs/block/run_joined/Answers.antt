@@ -9,7 +9,7 @@ use Rattle.tce_workspace.specs.Storages.{work_of}
 use Rattle.tce_exec.proofs.Turning.{IsAtBlock, block_loops}
 use Rattle.tce_exec.proofs.Asking.{node_at_first, sum_at_first, own_slot}
 use Rattle.tce_exec.proofs.Stepping.{joined_steps}
-use Rattle.tce_exec.proofs.Running.{operands_ready, sum_places_ready, slot_places_ready, within_later, joined_runs}
+use Rattle.tce_exec.proofs.Running.{operands_ready, sum_places_ready, slot_places_ready, joined_runs}
 use Rattle.tce_exec.proofs.block.run_joined.Goals as goal
 
 pub pair_windows-requires-clause-node : goal.pair_windows-requires-clause-node
@@ -41,16 +41,16 @@ node_window-requires-clause-room g c =
     let y : Workspace = work_of g.D.Disk.files c.args.evaluation.now c.pair_windows.new.store in
     omega (arith, c.in_ok-pair_windows.ensures.read.prepared.before, c.in_ok-pair_windows.ensures.read.prepared.room)
 
-pub compute_turns-requires-clause-loops : goal.compute_turns-requires-clause-loops
-compute_turns-requires-clause-loops g c =
+pub join_turns-requires-clause-loops : goal.join_turns-requires-clause-loops
+join_turns-requires-clause-loops g c =
     let x : Workspace = work_of g.D.Disk.files c.args.evaluation.now c.args.store.now in
     let a : Assignment = assignment_of c.args.at.now.numbers.now in
     let part : Part = part_of c.args.at.now.block.now in
     let h : IsAtBlock x c.args.at.now.tail.now a part = record { space = c.index_count-indexes.ensures.limits; tree = c.count-nodes.ensures.kept; prepared = c.requires.prepared; tail_is = c.requires.tail; block = c.requires.block } in
     block_loops x c.args.at.now.tail.now a part h
 
-pub compute_turns-requires-clause-out : goal.compute_turns-requires-clause-out
-compute_turns-requires-clause-out g c =
+pub join_turns-requires-clause-own : goal.join_turns-requires-clause-own
+join_turns-requires-clause-own g c =
     let x : Workspace = work_of g.D.Disk.files c.args.evaluation.now c.args.store.now in
     let y : Workspace = work_of g.D.Disk.files c.args.evaluation.now c.pair_windows.new.store in
     let a : Assignment = assignment_of c.args.at.now.numbers.now in
@@ -60,10 +60,23 @@ compute_turns-requires-clause-out g c =
     c.requires.first c.requires.right c.in_ok-pair_windows.ensures.windows in
     let own = slot_places_ready y c.args.at.now.tail.now a part c.args.pairing.now.right.now c.args.pairing.now.out (slice_index c.args.first.now.numbers) c.pair_windows.new.windows.left c.pair_windows.new.windows.right c.node_window.new.window ready
     c.requires.first c.requires.joined c.node_window.ensures in
-    own.out_is
+    record { within = own.out_is; from_left = own.from_left; from_right = own.from_right }
 
-pub compute_turns-requires-clause-left : goal.compute_turns-requires-clause-left
-compute_turns-requires-clause-left g c =
+pub join_turns-requires-clause-out : goal.join_turns-requires-clause-out
+join_turns-requires-clause-out g c =
+    let x : Workspace = work_of g.D.Disk.files c.args.evaluation.now c.args.store.now in
+    let y : Workspace = work_of g.D.Disk.files c.args.evaluation.now c.pair_windows.new.store in
+    let a : Assignment = assignment_of c.args.at.now.numbers.now in
+    let part : Part = part_of c.args.at.now.block.now in
+    let h : IsAtBlock x c.args.at.now.tail.now a part = record { space = c.index_count-indexes.ensures.limits; tree = c.count-nodes.ensures.kept; prepared = c.requires.prepared; tail_is = c.requires.tail; block = c.requires.block } in
+    let ready = operands_ready x y c.args.at.now.tail.now a part c.args.pairing.now.right.now c.args.pairing.now.out (slice_index c.args.first.now.numbers) c.pair_windows.new.windows h c.in_ok-pair_windows.ensures.kept c.in_ok-pair_windows.ensures.read
+    c.requires.first c.requires.right c.in_ok-pair_windows.ensures.windows in
+    let places = sum_places_ready y c.args.at.now.tail.now a part c.args.pairing.now.right.now c.args.pairing.now.out (slice_index c.args.first.now.numbers) c.pair_windows.new.windows ready c.requires.first c.requires.joined
+    c.in_ok-pair_windows.ensures.windows in
+    record { within = places.out_is; from_left = places.from_left; from_right = places.from_right }
+
+pub join_turns-requires-clause-left : goal.join_turns-requires-clause-left
+join_turns-requires-clause-left g c =
     let x : Workspace = work_of g.D.Disk.files c.args.evaluation.now c.args.store.now in
     let y : Workspace = work_of g.D.Disk.files c.args.evaluation.now c.pair_windows.new.store in
     let a : Assignment = assignment_of c.args.at.now.numbers.now in
@@ -73,8 +86,8 @@ compute_turns-requires-clause-left g c =
     c.requires.first c.requires.right c.in_ok-pair_windows.ensures.windows in
     ready.left_in
 
-pub compute_turns-requires-clause-right : goal.compute_turns-requires-clause-right
-compute_turns-requires-clause-right g c =
+pub join_turns-requires-clause-right : goal.join_turns-requires-clause-right
+join_turns-requires-clause-right g c =
     let x : Workspace = work_of g.D.Disk.files c.args.evaluation.now c.args.store.now in
     let y : Workspace = work_of g.D.Disk.files c.args.evaluation.now c.pair_windows.new.store in
     let a : Assignment = assignment_of c.args.at.now.numbers.now in
@@ -83,101 +96,6 @@ compute_turns-requires-clause-right g c =
     let ready = operands_ready x y c.args.at.now.tail.now a part c.args.pairing.now.right.now c.args.pairing.now.out (slice_index c.args.first.now.numbers) c.pair_windows.new.windows h c.in_ok-pair_windows.ensures.kept c.in_ok-pair_windows.ensures.read
     c.requires.first c.requires.right c.in_ok-pair_windows.ensures.windows in
     ready.right_in
-
-pub compute_turns-requires-clause-apart_from_left : goal.compute_turns-requires-clause-apart_from_left
-compute_turns-requires-clause-apart_from_left g c =
-    let x : Workspace = work_of g.D.Disk.files c.args.evaluation.now c.args.store.now in
-    let y : Workspace = work_of g.D.Disk.files c.args.evaluation.now c.pair_windows.new.store in
-    let a : Assignment = assignment_of c.args.at.now.numbers.now in
-    let part : Part = part_of c.args.at.now.block.now in
-    let h : IsAtBlock x c.args.at.now.tail.now a part = record { space = c.index_count-indexes.ensures.limits; tree = c.count-nodes.ensures.kept; prepared = c.requires.prepared; tail_is = c.requires.tail; block = c.requires.block } in
-    let ready = operands_ready x y c.args.at.now.tail.now a part c.args.pairing.now.right.now c.args.pairing.now.out (slice_index c.args.first.now.numbers) c.pair_windows.new.windows h c.in_ok-pair_windows.ensures.kept c.in_ok-pair_windows.ensures.read
-    c.requires.first c.requires.right c.in_ok-pair_windows.ensures.windows in
-    let own = slot_places_ready y c.args.at.now.tail.now a part c.args.pairing.now.right.now c.args.pairing.now.out (slice_index c.args.first.now.numbers) c.pair_windows.new.windows.left c.pair_windows.new.windows.right c.node_window.new.window ready
-    c.requires.first c.requires.joined c.node_window.ensures in
-    own.from_left
-
-pub compute_turns-requires-clause-apart_from_right : goal.compute_turns-requires-clause-apart_from_right
-compute_turns-requires-clause-apart_from_right g c =
-    let x : Workspace = work_of g.D.Disk.files c.args.evaluation.now c.args.store.now in
-    let y : Workspace = work_of g.D.Disk.files c.args.evaluation.now c.pair_windows.new.store in
-    let a : Assignment = assignment_of c.args.at.now.numbers.now in
-    let part : Part = part_of c.args.at.now.block.now in
-    let h : IsAtBlock x c.args.at.now.tail.now a part = record { space = c.index_count-indexes.ensures.limits; tree = c.count-nodes.ensures.kept; prepared = c.requires.prepared; tail_is = c.requires.tail; block = c.requires.block } in
-    let ready = operands_ready x y c.args.at.now.tail.now a part c.args.pairing.now.right.now c.args.pairing.now.out (slice_index c.args.first.now.numbers) c.pair_windows.new.windows h c.in_ok-pair_windows.ensures.kept c.in_ok-pair_windows.ensures.read
-    c.requires.first c.requires.right c.in_ok-pair_windows.ensures.windows in
-    let own = slot_places_ready y c.args.at.now.tail.now a part c.args.pairing.now.right.now c.args.pairing.now.out (slice_index c.args.first.now.numbers) c.pair_windows.new.windows.left c.pair_windows.new.windows.right c.node_window.new.window ready
-    c.requires.first c.requires.joined c.node_window.ensures in
-    own.from_right
-
-pub grow_turns_by_products-requires-clause-loops : goal.grow_turns_by_products-requires-clause-loops
-grow_turns_by_products-requires-clause-loops g c =
-    let x : Workspace = work_of g.D.Disk.files c.args.evaluation.now c.args.store.now in
-    let a : Assignment = assignment_of c.args.at.now.numbers.now in
-    let part : Part = part_of c.args.at.now.block.now in
-    let h : IsAtBlock x c.args.at.now.tail.now a part = record { space = c.index_count-indexes.ensures.limits; tree = c.count-nodes.ensures.kept; prepared = c.requires.prepared; tail_is = c.requires.tail; block = c.requires.block } in
-    block_loops x c.args.at.now.tail.now a part h
-
-pub grow_turns_by_products-requires-clause-out : goal.grow_turns_by_products-requires-clause-out
-grow_turns_by_products-requires-clause-out g c =
-    let x : Workspace = work_of g.D.Disk.files c.args.evaluation.now c.args.store.now in
-    let y : Workspace = work_of g.D.Disk.files c.args.evaluation.now c.pair_windows.new.store in
-    let a : Assignment = assignment_of c.args.at.now.numbers.now in
-    let part : Part = part_of c.args.at.now.block.now in
-    let h : IsAtBlock x c.args.at.now.tail.now a part = record { space = c.index_count-indexes.ensures.limits; tree = c.count-nodes.ensures.kept; prepared = c.requires.prepared; tail_is = c.requires.tail; block = c.requires.block } in
-    let ready = operands_ready x y c.args.at.now.tail.now a part c.args.pairing.now.right.now c.args.pairing.now.out (slice_index c.args.first.now.numbers) c.pair_windows.new.windows h c.in_ok-pair_windows.ensures.kept c.in_ok-pair_windows.ensures.read
-    c.requires.first c.requires.right c.in_ok-pair_windows.ensures.windows in
-    let places = sum_places_ready y c.args.at.now.tail.now a part c.args.pairing.now.right.now c.args.pairing.now.out (slice_index c.args.first.now.numbers) c.pair_windows.new.windows ready c.requires.first c.requires.joined
-    c.in_ok-pair_windows.ensures.windows in
-    within_later y.words c.compute_turns.new.words _ _ _ c.node_window.new.window c.args.at.now.tail.now part c.pair_windows.new.windows.out c.compute_turns.ensures.made places.out_is
-
-pub grow_turns_by_products-requires-clause-left : goal.grow_turns_by_products-requires-clause-left
-grow_turns_by_products-requires-clause-left g c =
-    let x : Workspace = work_of g.D.Disk.files c.args.evaluation.now c.args.store.now in
-    let y : Workspace = work_of g.D.Disk.files c.args.evaluation.now c.pair_windows.new.store in
-    let a : Assignment = assignment_of c.args.at.now.numbers.now in
-    let part : Part = part_of c.args.at.now.block.now in
-    let h : IsAtBlock x c.args.at.now.tail.now a part = record { space = c.index_count-indexes.ensures.limits; tree = c.count-nodes.ensures.kept; prepared = c.requires.prepared; tail_is = c.requires.tail; block = c.requires.block } in
-    let ready = operands_ready x y c.args.at.now.tail.now a part c.args.pairing.now.right.now c.args.pairing.now.out (slice_index c.args.first.now.numbers) c.pair_windows.new.windows h c.in_ok-pair_windows.ensures.kept c.in_ok-pair_windows.ensures.read
-    c.requires.first c.requires.right c.in_ok-pair_windows.ensures.windows in
-    within_later y.words c.compute_turns.new.words _ _ _ c.node_window.new.window c.args.at.now.tail.now part c.pair_windows.new.windows.left c.compute_turns.ensures.made ready.left_in
-
-pub grow_turns_by_products-requires-clause-right : goal.grow_turns_by_products-requires-clause-right
-grow_turns_by_products-requires-clause-right g c =
-    let x : Workspace = work_of g.D.Disk.files c.args.evaluation.now c.args.store.now in
-    let y : Workspace = work_of g.D.Disk.files c.args.evaluation.now c.pair_windows.new.store in
-    let a : Assignment = assignment_of c.args.at.now.numbers.now in
-    let part : Part = part_of c.args.at.now.block.now in
-    let h : IsAtBlock x c.args.at.now.tail.now a part = record { space = c.index_count-indexes.ensures.limits; tree = c.count-nodes.ensures.kept; prepared = c.requires.prepared; tail_is = c.requires.tail; block = c.requires.block } in
-    let ready = operands_ready x y c.args.at.now.tail.now a part c.args.pairing.now.right.now c.args.pairing.now.out (slice_index c.args.first.now.numbers) c.pair_windows.new.windows h c.in_ok-pair_windows.ensures.kept c.in_ok-pair_windows.ensures.read
-    c.requires.first c.requires.right c.in_ok-pair_windows.ensures.windows in
-    within_later y.words c.compute_turns.new.words _ _ _ c.node_window.new.window c.args.at.now.tail.now part c.pair_windows.new.windows.right c.compute_turns.ensures.made ready.right_in
-
-pub grow_turns_by_products-requires-clause-apart_from_left : goal.grow_turns_by_products-requires-clause-apart_from_left
-grow_turns_by_products-requires-clause-apart_from_left g c =
-    let x : Workspace = work_of g.D.Disk.files c.args.evaluation.now c.args.store.now in
-    let y : Workspace = work_of g.D.Disk.files c.args.evaluation.now c.pair_windows.new.store in
-    let a : Assignment = assignment_of c.args.at.now.numbers.now in
-    let part : Part = part_of c.args.at.now.block.now in
-    let h : IsAtBlock x c.args.at.now.tail.now a part = record { space = c.index_count-indexes.ensures.limits; tree = c.count-nodes.ensures.kept; prepared = c.requires.prepared; tail_is = c.requires.tail; block = c.requires.block } in
-    let ready = operands_ready x y c.args.at.now.tail.now a part c.args.pairing.now.right.now c.args.pairing.now.out (slice_index c.args.first.now.numbers) c.pair_windows.new.windows h c.in_ok-pair_windows.ensures.kept c.in_ok-pair_windows.ensures.read
-    c.requires.first c.requires.right c.in_ok-pair_windows.ensures.windows in
-    let places = sum_places_ready y c.args.at.now.tail.now a part c.args.pairing.now.right.now c.args.pairing.now.out (slice_index c.args.first.now.numbers) c.pair_windows.new.windows ready c.requires.first c.requires.joined
-    c.in_ok-pair_windows.ensures.windows in
-    places.from_left
-
-pub grow_turns_by_products-requires-clause-apart_from_right : goal.grow_turns_by_products-requires-clause-apart_from_right
-grow_turns_by_products-requires-clause-apart_from_right g c =
-    let x : Workspace = work_of g.D.Disk.files c.args.evaluation.now c.args.store.now in
-    let y : Workspace = work_of g.D.Disk.files c.args.evaluation.now c.pair_windows.new.store in
-    let a : Assignment = assignment_of c.args.at.now.numbers.now in
-    let part : Part = part_of c.args.at.now.block.now in
-    let h : IsAtBlock x c.args.at.now.tail.now a part = record { space = c.index_count-indexes.ensures.limits; tree = c.count-nodes.ensures.kept; prepared = c.requires.prepared; tail_is = c.requires.tail; block = c.requires.block } in
-    let ready = operands_ready x y c.args.at.now.tail.now a part c.args.pairing.now.right.now c.args.pairing.now.out (slice_index c.args.first.now.numbers) c.pair_windows.new.windows h c.in_ok-pair_windows.ensures.kept c.in_ok-pair_windows.ensures.read
-    c.requires.first c.requires.right c.in_ok-pair_windows.ensures.windows in
-    let places = sum_places_ready y c.args.at.now.tail.now a part c.args.pairing.now.right.now c.args.pairing.now.out (slice_index c.args.first.now.numbers) c.pair_windows.new.windows ready c.requires.first c.requires.joined
-    c.in_ok-pair_windows.ensures.windows in
-    places.from_right
 
 pub returns-clause-changed : goal.returns-clause-changed
 returns-clause-changed g c =
@@ -192,8 +110,8 @@ returns-clause-changed g c =
     c.in_ok-pair_windows.ensures.windows in
     let own = slot_places_ready y c.args.at.now.tail.now a part c.args.pairing.now.right.now c.args.pairing.now.out (slice_index c.args.first.now.numbers) c.pair_windows.new.windows.left c.pair_windows.new.windows.right c.node_window.new.window ready
     c.requires.first c.requires.joined c.node_window.ensures in
-    (joined_runs x y c.args.at.now.tail.now a part c.args.pairing.now.right.now c.args.pairing.now.out c.pair_windows.new.windows c.node_window.new.window c.compute_turns.new.words c.grow_turns_by_products.new.words c.requires.prepared
-    c.in_ok-pair_windows.ensures.kept c.in_ok-pair_windows.ensures.read ready own places c.len-len.ensures.words c.len-later.ensures.words c.requires.joined c.compute_turns.ensures.made c.grow_turns_by_products.ensures.made).changed
+    (joined_runs x y c.args.at.now.tail.now a part c.args.pairing.now.right.now c.args.pairing.now.out c.pair_windows.new.windows c.node_window.new.window c.join_turns.new.words c.requires.prepared
+    c.in_ok-pair_windows.ensures.kept c.in_ok-pair_windows.ensures.read ready own places c.len-len.ensures.words c.requires.joined c.join_turns.ensures.made).changed
 
 pub returns-clause-kept : goal.returns-clause-kept
 returns-clause-kept g c =
@@ -208,14 +126,14 @@ returns-clause-kept g c =
     c.in_ok-pair_windows.ensures.windows in
     let own = slot_places_ready y c.args.at.now.tail.now a part c.args.pairing.now.right.now c.args.pairing.now.out (slice_index c.args.first.now.numbers) c.pair_windows.new.windows.left c.pair_windows.new.windows.right c.node_window.new.window ready
     c.requires.first c.requires.joined c.node_window.ensures in
-    (joined_runs x y c.args.at.now.tail.now a part c.args.pairing.now.right.now c.args.pairing.now.out c.pair_windows.new.windows c.node_window.new.window c.compute_turns.new.words c.grow_turns_by_products.new.words c.requires.prepared
-    c.in_ok-pair_windows.ensures.kept c.in_ok-pair_windows.ensures.read ready own places c.len-len.ensures.words c.len-later.ensures.words c.requires.joined c.compute_turns.ensures.made c.grow_turns_by_products.ensures.made).kept
+    (joined_runs x y c.args.at.now.tail.now a part c.args.pairing.now.right.now c.args.pairing.now.out c.pair_windows.new.windows c.node_window.new.window c.join_turns.new.words c.requires.prepared
+    c.in_ok-pair_windows.ensures.kept c.in_ok-pair_windows.ensures.read ready own places c.len-len.ensures.words c.requires.joined c.join_turns.ensures.made).kept
 
 pub returns-clause-nest : goal.returns-clause-nest
 returns-clause-nest g c =
     let y : Workspace = work_of g.D.Disk.files c.args.evaluation.now c.pair_windows.new.store in
     record {
-      sequence_is = c.grow_turns_by_products.ensures.sequence;
+      sequence_is = c.join_turns.ensures.sequence;
       steps_are = joined_steps y c.args.at.now.tail.now c.args.pairing.now.right.now c.args.pairing.now.out (slice_index c.args.first.now.numbers) c.pair_windows.new.windows c.node_window.new.window c.requires.right c.requires.joined c.in_ok-pair_windows.ensures.windows c.node_window.ensures.steps_are;
     }
 
