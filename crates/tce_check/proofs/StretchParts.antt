@@ -9,7 +9,7 @@ use Rattle.tce_states.specs.Relation.{above}
 use Rattle.tce_states.specs.Row.{Row}
 use Rattle.tce_nesting.specs.declared.choice.Choice.{Choice}
 use Rattle.tce_check.specs.declared.stretches.Stretch.{Stretch}
-use Rattle.tce_check.specs.Ends.{IsTopOf}
+use Rattle.tce_nesting.specs.Ends.{IsTopOf}
 use Rattle.tce_check.specs.Joint.{ChoiceCovered}
 use Rattle.tce_check.specs.Stretches.{LiesBetween, IsStretch, AreStretches, IsTogether, AllowsNone}
 

@@ -2,8 +2,8 @@ use Rattle.std.proofs.Common.{◌+◌, subst, drop}
 use Rattle.std.proofs.lemmas.Bool.{both_ways}
 use Rattle.tce_states.specs.Relation.{above}
 use Rattle.tce_nesting.proofs.Classes.{drop-item}
-use Rattle.tce_check.specs.Ends.{IsTopOf}
-use Rattle.tce_check.proofs.Tops.{IsReached, reached_further, reached_is_top}
+use Rattle.tce_nesting.specs.Ends.{IsTopOf}
+use Rattle.tce_nesting.proofs.Tops.{IsReached, reached_further, reached_is_top}
 use Rattle.tce_check.proofs.StretchParts.{none_between}
 use Rattle.tce_check.proofs.stretches.allows_none.Goals as goal
 

@@ -1,5 +1,5 @@
 use Rattle.std.proofs.Common.{drop}
-use Rattle.tce_check.proofs.Tops.{IsReached}
+use Rattle.tce_nesting.proofs.Tops.{IsReached}
 use Rattle.tce_check.proofs.stretches.allows_none.Given as goal
 
 abbrev pub invariant-loop-class : goal.invariant-loop-class
