@@ -54,7 +54,8 @@ fn number_of(key: usize, count: usize) -> usize
 fn lower(leasts: &mut Vec<u128>, number: usize, cost: u128)
     requires { number < length leasts.old.items }
     ensures count { length leasts.new.items ≡ length leasts.old.items }
-    ensures none_raised { (k : ℕ) → slice_index_or leasts.new.items k 0 ≤ slice_index_or leasts.old.items k 0 }
+    ensures none_raised { (k : ℕ) → slice_index_or leasts.new.items k 0 ≤ slice_index_or
+        leasts.old.items k 0 }
     ensures at { slice_index_or leasts.new.items number 0 ≤ cost }
 {
     if cost < leasts[number] {
