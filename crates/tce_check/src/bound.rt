@@ -20,7 +20,8 @@ pub(crate) fn bound_of(rows: &[Row], outer: IndexSet) -> Option<u128>
 
 // The cost of the row where it is lesser and the row puts no outer loop above another; else the bound as it was.
 fn lesser(bound: Option<u128>, row: &Row, outer: IndexSet) -> Option<u128>
-    ensures { (result ≡ bound) ⊎ ((result ≡ Some row.now.cost) × IsCoarser outer (above row.now.classes) none) }
+    ensures { (result ≡ bound) ⊎ ((result ≡ Some row.now.cost) ×
+        IsCoarser outer (above row.now.classes) none) }
 {
     if let Some(cost) = bound {
         if cost <= row.cost {

@@ -18,7 +18,8 @@ impl<'a> Node<'a> {
         requires ready { IsReady self.now }
         requires small { joint.now.cost < 2 ^ 97 }
         requires size { choice.now.size ≤ max_volume }
-        ensures { IsTrue result → ChoiceCovered self.now.outer self.now.rows.now joint.now choice.now }
+        ensures { IsTrue result → ChoiceCovered self.now.outer self.now.rows.now joint.now
+            choice.now }
     {
         if self.stands_for_all(joint.cost + choice.size) {
             return true;
@@ -34,7 +35,8 @@ impl<'a> Node<'a> {
     fn covers_choices(&self, joint: &Row, hints: &mut [u32]) -> bool
         requires ready { IsReady self.now }
         requires small { joint.now.cost < 2 ^ 97 }
-        ensures { IsTrue result → All (ChoiceCovered self.now.outer self.now.rows.now joint.now) self.now.choices.now }
+        ensures { IsTrue result → All (ChoiceCovered self.now.outer self.now.rows.now joint.now)
+            self.now.choices.now }
     {
         let loops = self.tree.loops(self.number);
         let mut place = 0;
@@ -98,7 +100,8 @@ impl<'a> Node<'a> {
         requires ready { IsReady self.now }
         requires lefts { AreBelowLimit lefts.now }
         requires rights { AreBelowLimit rights.now }
-        ensures { IsTrue result → All (λ left. All (PairCovered self.now left) rights.now) lefts.now }
+        ensures { IsTrue result → All (λ left. All (PairCovered self.now left) rights.now)
+            lefts.now }
     {
         let runs = runs_of(rights, self.tree.loops(self.number));
         for left in lefts {
@@ -114,7 +117,8 @@ impl<'a> Node<'a> {
         requires ready { IsReady self.now }
         requires lefts { AreBelowLimit lefts.now }
         requires rights { AreBelowLimit rights.now }
-        ensures { IsTrue result → All (λ left. All (PairCovered self.now left) rights.now) lefts.now }
+        ensures { IsTrue result → All (λ left. All (PairCovered self.now left) rights.now)
+            lefts.now }
     {
         let mut rest = rights;
         while !rest.is_empty() {

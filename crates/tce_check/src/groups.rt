@@ -177,7 +177,8 @@ impl<'a> Groups<'a> {
 
     // The place of a row in the group of three parts that stands for the state.
     fn place_with(&self, parts: &Parts, sought: &Sought) -> Option<u32>
-        ensures { IfSome result (λ place. Any (StandsFor sought.now.outer (above sought.now.state.now.classes) sought.now.state.now.cost) sought.now.rows.now) }
+        ensures { IfSome result (λ place. Any (StandsFor sought.now.outer (above
+            sought.now.state.now.classes) sought.now.state.now.cost) sought.now.rows.now) }
     {
         for entry in self.entries_of(parts) {
             if *entry / PLACES & !sought.marks == 0 {
@@ -194,7 +195,8 @@ impl<'a> Groups<'a> {
 
     // The place of a row whose largest upper part is this one of the state's, where those below it are known.
     fn place_under(&self, first: IndexSet, lower: &[IndexSet], sought: &Sought) -> Option<u32>
-        ensures { IfSome result (λ place. Any (StandsFor sought.now.outer (above sought.now.state.now.classes) sought.now.state.now.cost) sought.now.rows.now) }
+        ensures { IfSome result (λ place. Any (StandsFor sought.now.outer (above
+            sought.now.state.now.classes) sought.now.state.now.cost) sought.now.rows.now) }
     {
         let mut parts = Parts {
             first,
@@ -222,7 +224,8 @@ impl<'a> Groups<'a> {
 
     // The place of a row in the group of three of the state's upper parts that stands for it.
     fn likely_place(&self, rows: &[Row], state: &Row, outer: IndexSet) -> Option<u32>
-        ensures { IfSome result (λ place. Any (StandsFor outer (above state.now.classes) state.now.cost) rows.now) }
+        ensures { IfSome result (λ place. Any (StandsFor outer (above state.now.classes)
+            state.now.cost) rows.now) }
     {
         let uppers = uppers_of(&state.classes, outer);
         let marks = marks_of(uppers.as_slice());
@@ -247,7 +250,8 @@ impl<'a> Groups<'a> {
 
     // Whether some row stands for a state.
     pub(crate) fn is_stood_for(&self, rows: &[Row], state: &Row, outer: IndexSet) -> bool
-        ensures { IsTrue result ↔ Any (StandsFor outer (above state.now.classes) state.now.cost) rows.now }
+        ensures { IsTrue result ↔ Any (StandsFor outer (above state.now.classes) state.now.cost)
+            rows.now }
     {
         if self.likely_place(rows, state, outer).is_some() {
             return true;
@@ -263,7 +267,8 @@ impl<'a> Groups<'a> {
         state: &Row,
         outer: IndexSet,
     ) -> bool
-        ensures { IsTrue result → Any (StandsFor outer (above state.now.classes) state.now.cost) rows.now }
+        ensures { IsTrue result → Any (StandsFor outer (above state.now.classes) state.now.cost)
+            rows.now }
     {
         let number = hint_of(&state.classes);
         if stands_at(rows, hints.get(number).copied(), state, outer) {
@@ -281,7 +286,8 @@ impl<'a> Groups<'a> {
 
 // Whether there is a place, and the row at it stands for a state.
 fn stands_at(rows: &[Row], place: Option<u32>, state: &Row, outer: IndexSet) -> bool
-    ensures { IsTrue result → Any (StandsFor outer (above state.now.classes) state.now.cost) rows.now }
+    ensures { IsTrue result → Any (StandsFor outer (above state.now.classes) state.now.cost)
+        rows.now }
 {
     if let Some(place) = place {
         if let Some(row) = rows.get(place as usize) {
@@ -293,8 +299,10 @@ fn stands_at(rows: &[Row], place: Option<u32>, state: &Row, outer: IndexSet) -> 
 
 // The place of the first row that stands for a state.
 fn place_of(rows: &[Row], state: &Row, outer: IndexSet) -> Option<usize>
-    ensures some { IfSome result (λ place. Any (StandsFor outer (above state.now.classes) state.now.cost) rows.now) }
-    ensures none { IsNone result → ¬ Any (StandsFor outer (above state.now.classes) state.now.cost) rows.now }
+    ensures some { IfSome result (λ place. Any (StandsFor outer (above state.now.classes)
+        state.now.cost) rows.now) }
+    ensures none { IsNone result → ¬ Any (StandsFor outer (above state.now.classes) state.now.cost)
+        rows.now }
 {
     for (place, row) in rows.iter().enumerate() {
         if stands_for(row, state, outer) {

@@ -16,7 +16,8 @@ use tce_tree::Tree;
 pub(crate) fn first_below(tree: &Tree, tables: &Tables, total: u128) -> Option<u128>
     requires lists { length tables.now + 1 ≡ operations tree.now }
     requires rows { RowsFit tree.now tables.now }
-    ensures { MatchOption result (RootBelow tree.now tables.now total) (λ sum. FirstBelow tree.now tables.now total sum) }
+    ensures { MatchOption result (RootBelow tree.now tables.now total)
+        (λ sum. FirstBelow tree.now tables.now total sum) }
 {
     let root = tree.count() - 1;
     let leaf = [leaf_row()];
@@ -30,8 +31,10 @@ fn first_below_of(tree: &Tree, root: u8, lefts: &[Row], rights: &[Row], total: u
     requires lefts { All (λ row. row.cost < cost_limit) lefts.now }
     requires rights { All (λ row. row.cost < cost_limit) rights.now }
     ensures { MatchOption result
-        (All (λ left. All (WhereJoined tree.now root (λ l r. total ≤ l.cost + r.cost) left) rights.now) lefts.now)
-        (λ sum. FirstPair (WhereJoined tree.now root (λ l r. total ≤ l.cost + r.cost)) (IsBelow tree.now root total sum) lefts.now rights.now) }
+        (All (λ left. All (WhereJoined tree.now root
+        (λ l r. total ≤ l.cost + r.cost) left) rights.now) lefts.now)
+        (λ sum. FirstPair (WhereJoined tree.now root
+        (λ l r. total ≤ l.cost + r.cost)) (IsBelow tree.now root total sum) lefts.now rights.now) }
 {
     for left in lefts {
         if let Some(sum) = first_below_with(tree, root, left, rights, total) {
@@ -48,7 +51,9 @@ fn first_below_with(tree: &Tree, root: u8, left: &Row, rights: &[Row], total: u1
     requires rights { All (λ row. row.cost < cost_limit) rights.now }
     ensures { MatchOption result
         (All (WhereJoined tree.now root (λ l r. total ≤ l.cost + r.cost) left.now) rights.now)
-        (λ sum. First (WhereJoined tree.now root (λ l r. total ≤ l.cost + r.cost) left.now) (IsBelow tree.now root total sum left.now) rights.now) }
+        (λ sum. First (WhereJoined tree.now root
+        (λ l r. total ≤ l.cost + r.cost) left.now) (IsBelow tree.now root total sum left.now)
+        rights.now) }
 {
     for right in rights {
         if let Some(sum) = sum_below(tree, root, left, right, total) {
@@ -63,7 +68,8 @@ fn sum_below(tree: &Tree, root: u8, left: &Row, right: &Row, total: u128) -> Opt
     requires inside { root < operations tree.now }
     requires left { left.now.cost < cost_limit }
     requires right { right.now.cost < cost_limit }
-    ensures { MatchOption result (WhereJoined tree.now root (λ l r. total ≤ l.cost + r.cost) left.now right.now)
+    ensures { MatchOption result (WhereJoined tree.now root
+        (λ l r. total ≤ l.cost + r.cost) left.now right.now)
         (λ sum. IsBelow tree.now root total sum left.now right.now) }
 {
     let sum = left.cost + right.cost;

@@ -29,7 +29,8 @@ use tce_tree::Tree;
 pub fn check(space: &Space, tree: &Tree, plan: &Plan) -> Verdict
     requires measured { IsMeasured space.now tree.now }
     requires fits { PlanFits tree.now plan.now }
-    ensures exact { (verdict : Verdict) → (result ≡ verdict) ↔ IsVerdict space.now tree.now plan.now verdict }
+    ensures exact { (verdict : Verdict) → (result ≡ verdict) ↔
+        IsVerdict space.now tree.now plan.now verdict }
     ensures least { result ≡ Verdict.Accepted → IsLeast space.now tree.now plan.now.fusion.0.items }
 {
     if let Some(v) = first_illegal(tree, &plan.fusion) {
@@ -58,9 +59,11 @@ pub fn check(space: &Space, tree: &Tree, plan: &Plan) -> Verdict
 fn first_wrong_size(space: &Space, tree: &Tree, plan: &Plan) -> Option<(u8, u128)>
     requires measured { IsMeasured space.now tree.now }
     requires fits { PlanFits tree.now plan.now }
-    ensures { MatchOption result ((v : ℕ) → v < operations tree.now - 1 → HasSize space.now tree.now plan.now v)
+    ensures { MatchOption result ((v : ℕ) → v < operations tree.now - 1 →
+        HasSize space.now tree.now plan.now v)
         (λ found. IsFirst (operations tree.now - 1) (HasSize space.now tree.now plan.now)
-        (λ w. (found.1 ≡ size_at space.now tree.now plan.now.fusion.0.items w) × ¬ HasSize space.now tree.now plan.now w) found.0) }
+        (λ w. (found.1 ≡ size_at space.now tree.now plan.now.fusion.0.items w) ×
+        ¬ HasSize space.now tree.now plan.now w) found.0) }
 {
     for v in 0..tree.count() - 1 {
         let size = size_of(space, tree, &plan.fusion, v);

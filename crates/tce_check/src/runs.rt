@@ -28,7 +28,8 @@ pub(crate) fn runs_of(rows: &[Row], loops: IndexSet) -> [Run; BLOCK]
 fn run_from(rows: &[Row], runs: &[Run], place: usize, loops: IndexSet) -> Run
     requires inside { place < length rows.now }
     requires count { length rows.now ≤ length runs.now }
-    requires later { (k : ℕ) (r : own.Run) → place + 1 ≤ k → k < length rows.now → IsRun loops rows.now k (slice_index_or runs.now k r) }
+    requires later { (k : ℕ) (r : own.Run) → place + 1 ≤ k → k < length rows.now →
+        IsRun loops rows.now k (slice_index_or runs.now k r) }
     ensures { IsRun loops rows.now place result }
 {
     let alone = Run::alone(&rows[place], loops, place);

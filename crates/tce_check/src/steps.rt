@@ -69,7 +69,8 @@ impl<'a> Node<'a> {
     // Whether a row is known to stand for all states of this cost.
     pub(crate) fn stands_for_all(&self, cost: u128) -> bool
         requires { IsReady self.now }
-        ensures { IsTrue result → (relation : Relation) → Any (StandsFor self.now.outer relation cost) self.now.rows.now }
+        ensures { IsTrue result → (relation : Relation) →
+            Any (StandsFor self.now.outer relation cost) self.now.rows.now }
     {
         match self.bound {
             Some(bound) => bound <= cost,
@@ -82,8 +83,10 @@ impl<'a> Node<'a> {
         requires ready { IsReady self.now }
         requires small { joint.now.cost < 2 ^ 97 }
         requires size { choice.now.size ≤ max_volume }
-        ensures yes { IsTrue result → ChoiceCovered self.now.outer self.now.rows.now joint.now choice.now }
-        ensures no { result ≡ false → ChoiceUncovered self.now.outer self.now.rows.now joint.now choice.now }
+        ensures yes { IsTrue result → ChoiceCovered self.now.outer self.now.rows.now joint.now
+            choice.now }
+        ensures no { result ≡ false → ChoiceUncovered self.now.outer self.now.rows.now joint.now
+            choice.now }
     {
         if self.stands_for_all(joint.cost + choice.size) {
             return true;
@@ -138,7 +141,8 @@ impl<'a> Node<'a> {
         requires left { left.now.cost < cost_limit }
         requires rights { AreBelowLimit rights.now }
         ensures { MatchOption result (All (PairCovered self.now left.now) rights.now)
-            (λ found. First (PairCovered self.now left.now) (IsFailing self.now found.fused found.state left.now) rights.now) }
+            (λ found. First (PairCovered self.now left.now) (IsFailing self.now found.fused
+            found.state left.now) rights.now) }
     {
         for right in rights {
             if let Some(step) = self.first_uncovered_step(left, right) {

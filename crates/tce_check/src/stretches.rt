@@ -38,7 +38,8 @@ pub(crate) fn stretches_of(choices: &[Choice]) -> [Stretch; CHOICES]
 fn stretch_from(choices: &[Choice], stretches: &[Stretch], place: usize) -> Stretch
     requires inside { place < length choices.now }
     requires count { length choices.now ≤ length stretches.now }
-    requires later { (k : ℕ) (s : own.Stretch) → place + 1 ≤ k → k < length choices.now → IsStretch choices.now k (slice_index_or stretches.now k s) }
+    requires later { (k : ℕ) (s : own.Stretch) → place + 1 ≤ k → k < length choices.now →
+        IsStretch choices.now k (slice_index_or stretches.now k s) }
     ensures { IsStretch choices.now place result }
 {
     let most = longest(place);

@@ -29,7 +29,8 @@ fn first_uncovered_at(
     requires lists { length tables.now + 1 ≡ operations tree.now }
     requires rows { RowsFit tree.now tables.now }
     requires inside { v + 1 < operations tree.now }
-    ensures { MatchOption result (CoversAt space.now tree.now tables.now v) (λ step. FailsAt space.now tree.now tables.now step.fused step.state v) }
+    ensures { MatchOption result (CoversAt space.now tree.now tables.now v)
+        (λ step. FailsAt space.now tree.now tables.now step.fused step.state v) }
 {
     let parent = tree.parent(v)?;
     let leaf = [leaf_row()];
@@ -79,7 +80,8 @@ pub(crate) fn first_uncovered_node(
     requires lists { length tables.now + 1 ≡ operations tree.now }
     requires rows { RowsFit tree.now tables.now }
     ensures { MatchOption result (NodesCovered space.now tree.now tables.now)
-        (λ found. IsFirst (operations tree.now - 1) (CoversAt space.now tree.now tables.now) (FailsAt space.now tree.now tables.now found.1.fused found.1.state) found.0) }
+        (λ found. IsFirst (operations tree.now - 1) (CoversAt space.now tree.now tables.now)
+        (FailsAt space.now tree.now tables.now found.1.fused found.1.state) found.0) }
 {
     if has_many_rows(tables) {
         return first_uncovered_of_many(space, tree, tables);
@@ -100,7 +102,8 @@ fn first_uncovered_of_many(space: &Space, tree: &Tree, tables: &Tables) -> Optio
     requires lists { length tables.now + 1 ≡ operations tree.now }
     requires rows { RowsFit tree.now tables.now }
     ensures { MatchOption result (NodesCovered space.now tree.now tables.now)
-        (λ found. IsFirst (operations tree.now - 1) (CoversAt space.now tree.now tables.now) (FailsAt space.now tree.now tables.now found.1.fused found.1.state) found.0) }
+        (λ found. IsFirst (operations tree.now - 1) (CoversAt space.now tree.now tables.now)
+        (FailsAt space.now tree.now tables.now found.1.fused found.1.state) found.0) }
 {
     let mut ends = [0; GROUPS];
     let mut entries = [0; ENTRIES];
@@ -124,7 +127,8 @@ fn first_uncovered_of(
     requires lists { length tables.now + 1 ≡ operations tree.now }
     requires rows { RowsFit tree.now tables.now }
     ensures { MatchOption result (NodesCovered space.now tree.now tables.now)
-        (λ found. IsFirst (operations tree.now - 1) (CoversAt space.now tree.now tables.now) (FailsAt space.now tree.now tables.now found.1.fused found.1.state) found.0) }
+        (λ found. IsFirst (operations tree.now - 1) (CoversAt space.now tree.now tables.now)
+        (FailsAt space.now tree.now tables.now found.1.fused found.1.state) found.0) }
 {
     for v in 0..tree.count() - 1 {
         if let Some(step) = first_uncovered_at(space, tree, tables, groups, hints, v) {
