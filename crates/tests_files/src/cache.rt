@@ -186,6 +186,59 @@ fn each_failure_of_the_disk_is_passed_on(rt: HostRuntime) {
     }
 }
 
+// How many calls write the tiles of an array of five, each of one word, after these touches and a flush. No tile is
+// given up before.
+fn writes_of(alloc: Global, frame_words: u64, touches: &[(u8, u64, u64)]) -> Option<u64> {
+    let sizes = [(1, 1), (1, 1), (5, 1)];
+    let mut trial = Trial::new(alloc, &sizes, 6, frame_words, Vec::new(alloc))?;
+    if !all_touches(&mut trial, touches) {
+        return None;
+    }
+    if !trial.is_written(alloc) || !trial.others_are_same(alloc) {
+        return None;
+    }
+    let [_faults, _reads, writes] = trial.disk.counts();
+    Some(writes)
+}
+
+const IN_ORDER: [(u8, u64, u64); 5] = [(2, 0, 10), (2, 1, 20), (2, 2, 30), (2, 3, 40), (2, 4, 50)];
+
+// The third one is only read.
+const ONE_IS_READ: [(u8, u64, u64); 5] = [
+    (2, 0, 10),
+    (2, 1, 20),
+    (2, 2, 0),
+    (2, 3, 40),
+    (2, 4, 50),
+];
+
+// The third one is another array's.
+const ANOTHER_BETWEEN: [(u8, u64, u64); 5] = [
+    (2, 0, 10),
+    (2, 1, 20),
+    (0, 0, 0),
+    (2, 2, 40),
+    (2, 3, 50),
+];
+
+const OUT_OF_ORDER: [(u8, u64, u64); 5] = [
+    (2, 4, 10),
+    (2, 1, 20),
+    (2, 2, 30),
+    (2, 3, 40),
+    (2, 0, 50),
+];
+
+#[test]
+fn tiles_that_follow_one_another_are_written_in_one_call(rt: HostRuntime) {
+    assert!(rt; writes_of(rt.alloc(), 1, &IN_ORDER) == Some(1));
+    assert!(rt; writes_of(rt.alloc(), 1, &ONE_IS_READ) == Some(2));
+    assert!(rt; writes_of(rt.alloc(), 1, &ANOTHER_BETWEEN) == Some(2));
+    assert!(rt; writes_of(rt.alloc(), 1, &OUT_OF_ORDER) == Some(3));
+    // The tiles do not fill their frames.
+    assert!(rt; writes_of(rt.alloc(), 2, &IN_ORDER) == Some(5));
+}
+
 // Touches tiles of the last array of a cache with four frames.
 fn four_frames(alloc: Global, tiles: &[u64]) -> Option<Trial> {
     let sizes = [(1, 1), (1, 1), (5, 1)];
