@@ -11,7 +11,7 @@ use tce_space::{IndexSet, MAX_LOOPS};
 pub(crate) const GROUPS: usize = 32_749;
 
 // How many rows have an entry. Others are asked where no other row stands for a state.
-pub(crate) const ENTRIES: usize = 458_752;
+pub(crate) const ENTRIES: usize = 327_680;
 
 // An entry is the place of a row, below this, and above it the marks.
 const PLACES: u32 = 524_288;
