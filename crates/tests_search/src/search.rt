@@ -4,7 +4,7 @@ use crate::given::{TWO_SUMS, spec_of};
 use std::alloc::Global;
 use std::process::Abort;
 use tce_nesting::{Plan, Row};
-use tce_search::{search, search_within};
+use tce_search::search;
 
 // a to f of extent 3000, i to l of extent 100.
 const THREE_SUMS: &str =
@@ -13,23 +13,6 @@ const THREE_SUMS: &str =
 fn plan_for(rt: &impl Abort, alloc: Global, text: &str) -> Plan {
     let spec = spec_of(rt, alloc, text);
     match search(alloc, spec.space(), spec.tree()) {
-        Ok(plan) => plan,
-        Err(_) => panic!(rt; "no memory"),
-    }
-}
-
-// Guesses of the least memory that are too low, exact for one of the two trees, or too high.
-const GUESSES: [u128; 7] = [0, 3, 6, 7, 10004, 20000, 1 << 100];
-
-fn plan_within(
-    rt: &impl Abort,
-    alloc: Global,
-    text: &str,
-    guess: u128,
-    limit: u64,
-) -> Option<Plan> {
-    let spec = spec_of(rt, alloc, text);
-    match search_within(alloc, spec.space(), spec.tree(), guess, limit) {
         Ok(plan) => plan,
         Err(_) => panic!(rt; "no memory"),
     }
@@ -89,56 +72,4 @@ fn three_sums_keep_few_elements(rt: HostRuntime) {
     expect_fused(&rt, &plan, wanted.as_slice());
     // all dims of the first product in one class
     expect_first_row(&rt, &plan, 5, 0b1000111110, 1);
-}
-
-// Whatever the guess, the plan that is found within the limit fuses these sets and takes this memory.
-fn expect_within(
-    rt: &impl Abort,
-    alloc: Global,
-    text: &str,
-    limit: u64,
-    memory: u128,
-    fused: &[u32],
-) {
-    for guess in GUESSES.as_slice() {
-        match plan_within(rt, alloc, text, *guess, limit) {
-            Some(plan) => {
-                expect_fused(rt, &plan, fused);
-                expect_memory(rt, &plan, memory);
-            }
-            None => panic!(rt; "no plan within {limit}"),
-        }
-    }
-}
-
-// Whatever the guess, there is no plan within the limit.
-fn expect_none_within(rt: &impl Abort, alloc: Global, text: &str, limit: u64) {
-    for guess in GUESSES.as_slice() {
-        assert!(rt; plan_within(rt, alloc, text, *guess, limit).is_none());
-    }
-}
-
-#[test]
-fn below_the_least_memory_no_plan_is_within(rt: HostRuntime) {
-    expect_none_within(&rt, rt.alloc(), TWO_SUMS, 0);
-    expect_none_within(&rt, rt.alloc(), TWO_SUMS, 5);
-    expect_none_within(&rt, rt.alloc(), THREE_SUMS, 10003);
-}
-
-#[test]
-fn from_the_least_memory_on_the_least_plan_is_within(rt: HostRuntime) {
-    let two = [0, 0b10, 0];
-    expect_within(&rt, rt.alloc(), TWO_SUMS, 6, 6, two.as_slice());
-    expect_within(&rt, rt.alloc(), TWO_SUMS, 7, 6, two.as_slice());
-    expect_within(&rt, rt.alloc(), TWO_SUMS, u64::MAX, 6, two.as_slice());
-    let three = [0b1000111110, 0b101110, 0b110101110, 0b110, 0b111000111, 0];
-    expect_within(&rt, rt.alloc(), THREE_SUMS, 10004, 10004, three.as_slice());
-    expect_within(
-        &rt,
-        rt.alloc(),
-        THREE_SUMS,
-        1 << 50,
-        10004,
-        three.as_slice(),
-    );
 }
