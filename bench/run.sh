@@ -313,6 +313,57 @@ TCE
 ./array B.tca 2 512 64 512 64
 compare 'matrices of 512, edge 64, all tiles held' C.tca 786432 "$rounds" matrix.c -DN=512 -DE=64
 
+# by numpy, tile by tile over mapped files, where a python3 with numpy is there
+python=
+for it in python3 /usr/bin/python3; do
+    if [ -z "$python" ] && "$it" -c 'import numpy' 2> /dev/null; then python=$it; fi
+done
+
+cat > tiles.py <<'PY'
+import sys
+
+import numpy
+
+# A product of matrices, or of two vectors, with tiles of so many words an edge.
+kind, extent, edge = sys.argv[1], int(sys.argv[2]), int(sys.argv[3])
+count = extent // edge
+rank = 2 if kind == "matrix" else 1
+
+
+def tiles(name, rank, mode):
+    return numpy.memmap(name, "<u8", mode, 16 + 16 * rank, (count,) * rank + (edge,) * rank)
+
+
+left, right = tiles("A.tca", rank, "r"), tiles("B.tca", rank, "r")
+with open("numpy.tca", "wb") as out:
+    out.write(b"TCARRAY1" + numpy.array([2, extent, extent, edge, edge], "<u8").tobytes())
+    out.truncate(48 + 8 * extent * extent)
+result = tiles("numpy.tca", 2, "r+")
+for i in range(count):
+    for j in range(count):
+        if kind == "matrix":
+            tile = left[i, 0] @ right[0, j]
+            for k in range(1, count):
+                tile += left[i, k] @ right[k, j]
+            result[i, j] = tile
+        else:
+            numpy.multiply.outer(left[i], right[j], out=result[i, j])
+result.flush()
+PY
+
+# numpy WHAT KIND EXTENT EDGE: the same by numpy, beside the C that was timed last
+numpy() {
+    [ -n "$python" ] || return 0
+    what=$1
+    shift
+    : > numpy.times
+    for round in 1 2 3; do
+        ./spent "$python" tiles.py "$@" >> numpy.times
+    done
+    cmp -s numpy.tca C.tca || { echo "$what: the results differ"; exit 1; }
+    echo "$(least plain.times) $(least numpy.times)" | awk -v what="$what" '{ printf "%-56s C %8.1f numpy %8.1f   ratio %6.2f\n", what, $1 / 1e3, $2 / 1e3, $2 / $1 }'
+}
+
 cat > job.tce <<'TCE'
 range N 1024 tile 64
 index N i j k
@@ -325,6 +376,7 @@ TCE
 ./array B.tca 2 1024 64 1024 64
 compare 'matrices of 1024, edge 64, 3 frames; C for this processor' C.tca 12288 "$rounds" matrix.c -DN=1024 -DE=64 -march=native
 compare 'the same with 64 frames' C.tca 262144 "$rounds" matrix.c -DN=1024 -DE=64 -march=native
+numpy 'the same by numpy' matrix 1024 64
 
 cat > job.tce <<'TCE'
 range N 4096 tile 64
@@ -338,6 +390,7 @@ TCE
 ./array B.tca 2 4096 64
 compare 'outer product of 4096, edge 64, 3 frames' C.tca 12288 "$rounds" outer.c -DN=4096 -DE=64
 compare 'the same with 64 frames' C.tca 262144 "$rounds" outer.c -DN=4096 -DE=64
+numpy 'the same by numpy' outer 4096 64
 
 cat > job.tce <<'TCE'
 range N 49152 tile 4096
