@@ -8,10 +8,10 @@ use tce_nesting::{Nesting, Row};
 use tce_space::{IndexSet, MAX_LOOPS};
 
 // A prime, so that parts which differ in few loops mostly have different groups.
-pub(crate) const GROUPS: usize = 16_381;
+pub(crate) const GROUPS: usize = 32_749;
 
 // How many rows have an entry. Others are asked where no other row stands for a state.
-pub(crate) const ENTRIES: usize = 200_704;
+pub(crate) const ENTRIES: usize = 327_680;
 
 // An entry is the place of a row, below this, and above it the marks.
 const PLACES: u32 = 524_288;
