@@ -29,7 +29,6 @@ pub struct Shape {
 }
 
 impl Model for Shape {
-    ghost use Rattle.tce_space.specs.Limits.{max_array_words, max_tile_words};
     ghost use Rattle.tce_space.specs.Tiling.{Tiling, IsTiling};
 
     ghost Value = { Tiling };
@@ -76,7 +75,6 @@ pub(crate) fn shape_of(
 }
 
 impl Shape {
-    ghost use Rattle.tce_space.specs.Limits.{max_array_words, max_tile_words};
     ghost use Rattle.tce_space.specs.Tiling.{IsTiling, tile_words, tiles, padded_words, elements, file_len};
 
     /// The extents, in elements.
