@@ -21,4 +21,5 @@ mod text;
 pub use declarations::{Declarations, Tensor};
 pub use fault::{Limit, SpecFault};
 pub use laws::{every_text_has_one_reading, examples_have_their_faults};
+pub use numbers::{leads_with_zero, value_of};
 pub use text::{Head, check_rest, read_head};

@@ -8,7 +8,7 @@ const MAX_EXTENT: u64 = 4_294_967_295;
 
 /// The number of some digits. `None` where it is 2^64 or more.
 #[tactic(auto, using(crate::proofs::Values::value_at))]
-fn value(digits: &[u8]) -> Option<u64>
+pub fn value_of(digits: &[u8]) -> Option<u64>
     ensures { MatchOption result (2 ^ 64 ≤ value_of digits.now) (λ n. n ≡ value_of digits.now) }
 {
     let mut number: u64 = 0;
@@ -24,7 +24,8 @@ fn value(digits: &[u8]) -> Option<u64>
     Some(number)
 }
 
-fn leads_with_zero(digits: &[u8]) -> bool
+/// Whether a zero stands in front of other digits.
+pub fn leads_with_zero(digits: &[u8]) -> bool
     ensures { result ≡ leads_with_zero digits.now }
 {
     match digits {
@@ -40,7 +41,7 @@ fn range_number(digits: &[u8]) -> Option<u64>
     if leads_with_zero(digits) {
         return None;
     }
-    let Some(number) = value(digits) else {
+    let Some(number) = value_of(digits) else {
         return None;
     };
     if number == 0 || number > MAX_EXTENT {

@@ -1,4 +1,3 @@
-pub mod Digits
 pub mod Joined
 pub mod KnownNames
 pub mod Nothing

@@ -6,17 +6,15 @@ ghost use Rattle.tce_space.specs.Name.{is_name};
 ghost use Rattle.tce_tree.specs.Expr.{tree_of};
 ghost use Rattle.tce_grammar.specs.Code.{names, formula};
 ghost use Rattle.tce_grammar.specs.Grammar.{AreNames};
-ghost use Rattle.tce_declarations.specs.Numbers.{value_of};
 ghost use Rattle.tce_formula.specs.Places.{IsNamed};
 ghost use Rattle.tce_formula.specs.Lengths.{IsShort};
 ghost use Rattle.tce_formula.specs.Meaning.{meaning, indexes_of, tensor_of};
 
-use crate::constant::value;
 use crate::names::{index_named, tensor_named};
 use arrayvec::ArrayVec;
 use std::alloc::{AllocError, Global};
 use std::boxed::Box;
-use tce_declarations::Declarations;
+use tce_declarations::{Declarations, value_of};
 use tce_grammar::{Formula, Operator};
 use tce_space::Space;
 use tce_tree::{Expr, Leaf};
@@ -64,7 +62,7 @@ pub(crate) fn expression_of(
         Formula::Tensor { name, indexes } => {
             Ok(Expr::Leaf(leaf_of(declarations, *name, indexes.as_slice())))
         }
-        Formula::Constant(digits) => Ok(Expr::Constant(value(*digits).unwrap_or(0))),
+        Formula::Constant(digits) => Ok(Expr::Constant(value_of(*digits).unwrap_or(0))),
         Formula::Sum { indexes, operand } => {
             let operand = expression_of(alloc, declarations, operand)?;
             let summed = indexes_of(declarations.space(), indexes.as_slice());
