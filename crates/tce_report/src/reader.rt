@@ -1,8 +1,7 @@
 // What a node line says of a node of a tree.
-ghost use Rattle.std.specs.Prelude.{◌≡◌, ◌<◌, ◌≤◌, ◌↔◌, ◌&&◌, not, IsTrue, IsPermutation, length, option_map};
+ghost use Rattle.std.specs.Prelude.{◌≡◌, ◌<◌, ◌≤◌, ◌↔◌, IsTrue, length, option_map};
 ghost use Rattle.std.specs.List.{list_all};
 ghost use Rattle.tce_space.specs.Limits.{max_indexes, max_loops};
-ghost use Rattle.tce_space.specs.IndexSet.{IsIndexSet, has, members};
 ghost use Rattle.tce_space.specs.Name.{is_name};
 ghost use Rattle.tce_tree.specs.ContractionTree.{operations};
 ghost use Rattle.tce_tree.specs.WellFormed.{IsDeclaredTree};
@@ -14,8 +13,8 @@ ghost use Rattle.tce_report.specs.ReadLine.{said, said_if_read, DoesNotFit, IsFu
 
 use crate::form::{WrittenLine, read_form};
 use tce_fields::{indexes_named, set_named};
-use tce_space::{IndexSet, LoopOrder, MAX_INDEXES, Space};
-use tce_tree::Tree;
+use tce_space::{IndexSet, LoopOrder, MAX_LOOPS, Space};
+use tce_tree::{Tree, is_order_of};
 
 /// What the line of a node says of it.
 #[derive(Clone, Debug, PartialEq, Eq, Drop)]
@@ -37,41 +36,14 @@ pub enum LineFault {
     WrongTree,
 }
 
-// Whether the number is one of the loops, and has not been seen.
-fn is_new(index: u8, loops: IndexSet, seen: IndexSet) -> bool
-    requires { IsIndexSet loops }
-    ensures { result ≡ (has loops index && not (has seen index)) }
-{
-    if index >= MAX_INDEXES as u8 {
-        return false;
-    }
-    loops.has(index) && !seen.has(index)
-}
-
-// Whether the order has each of the loops once, and nothing else.
-fn is_order_of(order: &[u8], loops: IndexSet) -> bool
-    requires { IsIndexSet loops }
-    ensures { IsTrue result ↔ IsPermutation (members loops) order.now }
-{
-    let mut seen = IndexSet::empty();
-    for index in order {
-        if !is_new(*index, loops, seen) {
-            return false;
-        }
-        seen = seen.with(*index);
-    }
-    seen == loops
-}
-
 // The order of the loops with these names.
 fn read_order(space: &Space, loops: IndexSet, names: &[&[u8]]) -> Option<LoopOrder>
-    requires loops { IsIndexSet loops }
     requires named { IsTrue (list_all is_name (texts names.now)) }
     requires few { length names.now ≤ max_loops }
     ensures { GivesExactly (option_map (λ order. order.0.items) result)
         (IsOrderNamed space.now loops (texts names.now)) }
 {
-    let Some(order) = indexes_named::<10>(space, names) else {
+    let Some(order) = indexes_named::<MAX_LOOPS>(space, names) else {
         return None;
     };
     if is_order_of(order.as_slice(), loops) {

@@ -52,11 +52,11 @@ impl Orders {
     }
 }
 
-// Whether the order has each of the loops once, and nothing else.
-fn is_order_of(order: &[u8], loops: IndexSet) -> bool
-    requires { IsIndexSet loops }
+/// Whether the order has each of the loops once, and nothing else.
+pub fn is_order_of(order: &[u8], loops: IndexSet) -> bool
     ensures { IsTrue result ↔ IsPermutation (members loops) order.now }
 {
+    let _bits = loops.bits();
     let mut seen = IndexSet::empty();
     for index in order {
         if !is_new(*index, loops, seen) {

@@ -11,7 +11,7 @@ mod tree;
 
 pub use expr::{Expr, Leaf};
 pub use fault::TreeFault;
-pub use fusion::{Fusion, Orders};
+pub use fusion::{Fusion, Orders, is_order_of};
 pub use laws::{parents_have_operands, value_depends_on_dims, value_is_word};
 pub use node::{Kind, Operand};
 pub use tree::Tree;

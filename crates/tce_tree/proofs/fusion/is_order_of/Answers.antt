@@ -17,24 +17,24 @@ loop-index-init c =
 pub returns-then-not-is_new : goal.returns-then-not-is_new
 returns-then-not-is_new c = (
   (λ h. absurd (false≢true h)),
-  (λ p. absurd (no_order c.args.loops c.loop-index.seen c.loop-index.index-index c.args.order.now c.requires c.loop-index.invariant c.loop-index-test.true (sym c.is_new.ensures ∙ c.if-not-is_new.true) p)),
+  (λ p. absurd (no_order c.args.loops c.loop-index.seen c.loop-index.index-index c.args.order.now c.bits-bits.ensures.bounded c.loop-index.invariant c.loop-index-test.true (sym c.is_new.ensures ∙ c.if-not-is_new.true) p)),
 )
 
 pub with-seen-requires : goal.with-seen-requires
 with-seen-requires c =
-    has_below c.args.loops _ c.requires (and_parts _ _ (sym c.is_new.ensures ∙ c.if-not-is_new.false)).0
+    has_below c.args.loops _ c.bits-bits.ensures.bounded (and_parts _ _ (sym c.is_new.ensures ∙ c.if-not-is_new.false)).0
 
 pub loop-index-preserved : goal.loop-index-preserved
 loop-index-preserved c =
     let parts = and_parts _ _ (sym c.is_new.ensures ∙ c.if-not-is_new.false) in
     rw (add-one c.loop-index.index-index, c.with-seen.ensures.value)
-    (seen_more c.args.loops c.loop-index.seen c.loop-index.index-index c.args.order.now _ refl (has_below c.args.loops _ c.requires parts.0) c.loop-index.invariant c.loop-index-test.true
+    (seen_more c.args.loops c.loop-index.seen c.loop-index.index-index c.args.order.now _ refl (has_below c.args.loops _ c.bits-bits.ensures.bounded parts.0) c.loop-index.invariant c.loop-index-test.true
     parts.0 (not-true _ parts.1) (with_lt c.loop-index.seen _ c.loop-index.invariant.is_set))
 
 pub returns : goal.returns
 returns c = (
-  (λ t. order_from c.args.loops c.loop-index.seen c.loop-index.index-index c.args.order.now c.requires c.loop-index.invariant c.loop-index-test.false
+  (λ t. order_from c.args.loops c.loop-index.seen c.loop-index.index-index c.args.order.now c.bits-bits.ensures.bounded c.loop-index.invariant c.loop-index-test.false
       (eqb-true c.loop-index.seen c.args.loops (sym c.eq.ensures ∙ t))),
   (λ p. c.eq.ensures ∙ eq-eqb c.loop-index.seen c.args.loops
-      (order_back c.args.loops c.loop-index.seen c.loop-index.index-index c.args.order.now c.requires c.loop-index.invariant c.loop-index-test.false p)),
+      (order_back c.args.loops c.loop-index.seen c.loop-index.index-index c.args.order.now c.bits-bits.ensures.bounded c.loop-index.invariant c.loop-index-test.false p)),
 )
