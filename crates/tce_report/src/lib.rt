@@ -3,7 +3,6 @@
 //! Texts are bytes of ASCII. Indexes stand as their names with commas between them, `-` where there are none.
 #![tactic(auto)]
 
-mod decimal;
 mod form;
 mod laws;
 mod line;

@@ -10,10 +10,9 @@ ghost use Rattle.tce_tree.specs.WellFormed.{IsDeclaredTree};
 ghost use Rattle.tce_nesting.specs.Plan.{PlanFits};
 ghost use Rattle.tce_report.specs.NodeLine as lines;
 
-use crate::decimal::push_decimal;
 use crate::names::push_names;
 use arrayvec::ArrayString;
-use tce_fields::members_of;
+use tce_fields::{decimal_text, members_of};
 use tce_nesting::Plan;
 use tce_space::{IndexSet, Space};
 use tce_tree::{Kind, Tree};
@@ -30,6 +29,14 @@ fn kind_word(kind: Kind) -> &'static str
         Kind::Add => "add",
         Kind::Sub => "sub",
     }
+}
+
+// Appends a number in decimal, without leading zeros.
+fn push_decimal(line: &mut Line, number: u128)
+    requires { length line.old.bytes + length (decimal number) ≤ 512 }
+    ensures { line.new.bytes ≡ line.old.bytes ++ decimal number }
+{
+    line.push_str(decimal_text(number).as_str());
 }
 
 // A node, what it computes, and its loops, outermost first.
