@@ -1,5 +1,6 @@
 -- Trees cut into pieces: a cut node's value is stored in an array, which the piece above it reads as it reads a tensor.
 use Rattle.std.specs.Prelude.{◌≡◌, ℕ, ◌+◌, ◌<◌, ◌&&◌, ◌||◌, ◌==◌, not, nat_lt, Bool, true, false, IsTrue, if◌then◌else◌}
+use Rattle.tce_space.specs.Limits.{max_tensors}
 use Rattle.tce_space.specs.IndexSet.{members}
 use Rattle.tce_tree.specs.ContractionTree.{ContractionTree, leaf, constant, binary, sum, dims, operations, node, in_subtree}
 use Rattle.tce_tree.specs.FlatTree.{first_number_of}
@@ -8,9 +9,9 @@ use Rattle.tce_tree.specs.FlatTree.{first_number_of}
 abbrev pub Cuts : Type 0
 Cuts = ℕ → Bool
 
--- the array of node `v` among the tensors, of which at most 32 are declared
+-- the array of node `v` among the tensors, behind all that may be declared
 abbrev pub stored : ℕ → ℕ
-stored v = 32 + v
+stored v = max_tensors + v
 
 -- the array of node `v`, which is this tree, with the node's dims in order
 abbrev pub reference_to : ℕ → ContractionTree → ContractionTree

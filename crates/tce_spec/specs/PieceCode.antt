@@ -28,7 +28,7 @@ HaveRank tree cut = (v : ℕ) → v < operations tree → cut v ≡ true → cou
 -- a declared tensor, or the array of a node with at most eight dims
 abbrev pub IsSource : Specification → ℕ → Type 0
 IsSource s t =
-    (t < length s.declarations.tensors) ⊎ ((32 ≤ t) × ((t - 32 < operations s.tree) × (count (node_dims s.tree (t - 32)) ≤ max_rank)))
+    (t < length s.declarations.tensors) ⊎ ((max_tensors ≤ t) × ((t - max_tensors < operations s.tree) × (count (node_dims s.tree (t - max_tensors)) ≤ max_rank)))
 
 -- these tensors can be declared over the same space: their names differ
 pub record CanDeclare (s : Specification) (numbers : List ℕ) : Type 0 where

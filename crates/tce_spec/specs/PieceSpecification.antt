@@ -1,6 +1,7 @@
 -- The specification of a piece, of which its array is the result.
 use Rattle.std.specs.Prelude.{ℕ, ◌+◌, ◌-◌, ◌<◌, ◌==◌, nat_lt, if◌then◌else◌, IsTrue, List, [], ◌∷◌, ◌++◌, length, map, codes}
 use Rattle.std.specs.Fmt.{decimal}
+use Rattle.tce_space.specs.Limits.{max_tensors}
 use Rattle.tce_space.specs.IndexSet.{members}
 use Rattle.tce_tree.specs.ContractionTree.{ContractionTree, leaf, constant, binary, sum, operations, node_dims}
 use Rattle.tce_declarations.specs.Declarations.{Tensor, tensor_at, Declarations}
@@ -15,7 +16,7 @@ array_of s v = record { name = codes "spill-" ++ decimal v; ranges = ranges_of_n
 
 -- what a number means in the tree of a piece: a declared tensor, or the array of a node
 abbrev pub source : Specification → ℕ → Tensor
-source s t = if nat_lt t 32 then tensor_at s.declarations t else array_of s (t - 32)
+source s t = if nat_lt t max_tensors then tensor_at s.declarations t else array_of s (t - max_tensors)
 
 -- these tensors and arrays, declared over the same space
 abbrev pub declared_of : Specification → List ℕ → Declarations

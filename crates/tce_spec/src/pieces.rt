@@ -3,7 +3,7 @@
 ghost use Rattle.std.specs.Prelude.{◌≡◌, ◌<◌, ◌≤◌, ◌+◌, ◌-◌, ◌++◌, ◌&&◌, nat_lt, codes, IfOk, IsTrue, length};
 ghost use Rattle.std.specs.List.{list_all};
 ghost use Rattle.std.specs.Fmt.{decimal};
-ghost use Rattle.tce_space.specs.Limits.{max_nodes, max_rank};
+ghost use Rattle.tce_space.specs.Limits.{max_nodes, max_rank, max_tensors};
 ghost use Rattle.tce_space.specs.IndexSet.{has, count, members};
 ghost use Rattle.tce_tree.specs.Expr.{tree_of};
 ghost use Rattle.tce_tree.specs.ContractionTree.{operations, node, node_dims};
@@ -27,11 +27,14 @@ use std::boxed::Box;
 use tce_declarations::Declarations;
 use tce_fields::{decimal_text, members_of};
 use tce_formula::Contraction;
-use tce_space::{MAX_RANK, Name, Space};
+use tce_space::{MAX_NODES, MAX_RANK, MAX_TENSORS, Name, Space};
 use tce_tree::{Expr, Leaf, Tree};
 
-/// How many tensors are declared at most. The array of node `v` stands among them as number `32 + v`.
-const MAX_TENSORS: u8 = 32;
+/// The array of node `v` stands behind all tensors that may be declared, as number `FIRST_ARRAY + v`.
+const FIRST_ARRAY: u8 = MAX_TENSORS as u8;
+
+/// How many tensors and arrays of nodes there are at most.
+const MAX_SOURCES: usize = MAX_TENSORS + MAX_NODES;
 
 /// The cut nodes, as the bits of a number, and the root of a piece, which is not cut off itself.
 #[derive(Clone, Copy)]
@@ -88,7 +91,7 @@ fn reference_to(tree: &Tree, v: u8) -> Expr
 {
     let _count = tree.count();
     Expr::Leaf(Leaf {
-        tensor: MAX_TENSORS + v,
+        tensor: FIRST_ARRAY + v,
         indexes: dims_of(tree, v),
     })
 }
@@ -167,7 +170,7 @@ fn rest_of(
 
 // The place of a number in a list.
 fn place_of(numbers: &[u8], t: u8) -> u8
-    requires { length numbers.now ≤ 64 }
+    requires { length numbers.now ≤ max_tensors + max_nodes }
     ensures value { result ≡ place_in numbers.now t }
     ensures limit { result ≤ length numbers.now }
 {
@@ -185,7 +188,7 @@ fn place_of(numbers: &[u8], t: u8) -> u8
 
 // An expression with the places of its tensors in a list for their numbers.
 fn renumbered(alloc: Global, expr: &Expr, numbers: &[u8]) -> Result<Expr, AllocError>
-    requires { length numbers.now ≤ 64 }
+    requires { length numbers.now ≤ max_tensors + max_nodes }
     ensures { IfOk result (IsRenumbered numbers.now expr.now) }
 {
     match expr {
@@ -249,10 +252,10 @@ fn source_name(spec: &Spec, t: u8) -> Name
     ensures { result.bytes ≡ (source spec.now t).name }
 {
     let _rules = spec.space();
-    if t < MAX_TENSORS {
+    if t < FIRST_ARRAY {
         spec.tensor(t).name
     } else {
-        array_name(t - MAX_TENSORS)
+        array_name(t - FIRST_ARRAY)
     }
 }
 
@@ -262,10 +265,10 @@ fn source_ranges(spec: &Spec, t: u8) -> Result<ArrayVec<u8, MAX_RANK>, AllocErro
     ensures { IfOk result (λ ranges. ranges.items ≡ (source spec.now t).ranges) }
 {
     let space = spec.space();
-    if t < MAX_TENSORS {
+    if t < FIRST_ARRAY {
         spec.tensor(t).ranges.clone()
     } else {
-        Ok(ranges_of(space, spec.tree(), t - MAX_TENSORS))
+        Ok(ranges_of(space, spec.tree(), t - FIRST_ARRAY))
     }
 }
 
@@ -294,8 +297,8 @@ fn rest_of_piece(alloc: Global, spec: &Spec, root: u8, cuts: u32) -> Result<Expr
 }
 
 // The tensors and arrays of an expression, by their first place from the left, each once.
-fn sources_of(expr: &Expr) -> ArrayVec<u8, 64>
-    requires { IsTrue (list_all (λ t. nat_lt t 64) (references (tree_of expr.now))) }
+fn sources_of(expr: &Expr) -> ArrayVec<u8, MAX_SOURCES>
+    requires { IsTrue (list_all (λ t. nat_lt t (max_tensors + max_nodes)) (references (tree_of expr.now))) }
     ensures { result.items ≡ each_once (references (tree_of expr.now)) }
 {
     let mut sources = ArrayVec::new();
@@ -312,7 +315,7 @@ fn target_of(spec: &Spec, root: u8) -> u8
     if root + 1 == count {
         spec.result().tensor
     } else {
-        MAX_TENSORS + root
+        FIRST_ARRAY + root
     }
 }
 
@@ -364,7 +367,7 @@ fn specified(
 /// their first place from the left, and behind them what it computes.
 pub fn piece(alloc: Global, spec: &Spec, root: u8, cuts: u32) -> Result<Spec, AllocError>
     requires names { HaveNames spec.now.declarations.tensors }
-    requires few { length spec.now.declarations.tensors ≤ 31 }
+    requires few { length spec.now.declarations.tensors ≤ max_tensors - 1 }
     requires cuts { CanCut spec.now (has cuts) root }
     ensures { IfOk result (λ own. own ≡ piece_of spec.now (has cuts) root) }
 {

@@ -1,5 +1,6 @@
 // The cuts of a tree for a limit of memory.
-ghost use Rattle.std.specs.Prelude.{◌≡◌, ℕ, ◌+◌, ◌<◌, ◌≤◌, false, IfOk, IfErr, IfSome, IfNone, OnOk, length};
+ghost use Rattle.std.specs.Prelude.{◌≡◌, ℕ, ◌+◌, ◌-◌, ◌<◌, ◌≤◌, false, IfOk, IfErr, IfSome, IfNone, OnOk, length};
+ghost use Rattle.tce_space.specs.Limits.{max_tensors};
 ghost use Rattle.tce_space.specs.IndexSet.{has};
 ghost use Rattle.tce_tree.specs.ContractionTree.{operations};
 ghost use Rattle.tce_tree.specs.Measure.{IsMeasured};
@@ -19,12 +20,12 @@ use crate::storage::storable;
 use std::alloc::{AllocError, Global};
 use tce_nesting::Plan;
 use tce_search::{search, search_within};
-use tce_space::Space;
+use tce_space::{MAX_TENSORS, Space};
 use tce_spec::{Spec, piece};
 use tce_tree::Tree;
 
 // A piece may need one tensor more than the whole declares.
-const MAX_TENSORS: u8 = 31;
+const MOST_TENSORS: u8 = MAX_TENSORS as u8 - 1;
 
 /// The nodes that are cut so that each piece has a fusion within the limit, in elements: bit `v` stands for node `v`.
 ///
@@ -59,7 +60,7 @@ pub fn planned_cuts(alloc: Global, spec: &Spec, limit: u64) -> Result<PlannedCut
     ensures refused { IfErr result (IsCutFault spec.now limit) }
     ensures exactly { (due : Fault) → (IsFree due → ⊥) → IsCutFault spec.now limit due → IsRefusedAs due result }
 {
-    if spec.tensor_count() > MAX_TENSORS {
+    if spec.tensor_count() > MOST_TENSORS {
         return Err(SpillFault::TooManyTensors);
     }
     let nodes = storable_nodes(spec.space(), spec.tree());
@@ -93,7 +94,7 @@ fn plan_pieces(
     limit: u64,
 ) -> Result<Vec<Option<Plan>>, SpillFault>
     requires names { HaveNames spec.now.declarations.tensors }
-    requires few { length spec.now.declarations.tensors ≤ 31 }
+    requires few { length spec.now.declarations.tensors ≤ max_tensors - 1 }
     requires all { AllAreCut spec.now.declarations.space spec.now.tree (has cuts) }
     ensures meet { OnOk result (MeetLimit spec.now.declarations.space spec.now.tree (has cuts) limit) }
     ensures count { IfOk result (λ plans. length plans.items ≡ operations spec.now.tree) }
@@ -119,7 +120,7 @@ fn test_piece(
     limit: u64,
 ) -> Result<Option<Plan>, SpillFault>
     requires names { HaveNames spec.now.declarations.tensors }
-    requires few { length spec.now.declarations.tensors ≤ 31 }
+    requires few { length spec.now.declarations.tensors ≤ max_tensors - 1 }
     requires all { AllAreCut spec.now.declarations.space spec.now.tree (has cuts) }
     requires inside { root < operations spec.now.tree }
     requires earlier { FitBefore spec.now.declarations.space spec.now.tree (has cuts) limit root }
@@ -147,7 +148,7 @@ fn take_back(
     limit: u64,
 ) -> Result<(), AllocError>
     requires names { HaveNames spec.now.declarations.tensors }
-    requires few { length spec.now.declarations.tensors ≤ 31 }
+    requires few { length spec.now.declarations.tensors ≤ max_tensors - 1 }
     requires planned { ArePlanned spec.now limit planned.old 0 }
     ensures { OnOk result (ArePlanned spec.now limit planned.new (operations spec.now.tree)) }
 {
@@ -166,7 +167,7 @@ fn decide(
     limit: u64,
 ) -> Result<(), AllocError>
     requires names { HaveNames spec.now.declarations.tensors }
-    requires few { length spec.now.declarations.tensors ≤ 31 }
+    requires few { length spec.now.declarations.tensors ≤ max_tensors - 1 }
     requires inside { v < operations spec.now.tree }
     requires planned { ArePlanned spec.now limit planned.old v }
     ensures { OnOk result (ArePlanned spec.now limit planned.new (v + 1)) }
@@ -189,7 +190,7 @@ fn decide(
 // A plan of a least fusion of the piece of a root, without rows.
 fn plan_of_piece(alloc: Global, spec: &Spec, root: u8, cuts: u32) -> Result<Plan, AllocError>
     requires names { HaveNames spec.now.declarations.tensors }
-    requires few { length spec.now.declarations.tensors ≤ 31 }
+    requires few { length spec.now.declarations.tensors ≤ max_tensors - 1 }
     requires cuts { CanCut spec.now (has cuts) root }
     ensures { IfOk result (IsPlanOfPiece spec.now (has cuts) root) }
 {
@@ -208,7 +209,7 @@ fn plan_within(
     limit: u64,
 ) -> Result<Option<Plan>, AllocError>
     requires names { HaveNames spec.now.declarations.tensors }
-    requires few { length spec.now.declarations.tensors ≤ 31 }
+    requires few { length spec.now.declarations.tensors ≤ max_tensors - 1 }
     requires cuts { CanCut spec.now (has cuts) root }
     ensures plan { IfOk result (λ found. IfSome found (IsPlanOfPiece spec.now (has cuts) root)) }
     ensures within { IfOk result (λ found. IfSome found (λ plan. plan.memory ≤ limit)) }

@@ -16,4 +16,4 @@ returns-in_err-plans-clause-exactly c due free is =
 
 pub returns-in-Ok-clause-exactly : goal.returns-in-Ok-clause-exactly
 returns-in-Ok-clause-exactly c due free is =
-    no_fault c.args.spec.now c.args.limit (operations c.args.spec.now.tree) (has c.take_back.new.planned.nodes) due (omega (arith, c.tensor_count.ensures, c.if-tensor_count-gt-MAX_TENSORS.false)) c.in-Ok.ensures.decided free is
+    no_fault c.args.spec.now c.args.limit (operations c.args.spec.now.tree) (has c.take_back.new.planned.nodes) due (omega (arith, c.tensor_count.ensures, c.if-tensor_count-gt-MOST_TENSORS.false)) c.in-Ok.ensures.decided free is
