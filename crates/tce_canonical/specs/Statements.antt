@@ -3,9 +3,9 @@ use Rattle.std.specs.Prelude.{ℕ, ◌==◌, if◌then◌else◌, List, [], ◌�
 use Rattle.std.specs.declared.option.Option.TheVariants.{Some, None}
 use Rattle.std.specs.Fmt.{decimal}
 use Rattle.tce_space.specs.Space.{Range, Index, IndexSpace, range_at, index_at}
-use Rattle.tce_tree.specs.ContractionTree.{ContractionTree, Arithmetic, multiply, add, subtract, leaf, constant, binary, sum}
+use Rattle.tce_tree.specs.ContractionTree.{ContractionTree, leaf, constant, binary, sum}
 use Rattle.tce_grammar.specs.Formula as formulas
-use Rattle.tce_grammar.specs.Formula.{Formula, Operator, times, plus, minus}
+use Rattle.tce_grammar.specs.Formula.{Formula}
 use Rattle.tce_grammar.specs.Grammar.{Statement, range, index, declaration, formula}
 use Rattle.tce_grammar.specs.Canonical.{canonical_text}
 use Rattle.tce_declarations.specs.Declarations.{Declarations, Tensor, tensor_at}
@@ -46,16 +46,11 @@ index_statement space g = index (range_at space g.of_range).name g.names
 abbrev pub tensor_statement : IndexSpace → Tensor → Statement
 tensor_statement space t = declaration t.name (range_names space t.ranges)
 
-abbrev pub operator : Arithmetic → Operator
-operator multiply = times
-operator add = plus
-operator subtract = minus
-
 -- a tree with names for its numbers
 abbrev pub formula_of : Declarations → ContractionTree → Formula
 formula_of d (leaf tensor indexes) = formulas.tensor (tensor_at d tensor).name (index_names d.space indexes)
 formula_of d (constant number) = formulas.constant (decimal number)
-formula_of d (binary op left right) = formulas.binary (operator op) (formula_of d left) (formula_of d right)
+formula_of d (binary op left right) = formulas.binary op (formula_of d left) (formula_of d right)
 formula_of d (sum indexes operand) = formulas.sum (index_names d.space indexes) (formula_of d operand)
 
 abbrev pub formula_statement : Declarations → ℕ → List ℕ → ContractionTree → Statement

@@ -4,7 +4,6 @@ ghost use Rattle.std.specs.Prelude.{◌≡◌, ◌<◌, ◌∷◌, ◌++◌, [],
 ghost use Rattle.tce_tree.specs.Expr.{tree_of};
 ghost use Rattle.tce_tree.specs.WellFormed.{IsDeclaredTree};
 ghost use Rattle.tce_grammar.specs.Tokens as tokens;
-ghost use Rattle.tce_grammar.specs.Code as code;
 ghost use Rattle.tce_grammar.specs.Formula as formulas;
 ghost use Rattle.tce_grammar.specs.Grammar as grammar;
 ghost use Rattle.tce_grammar.specs.Grammar.{listed, spelling};
@@ -19,27 +18,27 @@ use crate::tensors::push_reference;
 use crate::words::{push_index_list, push_number, push_symbol, push_word};
 use std::alloc::{AllocError, Global};
 use tce_declarations::Declarations;
-use tce_grammar::{Operator, Printer};
-use tce_space::Space;
+use tce_grammar::Printer;
+use tce_space::{Arithmetic, Space};
 use tce_tree::Expr;
 
-fn sign(operator: Operator) -> u8
-    ensures { tokens.symbol result ≡ grammar.sign (code.operator operator) }
+fn sign(operator: Arithmetic) -> u8
+    ensures { tokens.symbol result ≡ grammar.sign operator }
 {
     match operator {
-        Operator::Times => b'*',
-        Operator::Plus => b'+',
-        Operator::Minus => b'-',
+        Arithmetic::Multiply => b'*',
+        Arithmetic::Add => b'+',
+        Arithmetic::Subtract => b'-',
     }
 }
 
 /// How tightly an operator binds.
-fn precedence(operator: Operator) -> u8
-    ensures { result ≡ grammar.precedence (code.operator operator) }
+fn precedence(operator: Arithmetic) -> u8
+    ensures { result ≡ grammar.precedence operator }
 {
     match operator {
-        Operator::Times => 2,
-        Operator::Plus | Operator::Minus => 1,
+        Arithmetic::Multiply => 2,
+        Arithmetic::Add | Arithmetic::Subtract => 1,
     }
 }
 
@@ -82,13 +81,27 @@ pub(crate) fn push_expr(
         Expr::Leaf(leaf) => push_reference(printer, declarations, leaf),
         Expr::Constant(number) => push_number(alloc, printer, *number),
         Expr::Product(left, right) => {
-            push_binary(alloc, printer, declarations, Operator::Times, left, right)
+            push_binary(
+                alloc,
+                printer,
+                declarations,
+                Arithmetic::Multiply,
+                left,
+                right,
+            )
         }
         Expr::Add(left, right) => {
-            push_binary(alloc, printer, declarations, Operator::Plus, left, right)
+            push_binary(alloc, printer, declarations, Arithmetic::Add, left, right)
         }
         Expr::Sub(left, right) => {
-            push_binary(alloc, printer, declarations, Operator::Minus, left, right)
+            push_binary(
+                alloc,
+                printer,
+                declarations,
+                Arithmetic::Subtract,
+                left,
+                right,
+            )
         }
         Expr::Sum(indexes, operand) => {
             push_summed(printer, declarations.space(), indexes.as_slice())?;
@@ -103,7 +116,7 @@ fn push_binary(
     alloc: Global,
     printer: &mut Printer,
     declarations: &Declarations,
-    operator: Operator,
+    operator: Arithmetic,
     left: &Expr,
     right: &Expr,
 ) -> Result<(), AllocError>
@@ -112,7 +125,7 @@ fn push_binary(
     requires right_leaves { LeavesFit declarations.now (tree_of right.now) }
     requires right_declared { IsDeclaredTree declarations.now.space (tree_of right.now) }
     ensures { OnOk result (printer.new ≡ with_tokens printer.old
-        (spelling (written_of (formulas.binary (code.operator operator) (formula_of declarations.now (tree_of left.now)) (formula_of declarations.now (tree_of right.now)))))) }
+        (spelling (written_of (formulas.binary operator (formula_of declarations.now (tree_of left.now)) (formula_of declarations.now (tree_of right.now)))))) }
 {
     let precedence = precedence(operator);
     push_operand(alloc, printer, declarations, left, level(left) < precedence)?;

@@ -4,11 +4,10 @@ use Rattle.std.specs.Prelude.{unwrap_or}
 use Rattle.std.specs.List.{AllByRecursion}
 use Rattle.std.proofs.lemmas.List.{length-map, get_or-map, get_or_append_left}
 use Rattle.tce_space.specs.Space.{Index, IndexSpace, index_at, index_number, no_range, no_index, range_at}
-use Rattle.tce_tree.specs.ContractionTree.{ContractionTree, Arithmetic, multiply, add, subtract, leaf, constant, binary, sum}
+use Rattle.tce_tree.specs.ContractionTree.{ContractionTree, leaf, constant, binary, sum}
 use Rattle.tce_declarations.specs.Declarations.{Declarations, IsDeclarations, Tensor, tensor_at, no_tensor}
 use Rattle.tce_declarations.specs.Numbers.{value_of, edge_of}
-use Rattle.tce_formula.specs.Meaning.{meaning, arithmetic, indexes_of, tensor_of}
-use Rattle.tce_canonical.specs.Statements.{operator}
+use Rattle.tce_formula.specs.Meaning.{meaning, indexes_of, tensor_of}
 use Rattle.tce_round_trip.proofs.SpaceNames.{index_found}
 use Rattle.tce_round_trip.proofs.NumbersBack.{tensor_back, value_back}
 use Rattle.tce_round_trip.proofs.Heads.{with_tensors}
@@ -112,11 +111,6 @@ names_of_tensors x = names 0 x.operands
 
 -- the tree
 
-arithmetic_back : (op : Arithmetic) → arithmetic (operator op) ≡ op
-arithmetic_back multiply = refl
-arithmetic_back add = refl
-arithmetic_back subtract = refl
-
 pub meaning_back : (x : Einsum) → IsDeclarations (declarations_of x) → (tree : ContractionTree) → IsOver (length x.operands) (length x.sizes) tree
     → meaning (declarations_of x) (formula_of x.sizes tree) ≡ tree
 meaning_back x rules (leaf k labels) over =
@@ -127,7 +121,7 @@ meaning_back x rules (constant number) over = ap constant (value_back number ove
 meaning_back x rules (binary op left right) over =
     let first_one = meaning_back x rules left over.0 in
     let second_one = meaning_back x rules right over.1 in
-    λ i. binary (arithmetic_back op i) (first_one i) (second_one i)
+    λ i. binary op (first_one i) (second_one i)
 meaning_back x rules (sum labels operand) over =
     let indexes = indexes_back x rules labels over.1 in
     let inner = meaning_back x rules operand over.2 in

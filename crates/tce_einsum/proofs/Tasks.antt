@@ -6,7 +6,6 @@ use Rattle.std.proofs.lemmas.List.{length-append, length-take-le, take-append-dr
 use Rattle.std.proofs.lemmas.List.Sums.{fold-append}
 use Rattle.std.proofs.lemmas.List.Elements.{All-push}
 use Rattle.tce_tree.specs.ContractionTree.{ContractionTree, leaf, binary, sum, multiply, operations}
-use Rattle.tce_grammar.specs.Formula.{times}
 use Rattle.tce_grammar.specs.Tokens.{Token, word, symbol}
 use Rattle.tce_grammar.specs.Grammar.{Written, joined, spelling, level, listed, bracketed}
 use Rattle.tce_grammar.specs.Canonical.{written_of, grouped_if}
@@ -136,8 +135,8 @@ product_done ss nodes stack after p k l r d ordered inside e tasks pushed =
     let tree = product_tree nodes k l r d ordered inside e in
     let wl : Written = written_at ss nodes l in
     let gr : Written = grouped_if (nat_le (level (written_at ss nodes r)) 2) (written_at ss nodes r) in
-    let written : written_at ss nodes k ≡ joined times wl gr =
-    ap (λ t. written_of (formula_of ss t)) tree ∙ ap (λ b. joined times (grouped_if b wl) gr) (place_level ss nodes l in_l) in
+    let written : written_at ss nodes k ≡ joined multiply wl gr =
+    ap (λ t. written_of (formula_of ss t)) tree ∙ ap (λ b. joined multiply (grouped_if b wl) gr) (place_level ss nodes l in_l) in
     let rest : List Token = pending ss nodes stack in
     let one : List Task = stack ++ RightOperand r ∷ [] in
     let two : List Task = one ++ Symbol 42 ∷ [] in

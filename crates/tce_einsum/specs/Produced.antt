@@ -10,7 +10,7 @@ use Rattle.tce_grammar.specs.Formula as formulas
 use Rattle.tce_grammar.specs.Formula.{Formula}
 use Rattle.tce_grammar.specs.Grammar.{Statement, range, index, declaration, formula}
 use Rattle.tce_grammar.specs.Canonical.{canonical_text}
-use Rattle.tce_canonical.specs.Statements.{Group, groups, operator}
+use Rattle.tce_canonical.specs.Statements.{Group, groups}
 use Rattle.tce_einsum.specs.Text.{Size, Einsum}
 use Rattle.tce_einsum.specs.Path.{Item}
 use Rattle.tce_einsum.specs.Entries.{numbered}
@@ -110,7 +110,7 @@ tensor_statements x = numbered (operand_statement x.sizes) 0 x.operands ++ resul
 abbrev pub formula_of : List Size → ContractionTree → Formula
 formula_of sizes (leaf operand labels) = formulas.tensor (operand_name operand) (label_names sizes labels)
 formula_of sizes (constant number) = formulas.constant (decimal number)
-formula_of sizes (binary op left right) = formulas.binary (operator op) (formula_of sizes left) (formula_of sizes right)
+formula_of sizes (binary op left right) = formulas.binary op (formula_of sizes left) (formula_of sizes right)
 formula_of sizes (sum labels operand) = formulas.sum (label_names sizes labels) (formula_of sizes operand)
 
 abbrev pub formula_statement : Einsum → ContractionTree → Statement

@@ -13,8 +13,6 @@ use Rattle.tce_walk.specs.Parts.{grown_by_part, set_by_part, node_after_part, af
 use Rattle.tce_code.specs.Execution.{Setting, State, left_word, right_word}
 use Rattle.tce_code.specs.Shape.{IsBinary, IsSum}
 use Rattle.tce_strides.specs.Turns.{grown, grown_by_products, computed, operate}
-use Rattle.tce_strides.specs.declared.loops.Operation.{Operation}
-use Rattle.tce_strides.specs.declared.loops.Operation.TheVariants.{Multiply}
 use Rattle.tce_walk.specs.TailLaws.{computed_word}
 use Rattle.tce_walk.specs.Laws.{HoldsWords}
 use Rattle.tce_walk.specs.Machine.{IsJoinedTo, IsJoined}
@@ -144,7 +142,7 @@ pub record ReadsBoth (y : Workspace) (t : Turns) (n m v : ℕ) (o : Operand) (le
   pub right_of_is : right_of y.places.tree v ≡ Some o
   pub right_is : Reads y t m o right
 
-pub pair_leaves : (y : Workspace) (tail : Tail) (a : Assignment) (part : Part) (n m k : ℕ) (o : Operand) (op : Arithmetic) (l r : ContractionTree) (operation : Operation) (left right out : Window) (new : List ℕ)
+pub pair_leaves : (y : Workspace) (tail : Tail) (a : Assignment) (part : Part) (n m k : ℕ) (o : Operand) (op : Arithmetic) (l r : ContractionTree) (operation : Arithmetic) (left right out : Window) (new : List ℕ)
     → IsAtBlock y tail a part → ((p : ℕ) → slice_index y.words p < 2 ^ 64) → node y.places.tree tail.node ≡ binary op l r → tail.sum ≡ None
     → ((p q : ℕ) → operate operation p q ≡ arithmetic op p q) → ReadsBoth y (turns_at tail a part) n m tail.node o left right → Puts y (turns_at tail a part) k tail.node out
     → AreMade (loops_of tail) part.len (λ inner. computed operation y.words (place_along left inner) (place_along right inner)) out y.words new
@@ -198,7 +196,7 @@ pub record PutsBoth (y : Workspace) (t : Turns) (n m u w : ℕ) (left right own 
 pub joined_leaves : (y : Workspace) (tail : Tail) (a : Assignment) (part : Part) (n m i j w : ℕ) (o : Operand) (left right own out : Window) (mid new : List ℕ)
     → IsAtBlock y tail a part → ((p : ℕ) → slice_index y.words p < 2 ^ 64) → ((p : ℕ) → slice_index mid p < 2 ^ 64) → tail.sum ≡ Some w
     → ReadsBoth y (turns_at tail a part) n m tail.node o left right → PutsBoth y (turns_at tail a part) i j tail.node w left right own out
-    → AreMade (loops_of tail) part.len (λ inner. computed Multiply y.words (place_along left inner) (place_along right inner)) own y.words mid
+    → AreMade (loops_of tail) part.len (λ inner. computed multiply y.words (place_along left inner) (place_along right inner)) own y.words mid
     → AreMade (loops_of tail) part.len (λ inner. grown_by_products mid (place_along left inner) (place_along right inner)) out mid new
     → IsLeft y new (after_part (setting_in y) tail a part)
 joined_leaves y tail a part n m i j w o left right own out mid new h low low_mid joined reads puts made more =
@@ -226,7 +224,7 @@ joined_leaves y tail a part n m i j w o left right own out mid new h low low_mid
           (record { loops = loops; shows = place_shows z t j w out fs words.prepared puts_then }) (holds z fs w words.prepared low_mid told)
           (still_shows t own left y.words mid f first puts.left_apart lefts) (still_shows t own right y.words mid g first puts.right_apart rights) more).state_is
           ∙ ap (grown_by_part (setting_in y) w (loops_of tail) (λ b. wrapping_mul (f b) (g b)) a part)
-          (compute_leaves (setting_in y) tail.node (loops_of tail) a part Multiply own left right (λ ws. view_with y ws fs) f g y.words mid
+          (compute_leaves (setting_in y) tail.node (loops_of tail) a part multiply own left right (λ ws. view_with y ws fs) f g y.words mid
           (record { loops = loops; shows = place_shows y t i tail.node own fs h.prepared puts.own_is }) lefts rights made).state_is
           ∙ sym (after_both (setting_in y) (loops_of tail) a part tail.node w tail.sum (node y.places.tree tail.node) multiply product.0 product.1 (view y fs) joined product.2));
     }

@@ -8,7 +8,6 @@ use Rattle.tce_tree.specs.declared.node.Kind.{Kind}
 use Rattle.tce_block.specs.Parts.{Part}
 use Rattle.tce_walk.specs.Parts.{after_part}
 use Rattle.tce_strides.specs.Turns.{grown, computed, operate}
-use Rattle.tce_strides.specs.declared.loops.Operation.{Operation}
 use Rattle.tce_layout.specs.Layout.{slot_at}
 use Rattle.tce_walk.specs.declared.machine.Tail.{Tail}
 use Rattle.tce_windows.specs.Loops.{AreMade, AreProductsJoined, place_along}
@@ -104,12 +103,12 @@ pub own_ready : (y : Workspace) (tail : Tail) (a : Assignment) (part : Part) (o 
 own_ready y tail a part o first windows ready same are =
     places_ready y tail a part o tail.node windows.left windows.right windows.out (omega arith) ready (puts_own y tail a part 1 first windows.out ready.block same are.out_is)
 
-kind_computes : (operation : Operation) (k : Kind) (op : Arithmetic) → k ≡ arithmetic_kind op → ((p q : ℕ) → operate operation p q ≡ combined k p q) → (p q : ℕ) → operate operation p q ≡ arithmetic op p q
+kind_computes : (operation : Arithmetic) (k : Kind) (op : Arithmetic) → k ≡ arithmetic_kind op → ((p q : ℕ) → operate operation p q ≡ combined k p q) → (p q : ℕ) → operate operation p q ≡ arithmetic op p q
 kind_computes operation k multiply e h p q = h p q ∙ ap (λ j. combined j p q) e
 kind_computes operation k add e h p q = h p q ∙ ap (λ j. combined j p q) e
 kind_computes operation k subtract e h p q = h p q ∙ ap (λ j. combined j p q) e
 
-pub pair_runs : (x y : Workspace) (tail : Tail) (a : Assignment) (part : Part) (o : Operand) (operation : Operation) (k : Kind) (windows : Windows) (new : List ℕ)
+pub pair_runs : (x y : Workspace) (tail : Tail) (a : Assignment) (part : Part) (o : Operand) (operation : Arithmetic) (k : Kind) (windows : Windows) (new : List ℕ)
     → IsPrepared x → IsKept x y → IsRead 3 x y → OperandsReady y tail a part o windows.left windows.right → PlacesReady y tail a part tail.node windows.left windows.right windows.out
     → ((p : ℕ) → slice_index y.words p < 2 ^ 64) → tail.sum ≡ None → k ≡ kind_of (node y.places.tree tail.node) → ((p q : ℕ) → operate operation p q ≡ combined k p q)
     → AreMade (loops_of tail) part.len (λ inner. computed operation y.words (place_along windows.left inner) (place_along windows.right inner)) windows.out y.words new

@@ -16,20 +16,20 @@ use crate::position::Position;
 use crate::turns::{TailBlock, begin_block, compute_turns, grow_turns, join_turns};
 use crate::windows::{Pairing, node_window, pair_windows, sum_windows};
 use tce_outside::{Disk, Failed};
-use tce_strides::Operation;
+use tce_space::Arithmetic;
 use tce_tree::{Kind, Operand};
 use tce_workspace::{Evaluation, Storage};
 
 // What a node with two operands computes.
-fn operation_of(kind: Kind) -> Operation
+fn operation_of(kind: Kind) -> Arithmetic
     requires { kind ≢ Kind.Sum }
     ensures { (x y : ℕ) → operate result x y ≡ combined kind x y }
 {
     match kind {
-        Kind::Product => Operation::Multiply,
+        Kind::Product => Arithmetic::Multiply,
         Kind::Sum => unreachable!(),
-        Kind::Add => Operation::Add,
-        Kind::Sub => Operation::Subtract,
+        Kind::Add => Arithmetic::Add,
+        Kind::Sub => Arithmetic::Subtract,
     }
 }
 

@@ -12,8 +12,7 @@ ghost use Rattle.tce_exec.specs.TailBlocks.{part_in};
 use crate::position::Position;
 use crate::steps::Windows;
 use tce_block::Block;
-use tce_space::{Numbers, Space};
-use tce_strides::Operation;
+use tce_space::{Arithmetic, Numbers, Space};
 use tce_walk::Tail;
 use tce_windows::{
     BlockLoops, LoopSequence, OperandWindows, Window, compute, compute_and_grow, grow,
@@ -124,7 +123,7 @@ pub(crate) fn join_turns(
 /// Puts what the operation makes of the operands' words into the words of `out`.
 pub(crate) fn compute_turns(
     words: &mut Words,
-    operation: Operation,
+    operation: Arithmetic,
     sequence: &mut LoopSequence,
     at: &TailBlock,
     out: &Window,

@@ -15,8 +15,8 @@ use arrayvec::ArrayVec;
 use std::alloc::{AllocError, Global};
 use std::boxed::Box;
 use tce_declarations::{Declarations, value_of};
-use tce_grammar::{Formula, Operator};
-use tce_space::Space;
+use tce_grammar::Formula;
+use tce_space::{Arithmetic, Space};
 use tce_tree::{Expr, Leaf};
 
 /// The numbers of declared indexes.
@@ -76,9 +76,9 @@ pub(crate) fn expression_of(
             let left = Box::new(alloc, expression_of(alloc, declarations, left)?)?;
             let right = Box::new(alloc, expression_of(alloc, declarations, right)?)?;
             Ok(match operator {
-                Operator::Times => Expr::Product(left, right),
-                Operator::Plus => Expr::Add(left, right),
-                Operator::Minus => Expr::Sub(left, right),
+                Arithmetic::Multiply => Expr::Product(left, right),
+                Arithmetic::Add => Expr::Add(left, right),
+                Arithmetic::Subtract => Expr::Sub(left, right),
             })
         }
     }

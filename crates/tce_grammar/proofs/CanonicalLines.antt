@@ -7,7 +7,7 @@ use Rattle.std.proofs.lemmas.List.Elements.{All-from_recursion}
 use Rattle.tce_space.specs.Name.{is_name}
 use Rattle.tce_grammar.specs.Lines.{lines, ended, without_return, without_comment}
 use Rattle.tce_grammar.specs.Tokens.{Token, word, number, symbol, tokens, IsToken}
-use Rattle.tce_grammar.specs.Formula.{Formula, Operator, times, plus, minus, tensor, constant, sum, binary}
+use Rattle.tce_grammar.specs.Formula.{Formula, Arithmetic, multiply, add, subtract, tensor, constant, sum, binary}
 use Rattle.tce_grammar.specs.Grammar.{Written, listed, sign, bracketed, spelling, AreNames, Statement, range, index, declaration, formula, Says, IsLine, says, AreLines}
 use Rattle.tce_grammar.specs.Printed.{token_text, Front, kind, is_spaced, printed_behind, nothing}
 use Rattle.tce_grammar.specs.Canonical.{written_of, grouped_if, canonical_tokens, canonical_line, canonical_text, joined_lines, IsFormula, IsStatement, AreStatements}
@@ -41,10 +41,10 @@ bracketed_tokens : (name : List ℕ) (names : List (List ℕ)) → IsTrue (is_na
 bracketed_tokens name names is are =
     (name_token name is, (refl, all_joined IsToken (listed names) (symbol 93 ∷ []) (listed_tokens names are) (refl, tt)))
 
-sign_token : (o : Operator) → IsToken (sign o)
-sign_token times = refl
-sign_token plus = refl
-sign_token minus = refl
+sign_token : (o : Arithmetic) → IsToken (sign o)
+sign_token multiply = refl
+sign_token add = refl
+sign_token subtract = refl
 
 group_tokens : (b : Bool) (w : Written) → AllByRecursion IsToken (spelling w) → AllByRecursion IsToken (spelling (grouped_if b w))
 group_tokens true w are = (refl, all_joined IsToken (spelling w) (symbol 41 ∷ []) are (refl, tt))

@@ -2,7 +2,7 @@
 use Rattle.std.proofs.Common.{◌≡◌, ℕ, zero, suc, ◌-◌, ◌<◌, ◌≤◌, List, [], ◌∷◌, length, Option, Some, None, refl, sym, ◌∙◌, ap, subst, arith}
 use Rattle.std.specs.Prelude.{option_map}
 use Rattle.tce_grammar.specs.Tokens.{Token}
-use Rattle.tce_grammar.specs.Formula.{Formula, Operator, sum, binary}
+use Rattle.tce_grammar.specs.Formula.{Formula, Arithmetic, sum, binary}
 use Rattle.tce_grammar.specs.Reading.{Stops, ahead}
 use Rattle.tce_grammar.specs.Reading.{Reads, ◌>>=◌, behind, names_at, summed_at, sum_at, chain, chain_at, closed_by, enclosed_within, formula_within}
 use Rattle.tce_grammar.proofs.Formulas.{chain_stops, chain_goes}
@@ -16,53 +16,53 @@ some_map f None y e = cc
 some_map f (Some x) y e = (x, refl, cc)
 
 -- this much of the chain is read, and what is left is shorter
-pub record IsChained (operator : Token → Option Operator) (operand : List Token → Reads Formula) (ts : List Token) (f : Formula) (rest : List Token) : Type 0 where
+pub record IsChained (operator : Token → Option Arithmetic) (operand : List Token → Reads Formula) (ts : List Token) (f : Formula) (rest : List Token) : Type 0 where
   pub fuel : ℕ
   pub enough : length rest ≤ fuel
   pub shorter : length rest < length ts
   pub same : chain_at operator operand ts ≡ chain operator operand fuel f rest
 
-pub ahead_none : (operator : Token → Option Operator) (ts : List Token) → ahead operator ts ≡ None → Stops operator ts
+pub ahead_none : (operator : Token → Option Arithmetic) (ts : List Token) → ahead operator ts ≡ None → Stops operator ts
 ahead_none operator [] e = tt
 ahead_none operator (t ∷ ts) e = map_none (λ o. (o, ts)) (operator t) e
 
-pub ahead_some : (operator : Token → Option Operator) (ts : List Token) (o : Operator) (rest : List Token) → ahead operator ts ≡ Some (o, rest)
+pub ahead_some : (operator : Token → Option Arithmetic) (ts : List Token) (o : Arithmetic) (rest : List Token) → ahead operator ts ≡ Some (o, rest)
     → (t : Token) × (ts ≡ t ∷ rest) × (operator t ≡ Some o)
 ahead_some operator [] o rest e = cc
 ahead_some operator (t ∷ ts) o rest e =
-    let m : (x : Operator) × (operator t ≡ Some x) × ((x, ts) ≡ (o, rest)) = some_map (λ o. (o, ts)) (operator t) (o, rest) e in
-    (t, ap (λ (r : Operator × List Token). t ∷ r.1) m.2, m.1 ∙ ap (λ (r : Operator × List Token). Some r.0) m.2)
+    let m : (x : Arithmetic) × (operator t ≡ Some x) × ((x, ts) ≡ (o, rest)) = some_map (λ o. (o, ts)) (operator t) (o, rest) e in
+    (t, ap (λ (r : Arithmetic × List Token). t ∷ r.1) m.2, m.1 ∙ ap (λ (r : Arithmetic × List Token). Some r.0) m.2)
 
-pub chained_start : (operator : Token → Option Operator) (operand : List Token → Reads Formula) (ts : List Token) (f : Formula) (rest : List Token)
+pub chained_start : (operator : Token → Option Arithmetic) (operand : List Token → Reads Formula) (ts : List Token) (f : Formula) (rest : List Token)
     → operand ts ≡ Some (f, rest) → length rest < length ts → IsChained operator operand ts f rest
 unfolding chain_at
 chained_start operator operand ts f rest read less = record { fuel = length ts; enough = omega arith; shorter = less; same = rw read refl }
 
-pub chained_none : (operator : Token → Option Operator) (operand : List Token → Reads Formula) (ts : List Token) → operand ts ≡ None → chain_at operator operand ts ≡ None
+pub chained_none : (operator : Token → Option Arithmetic) (operand : List Token → Reads Formula) (ts : List Token) → operand ts ≡ None → chain_at operator operand ts ≡ None
 unfolding chain_at
 chained_none operator operand ts read = rw read refl
 
-pub chained_end : (operator : Token → Option Operator) (operand : List Token → Reads Formula) (ts : List Token) (f : Formula) (rest : List Token)
+pub chained_end : (operator : Token → Option Arithmetic) (operand : List Token → Reads Formula) (ts : List Token) (f : Formula) (rest : List Token)
     → IsChained operator operand ts f rest → Stops operator rest → chain_at operator operand ts ≡ Some (f, rest)
 chained_end operator operand ts f rest c stop = c.same ∙ chain_stops operator operand c.fuel f rest stop
 
-step_with : (operator : Token → Option Operator) (operand : List Token → Reads Formula) (ts : List Token) (f g : Formula) (o : Operator) (t : Token) (us rest : List Token) (fuel : ℕ)
+step_with : (operator : Token → Option Arithmetic) (operand : List Token → Reads Formula) (ts : List Token) (f g : Formula) (o : Arithmetic) (t : Token) (us rest : List Token) (fuel : ℕ)
     → suc (length us) ≤ fuel → chain_at operator operand ts ≡ chain operator operand fuel f (t ∷ us) → suc (length us) < length ts
     → operator t ≡ Some o → operand us ≡ Some (g, rest) → length rest < length us → IsChained operator operand ts (binary o f g) rest
 step_with operator operand ts f g o t us rest zero enough same shorter is read less = absurd (omega arith)
 step_with operator operand ts f g o t us rest (suc fuel) enough same shorter is read less =
     record { fuel = fuel; enough = omega arith; shorter = omega arith; same = same ∙ chain_goes operator operand fuel f g o t us rest is read }
 
-pub chained_step : (operator : Token → Option Operator) (operand : List Token → Reads Formula) (ts : List Token) (f g : Formula) (o : Operator) (t : Token) (us rest : List Token)
+pub chained_step : (operator : Token → Option Arithmetic) (operand : List Token → Reads Formula) (ts : List Token) (f g : Formula) (o : Arithmetic) (t : Token) (us rest : List Token)
     → IsChained operator operand ts f (t ∷ us) → operator t ≡ Some o → operand us ≡ Some (g, rest) → length rest < length us → IsChained operator operand ts (binary o f g) rest
 chained_step operator operand ts f g o t us rest c is read less = step_with operator operand ts f g o t us rest c.fuel c.enough c.same c.shorter is read less
 
-fails_with : (operator : Token → Option Operator) (operand : List Token → Reads Formula) (ts : List Token) (f : Formula) (o : Operator) (t : Token) (us : List Token) (fuel : ℕ)
+fails_with : (operator : Token → Option Arithmetic) (operand : List Token → Reads Formula) (ts : List Token) (f : Formula) (o : Arithmetic) (t : Token) (us : List Token) (fuel : ℕ)
     → suc (length us) ≤ fuel → chain_at operator operand ts ≡ chain operator operand fuel f (t ∷ us) → operator t ≡ Some o → operand us ≡ None → chain_at operator operand ts ≡ None
 fails_with operator operand ts f o t us zero enough same is read = absurd (omega arith)
 fails_with operator operand ts f o t us (suc fuel) enough same is read = same ∙ rw is (rw read refl)
 
-pub chained_fails : (operator : Token → Option Operator) (operand : List Token → Reads Formula) (ts : List Token) (f : Formula) (o : Operator) (t : Token) (us : List Token)
+pub chained_fails : (operator : Token → Option Arithmetic) (operand : List Token → Reads Formula) (ts : List Token) (f : Formula) (o : Arithmetic) (t : Token) (us : List Token)
     → IsChained operator operand ts f (t ∷ us) → operator t ≡ Some o → operand us ≡ None → chain_at operator operand ts ≡ None
 chained_fails operator operand ts f o t us c is read = fails_with operator operand ts f o t us c.fuel c.enough c.same is read
 
@@ -76,13 +76,13 @@ enclosed_some zero ts h = absurd (omega arith)
 enclosed_some (suc n) ts h = let e : n ≡ suc n - 1 = omega arith in ap (λ k. closed_by (formula_within k) ts) e
 
 -- one operand more, where an operator stands ahead
-pub chained_more : (operator : Token → Option Operator) (operand : List Token → Reads Formula) (ts : List Token) (f g : Formula) (o : Operator) (us behind rest : List Token)
+pub chained_more : (operator : Token → Option Arithmetic) (operand : List Token → Reads Formula) (ts : List Token) (f g : Formula) (o : Arithmetic) (us behind rest : List Token)
     → IsChained operator operand ts f us → Some (o, behind) ≡ ahead operator us → operand behind ≡ Some (g, rest) → length rest < length behind → IsChained operator operand ts (binary o f g) rest
 chained_more operator operand ts f g o us behind rest c is read less =
     let a : (t : Token) × (us ≡ t ∷ behind) × (operator t ≡ Some o) = ahead_some operator us o behind (sym is) in
     chained_step operator operand ts f g o a.0 behind rest (subst (λ (vs : List Token). IsChained operator operand ts f vs) a.1 c) a.2 read less
 
-pub chained_all : (operator : Token → Option Operator) (operand : List Token → Reads Formula) (ts : List Token) (f : Formula) (rest : List Token)
+pub chained_all : (operator : Token → Option Arithmetic) (operand : List Token → Reads Formula) (ts : List Token) (f : Formula) (rest : List Token)
     → IsChained operator operand ts f rest → None ≡ ahead operator rest → chain_at operator operand ts ≡ Some (f, rest)
 chained_all operator operand ts f rest c is = chained_end operator operand ts f rest c (ahead_none operator rest (sym is))
 

@@ -6,7 +6,7 @@ use Rattle.std.specs.List.{list_all}
 use Rattle.std.specs.Str.{bytes_eq}
 use Rattle.tce_space.specs.Name.{is_name, is_keyword, starts_with_letter, is_word_byte}
 use Rattle.tce_grammar.specs.Tokens.{Token, word, symbol}
-use Rattle.tce_grammar.specs.Formula.{Formula, Operator, times, plus, minus, binary}
+use Rattle.tce_grammar.specs.Formula.{Formula, Arithmetic, multiply, add, subtract, binary}
 use Rattle.tce_grammar.specs.Grammar.{Written, reference, numeral, summed, joined, group, listed, sign, spelling, meaning, precedence, level, IsWritten, depth, AreNames}
 use Rattle.tce_grammar.specs.Reading.{Stops}
 use Rattle.tce_grammar.specs.Reading.{Reads, ◌>>=◌, names_at, brackets_at, times_of, plus_of, chain, chain_at, factor_at, formula_by, enclosed_within, factor_within, formula_within}
@@ -19,20 +19,20 @@ spine p (summed indexes operand) = 0
 spine p (joined o left right) = if nat_lt p (precedence o) then 0 else suc (spine p left)
 spine p (group inner) = 0
 
-pub chain_stops : (operator : Token → Option Operator) (operand : List Token → Reads Formula) (fuel : ℕ) (f : Formula) (ts : List Token)
+pub chain_stops : (operator : Token → Option Arithmetic) (operand : List Token → Reads Formula) (fuel : ℕ) (f : Formula) (ts : List Token)
     → Stops operator ts → chain operator operand fuel f ts ≡ Some (f, ts)
 chain_stops operator operand zero f ts s = refl
 chain_stops operator operand (suc fuel) f [] s = refl
 chain_stops operator operand (suc fuel) f (t ∷ ts) s = rw s refl
 
-pub chain_goes : (operator : Token → Option Operator) (operand : List Token → Reads Formula) (fuel : ℕ) (f g : Formula) (o : Operator) (t : Token) (ts rest : List Token)
+pub chain_goes : (operator : Token → Option Arithmetic) (operand : List Token → Reads Formula) (fuel : ℕ) (f g : Formula) (o : Arithmetic) (t : Token) (ts rest : List Token)
     → operator t ≡ Some o → operand ts ≡ Some (g, rest) → chain operator operand (suc fuel) f (t ∷ ts) ≡ chain operator operand fuel (binary o f g) rest
 chain_goes operator operand fuel f g o t ts rest is reads = rw is (rw reads refl)
 
-spine_above : (p : ℕ) (o : Operator) (left right : Written) → p < precedence o → spine p (joined o left right) ≡ 0
+spine_above : (p : ℕ) (o : Arithmetic) (left right : Written) → p < precedence o → spine p (joined o left right) ≡ 0
 spine_above p o left right h = rw (lt-ltb p (precedence o) h) refl
 
-spine_same : (p : ℕ) (o : Operator) (left right : Written) → precedence o ≡ p → spine p (joined o left right) ≡ suc (spine p left)
+spine_same : (p : ℕ) (o : Arithmetic) (left right : Written) → precedence o ≡ p → spine p (joined o left right) ≡ suc (spine p left)
 spine_same p o left right h = rw (le-ltb p (precedence o) (omega arith)) refl
 
 spine_short : (p : ℕ) (w : Written) → spine p w ≤ length (spelling w)
@@ -47,11 +47,11 @@ spine_short p (joined o left right) =
           (λ _. omega arith) (λ _. omega (arith, spine_short p left, length-append (spelling left) (sign o ∷ spelling right)))
     ]
 
-module _ (operator : Token → Option Operator) (operand : List Token → Reads Formula) (p n : ℕ) (OperandStops : List Token → Type 0)
+module _ (operator : Token → Option Arithmetic) (operand : List Token → Reads Formula) (p n : ℕ) (OperandStops : List Token → Type 0)
     (low : p < 3)
     (reads : (w : Written) → IsWritten w → p < level w → depth w ≤ n → (rest : List Token) → OperandStops rest → operand (spelling w ++ rest) ≡ Some (meaning w, rest))
-    (signs : (o : Operator) → precedence o ≡ p → operator (sign o) ≡ Some o)
-    (stops : (o : Operator) → precedence o ≡ p → (ts : List Token) → OperandStops (sign o ∷ ts)) where
+    (signs : (o : Arithmetic) → precedence o ≡ p → operator (sign o) ≡ Some o)
+    (stops : (o : Arithmetic) → precedence o ≡ p → (ts : List Token) → OperandStops (sign o ∷ ts)) where
   -- what a chain reads with this fuel
   abbrev pub with_fuel : ℕ → List Token → Reads Formula
   with_fuel fuel ts = operand ts >>= λ r. chain operator operand fuel r.0 r.1
@@ -141,10 +141,10 @@ name_text w is =
     let c : (starts_with_letter w ≡ true) × (nat_le (length w) 16 ≡ true) = both_true _ _ b.0 in
     record { starts = c.0; short = leb-true (length w) 16 c.1; letters = b.1 }
 
-joined_low : (o : Operator) → 2 < precedence o → ⊥
-joined_low times h = omega arith
-joined_low plus h = omega arith
-joined_low minus h = omega arith
+joined_low : (o : Arithmetic) → 2 < precedence o → ⊥
+joined_low multiply h = omega arith
+joined_low add h = omega arith
+joined_low subtract h = omega arith
 
 module _ (enclosed : List Token → Reads Formula) (n : ℕ)
     (reads : (w : Written) → IsWritten w → depth w < n → (rest : List Token) → enclosed (spelling w ++ (symbol 41 ∷ rest)) ≡ Some (meaning w, rest)) where
@@ -167,29 +167,29 @@ module _ (enclosed : List Token → Reads Formula) (n : ℕ)
 
 -- formulas
 
-times_sign : (o : Operator) → precedence o ≡ 2 → times_of (sign o) ≡ Some o
-times_sign times h = refl
-times_sign plus h = absurd (omega arith)
-times_sign minus h = absurd (omega arith)
+times_sign : (o : Arithmetic) → precedence o ≡ 2 → times_of (sign o) ≡ Some o
+times_sign multiply h = refl
+times_sign add h = absurd (omega arith)
+times_sign subtract h = absurd (omega arith)
 
-plus_sign : (o : Operator) → precedence o ≡ 1 → plus_of (sign o) ≡ Some o
-plus_sign times h = absurd (omega arith)
-plus_sign plus h = refl
-plus_sign minus h = refl
+plus_sign : (o : Arithmetic) → precedence o ≡ 1 → plus_of (sign o) ≡ Some o
+plus_sign multiply h = absurd (omega arith)
+plus_sign add h = refl
+plus_sign subtract h = refl
 
-plus_stops : (o : Operator) → precedence o ≡ 1 → (ts : List Token) → Stops times_of (sign o ∷ ts)
-plus_stops times h ts = absurd (omega arith)
-plus_stops plus h ts = refl
-plus_stops minus h ts = refl
+plus_stops : (o : Arithmetic) → precedence o ≡ 1 → (ts : List Token) → Stops times_of (sign o ∷ ts)
+plus_stops multiply h ts = absurd (omega arith)
+plus_stops add h ts = refl
+plus_stops subtract h ts = refl
 
 level_low : (w : Written) → 1 ≤ level w
 level_low (reference name indexes) = omega arith
 level_low (numeral digits) = omega arith
 level_low (summed indexes operand) = omega arith
 level_low (group operand) = omega arith
-level_low (joined times left right) = omega arith
-level_low (joined plus left right) = omega arith
-level_low (joined minus left right) = omega arith
+level_low (joined multiply left right) = omega arith
+level_low (joined add left right) = omega arith
+level_low (joined subtract left right) = omega arith
 
 pub formula_by_read : (factor : List Token → Reads Formula) (n : ℕ)
     → ((w : Written) → IsWritten w → 2 < level w → depth w ≤ n → (rest : List Token) → factor (spelling w ++ rest) ≡ Some (meaning w, rest))

@@ -6,7 +6,7 @@ use Rattle.std.specs.Prelude.{codes}
 use Rattle.std.specs.Str.{bytes_eq}
 use Rattle.tce_space.specs.Name.{is_name}
 use Rattle.tce_grammar.specs.Tokens.{Token, word, number, symbol}
-use Rattle.tce_grammar.specs.Formula.{Formula, Operator, times, plus, minus, tensor, constant, sum, binary}
+use Rattle.tce_grammar.specs.Formula.{Formula, Arithmetic, multiply, add, subtract, tensor, constant, sum, binary}
 use Rattle.tce_grammar.specs.Grammar.{Written, reference, numeral, summed, joined, group, listed, sign, spelling, meaning, precedence, level, IsWritten, depth, AreNames}
 use Rattle.tce_grammar.specs.Reading.{Reads, ◌>>=◌, going_on, behind, with_first, names_at, none_or_names, brackets_at, times_of, plus_of, chain, chain_at, sum_at, factor_at, formula_by, closed_by, enclosed_within, factor_within, formula_within}
 
@@ -14,8 +14,8 @@ pub bind_some : {A B : Type 0} (m : Option A) (f : A → Option B) (y : B) → (
 bind_some None f y e = cc
 bind_some (Some x) f y e = (x, refl, e)
 
-going_some : (d : Option Operator) (read : Formula × List Token) (next : Operator → Reads Formula) (y : Formula × List Token)
-    → going_on d read next ≡ Some y → (read ≡ y) ⊎ ((o : Operator) × (d ≡ Some o) × (next o ≡ Some y))
+going_some : (d : Option Arithmetic) (read : Formula × List Token) (next : Arithmetic → Reads Formula) (y : Formula × List Token)
+    → going_on d read next ≡ Some y → (read ≡ y) ⊎ ((o : Arithmetic) × (d ≡ Some o) × (next o ≡ Some y))
 going_some None read next y e = inl (cc)
 going_some (Some o) read next y e = inr (o, refl, e)
 
@@ -32,11 +32,11 @@ pub record IsSpelled (p n : ℕ) (ts : List Token) (r : Formula × List Token) :
   pub means : meaning written ≡ r.0
   pub spelled : ts ≡ spelling written ++ r.1
 
-module _ (operator : Token → Option Operator) (operand : List Token → Reads Formula) (p n : ℕ)
+module _ (operator : Token → Option Arithmetic) (operand : List Token → Reads Formula) (p n : ℕ)
     (sound : (ts : List Token) (r : Formula × List Token) → operand ts ≡ Some r → IsSpelled (suc p) n ts r)
-    (sign_of : (t : Token) (o : Operator) → operator t ≡ Some o → (t ≡ sign o) × (precedence o ≡ p)) where
+    (sign_of : (t : Token) (o : Arithmetic) → operator t ≡ Some o → (t ≡ sign o) × (precedence o ≡ p)) where
   -- a further operand
-  longer : (w : Written) (start : List Token) (t : Token) (ts : List Token) (o : Operator) (g : Formula × List Token)
+  longer : (w : Written) (start : List Token) (t : Token) (ts : List Token) (o : Arithmetic) (g : Formula × List Token)
       → IsWritten w → p ≤ level w → depth w ≤ n → start ≡ spelling w ++ (t ∷ ts) → operator t ≡ Some o → operand ts ≡ Some g
       → IsSpelled p n start (binary o (meaning w) g.0, g.1)
   longer w start t ts o g is tight shallow spelled found read =
@@ -241,21 +241,21 @@ module _ (enclosed : List Token → Reads Formula) (n : ℕ)
 
 -- formulas
 
-times_is_sign : (t : Token) (o : Operator) → times_of t ≡ Some o → (t ≡ sign o) × (precedence o ≡ 2)
+times_is_sign : (t : Token) (o : Arithmetic) → times_of t ≡ Some o → (t ≡ sign o) × (precedence o ≡ 2)
 times_is_sign (word w) o e = cc
 times_is_sign (number d) o e = cc
-times_is_sign (symbol b) o e = elim (chosen (b == 42) (Some times) None o e) [
-  | inl holds ↦ let is : b ≡ 42 = eqb-true b 42 holds.0 in let same : times ≡ o = cc in (ap symbol is ∙ ap sign same, sym (ap precedence same))
+times_is_sign (symbol b) o e = elim (chosen (b == 42) (Some multiply) None o e) [
+  | inl holds ↦ let is : b ≡ 42 = eqb-true b 42 holds.0 in let same : multiply ≡ o = cc in (ap symbol is ∙ ap sign same, sym (ap precedence same))
   | inr fails ↦ cc
 ]
 
-plus_is_sign : (t : Token) (o : Operator) → plus_of t ≡ Some o → (t ≡ sign o) × (precedence o ≡ 1)
+plus_is_sign : (t : Token) (o : Arithmetic) → plus_of t ≡ Some o → (t ≡ sign o) × (precedence o ≡ 1)
 plus_is_sign (word w) o e = cc
 plus_is_sign (number d) o e = cc
-plus_is_sign (symbol b) o e = elim (chosen (b == 43) (Some plus) (if b == 45 then Some minus else None) o e) [
-  | inl holds ↦ let is : b ≡ 43 = eqb-true b 43 holds.0 in let same : plus ≡ o = cc in (ap symbol is ∙ ap sign same, sym (ap precedence same))
-  | inr fails ↦ elim (chosen (b == 45) (Some minus) None o fails.1) [
-    | inl holds ↦ let is : b ≡ 45 = eqb-true b 45 holds.0 in let same : minus ≡ o = cc in (ap symbol is ∙ ap sign same, sym (ap precedence same))
+plus_is_sign (symbol b) o e = elim (chosen (b == 43) (Some add) (if b == 45 then Some subtract else None) o e) [
+  | inl holds ↦ let is : b ≡ 43 = eqb-true b 43 holds.0 in let same : add ≡ o = cc in (ap symbol is ∙ ap sign same, sym (ap precedence same))
+  | inr fails ↦ elim (chosen (b == 45) (Some subtract) None o fails.1) [
+    | inl holds ↦ let is : b ≡ 45 = eqb-true b 45 holds.0 in let same : subtract ≡ o = cc in (ap symbol is ∙ ap sign same, sym (ap precedence same))
     | inr never ↦ cc
   ]
 ]

@@ -1,7 +1,7 @@
 -- The canonical writing of a formula is in the grammar, and means the formula.
 use Rattle.std.proofs.Common.{◌≡◌, ◌+◌, ◌<◌, ◌≤◌, Bool, true, false, refl, ◌∙◌, ap, arith, nat_lt, nat_le}
 use Rattle.std.proofs.lemmas.Bool.{ltb-false, leb-false}
-use Rattle.tce_grammar.specs.Formula.{Formula, Operator, tensor, constant, sum, binary, times, plus, minus, operations}
+use Rattle.tce_grammar.specs.Formula.{Formula, Arithmetic, multiply, add, subtract, tensor, constant, sum, binary, operations}
 use Rattle.tce_grammar.specs.Grammar.{Written, meaning, precedence, level, IsWritten, depth}
 use Rattle.tce_grammar.specs.Canonical.{written_of, grouped_if, IsFormula}
 
@@ -17,16 +17,16 @@ grouped_depth : (b : Bool) (w : Written) → depth (grouped_if b w) ≤ depth w 
 grouped_depth true w = omega arith
 grouped_depth false w = omega arith
 
-precedence_low : (o : Operator) → precedence o < 3
-precedence_low times = omega arith
-precedence_low plus = omega arith
-precedence_low minus = omega arith
+precedence_low : (o : Arithmetic) → precedence o < 3
+precedence_low multiply = omega arith
+precedence_low add = omega arith
+precedence_low subtract = omega arith
 
-left_tight : (b : Bool) (o : Operator) (w : Written) → nat_lt (level w) (precedence o) ≡ b → precedence o ≤ level (grouped_if b w)
+left_tight : (b : Bool) (o : Arithmetic) (w : Written) → nat_lt (level w) (precedence o) ≡ b → precedence o ≤ level (grouped_if b w)
 left_tight true o w e = omega (arith, precedence_low o)
 left_tight false o w e = ltb-false (level w) (precedence o) e
 
-right_tight : (b : Bool) (o : Operator) (w : Written) → nat_le (level w) (precedence o) ≡ b → precedence o < level (grouped_if b w)
+right_tight : (b : Bool) (o : Arithmetic) (w : Written) → nat_le (level w) (precedence o) ≡ b → precedence o < level (grouped_if b w)
 right_tight true o w e = precedence_low o
 right_tight false o w e = leb-false (level w) (precedence o) e
 

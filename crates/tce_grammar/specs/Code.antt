@@ -5,13 +5,12 @@ use Rattle.std.specs.declared.result.Result.TheVariants.{Ok, Err}
 use Rattle.std.specs.Borrow.{Bor}
 use Rattle.tce_grammar.specs.Tokens as tokens
 use Rattle.tce_grammar.specs.Formula as formulas
+use Rattle.tce_grammar.specs.Formula.{Arithmetic}
 use Rattle.tce_grammar.specs.Grammar as grammar
 use Rattle.tce_grammar.specs.declared.token.Token.{Token}
 use Rattle.tce_grammar.specs.declared.token.Token.TheVariants.{Word, Number, Symbol}
 use Rattle.tce_grammar.specs.declared.read_error.ReadError.{ReadError}
 use Rattle.tce_grammar.specs.declared.read_error.ReadError.TheVariants as errors
-use Rattle.tce_grammar.specs.declared.formula.Operator.{Operator}
-use Rattle.tce_grammar.specs.declared.formula.Operator.TheVariants.{Times, Plus, Minus}
 use Rattle.tce_grammar.specs.declared.formula.Formula.{Formula, Tensor, Constant, Sum', Binary'}
 use Rattle.tce_grammar.specs.declared.statement.Statement.{Statement}
 use Rattle.tce_grammar.specs.declared.statement.Statement.TheVariants as statements
@@ -23,11 +22,6 @@ token (Word w) = tokens.word w.now
 token (Number d) = tokens.number d.now
 token (Symbol b) = tokens.symbol b
 
-abbrev pub operator : Operator → formulas.Operator
-operator Times = formulas.times
-operator Plus = formulas.plus
-operator Minus = formulas.minus
-
 abbrev pub names : List (Bor (List ℕ)) → List (List ℕ)
 names bs = map (λ (b : Bor (List ℕ)). b.now) bs
 
@@ -35,7 +29,7 @@ abbrev pub formula : Formula → formulas.Formula
 formula (Tensor name indexes) = formulas.tensor name.now (names indexes.items)
 formula (Constant digits) = formulas.constant digits.now
 formula (Sum' indexes p operand) = formulas.sum (names indexes.items) (formula operand)
-formula (Binary' o p left q right) = formulas.binary (operator o) (formula left) (formula right)
+formula (Binary' o p left q right) = formulas.binary o (formula left) (formula right)
 
 abbrev pub text_if_some : Option (Bor (List ℕ)) → Option (List ℕ)
 text_if_some o = option_map (λ (b : Bor (List ℕ)). b.now) o
@@ -63,8 +57,8 @@ LeavesOperations limit whole result =
     MatchOption result (limit < formulas.operations (formula whole)) (λ left. left + formulas.operations (formula whole) ≡ limit)
 
 -- a formula of two with an operator between them
-abbrev pub IsJoined : Operator → Formula → Formula → Formula → Type 0
-IsJoined between left right whole = formula whole ≡ formulas.binary (operator between) (formula left) (formula right)
+abbrev pub IsJoined : Arithmetic → Formula → Formula → Formula → Type 0
+IsJoined between left right whole = formula whole ≡ formulas.binary between (formula left) (formula right)
 
 -- no line but this one has this text
 abbrev pub IsOnlyLine : List ℕ → Line → Type 0

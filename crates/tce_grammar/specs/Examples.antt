@@ -3,7 +3,7 @@ use Rattle.std.specs.Prelude.{◌≡◌, ℕ, List, [], ◌∷◌, ◌++◌, cod
 use Rattle.std.specs.declared.option.Option.TheVariants.{Some, None}
 use Rattle.std.specs.List.{AllByRecursion}
 use Rattle.tce_grammar.specs.Lines.{lines}
-use Rattle.tce_grammar.specs.Formula.{times, plus, minus, tensor, constant, sum, binary}
+use Rattle.tce_grammar.specs.Formula.{multiply, add, subtract, tensor, constant, sum, binary}
 use Rattle.tce_grammar.specs.Grammar.{Line, skipped, bad, says, IsLine, Statement, range, index, declaration, formula}
 use Rattle.tce_grammar.specs.Canonical.{canonical_line}
 
@@ -51,13 +51,13 @@ examples =
     example (codes "tensor A[N] B[N]") bad ∷
     example (codes "tensor A[2]") bad ∷
     example (codes "tensor range[N]") bad ∷
-    example (codes "C[i,j] = A[i] * B[j]") (says (formula (codes "C") (codes "i" ∷ codes "j" ∷ []) (binary times (tensor (codes "A") (codes "i" ∷ [])) (tensor (codes "B") (codes "j" ∷ []))))) ∷
-    example (codes "C[i,j]=A[i]*B[j]") (says (formula (codes "C") (codes "i" ∷ codes "j" ∷ []) (binary times (tensor (codes "A") (codes "i" ∷ [])) (tensor (codes "B") (codes "j" ∷ []))))) ∷
-    example (codes "C[i,j] = ((A[i]) * B[j])") (says (formula (codes "C") (codes "i" ∷ codes "j" ∷ []) (binary times (tensor (codes "A") (codes "i" ∷ [])) (tensor (codes "B") (codes "j" ∷ []))))) ∷
-    example (codes "C[] = 2 + 3 - 4") (says (formula (codes "C") ([]) (binary minus (binary plus (constant (codes "2")) (constant (codes "3"))) (constant (codes "4"))))) ∷
-    example (codes "C[] = 2 - 3 * 4 * 5") (says (formula (codes "C") ([]) (binary minus (constant (codes "2")) (binary times (binary times (constant (codes "3")) (constant (codes "4"))) (constant (codes "5")))))) ∷
-    example (codes "C[] = 2 - (3 - 4)") (says (formula (codes "C") ([]) (binary minus (constant (codes "2")) (binary minus (constant (codes "3")) (constant (codes "4")))))) ∷
-    example (codes "C[i] = sum{k,l}(A[i,k] * B[k,l])") (says (formula (codes "C") (codes "i" ∷ []) (sum (codes "k" ∷ codes "l" ∷ []) (binary times (tensor (codes "A") (codes "i" ∷ codes "k" ∷ [])) (tensor (codes "B") (codes "k" ∷ codes "l" ∷ [])))))) ∷
+    example (codes "C[i,j] = A[i] * B[j]") (says (formula (codes "C") (codes "i" ∷ codes "j" ∷ []) (binary multiply (tensor (codes "A") (codes "i" ∷ [])) (tensor (codes "B") (codes "j" ∷ []))))) ∷
+    example (codes "C[i,j]=A[i]*B[j]") (says (formula (codes "C") (codes "i" ∷ codes "j" ∷ []) (binary multiply (tensor (codes "A") (codes "i" ∷ [])) (tensor (codes "B") (codes "j" ∷ []))))) ∷
+    example (codes "C[i,j] = ((A[i]) * B[j])") (says (formula (codes "C") (codes "i" ∷ codes "j" ∷ []) (binary multiply (tensor (codes "A") (codes "i" ∷ [])) (tensor (codes "B") (codes "j" ∷ []))))) ∷
+    example (codes "C[] = 2 + 3 - 4") (says (formula (codes "C") ([]) (binary subtract (binary add (constant (codes "2")) (constant (codes "3"))) (constant (codes "4"))))) ∷
+    example (codes "C[] = 2 - 3 * 4 * 5") (says (formula (codes "C") ([]) (binary subtract (constant (codes "2")) (binary multiply (binary multiply (constant (codes "3")) (constant (codes "4"))) (constant (codes "5")))))) ∷
+    example (codes "C[] = 2 - (3 - 4)") (says (formula (codes "C") ([]) (binary subtract (constant (codes "2")) (binary subtract (constant (codes "3")) (constant (codes "4")))))) ∷
+    example (codes "C[i] = sum{k,l}(A[i,k] * B[k,l])") (says (formula (codes "C") (codes "i" ∷ []) (sum (codes "k" ∷ codes "l" ∷ []) (binary multiply (tensor (codes "A") (codes "i" ∷ codes "k" ∷ [])) (tensor (codes "B") (codes "k" ∷ codes "l" ∷ [])))))) ∷
     example (codes "C[] = sum{}(2)") bad ∷
     example (codes "C[] = sum{k} A[k]") bad ∷
     example (codes "C[] = - 2") bad ∷
@@ -73,7 +73,7 @@ examples =
     example (codes "C = 2") bad ∷
     example (codes "C[] = " ++ (replicate 64 40 ++ (codes "2" ++ replicate 64 41))) (says (formula (codes "C") ([]) (constant (codes "2")))) ∷
     example (codes "C[] = " ++ (replicate 65 40 ++ (codes "2" ++ replicate 65 41))) bad ∷
-    example (codes "C[] = " ++ (replicate 64 40 ++ (codes "2" ++ (replicate 64 41 ++ codes " * ((3))")))) (says (formula (codes "C") ([]) (binary times (constant (codes "2")) (constant (codes "3"))))) ∷
+    example (codes "C[] = " ++ (replicate 64 40 ++ (codes "2" ++ (replicate 64 41 ++ codes " * ((3))")))) (says (formula (codes "C") ([]) (binary multiply (constant (codes "2")) (constant (codes "3"))))) ∷
     []
 
 abbrev pub ExamplesAreTheirLines : Type 0
@@ -116,10 +116,10 @@ canonical_examples =
     canonical_example (codes "range\tN 5   tile 2") (range (codes "N") (codes "5") (Some (codes "2"))) (codes "range N 5 tile 2") ∷
     canonical_example (codes "index  N i  j") (index (codes "N") (codes "i" ∷ codes "j" ∷ [])) (codes "index N i j") ∷
     canonical_example (codes "tensor A [ N , M ]") (declaration (codes "A") (codes "N" ∷ codes "M" ∷ [])) (codes "tensor A[N,M]") ∷
-    canonical_example (codes "C[i,j]=A[i]*B[j]") (formula (codes "C") (codes "i" ∷ codes "j" ∷ []) (binary times (tensor (codes "A") (codes "i" ∷ [])) (tensor (codes "B") (codes "j" ∷ [])))) (codes "C[i,j] = A[i] * B[j]") ∷
-    canonical_example (codes "C[]=((A[i]*2)*3)+((4*B[j])-1)+(7)") (formula (codes "C") ([]) (binary plus (binary plus (binary times (binary times (tensor (codes "A") (codes "i" ∷ [])) (constant (codes "2"))) (constant (codes "3"))) (binary minus (binary times (constant (codes "4")) (tensor (codes "B") (codes "j" ∷ []))) (constant (codes "1")))) (constant (codes "7")))) (codes "C[] = A[i] * 2 * 3 + (4 * B[j] - 1) + 7") ∷
-    canonical_example (codes "C[]=A[i]+2-(3-B[j])*(4*(5*6))") (formula (codes "C") ([]) (binary minus (binary plus (tensor (codes "A") (codes "i" ∷ [])) (constant (codes "2"))) (binary times (binary minus (constant (codes "3")) (tensor (codes "B") (codes "j" ∷ []))) (binary times (constant (codes "4")) (binary times (constant (codes "5")) (constant (codes "6"))))))) (codes "C[] = A[i] + 2 - (3 - B[j]) * (4 * (5 * 6))") ∷
-    canonical_example (codes "C[i]=(sum{k}(A[i,k]))*sum{l,m}((2))") (formula (codes "C") (codes "i" ∷ []) (binary times (sum (codes "k" ∷ []) (tensor (codes "A") (codes "i" ∷ codes "k" ∷ []))) (sum (codes "l" ∷ codes "m" ∷ []) (constant (codes "2"))))) (codes "C[i] = sum{k}(A[i,k]) * sum{l,m}(2)") ∷
+    canonical_example (codes "C[i,j]=A[i]*B[j]") (formula (codes "C") (codes "i" ∷ codes "j" ∷ []) (binary multiply (tensor (codes "A") (codes "i" ∷ [])) (tensor (codes "B") (codes "j" ∷ [])))) (codes "C[i,j] = A[i] * B[j]") ∷
+    canonical_example (codes "C[]=((A[i]*2)*3)+((4*B[j])-1)+(7)") (formula (codes "C") ([]) (binary add (binary add (binary multiply (binary multiply (tensor (codes "A") (codes "i" ∷ [])) (constant (codes "2"))) (constant (codes "3"))) (binary subtract (binary multiply (constant (codes "4")) (tensor (codes "B") (codes "j" ∷ []))) (constant (codes "1")))) (constant (codes "7")))) (codes "C[] = A[i] * 2 * 3 + (4 * B[j] - 1) + 7") ∷
+    canonical_example (codes "C[]=A[i]+2-(3-B[j])*(4*(5*6))") (formula (codes "C") ([]) (binary subtract (binary add (tensor (codes "A") (codes "i" ∷ [])) (constant (codes "2"))) (binary multiply (binary subtract (constant (codes "3")) (tensor (codes "B") (codes "j" ∷ []))) (binary multiply (constant (codes "4")) (binary multiply (constant (codes "5")) (constant (codes "6"))))))) (codes "C[] = A[i] + 2 - (3 - B[j]) * (4 * (5 * 6))") ∷
+    canonical_example (codes "C[i]=(sum{k}(A[i,k]))*sum{l,m}((2))") (formula (codes "C") (codes "i" ∷ []) (binary multiply (sum (codes "k" ∷ []) (tensor (codes "A") (codes "i" ∷ codes "k" ∷ []))) (sum (codes "l" ∷ codes "m" ∷ []) (constant (codes "2"))))) (codes "C[i] = sum{k}(A[i,k]) * sum{l,m}(2)") ∷
     []
 
 abbrev pub CanonicalExamplesArePrinted : Type 0

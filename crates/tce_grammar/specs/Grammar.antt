@@ -4,7 +4,7 @@ use Rattle.std.specs.declared.option.Option.TheVariants.{Some, None}
 use Rattle.std.specs.List.{AllByRecursion, AllZip}
 use Rattle.tce_space.specs.Name.{is_name}
 use Rattle.tce_grammar.specs.Tokens.{Token, word, number, symbol, tokens}
-use Rattle.tce_grammar.specs.Formula.{Formula, Operator, times, plus, minus, tensor, constant, sum, binary}
+use Rattle.tce_grammar.specs.Formula.{Formula, Arithmetic, multiply, add, subtract, tensor, constant, sum, binary}
 use Rattle.tce_grammar.specs.Lines.{without_comment}
 
 -- a formula as it is written, with its parentheses
@@ -12,7 +12,7 @@ pub data Written : Type 0 where
   reference : List ℕ → List (List ℕ) → Written
   numeral : List ℕ → Written
   summed : List (List ℕ) → Written → Written
-  joined : Operator → Written → Written → Written
+  joined : Arithmetic → Written → Written → Written
   group : Written → Written
 
 -- names with commas between them
@@ -21,10 +21,10 @@ listed [] = []
 listed (n ∷ []) = word n ∷ []
 listed (n ∷ m ∷ ns) = word n ∷ symbol 44 ∷ listed (m ∷ ns)
 
-abbrev pub sign : Operator → Token
-sign times = symbol 42
-sign plus = symbol 43
-sign minus = symbol 45
+abbrev pub sign : Arithmetic → Token
+sign multiply = symbol 42
+sign add = symbol 43
+sign subtract = symbol 45
 
 abbrev pub bracketed : List ℕ → List (List ℕ) → List Token
 bracketed name names = word name ∷ symbol 91 ∷ (listed names ++ symbol 93 ∷ [])
@@ -46,10 +46,10 @@ meaning (joined operator left right) = binary operator (meaning left) (meaning r
 meaning (group inner) = meaning inner
 
 -- how tightly an operator binds, and what is no operator's
-abbrev pub precedence : Operator → ℕ
-precedence times = 2
-precedence plus = 1
-precedence minus = 1
+abbrev pub precedence : Arithmetic → ℕ
+precedence multiply = 2
+precedence add = 1
+precedence subtract = 1
 
 abbrev pub level : Written → ℕ
 level (reference name indexes) = 3

@@ -4,11 +4,11 @@ use Rattle.std.specs.Borrow.{Bor}
 use Rattle.std.specs.declared.alloc.Global.{Global}
 use Rattle.tce_grammar.specs.Tokens as tokens
 use Rattle.tce_grammar.specs.Formula as formulas
-use Rattle.tce_grammar.specs.Code.{Gives, token, operator, names, formula}
+use Rattle.tce_grammar.specs.Formula.{Arithmetic}
+use Rattle.tce_grammar.specs.Code.{Gives, token, names, formula}
 use Rattle.tce_grammar.specs.Reading.{Reads}
 use Rattle.tce_grammar.specs.declared.token.Token.{Token}
 use Rattle.tce_grammar.specs.declared.read_error.ReadError.{ReadError}
-use Rattle.tce_grammar.specs.declared.formula.Operator.{Operator}
 use Rattle.tce_grammar.specs.declared.formula.Formula.{Formula}
 
 -- the tokens, where there are some
@@ -16,8 +16,8 @@ abbrev pub tokens_if_some : Option (Bor (List Token)) → Option (List tokens.To
 tokens_if_some answer = option_map (λ (rest : Bor (List Token)). map token rest.now) answer
 
 -- the operator and the tokens behind it, where there is one
-abbrev pub operator_if_some : Option (Operator × Bor (List Token)) → Option (formulas.Operator × List tokens.Token)
-operator_if_some answer = option_map (λ (r : Operator × Bor (List Token)). (operator r.0, map token r.1.now)) answer
+abbrev pub operator_if_some : Option (Arithmetic × Bor (List Token)) → Option (Arithmetic × List tokens.Token)
+operator_if_some answer = option_map (λ (r : Arithmetic × Bor (List Token)). (r.0, map token r.1.now)) answer
 
 -- the formula that is read, unless memory ran out
 abbrev pub GivesFormula : Result (Formula × Bor (List Token)) ReadError → Reads formulas.Formula → Type 0

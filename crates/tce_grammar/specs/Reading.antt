@@ -7,7 +7,7 @@ use Rattle.std.specs.List.{prefix_len}
 use Rattle.tce_space.specs.Name.{is_name, is_word_byte}
 use Rattle.tce_grammar.specs.Lines.{without_comment}
 use Rattle.tce_grammar.specs.Tokens.{Token, word, number, symbol, tokens}
-use Rattle.tce_grammar.specs.Formula.{Formula, Operator, times, plus, minus, tensor, constant, sum, binary}
+use Rattle.tce_grammar.specs.Formula.{Formula, Arithmetic, multiply, add, subtract, tensor, constant, sum, binary}
 use Rattle.tce_grammar.specs.Grammar.{Statement, range, index, declaration, formula, Line, skipped, bad, says}
 
 -- how long the first piece of a line is
@@ -54,40 +54,40 @@ none_or_names None inner = names_at 93 inner
 abbrev pub brackets_at : List Token → Reads (List (List ℕ))
 brackets_at ts = behind 91 ts >>= λ inner. none_or_names (behind 93 inner) inner
 
-abbrev pub times_of : Token → Option Operator
+abbrev pub times_of : Token → Option Arithmetic
 times_of (word w) = None
 times_of (number d) = None
-times_of (symbol b) = if b == 42 then Some times else None
+times_of (symbol b) = if b == 42 then Some multiply else None
 
-abbrev pub plus_of : Token → Option Operator
+abbrev pub plus_of : Token → Option Arithmetic
 plus_of (word w) = None
 plus_of (number d) = None
-plus_of (symbol b) = if b == 43 then Some plus else if b == 45 then Some minus else None
+plus_of (symbol b) = if b == 43 then Some add else if b == 45 then Some subtract else None
 
 -- the operator at the front, and the tokens behind it
-abbrev pub ahead : (Token → Option Operator) → List Token → Option (Operator × List Token)
+abbrev pub ahead : (Token → Option Arithmetic) → List Token → Option (Arithmetic × List Token)
 ahead operator [] = None
 ahead operator (t ∷ ts) = option_map (λ o. (o, ts)) (operator t)
 
 -- no operator stands at the front
-abbrev pub Stops : (Token → Option Operator) → List Token → Type 0
+abbrev pub Stops : (Token → Option Arithmetic) → List Token → Type 0
 Stops operator [] = Unit {0}
 Stops operator (t ∷ ts) = operator t ≡ None
 
 -- what is read so far where no operator stands, or what comes of the operator
-abbrev pub going_on : Option Operator → Formula × List Token → (Operator → Reads Formula) → Reads Formula
+abbrev pub going_on : Option Arithmetic → Formula × List Token → (Arithmetic → Reads Formula) → Reads Formula
 going_on None read next = Some read
 going_on (Some o) read next = next o
 
 -- further operands, as long as an operator stands before them; `fuel` operators at most
-abbrev pub chain : (Token → Option Operator) → (List Token → Reads Formula) → ℕ → Formula → List Token → Reads Formula
+abbrev pub chain : (Token → Option Arithmetic) → (List Token → Reads Formula) → ℕ → Formula → List Token → Reads Formula
 chain operator operand zero f ts = Some (f, ts)
 chain operator operand (suc fuel) f [] = Some (f, [])
 chain operator operand (suc fuel) f (t ∷ ts) =
     going_on (operator t) (f, t ∷ ts) (λ o. operand ts >>= λ r. chain operator operand fuel (binary o f r.0) r.1)
 
 -- operands with operators between them
-unfoldable pub chain_at : (Token → Option Operator) → (List Token → Reads Formula) → List Token → Reads Formula
+unfoldable pub chain_at : (Token → Option Arithmetic) → (List Token → Reads Formula) → List Token → Reads Formula
 chain_at operator operand ts = operand ts >>= λ r. chain operator operand (length ts) r.0 r.1
 
 -- the indexes of a sum, in braces behind its first word, up to the parenthesis behind them

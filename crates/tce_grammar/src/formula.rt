@@ -4,13 +4,7 @@ ghost use Rattle.std.specs.Prelude.{◌<◌, ◌↔◌, IsTrue};
 ghost use Rattle.tce_grammar.specs.Code.{formula, LeavesOperations};
 ghost use Rattle.tce_grammar.specs.Formula.{operations};
 
-/// What stands between two operands.
-#[derive(Clone, Copy, PartialEq, Eq, Debug)]
-pub enum Operator {
-    Times,
-    Plus,
-    Minus,
-}
+use tce_space::Arithmetic;
 
 /// A formula with the names and the digits of its text. Parentheses alone are no part of it.
 ///
@@ -31,7 +25,7 @@ pub enum Formula<'a> {
     },
     /// A product, an addition or a subtraction.
     Binary {
-        operator: Operator,
+        operator: Arithmetic,
         left: Box<Formula<'a>>,
         right: Box<Formula<'a>>,
     },

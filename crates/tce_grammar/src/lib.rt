@@ -24,7 +24,7 @@ mod statement;
 mod token;
 mod tokenizer;
 
-pub use formula::{Formula, Operator};
+pub use formula::Formula;
 pub use laws::{
     canonical_examples_are_printed, canonical_formulas_mean_themselves,
     canonical_texts_say_their_statements, every_line_has_one_reading, examples_are_their_lines,

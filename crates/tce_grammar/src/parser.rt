@@ -1,16 +1,16 @@
 //! Formulas, read from the tokens of a line.
 
 ghost use Rattle.std.specs.Prelude.{◌≡◌, ◌≢◌, ◌<◌, ◌+◌, ◌*◌, ℕ, length, map, IfOk, IfSome};
-ghost use Rattle.tce_grammar.specs.Code.{token, operator, IsJoined};
+ghost use Rattle.tce_grammar.specs.Code.{token, IsJoined};
 ghost use Rattle.tce_grammar.specs.Reading.{ahead, behind, names_at, brackets_at, times_of, plus_of, chain_at, summed_at, sum_at, tensor_at, factor_within, formula_within, enclosed_within, product_within};
 ghost use Rattle.tce_grammar.specs.ParserCode.{GivesFormula, GivesNames, operator_if_some, tokens_if_some};
 
-use crate::formula::{Formula, Operator};
+use crate::formula::Formula;
 use crate::name::SUM;
 use crate::read_error::ReadError;
 use crate::token::Token;
 use std::alloc::{AllocError, Global};
-use tce_space::is_name;
+use tce_space::{Arithmetic, is_name};
 
 /// The tokens behind this symbol.
 pub(crate) fn behind<'a, 'b>(symbol: u8, tokens: &'b [Token<'a>]) -> Option<&'b [Token<'a>]>
@@ -24,24 +24,24 @@ pub(crate) fn behind<'a, 'b>(symbol: u8, tokens: &'b [Token<'a>]) -> Option<&'b 
 }
 
 /// A sign of a product at the front, and the tokens behind it.
-fn times_ahead<'a, 'b>(tokens: &'b [Token<'a>]) -> Option<(Operator, &'b [Token<'a>])>
+fn times_ahead<'a, 'b>(tokens: &'b [Token<'a>]) -> Option<(Arithmetic, &'b [Token<'a>])>
     ensures read { operator_if_some result ≡ ahead times_of (map token tokens.now) }
     ensures shorter { IfSome result (λ r. length r.1.now < length tokens.now) }
 {
     match tokens {
-        [Token::Symbol(b'*'), rest @ ..] => Some((Operator::Times, rest)),
+        [Token::Symbol(b'*'), rest @ ..] => Some((Arithmetic::Multiply, rest)),
         _ => None,
     }
 }
 
 /// A sign of a sum or difference at the front, and the tokens behind it.
-fn plus_ahead<'a, 'b>(tokens: &'b [Token<'a>]) -> Option<(Operator, &'b [Token<'a>])>
+fn plus_ahead<'a, 'b>(tokens: &'b [Token<'a>]) -> Option<(Arithmetic, &'b [Token<'a>])>
     ensures read { operator_if_some result ≡ ahead plus_of (map token tokens.now) }
     ensures shorter { IfSome result (λ r. length r.1.now < length tokens.now) }
 {
     match tokens {
-        [Token::Symbol(b'+'), rest @ ..] => Some((Operator::Plus, rest)),
-        [Token::Symbol(b'-'), rest @ ..] => Some((Operator::Minus, rest)),
+        [Token::Symbol(b'+'), rest @ ..] => Some((Arithmetic::Add, rest)),
+        [Token::Symbol(b'-'), rest @ ..] => Some((Arithmetic::Subtract, rest)),
         _ => None,
     }
 }
@@ -92,7 +92,7 @@ pub(crate) fn brackets<'a, 'b>(
 /// Two formulas with an operator between them.
 fn joined<'a>(
     alloc: Global,
-    between: Operator,
+    between: Arithmetic,
     left: Formula<'a>,
     right: Formula<'a>,
 ) -> Result<Formula<'a>, AllocError>

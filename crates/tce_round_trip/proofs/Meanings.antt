@@ -10,7 +10,7 @@ use Rattle.std.proofs.lemmas.List.{length-map}
 use Rattle.tce_space.specs.IndexSet.{set_of}
 use Rattle.tce_space.specs.Space.{IndexSpace, IsSpace, index_at}
 use Rattle.tce_tree.specs.ContractionTree as trees
-use Rattle.tce_tree.specs.ContractionTree.{ContractionTree, Arithmetic, multiply, add, subtract, leaf, constant, binary, sum, dims}
+use Rattle.tce_tree.specs.ContractionTree.{ContractionTree, leaf, constant, binary, sum, dims}
 use Rattle.tce_tree.specs.WellFormed.{IsDeclaredTree, sums_distinct, is_distinct}
 use Rattle.tce_tree.specs.Faults.{fault_of}
 use Rattle.tce_grammar.specs.Formula.{operations}
@@ -20,21 +20,16 @@ use Rattle.tce_declarations.specs.Faults as faults
 use Rattle.tce_declarations.specs.Faults.{Fault, first, fault_if}
 use Rattle.tce_formula.specs.Contraction.{FitsTensor, LeavesFit, IsContraction, has_tensor}
 use Rattle.tce_formula.specs.FormulaFaults.{formula_fault, is_constant}
-use Rattle.tce_formula.specs.Meaning.{meaning, arithmetic, indexes_of}
+use Rattle.tce_formula.specs.Meaning.{meaning, indexes_of}
 use Rattle.tce_formula.specs.Places.{Place, reference, places, first_at, constants}
 use Rattle.tce_formula.specs.PlaceFaults.{undeclared, undeclared_index, ranges_of, other_rank, has_range, wrong_index, other_range, listed_twice, tensor_named}
 use Rattle.tce_formula.proofs.Joined.{first_joined, all_joined}
-use Rattle.tce_canonical.specs.Statements.{formula_of, operator, index_names}
+use Rattle.tce_canonical.specs.Statements.{formula_of, index_names}
 use Rattle.tce_spec.specs.Specification.{ConstantsAreWords}
 use Rattle.tce_round_trip.proofs.Lookups.{names_differ, once}
 use Rattle.tce_round_trip.proofs.SpaceNames.{AreIndexes, of_and, of_or, index_found, distinct_names}
 use Rattle.tce_round_trip.proofs.NumbersBack.{indexes_back, indexes_known, tensor_found, tensor_back, value_back, constant_fine}
 use Rattle.tce_round_trip.proofs.WrittenStatements.{fit_indexes, sum_indexes, sum_operand, binary_operands, same_count}
-
-arithmetic_back : (op : Arithmetic) → arithmetic (operator op) ≡ op
-arithmetic_back multiply = refl
-arithmetic_back add = refl
-arithmetic_back subtract = refl
 
 pub meaning_back : (d : Declarations) → IsDeclarations d → (tree : ContractionTree) → LeavesFit d tree → IsDeclaredTree d.space tree → ConstantsAreWords tree
     → meaning d (formula_of d tree) ≡ tree
@@ -47,7 +42,7 @@ meaning_back d rules (binary op left right) fits declared words =
     let parts = binary_operands d op left right declared in
     let first_one = meaning_back d rules left fits.0 parts.0 words.0 in
     let second_one = meaning_back d rules right fits.1 parts.1 words.1 in
-    λ i. binary (arithmetic_back op i) (first_one i) (second_one i)
+    λ i. binary op (first_one i) (second_one i)
 meaning_back d rules (sum is operand) fits declared words =
     let indexes = indexes_back d.space rules.space is (sum_indexes d is operand declared) in
     let inner = meaning_back d rules operand fits (sum_operand d is operand declared) words in

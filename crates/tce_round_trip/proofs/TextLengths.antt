@@ -13,7 +13,7 @@ use Rattle.tce_tree.specs.ContractionTree as trees
 use Rattle.tce_tree.specs.ContractionTree.{ContractionTree, leaf, constant, binary, sum}
 use Rattle.tce_tree.specs.WellFormed.{IsDeclaredTree, sums_distinct, is_distinct, indexes_below}
 use Rattle.tce_grammar.specs.Tokens.{Token, symbol}
-use Rattle.tce_grammar.specs.Formula.{Operator, times, plus, minus}
+use Rattle.tce_grammar.specs.Formula.{Arithmetic, multiply, add, subtract}
 use Rattle.tce_grammar.specs.Grammar.{Written, Statement, AreSome, listed, bracketed, spelling, sign, level, precedence}
 use Rattle.tce_grammar.specs.Printed.{token_text}
 use Rattle.tce_grammar.specs.Canonical.{written_of, grouped_if, canonical_tokens, edge_tokens}
@@ -21,7 +21,7 @@ use Rattle.tce_declarations.specs.Declarations.{Declarations, IsDeclarations, Is
 use Rattle.tce_formula.specs.Contraction.{FitsTensor, LeavesFit}
 use Rattle.tce_formula.proofs.DistinctNames.{distinct_is}
 use Rattle.tce_formula.proofs.Faultless.{member_below}
-use Rattle.tce_canonical.specs.Statements.{Group, groups, range_statement, index_statement, tensor_statement, formula_statement, formula_of, operator, range_names, index_names, statements}
+use Rattle.tce_canonical.specs.Statements.{Group, groups, range_statement, index_statement, tensor_statement, formula_statement, formula_of, range_names, index_names, statements}
 use Rattle.tce_spec.specs.Specification.{Specification}
 use Rattle.tce_spec.specs.Canonical.{canonical_of}
 use Rattle.tce_spec.specs.Specification.{ConstantsAreWords}
@@ -102,10 +102,10 @@ grouped_short : (b : Bool) (w : Written) → width (spelling (grouped_if b w)) �
 grouped_short true w = omega (arith, width_joined (spelling w) (symbol 41 ∷ []))
 grouped_short false w = omega arith
 
-sign_short : (o : Operator) → length (token_text (sign o)) ≡ 1
-sign_short times = refl
-sign_short plus = refl
-sign_short minus = refl
+sign_short : (o : Arithmetic) → length (token_text (sign o)) ≡ 1
+sign_short multiply = refl
+sign_short add = refl
+sign_short subtract = refl
 
 few_indexes : (d : Declarations) → IsDeclarations d → (is : List ℕ) (operand : ContractionTree) → IsDeclaredTree d.space (sum is operand) → is_distinct is ≡ true → length is ≤ 24
 few_indexes d rules is operand declared distinct =
@@ -125,14 +125,14 @@ tree_short d rules named (binary op left right) fits declared distinct words =
     let each = of_and (sums_distinct left) (sums_distinct right) distinct in
     let a : Written = written_of (formula_of d left) in
     let b : Written = written_of (formula_of d right) in
-    let first_test : Bool = nat_lt (level a) (precedence (operator op)) in
-    let second_test : Bool = nat_le (level b) (precedence (operator op)) in
+    let first_test : Bool = nat_lt (level a) (precedence op) in
+    let second_test : Bool = nat_le (level b) (precedence op) in
     omega (
       arith,
-      width_joined (spelling (grouped_if first_test a)) (sign (operator op) ∷ spelling (grouped_if second_test b)),
+      width_joined (spelling (grouped_if first_test a)) (sign op ∷ spelling (grouped_if second_test b)),
       grouped_short first_test a,
       grouped_short second_test b,
-      sign_short (operator op),
+      sign_short op,
       tree_short d rules named left fits.0 parts.0 each.0 words.0,
       tree_short d rules named right fits.1 parts.1 each.1 words.1,
     )

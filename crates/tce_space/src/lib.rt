@@ -1,6 +1,7 @@
-//! Index spaces: sets of indexes, loop orders, boxes of coordinates and the shapes of tiled arrays.
+//! Index spaces: sets of indexes, loop orders, boxes of coordinates and the shapes of tiled arrays. The arithmetic of two numbers.
 #![tactic(auto)]
 
+mod arithmetic;
 mod index_set;
 mod limits;
 mod loop_order;
@@ -10,6 +11,7 @@ mod row_major;
 mod shape;
 mod space;
 
+pub use arithmetic::Arithmetic;
 pub use index_set::{IndexSet, sets_are_their_members};
 pub use limits::{
     COST_LIMIT, MAX_ARRAY_WORDS, MAX_INDEXES, MAX_LOOPS, MAX_MEMORY, MAX_NODES, MAX_RANGES,

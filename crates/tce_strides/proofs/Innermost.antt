@@ -11,7 +11,7 @@ use Rattle.tce_base.specs.Word.{wrapping_add, wrapping_mul, wrapping_sum}
 use Rattle.tce_space.specs.Box.{places}
 use Rattle.tce_words.specs.Run.{IsWithin, AreApart as RunsAreApart, IsDistinct, IsRun, word_along, words_along}
 use Rattle.tce_strides.specs.Places.{word_place, AreWithin, AreApart}
-use Rattle.tce_strides.specs.declared.loops.Operation.{Operation}
+use Rattle.tce_space.specs.declared.arithmetic.Arithmetic.{Arithmetic}
 use Rattle.tce_strides.specs.Turns.{IsMade, word_after, grown, grown_by_products, operate, computed}
 use Rattle.tce_strides.proofs.Folds.{after_range, fold_single, range_idle, range_once, range_every, range_last, range_sum}
 
@@ -134,7 +134,7 @@ products_along xs a step b b_step n w some =
     ∙ sym (range_sum (λ t. wrapping_mul (slice_index xs (word_place a (step ∷ []) (t ∷ []))) (slice_index xs (word_place b (b_step ∷ []) (t ∷ [])))) w 0 n some)
 
 -- the operation's word at the last turn
-pub last_along : (operation : Operation) (xs : List ℕ) (a step b b_step n w : ℕ) → 0 < n
+pub last_along : (operation : Arithmetic) (xs : List ℕ) (a step b b_step n w : ℕ) → 0 < n
     → operate operation (slice_index xs (a + (n - 1) * step)) (slice_index xs (b + (n - 1) * b_step))
     ≡ fold (λ v x. computed operation xs (word_place a (step ∷ [])) (word_place b (b_step ∷ [])) v (x ∷ [])) w (range_with_len 0 n)
 last_along operation xs a step b b_step n w some =

@@ -4,7 +4,7 @@ use Rattle.tce_space.specs.Box.{places}
 use Rattle.tce_space.specs.Tiling.{ArePositive}
 use Rattle.tce_strides.specs.declared.loops.Loop.{Loop}
 use Rattle.tce_strides.specs.declared.loops.SumLoop.{SumLoop}
-use Rattle.tce_strides.specs.declared.loops.Operation.{Operation}
+use Rattle.tce_space.specs.declared.arithmetic.Arithmetic.{Arithmetic}
 use Rattle.tce_strides.specs.declared.loops.Turn.{Turn}
 use Rattle.tce_strides.specs.Places.{word_place, AreWithin, AreApart}
 use Rattle.tce_strides.specs.Steps.{lens, out_steps, left_steps, right_steps, sum_lens, sum_out_steps, operand_steps}
@@ -58,7 +58,7 @@ abbrev pub AreProductsAdded : List Loop → ℕ → ℕ → ℕ → List ℕ →
 AreProductsAdded loops out left right old new =
     IsMade (grown_by_products old (left_place loops left) (right_place loops right)) (out_place loops out) (places (lens loops)) old new
 
-abbrev pub AreComputed : Operation → List Loop → ℕ → ℕ → ℕ → List ℕ → List ℕ → Type 0
+abbrev pub AreComputed : Arithmetic → List Loop → ℕ → ℕ → ℕ → List ℕ → List ℕ → Type 0
 AreComputed operation loops out left right old new =
     IsMade (computed operation old (left_place loops left) (right_place loops right)) (out_place loops out) (places (lens loops)) old new
 

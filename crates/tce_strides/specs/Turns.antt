@@ -2,8 +2,8 @@
 use Rattle.std.specs.Prelude.{◌≡◌, ℕ, ◌<◌, if◌then◌else◌, ◌==◌, List, length, slice_index}
 use Rattle.std.specs.List.{fold}
 use Rattle.tce_base.specs.Word.{wrapping_add, wrapping_sub, wrapping_mul}
-use Rattle.tce_strides.specs.declared.loops.Operation.{Operation}
-use Rattle.tce_strides.specs.declared.loops.Operation.TheVariants.{Multiply, Add, Subtract}
+use Rattle.tce_space.specs.declared.arithmetic.Arithmetic.{Arithmetic}
+use Rattle.tce_space.specs.declared.arithmetic.Arithmetic.TheVariants.{Multiply, Add, Subtract}
 use Rattle.tce_strides.specs.declared.loops.Turn.{Turn}
 use Rattle.tce_strides.specs.declared.loops.Turn.TheVariants.{Grow, Compute}
 
@@ -24,13 +24,13 @@ grown words operand w xs = wrapping_add w (slice_index words (operand xs))
 abbrev pub grown_by_products : List ℕ → (List ℕ → ℕ) → (List ℕ → ℕ) → ℕ → List ℕ → ℕ
 grown_by_products words left right w xs = wrapping_add w (wrapping_mul (slice_index words (left xs)) (slice_index words (right xs)))
 
-abbrev pub operate : Operation → ℕ → ℕ → ℕ
+abbrev pub operate : Arithmetic → ℕ → ℕ → ℕ
 operate Multiply = wrapping_mul
 operate Add = wrapping_add
 operate Subtract = wrapping_sub
 
 -- the operation's word from those at the operands' places
-abbrev pub computed : Operation → List ℕ → (List ℕ → ℕ) → (List ℕ → ℕ) → ℕ → List ℕ → ℕ
+abbrev pub computed : Arithmetic → List ℕ → (List ℕ → ℕ) → (List ℕ → ℕ) → ℕ → List ℕ → ℕ
 computed operation words left right w xs = operate operation (slice_index words (left xs)) (slice_index words (right xs))
 
 -- the word that a turn makes of its word and those of the operands

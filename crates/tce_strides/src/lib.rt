@@ -8,6 +8,6 @@ mod results;
 mod runs;
 mod sums;
 
-pub use loops::{Loop, Operation, SumLoop};
+pub use loops::{Loop, SumLoop};
 pub use results::{compute, grow_by_products};
 pub use sums::grow;

@@ -1,5 +1,7 @@
 //! Loops, and the steps of operands and results in them.
 
+use tce_space::Arithmetic;
+
 /// A loop over two operands: how many turns it has, and how many words the places of the result and of both operands move
 /// from one turn to the next.
 #[derive(Clone, Copy, Drop)]
@@ -26,17 +28,9 @@ pub(crate) struct Rows {
     pub(crate) along: Loop,
 }
 
-/// What becomes of two words, modulo 2^64.
-#[derive(Clone, Copy, Drop)]
-pub enum Operation {
-    Multiply,
-    Add,
-    Subtract,
-}
-
 // What a turn leaves at the place of the result: the word there and the operands' product, or the operands' result alone.
 #[derive(Clone, Copy, Drop)]
 pub(crate) enum Turn {
     Grow,
-    Compute(Operation),
+    Compute(Arithmetic),
 }

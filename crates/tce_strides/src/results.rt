@@ -4,8 +4,9 @@ ghost use Rattle.tce_space.specs.Tiling.{ArePositive};
 ghost use Rattle.tce_strides.specs.Steps.{lens};
 ghost use Rattle.tce_strides.specs.Running.{CanRun, IsOutWithin, IsLeftWithin, IsRightWithin, IsApartFromLeft, IsApartFromRight, AreTurned, AreProductsAdded, AreComputed};
 
-use crate::loops::{Loop, Operation, Rows, Turn};
+use crate::loops::{Loop, Rows, Turn};
 use crate::runs;
+use tce_space::Arithmetic;
 use tce_words::Words;
 
 /// Adds in each turn of the loops, the last one innermost, the product of the operands' words to the word at the place of the
@@ -28,7 +29,7 @@ pub fn grow_by_products(words: &mut Words, loops: &[Loop], out: u64, left: u64, 
 /// operands' words. No place of the result may be one of an operand.
 pub fn compute(
     words: &mut Words,
-    operation: Operation,
+    operation: Arithmetic,
     loops: &[Loop],
     out: u64,
     left: u64,

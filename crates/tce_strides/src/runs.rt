@@ -4,7 +4,8 @@ ghost use Rattle.tce_strides.specs.Turns.{operate};
 ghost use Rattle.tce_strides.specs.Running.{CanRun, CanSum, IsLeftWithin, IsRightWithin, AreAdded, AreTurned, AreComputed};
 ghost use Rattle.tce_strides.specs.Rows.{AreFourWords, AreScaled, four_products, loops_of, products_along};
 
-use crate::loops::{Loop, Operation, Rows, SumLoop, Turn};
+use crate::loops::{Loop, Rows, SumLoop, Turn};
+use tce_space::Arithmetic;
 use tce_words::{Strided, Words};
 
 // From so many turns on a run of words pays for its call.
@@ -31,13 +32,13 @@ pub(crate) fn grow_along(words: &mut Words, along: SumLoop, out: u64, operand: u
 }
 
 // The word that an operation gives.
-fn result_of(operation: Operation, left: u64, right: u64) -> u64
+fn result_of(operation: Arithmetic, left: u64, right: u64) -> u64
     ensures { result ≡ operate operation left right }
 {
     match operation {
-        Operation::Multiply => left.wrapping_mul(right),
-        Operation::Add => left.wrapping_add(right),
-        Operation::Subtract => left.wrapping_sub(right),
+        Arithmetic::Multiply => left.wrapping_mul(right),
+        Arithmetic::Add => left.wrapping_add(right),
+        Arithmetic::Subtract => left.wrapping_sub(right),
     }
 }
 
@@ -362,7 +363,7 @@ fn turns_along(words: &mut Words, turn: Turn, along: Loop, out: u64, left: u64, 
 
 fn results_along(
     words: &mut Words,
-    operation: Operation,
+    operation: Arithmetic,
     along: Loop,
     out: u64,
     left: u64,
@@ -379,11 +380,11 @@ fn results_along(
         right: right_step,
     } = along;
     match operation {
-        Operation::Multiply => {
+        Arithmetic::Multiply => {
             words.mul_run(out, out_step, left, left_step, right, right_step, len)
         }
-        Operation::Add => words.plus_run(out, out_step, left, left_step, right, right_step, len),
-        Operation::Subtract => {
+        Arithmetic::Add => words.plus_run(out, out_step, left, left_step, right, right_step, len),
+        Arithmetic::Subtract => {
             words.minus_run(out, out_step, left, left_step, right, right_step, len)
         }
     }

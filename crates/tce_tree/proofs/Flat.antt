@@ -4,13 +4,11 @@ use Rattle.std.proofs.lemmas.List.{get_or_append_left, get_or-append_right}
 use Rattle.std.proofs.lemmas.Bool.{cases_lt}
 use Rattle.tce_tree.specs.ContractionTree.{ContractionTree, Arithmetic, leaf, constant, binary, sum, multiply, add, subtract, operations, node}
 use Rattle.tce_tree.specs.TreeCode.{top}
-use Rattle.tce_tree.specs.FlatTree.{flat, node_of, operand_of, operand_tree, operand_rest, put_nodes, tree_of_nodes, first_number_of, operation_of, left_operand, right_operand, IsTree, AreNodes, kind_of, arithmetic_kind, arithmetic_of, arithmetic_named}
+use Rattle.tce_tree.specs.FlatTree.{flat, node_of, operand_of, operand_tree, operand_rest, put_nodes, tree_of_nodes, first_number_of, operation_of, left_operand, right_operand, IsTree, AreNodes, kind_of, arithmetic_kind}
 use Rattle.std.proofs.Common.{Some, None}
 use Rattle.arrayvec.specs.ArrayVec.{ArrayVec}
 use Rattle.tce_tree.specs.declared.node.Operand.{Operand}
 use Rattle.tce_tree.specs.declared.node.Operation.TheVariants.{Binary, Sum}
-use Rattle.tce_tree.specs.declared.node.Arithmetic.{Arithmetic as NodeArithmetic}
-use Rattle.tce_tree.specs.declared.node.Arithmetic.TheVariants.{Multiply, Add, Subtract}
 use Rattle.tce_tree.specs.declared.node.Kind.TheVariants.{Sum as SumKind}
 use Rattle.tce_tree.specs.declared.node.Node.{Node}
 use Rattle.tce_tree.proofs.Nodes.{size, node-left, node-right_at, node-operand, node-root, in_left, in_right, at_root, part}
@@ -79,17 +77,6 @@ flat_at first (sum is e) v d h =
     whole : operations e ≤ v → first ≡ first + v + 1 - operations (sum is e)
     whole a = omega arith
 
-arithmetic_back : (op : Arithmetic) → arithmetic_of (arithmetic_named op) ≡ op
-arithmetic_back multiply = refl
-arithmetic_back add = refl
-arithmetic_back subtract = refl
-
--- the arithmetic that the program names
-pub arithmetic_forth : (op : NodeArithmetic) → arithmetic_named (arithmetic_of op) ≡ op
-arithmetic_forth Multiply = refl
-arithmetic_forth Add = refl
-arithmetic_forth Subtract = refl
-
 -- the stack after the nodes of an operand
 pushed : ContractionTree → List ContractionTree → List ContractionTree
 pushed (leaf t is) stack = stack
@@ -122,7 +109,7 @@ put_nodes-flat first (binary op l r) rest stack =
     ∙ ap (λ xs. put_nodes xs (pushed l stack)) (append_assoc (flat (first + operations l) r) (node_of first (binary op l r) ∷ []) rest)
     ∙ put_nodes-flat (first + operations l) r (node_of first (binary op l r) ∷ rest) (pushed l stack)
     ∙ ap (λ s. put_nodes rest s)
-    (rw (arithmetic_back op, operand_rest-pushed (first + operations l) r (pushed l stack), operand_tree-pushed (first + operations l) r (pushed l stack), operand_tree-pushed first l stack, operand_rest-pushed first l stack) refl)
+    (rw (operand_rest-pushed (first + operations l) r (pushed l stack), operand_tree-pushed (first + operations l) r (pushed l stack), operand_tree-pushed first l stack, operand_rest-pushed first l stack) refl)
 put_nodes-flat first (sum is e) rest stack =
     ap (λ xs. put_nodes xs stack) (append_assoc (flat first e) (node_of first (sum is e) ∷ []) rest)
     ∙ put_nodes-flat first e (node_of first (sum is e) ∷ rest) stack
@@ -151,15 +138,15 @@ kept_at items tree e is v d h =
     ap (λ xs. get_or xs v d) (e ∙ ap (flat 0) is) ∙ flat_at 0 tree v d h ∙ ap (λ k. node_of (k + 1 - size tree v) (node tree v)) (zero-add v)
 
 -- what a node computes, and its operands, as the program's list says it
-pub kind_when_binary : (first : ℕ) (tree : ContractionTree) (op : NodeArithmetic) (a b : Operand) → operation_of first tree ≡ Binary op a b
-    → arithmetic_kind (arithmetic_of op) ≡ kind_of tree
+pub kind_when_binary : (first : ℕ) (tree : ContractionTree) (op : Arithmetic) (a b : Operand) → operation_of first tree ≡ Binary op a b
+    → arithmetic_kind op ≡ kind_of tree
 kind_when_binary first (leaf t is) op a b e = cc
 kind_when_binary first (constant n) op a b e = cc
 kind_when_binary first (binary kind l r) op a b e =
-    let s : arithmetic_named kind ≡ op = cc in ap (λ o. arithmetic_kind (arithmetic_of o)) (sym s) ∙ ap arithmetic_kind (arithmetic_back kind)
+    let s : kind ≡ op = cc in ap arithmetic_kind (sym s)
 kind_when_binary first (sum is x) op a b e = cc
 
-pub no_sum_when_binary : (first : ℕ) (tree : ContractionTree) (op : NodeArithmetic) (a b : Operand) → operation_of first tree ≡ Binary op a b → kind_of tree ≡ SumKind → ⊥
+pub no_sum_when_binary : (first : ℕ) (tree : ContractionTree) (op : Arithmetic) (a b : Operand) → operation_of first tree ≡ Binary op a b → kind_of tree ≡ SumKind → ⊥
 no_sum_when_binary first (leaf t is) op a b e k = cc
 no_sum_when_binary first (constant n) op a b e k = cc
 no_sum_when_binary first (binary multiply l r) op a b e k = cc
@@ -173,13 +160,13 @@ kind_when_sum first (constant n) is a e = refl
 kind_when_sum first (binary op l r) is a e = cc
 kind_when_sum first (sum js x) is a e = refl
 
-pub left_when_binary : (first : ℕ) (tree : ContractionTree) (op : NodeArithmetic) (a b : Operand) → operation_of first tree ≡ Binary op a b → a ≡ left_operand first tree
+pub left_when_binary : (first : ℕ) (tree : ContractionTree) (op : Arithmetic) (a b : Operand) → operation_of first tree ≡ Binary op a b → a ≡ left_operand first tree
 left_when_binary first (leaf t is) op a b e = cc
 left_when_binary first (constant n) op a b e = cc
 left_when_binary first (binary kind l r) op a b e = cc
 left_when_binary first (sum is x) op a b e = cc
 
-pub right_when_binary : (first : ℕ) (tree : ContractionTree) (op : NodeArithmetic) (a b : Operand) → operation_of first tree ≡ Binary op a b → Some b ≡ right_operand first tree
+pub right_when_binary : (first : ℕ) (tree : ContractionTree) (op : Arithmetic) (a b : Operand) → operation_of first tree ≡ Binary op a b → Some b ≡ right_operand first tree
 right_when_binary first (leaf t is) op a b e = cc
 right_when_binary first (constant n) op a b e = cc
 right_when_binary first (binary kind l r) op a b e = let s : operand_of (first + operations l) r ≡ b = cc in ap Some (sym s)

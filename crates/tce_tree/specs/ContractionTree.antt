@@ -2,12 +2,8 @@
 use Rattle.std.specs.Prelude.{ℕ, ◌+◌, ◌-◌, ◌&&◌, Bool, true, false, List, [], ◌∷◌, ◌++◌, slice_index_or, nat_lt, nat_le, Option}
 use Rattle.std.specs.List.{find, range_with_len}
 use Rattle.tce_space.specs.IndexSet.{union, minus, set_of, empty}
-
--- what a node with two operands computes
-pub data Arithmetic : Type 0 where
-  multiply : Arithmetic
-  add : Arithmetic
-  subtract : Arithmetic
+pub use Rattle.tce_space.specs.declared.arithmetic.Arithmetic.{Arithmetic}
+pub use Rattle.tce_space.specs.declared.arithmetic.Arithmetic.TheVariants.{Multiply as multiply, Add as add, Subtract as subtract}
 
 -- a reference to a tensor with its indexes, a constant, two trees joined by arithmetic, or a sum over a list of indexes
 pub data ContractionTree : Type 0 where

@@ -10,22 +10,9 @@ use Rattle.tce_tree.specs.declared.node.Operand.{Operand}
 use Rattle.tce_tree.specs.declared.node.Operand.TheVariants.{Leaf as LeafOperand, Constant as ConstantOperand, Node as NodeOperand}
 use Rattle.tce_tree.specs.declared.node.Kind.{Kind}
 use Rattle.tce_tree.specs.declared.node.Kind.TheVariants.{Product as ProductKind, Sum as SumKind, Add as AddKind, Sub as SubKind}
-use Rattle.tce_tree.specs.declared.node.Arithmetic.{Arithmetic as NodeArithmetic}
-use Rattle.tce_tree.specs.declared.node.Arithmetic.TheVariants.{Multiply, Add, Subtract}
 use Rattle.tce_tree.specs.declared.node.Operation.{Operation}
 use Rattle.tce_tree.specs.declared.node.Operation.TheVariants.{Binary, Sum}
 use Rattle.tce_tree.specs.declared.node.Node.{Node}
-
--- what a node with two operands computes, as the program and as the tree say it
-abbrev pub arithmetic_named : Arithmetic → NodeArithmetic
-arithmetic_named multiply = Multiply
-arithmetic_named add = Add
-arithmetic_named subtract = Subtract
-
-abbrev pub arithmetic_of : NodeArithmetic → Arithmetic
-arithmetic_of Multiply = multiply
-arithmetic_of Add = add
-arithmetic_of Subtract = subtract
 
 -- how an operand is named whose nodes are numbered from `first` on
 abbrev pub operand_of : ℕ → ContractionTree → Operand
@@ -37,7 +24,7 @@ operand_of first (sum indexes operand) = NodeOperand (first + operations operand
 abbrev pub operation_of : ℕ → ContractionTree → Operation
 operation_of first (leaf tensor indexes) = Sum (record { items = [] }) (operand_of first (leaf tensor indexes))
 operation_of first (constant number) = Sum (record { items = [] }) (operand_of first (constant number))
-operation_of first (binary op left right) = Binary (arithmetic_named op) (operand_of first left) (operand_of (first + operations left) right)
+operation_of first (binary op left right) = Binary op (operand_of first left) (operand_of (first + operations left) right)
 operation_of first (sum indexes operand) = Sum (record { items = indexes }) (operand_of first operand)
 
 -- the last node of a tree whose nodes are numbered from `first` on
@@ -64,7 +51,7 @@ operand_rest (NodeOperand v) stack = below stack
 
 abbrev pub put_operation : Operation → List ContractionTree → List ContractionTree
 put_operation (Binary arithmetic left right) stack =
-    binary (arithmetic_of arithmetic) (operand_tree left (operand_rest right stack)) (operand_tree right stack) ∷ operand_rest left (operand_rest right stack)
+    binary arithmetic (operand_tree left (operand_rest right stack)) (operand_tree right stack) ∷ operand_rest left (operand_rest right stack)
 put_operation (Sum indexes operand) stack = sum indexes.items (operand_tree operand stack) ∷ operand_rest operand stack
 
 abbrev pub put_nodes : List Node → List ContractionTree → List ContractionTree

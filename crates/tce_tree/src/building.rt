@@ -6,17 +6,17 @@ ghost use Rattle.tce_space.specs.Space.{IsDeclared};
 ghost use Rattle.tce_tree.specs.ContractionTree.{binary, dims, loops, operations};
 ghost use Rattle.tce_tree.specs.Expr.{tree_of};
 ghost use Rattle.tce_tree.specs.WellFormed.{IsDeclaredTree, AreIndexes};
-ghost use Rattle.tce_tree.specs.FlatTree.{node_of, arithmetic_of};
+ghost use Rattle.tce_tree.specs.FlatTree.{node_of};
 ghost use Rattle.tce_tree.specs.Faults.{sum_fault, loops_fault, Shows};
 ghost use Rattle.tce_space.specs.Limits.{max_nodes};
 ghost use Rattle.tce_tree.specs.Building.{GrowsBy, AppendsNodes, fault_behind, StandLast, AppendsSum, IsFaultlessSum, IsSumFault, IsOperandBefore};
 
 use crate::expr::{Expr, Leaf};
 use crate::fault::TreeFault;
-use crate::node::{Arithmetic, Node, Operand, Operation};
+use crate::node::{Node, Operand, Operation};
 use arrayvec::ArrayVec;
 use std::alloc::AllocError;
-use tce_space::{IndexSet, MAX_INDEXES, MAX_LOOPS, MAX_NODES, Space};
+use tce_space::{Arithmetic, IndexSet, MAX_INDEXES, MAX_LOOPS, MAX_NODES, Space};
 
 // Appends the nodes of an expression.
 pub(crate) fn push_nodes(
@@ -72,11 +72,11 @@ fn push_binary(
     requires right_declared { IsDeclaredTree space.now (tree_of right.now) }
     ensures len { OnOk result (array_vec_len nodes.new ≡ array_vec_len nodes.old + 1) }
     ensures ok { OnOk result (nodes.new.items ≡ nodes.old.items
-        ++ node_of first (binary (arithmetic_of arithmetic) (tree_of left.now) (tree_of right.now)) ∷ []) }
+        ++ node_of first (binary arithmetic (tree_of left.now) (tree_of right.now)) ∷ []) }
     ensures faultless { OnOk result (loops_fault space.now (array_vec_len nodes.old)
-        (loops (binary (arithmetic_of arithmetic) (tree_of left.now) (tree_of right.now))) ≡ None) }
+        (loops (binary arithmetic (tree_of left.now) (tree_of right.now))) ≡ None) }
     ensures fault { IfErr result (Shows (loops_fault space.now (array_vec_len nodes.old)
-        (loops (binary (arithmetic_of arithmetic) (tree_of left.now) (tree_of right.now))))) }
+        (loops (binary arithmetic (tree_of left.now) (tree_of right.now))))) }
 {
     let middle = first + left.operations() as usize;
     let end = nodes.len();

@@ -1,10 +1,10 @@
 // The nodes of a tree as the program keeps them.
 ghost use Rattle.std.specs.Prelude.{◌≡◌};
-ghost use Rattle.tce_tree.specs.FlatTree.{arithmetic_kind, arithmetic_of};
+ghost use Rattle.tce_tree.specs.FlatTree.{arithmetic_kind};
 
 use crate::expr::Leaf;
 use arrayvec::ArrayVec;
-use tce_space::{IndexSet, MAX_INDEXES};
+use tce_space::{Arithmetic, IndexSet, MAX_INDEXES};
 
 /// What a node computes.
 #[derive(Clone, Copy, PartialEq, Eq, Debug)]
@@ -24,22 +24,13 @@ pub enum Operand {
 }
 
 // What a node with two operands computes.
-#[derive(Clone, Copy)]
-pub(crate) enum Arithmetic {
-    Multiply,
-    Add,
-    Subtract,
-}
-
-impl Arithmetic {
-    pub(crate) fn kind(self) -> Kind
-        ensures { result ≡ arithmetic_kind (arithmetic_of self) }
-    {
-        match self {
-            Arithmetic::Multiply => Kind::Product,
-            Arithmetic::Add => Kind::Add,
-            Arithmetic::Subtract => Kind::Sub,
-        }
+pub(crate) fn kind_of(arithmetic: Arithmetic) -> Kind
+    ensures { result ≡ arithmetic_kind arithmetic }
+{
+    match arithmetic {
+        Arithmetic::Multiply => Kind::Product,
+        Arithmetic::Add => Kind::Add,
+        Arithmetic::Subtract => Kind::Sub,
     }
 }
 

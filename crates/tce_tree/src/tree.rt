@@ -9,7 +9,7 @@ ghost use Rattle.tce_tree.specs.Faults.{fault_of, Shows};
 use crate::building::push_nodes;
 use crate::expr::Expr;
 use crate::fault::TreeFault;
-use crate::node::{Kind, Node, Operand, Operation};
+use crate::node::{Kind, Node, Operand, Operation, kind_of};
 use arrayvec::ArrayVec;
 use std::alloc::Global;
 use std::marker::Model;
@@ -87,7 +87,7 @@ impl Tree {
         ensures { result ≡ kind_of (node self.now v) }
     {
         match &self.node(v).operation {
-            Operation::Binary(arithmetic, _, _) => arithmetic.kind(),
+            Operation::Binary(arithmetic, _, _) => kind_of(*arithmetic),
             Operation::Sum(_, _) => Kind::Sum,
         }
     }

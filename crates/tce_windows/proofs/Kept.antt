@@ -14,7 +14,7 @@ use Rattle.tce_strides.specs.Places.{offset, word_place, AreWithin, AreApart}
 use Rattle.tce_strides.specs.Steps.{lens, out_steps, left_steps, right_steps}
 use Rattle.tce_strides.specs.Turns.{IsMade, computed}
 use Rattle.tce_strides.specs.declared.loops.Loop.{Loop}
-use Rattle.tce_strides.specs.declared.loops.Operation.{Operation}
+use Rattle.tce_space.specs.declared.arithmetic.Arithmetic.{Arithmetic}
 use Rattle.tce_windows.specs.Loops.{AreLoops, AreMade, numbers_along, place_along}
 use Rattle.tce_windows.specs.Nests.{IsNest, indexes_of, lens_of, pair_loop, moves, advanced}
 use Rattle.tce_windows.specs.Windows.{steps_along}
@@ -206,7 +206,7 @@ right_apart order ns out left right axes loops f g call runs h =
     (out_unmoved out axes) (first_moved out right axes g runs.right_is) h
 
 -- what is made over lists is made over lists that are the same
-made_same : (operation : Operation) (f g h : ℕ) (ns ms ss ts us vs ws xs : List ℕ) (old new : List ℕ) → ns ≡ ms → ss ≡ ts → us ≡ vs → ws ≡ xs
+made_same : (operation : Arithmetic) (f g h : ℕ) (ns ms ss ts us vs ws xs : List ℕ) (old new : List ℕ) → ns ≡ ms → ss ≡ ts → us ≡ vs → ws ≡ xs
     → IsMade (computed operation old (word_place g us) (word_place h ws)) (word_place f ss) (places ns) old new
     → IsMade (computed operation old (word_place g vs) (word_place h xs)) (word_place f ts) (places ms) old new
 made_same operation f g h ns ms ss ts us vs ws xs old new d e i j made =
@@ -216,14 +216,14 @@ made_same operation f g h ns ms ss ts us vs ws xs old new d e i j made =
     (subst (λ rs. IsMade (computed operation old (word_place g us) (word_place h ws)) (word_place f ss) (places rs) old new) d made)))
 
 -- and so it is from the same first places
-made_from : (operation : Operation) (f g h i j : ℕ) (ns ss us ws : List ℕ) (old new : List ℕ) → g ≡ i → h ≡ j
+made_from : (operation : Arithmetic) (f g h i j : ℕ) (ns ss us ws : List ℕ) (old new : List ℕ) → g ≡ i → h ≡ j
     → IsMade (computed operation old (word_place g us) (word_place h ws)) (word_place f ss) (places ns) old new
     → IsMade (computed operation old (word_place i us) (word_place j ws)) (word_place f ss) (places ns) old new
 made_from operation f g h i j ns ss us ws old new d e made =
     subst (λ k. IsMade (computed operation old (word_place i us) (word_place k ws)) (word_place f ss) (places ns) old new) e
     (subst (λ k. IsMade (computed operation old (word_place k us) (word_place h ws)) (word_place f ss) (places ns) old new) d made)
 
-pub made_kept : (operation : Operation) (order ns : List ℕ) (out left right : Window) (axes : List Axis) (loops : List Loop) (f g : ℕ) (old new : List ℕ) → IsCall order ns out axes
+pub made_kept : (operation : Arithmetic) (order ns : List ℕ) (out left right : Window) (axes : List Axis) (loops : List Loop) (f g : ℕ) (old new : List ℕ) → IsCall order ns out axes
     → RunsKept out left right axes loops f g
     → IsMade (computed operation old (word_place f (left_steps loops)) (word_place g (right_steps loops))) (word_place out.first (out_steps loops)) (places (lens loops)) old new
     → AreMade order ns (λ inner. computed operation old (place_along left inner) (place_along right inner)) out old new

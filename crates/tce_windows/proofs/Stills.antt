@@ -8,7 +8,7 @@ use Rattle.tce_space.specs.Tiling.{ArePositive}
 use Rattle.tce_space.proofs.Boxes.{length_inside}
 use Rattle.tce_strides.specs.Places.{offset, word_place, AreWithin, AreApart}
 use Rattle.tce_strides.specs.Turns.{IsMade, operate, computed}
-use Rattle.tce_strides.specs.declared.loops.Operation.{Operation}
+use Rattle.tce_space.specs.declared.arithmetic.Arithmetic.{Arithmetic}
 use Rattle.tce_strides.proofs.Folds.{each_inside, fold_same, fold_under, range_last}
 
 -- a fold over lists one after the other
@@ -118,7 +118,7 @@ farthest_below n f ns ms ss ts l some others h =
     let last : word_place (f + offset ts (lasts ms)) ss (lasts ns) < n = within_split n f ns ms ss ts l others h (lasts ns) (lasts_inside ns some) in
     omega arith
 
-pub computed_split : (operation : Operation) (f g h : ℕ) (ns ms ss ts us vs ws xs : List ℕ) (old new : List ℕ) → length ss ≡ length ns → length us ≡ length ns → length ws ≡ length ns → ArePositive ms
+pub computed_split : (operation : Arithmetic) (f g h : ℕ) (ns ms ss ts us vs ws xs : List ℕ) (old new : List ℕ) → length ss ≡ length ns → length us ≡ length ns → length ws ≡ length ns → ArePositive ms
     → ((ys : List ℕ) → offset ts ys ≡ 0)
     → IsMade (computed operation old (word_place (g + offset vs (lasts ms)) us) (word_place (h + offset xs (lasts ms)) ws)) (word_place f ss) (places ns) old new
     → IsMade (computed operation old (word_place g (us ++ vs)) (word_place h (ws ++ xs))) (word_place f (ss ++ ts)) (places (ns ++ ms)) old new

@@ -7,7 +7,7 @@ use Rattle.tce_walk.specs.Parts.{grown_by_part, set_by_part}
 use Rattle.tce_code.specs.Execution.{Setting, State}
 use Rattle.tce_strides.specs.Places.{AreWithin, AreApart}
 use Rattle.tce_strides.specs.Turns.{grown, grown_by_products, computed, operate}
-use Rattle.tce_strides.specs.declared.loops.Operation.{Operation}
+use Rattle.tce_space.specs.declared.arithmetic.Arithmetic.{Arithmetic}
 use Rattle.tce_walk.specs.Laws.{HoldsWords}
 use Rattle.tce_windows.specs.Loops.{AreLoops, AreMade, numbers_along, place_along}
 use Rattle.tce_windows.specs.Turns.{IsTurn, turns_of}
@@ -59,7 +59,7 @@ ProductsLeave =
 -- the operation's results on two operands' words are put
 abbrev pub ComputeLeaves : Type 0
 ComputeLeaves =
-    (s : Setting) (v : ℕ) (order : List ℕ) (a : Assignment) (part : Part) (operation : Operation) (out left right : Window) (view : List ℕ → State) (f g : Assignment → ℕ) (old new : List ℕ)
+    (s : Setting) (v : ℕ) (order : List ℕ) (a : Assignment) (part : Part) (operation : Arithmetic) (out left right : Window) (view : List ℕ → State) (f g : Assignment → ℕ) (old new : List ℕ)
     → ShowsPart s v order a part out view old → ShowsWords (turns_of order a part) left old f → ShowsWords (turns_of order a part) right old g
     → AreMade order part.len (λ inner. computed operation old (place_along left inner) (place_along right inner)) out old new
     → Leaves order a part out view old new (set_by_part s v order (λ b. operate operation (f b) (g b)) a part (view old))

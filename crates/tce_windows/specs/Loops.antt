@@ -6,8 +6,8 @@ use Rattle.tce_space.specs.Box.{places}
 use Rattle.tce_space.specs.Tiling.{ArePositive}
 use Rattle.tce_tree.specs.Value.{assignment}
 use Rattle.tce_tree.specs.WellFormed.{among, is_distinct}
-use Rattle.tce_strides.specs.declared.loops.Operation.{Operation}
-use Rattle.tce_strides.specs.declared.loops.Operation.TheVariants.{Multiply}
+use Rattle.tce_space.specs.declared.arithmetic.Arithmetic.{Arithmetic}
+use Rattle.tce_space.specs.declared.arithmetic.Arithmetic.TheVariants.{Multiply}
 use Rattle.tce_strides.specs.Places.{word_place, AreWithin, AreApart}
 use Rattle.tce_strides.specs.Turns.{IsMade, grown, grown_by_products, computed}
 use Rattle.tce_windows.specs.Windows.{steps_along}
@@ -60,7 +60,7 @@ HasGrownByProducts order lens out left right old new =
     AreMade order lens (λ inner. grown_by_products old (place_along left inner) (place_along right inner)) out old new
 
 -- what the operation makes of the operands' words was put
-abbrev pub IsComputed : Operation → List ℕ → List ℕ → Window → Window → Window → List ℕ → List ℕ → Type 0
+abbrev pub IsComputed : Arithmetic → List ℕ → List ℕ → Window → Window → Window → List ℕ → List ℕ → Type 0
 IsComputed operation order lens out left right old new =
     AreMade order lens (λ inner. computed operation old (place_along left inner) (place_along right inner)) out old new
 

@@ -8,7 +8,7 @@ use crate::nest::{fill_pair_loops, fill_sum_loops};
 use crate::sequence::LoopSequence;
 use crate::still::fill_moving_loops;
 use crate::window::Window;
-use tce_strides::Operation;
+use tce_space::Arithmetic;
 use tce_words::Words;
 
 /// The loops of a block: their indexes, and how many numbers each index has in it.
@@ -137,7 +137,7 @@ fn grow_begun(
 /// in each loop counts, whatever the sequence; the others are left out.
 pub fn compute(
     words: &mut Words,
-    operation: Operation,
+    operation: Arithmetic,
     sequence: &mut LoopSequence,
     loops: &BlockLoops,
     out: &Window,
@@ -169,7 +169,7 @@ pub fn compute(
 #[inline]
 fn compute_begun(
     words: &mut Words,
-    operation: Operation,
+    operation: Arithmetic,
     sequence: &mut LoopSequence,
     _loops: &BlockLoops,
     out: &Window,
@@ -239,7 +239,7 @@ pub fn compute_and_grow(
         words.old words.new }
 {
     sequence.begin(loops.indexes, loops.lens);
-    compute_begun(words, Operation::Multiply, sequence, loops, own, operands);
+    compute_begun(words, Arithmetic::Multiply, sequence, loops, own, operands);
     // All words are below 2^64 where the products are put.
     let _len = words.len();
     grow_begun(words, sequence, loops, out, operands);

@@ -3,7 +3,8 @@ ghost use Rattle.tce_space.specs.Limits.{max_indexes};
 
 use std::alloc::Global;
 use std::process::Abort;
-use tce_strides::{Loop, Operation, SumLoop, compute, grow, grow_by_products};
+use tce_space::Arithmetic;
+use tce_strides::{Loop, SumLoop, compute, grow, grow_by_products};
 use tce_words::{HeapRoom, Room, Words};
 
 // The words at the front of a block of 24.
@@ -125,11 +126,11 @@ fn join_rows(words: &mut Words)
         left: 1,
         right: 1,
     };
-    compute(words, Operation::Subtract, &[along], 12, 3, 0);
-    compute(words, Operation::Add, &[along], 15, 3, 0);
-    compute(words, Operation::Multiply, &[along], 18, 3, 0);
-    compute(words, Operation::Multiply, &[still], 21, 3, 0);
-    compute(words, Operation::Subtract, &[], 22, 0, 1);
+    compute(words, Arithmetic::Subtract, &[along], 12, 3, 0);
+    compute(words, Arithmetic::Add, &[along], 15, 3, 0);
+    compute(words, Arithmetic::Multiply, &[along], 18, 3, 0);
+    compute(words, Arithmetic::Multiply, &[still], 21, 3, 0);
+    compute(words, Arithmetic::Subtract, &[], 22, 0, 1);
 }
 
 #[test]
@@ -169,7 +170,7 @@ fn run_along(words: &mut Words)
     };
     grow_by_products(words, &[along], 12, 0, 8);
     grow_by_products(words, &[still], 20, 0, 0);
-    compute(words, Operation::Multiply, &[still], 21, 0, 0);
+    compute(words, Arithmetic::Multiply, &[still], 21, 0, 0);
 }
 
 #[test]

@@ -4,7 +4,7 @@ ghost use Rattle.tce_space.specs.Limits.{max_indexes};
 
 use std::alloc::Global;
 use std::process::Abort;
-use tce_strides::Operation;
+use tce_space::Arithmetic;
 use tce_windows::{
     BlockLoops, LoopSequence, OperandWindows, Window, compute, grow, grow_by_products, laws,
 };
@@ -162,7 +162,7 @@ fn put_results(words: &mut Words)
     };
     compute(
         words,
-        Operation::Multiply,
+        Arithmetic::Multiply,
         &mut sequence,
         &loops,
         &LAST,
@@ -179,7 +179,7 @@ fn put_results(words: &mut Words)
     };
     compute(
         words,
-        Operation::Subtract,
+        Arithmetic::Subtract,
         &mut alone,
         &along,
         &DIFFERENCES,

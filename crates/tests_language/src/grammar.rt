@@ -1,10 +1,8 @@
 use crate::given::{expect_text, part, put};
 use std::alloc::Global;
 use std::process::Abort;
-use tce_grammar::{
-    Formula, Line, Operator, Printer, Statement, Token, first_line, name_of, read_line,
-};
-use tce_space::is_name;
+use tce_grammar::{Formula, Line, Printer, Statement, Token, first_line, name_of, read_line};
+use tce_space::{Arithmetic, is_name};
 
 fn put_names(rt: &impl Abort, text: &mut Vec<u8>, names: &[&[u8]]) {
     for name in names {
@@ -13,11 +11,11 @@ fn put_names(rt: &impl Abort, text: &mut Vec<u8>, names: &[&[u8]]) {
     }
 }
 
-fn symbol_of(operator: &Operator) -> &'static [u8] {
+fn symbol_of(operator: &Arithmetic) -> &'static [u8] {
     match operator {
-        Operator::Times => b" times ",
-        Operator::Plus => b" plus ",
-        Operator::Minus => b" minus ",
+        Arithmetic::Multiply => b" times ",
+        Arithmetic::Add => b" plus ",
+        Arithmetic::Subtract => b" minus ",
     }
 }
 

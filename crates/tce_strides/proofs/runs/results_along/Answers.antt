@@ -1,7 +1,7 @@
 use Rattle.std.proofs.Common.{sym, subst, [], ◌∷◌}
 use Rattle.tce_base.specs.Word.{wrapping_add, wrapping_sub, wrapping_mul}
 use Rattle.tce_space.specs.Box.{places}
-use Rattle.tce_strides.specs.declared.loops.Operation.TheVariants.{Multiply, Add, Subtract}
+use Rattle.tce_space.specs.declared.arithmetic.Arithmetic.TheVariants.{Multiply, Add, Subtract}
 use Rattle.tce_strides.specs.Places.{word_place}
 use Rattle.tce_strides.specs.Turns.{IsMade, computed}
 use Rattle.tce_strides.proofs.Innermost.{made_by_run, at_both, run_within, run_apart}
