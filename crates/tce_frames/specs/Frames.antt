@@ -1,7 +1,11 @@
 -- What a step makes of the list of held tiles, by the frame that it concerns.
-use Rattle.std.specs.Prelude.{◌≡◌, ℕ, ◌<◌, Bool, ◌||◌, List, [], ◌∷◌, ◌++◌, length, Option, Some, None, MatchOption}
+use Rattle.std.specs.Prelude.{◌≡◌, ℕ, ◌^◌, ◌<◌, Bool, ◌||◌, List, [], ◌∷◌, ◌++◌, length, Option, Some, None, MatchOption}
 use Rattle.std.specs.Option.{IsSomeAnd}
 use Rattle.tce_frames.specs.Held.{Held, look_up, without, cleaned}
+
+-- frames of a table: more than memory has room for, and twice as many numbers still fit a word
+abbrev pub max_frames : ℕ
+max_frames = 2 ^ 40
 
 -- a tile in a frame, marked or not
 abbrev pub held_at : ℕ → ℕ → ℕ → Bool → Held

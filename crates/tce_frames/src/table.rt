@@ -1,7 +1,7 @@
 // Which tiles the frames hold, in the order of their last use.
-ghost use Rattle.std.specs.Prelude.{◌≡◌, ◌+◌, ◌<◌, ◌≤◌, ◌∷◌, length, Some, None, IfOk, ◌^◌};
+ghost use Rattle.std.specs.Prelude.{◌≡◌, ◌+◌, ◌<◌, ◌≤◌, ◌∷◌, length, Some, None, IfOk, ◌*◌};
 ghost use Rattle.tce_frames.specs.Held.{look_up, IsFree, AreApart};
-ghost use Rattle.tce_frames.specs.Frames.{held_at, AreLow, HasTile, IsFrameOf, IsLastFrame, IsCleaned, IsReplaced, IsMovedToFront};
+ghost use Rattle.tce_frames.specs.Frames.{max_frames, held_at, AreLow, HasTile, IsFrameOf, IsLastFrame, IsCleaned, IsReplaced, IsMovedToFront};
 
 use crate::ring::Rings;
 use std::alloc::{AllocError, Global};
@@ -18,6 +18,9 @@ pub struct Frame {
 
 // The golden ratio, as an odd number of 64 bits.
 const ODD: u64 = 0x9E37_79B9_7F4A_7C15;
+
+// How often 1 is doubled to reach the largest number of frames, 2^40.
+const DOUBLINGS: u32 = 40;
 
 // Spreads the tiles of all arrays over buckets.
 #[derive(Drop)]
@@ -68,12 +71,12 @@ impl Spread {
 
 // The least power of two that is no less than the number of frames.
 fn bucket_count(frames: usize) -> usize
-    requires { frames ≤ 2 ^ 40 }
+    requires { frames ≤ max_frames }
     ensures some { 0 < result }
-    ensures few { result ≤ 2 ^ 41 }
+    ensures few { result ≤ 2 * max_frames }
 {
     let mut count = 1;
-    for _ in 0..40 {
+    for _ in 0..DOUBLINGS {
         if count < frames {
             count *= 2;
         }
@@ -112,7 +115,7 @@ impl Table {
 
     /// A table of so many frames, of which none holds a tile. `tiles` has the number of tiles of each array.
     pub fn new(alloc: Global, frames: usize, tiles: &[u64]) -> Result<Table, AllocError>
-        requires { frames ≤ 2 ^ 40 }
+        requires { frames ≤ max_frames }
         ensures { IfOk result (λ t. t ≡ holding_none frames (length tiles.now)) }
     {
         let buckets = bucket_count(frames);

@@ -7,6 +7,7 @@ pub mod Rows
 pub mod Run
 pub mod Runs
 pub mod Added
+pub mod Takings
 pub mod RunLaws
 pub mod Whole
 pub mod WordsLends

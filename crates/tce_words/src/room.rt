@@ -1,6 +1,7 @@
 //! Where blocks of words come from.
-ghost use Rattle.std.specs.Prelude.{◌≡◌, ℕ, List, [], ◌∷◌, ◌++◌, ◌+◌, ◌^◌, ◌≤◌, Some, replicate, IfOk, OnOk, OnErr, IsErr};
+ghost use Rattle.std.specs.Prelude.{◌≡◌, ℕ, List, [], ◌∷◌, ◌++◌, ◌+◌, ◌≤◌, Some, replicate, IfOk, OnOk, OnErr, IsErr};
 ghost use Rattle.tce_words.specs.Refusing.{next_refusal};
+ghost use Rattle.tce_words.specs.Takings.{max_taking};
 
 use crate::words::Words;
 use std::alloc::{AllocError, Global};
@@ -13,8 +14,8 @@ pub trait Room {
     /// A block of `inter + tiles` words that are all 0, and one taking more. Where memory is wanting, an error, and
     /// the takings stay.
     fn take(&mut self, inter: u64, tiles: u64) -> Result<Words, AllocError>
-        requires inter { inter ≤ 2 ^ 40 }
-        requires tiles { tiles ≤ 2 ^ 40 }
+        requires inter { inter ≤ max_taking }
+        requires tiles { tiles ≤ max_taking }
         ensures zeros { IfOk result (λ words. words ≡ replicate (inter + tiles) 0) }
         ensures taken { OnOk result (takings self.new ≡ takings self.old ++ (inter, tiles) ∷ []) }
         ensures refused { OnErr result (takings self.new ≡ takings self.old) };
@@ -101,8 +102,8 @@ impl Room for RefusingRoom {
     ghost takings = { λ room. room.takings };
 
     fn take(&mut self, inter: u64, tiles: u64) -> Result<Words, AllocError>
-        requires inter { inter ≤ 2 ^ 40 }
-        requires tiles { tiles ≤ 2 ^ 40 }
+        requires inter { inter ≤ max_taking }
+        requires tiles { tiles ≤ max_taking }
         ensures zeros { IfOk result (λ words. words ≡ replicate (inter + tiles) 0) }
         ensures taken { OnOk result (self.new.takings ≡ self.old.takings ++ (inter, tiles) ∷ []) }
         ensures refused { OnErr result (self.new.takings ≡ self.old.takings) }
