@@ -8,9 +8,10 @@ use Rattle.tce_outside.specs.Files.{Files}
 use Rattle.tce_frames.specs.Held.{Held, look_up, cleaned, AreApart}
 use Rattle.tce_frames.specs.Frames.{held_at, AreLow}
 use Rattle.tce_frames.specs.Current.{place, word_of, current, AreClean}
-use Rattle.tce_frames.proofs.Current.{below_found, look_up_at, look_up-cleaned_other, apart-cleaned}
+use Rattle.tce_frames.proofs.Current.{below_found, look_up_at}
+use Rattle.tce_frames.proofs.Kept.{look_up-cleaned_other, apart-cleaned}
 use Rattle.tce_cache.specs.declared.array.ArrayRef.{ArrayRef}
-use Rattle.tce_cache.specs.declared.cache.Run.{Run}
+use Rattle.tce_cache.specs.declared.cache.writing.Run.{Run}
 use Rattle.tce_cache.specs.Transfer.{HasFile}
 use Rattle.tce_cache.specs.Cache.{State, IsArrayAt, Exists, IsWritable, IsCache, IsReady, HasRoom, words_of_tile, layout, stored}
 use Rattle.tce_cache.specs.Touch.{with_held, unmarked, IsSameArrays}

@@ -6,7 +6,8 @@ use Rattle.tce_array.specs.Forms.{form_len}
 use Rattle.tce_frames.specs.Held.{Held, look_up, without, cleaned, IsFree, AreApart}
 use Rattle.tce_frames.specs.Current.{place, word_of, current, TilesFit, IsSameOutside}
 use Rattle.tce_frames.specs.Table.{Holding}
-use Rattle.tce_frames.proofs.Current.{tile_cases, tests, tests_not, current_held, touch_kept, load_kept, drop_kept, write_kept, apart-cleaned, apart-front}
+use Rattle.tce_frames.proofs.Current.{tile_cases, tests, tests_not, current_held}
+use Rattle.tce_frames.proofs.Kept.{touch_kept, load_kept, drop_kept, write_kept, apart-cleaned, apart-front}
 use Rattle.tce_cache.specs.declared.array.ArrayRef.{ArrayRef}
 use Rattle.tce_cache.specs.Transfer.{HasFile}
 use Rattle.tce_cache.specs.Cache.{State, IsArrayAt, Exists, IsWritable, IsCache, IsReady, words_of_tile, layout, stored, current_word, OnlyWritableDiffers}

@@ -16,7 +16,7 @@ use Rattle.tce_frames.specs.Current.{place, IsSameOutside}
 use Rattle.tce_cache.specs.declared.array.ArrayRef.{ArrayRef}
 use Rattle.tce_cache.specs.Transfer.{contents, HasFile, word_in_file, AreWordsOf, IsSameBut, IsWritten}
 use Rattle.tce_cache.specs.Cache.{State, IsArrayAt, AreArrays, words_of_tile, layout, word_of_tile, stored, HasRoom, OnlyWritableDiffers, IsSameOutsideFrames}
-use Rattle.tce_cache.specs.declared.cache.Run.{Run}
+use Rattle.tce_cache.specs.declared.cache.writing.Run.{Run}
 use Rattle.tce_cache.specs.Touch.{front}
 use Rattle.tce_cache.specs.Runs.{IsRun, IsRunWritten}
 use Rattle.tce_cache.proofs.Transfers.{file_there}

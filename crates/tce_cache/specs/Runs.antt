@@ -7,7 +7,7 @@ use Rattle.tce_frames.specs.Held.{Held, look_up, cleaned}
 use Rattle.tce_frames.specs.Frames.{held_at}
 use Rattle.tce_frames.specs.Current.{place, AreOther}
 use Rattle.tce_cache.specs.declared.array.ArrayRef.{ArrayRef}
-use Rattle.tce_cache.specs.declared.cache.Run.{Run}
+use Rattle.tce_cache.specs.declared.cache.writing.Run.{Run}
 use Rattle.tce_cache.specs.Transfer.{contents}
 use Rattle.tce_cache.specs.Cache.{State, layout, stored, words_of_tile}
 use Rattle.tce_cache.specs.Touch.{front}

@@ -1,4 +1,5 @@
 pub mod Current
+pub mod Kept
 pub mod Paths
 pub mod Holdings
 pub mod Finding
