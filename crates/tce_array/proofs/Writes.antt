@@ -1,54 +1,20 @@
 -- Words written over a part of a file.
-use Rattle.std.proofs.Common.{◌≡◌, ◌≢◌, ◌∙◌, ◌⊎◌, ℕ, suc, ◌+◌, ◌-◌, ◌*◌, ◌<◌, ◌≤◌, List, ◌++◌, length, take, drop, sym, ap, inl, inr, arith, slice_index, length-append}
+use Rattle.std.proofs.Common.{◌≡◌, ◌≢◌, ◌∙◌, ◌⊎◌, ℕ, suc, ◌+◌, ◌*◌, ◌<◌, ◌≤◌, List, ◌++◌, length, take, drop, sym, ap, inl, inr, arith, slice_index, length-append}
 use Rattle.std.specs.Prelude.{EachIndex}
 use Rattle.std.specs.List.{flat_map}
 use Rattle.std.proofs.lemmas.Bool.{cases_lt}
 use Rattle.std.proofs.Math.Nat.{mul-le-mul_left}
-use Rattle.std.proofs.lemmas.List.{get_or-take, get_or-drop, get_or_append_left, get_or-append_right, get_or-append-add, length-take-le, length-drop, take-append-le, take-take}
+use Rattle.std.proofs.lemmas.List.{get_or-take, get_or-drop, length-take-le, take-append-le, take-take}
 use Rattle.tce_base.specs.Word.{word_bytes}
 use Rattle.tce_base.proofs.WordBytes.{length-words}
 use Rattle.tce_space.specs.Box.{IsInside}
 use Rattle.tce_space.specs.Tiling.{Tiling, IsTiling, tile_words, tiles, padded_words, word_number, tile_number, place_in_tile}
 use Rattle.tce_space.proofs.Tilings.{place_in_tile-lt, word_number-lt, word-lt}
-use Rattle.tce_outside.specs.Files.{overwritten}
 use Rattle.tce_array.specs.declared.form.Form.{Form}
-use Rattle.tce_array.specs.Forms.{width, word_in, head, head_len, IsForm, Fits, cell, word_place, word_at}
+use Rattle.tce_array.specs.Forms.{width, word_in, head_len, form_len, IsForm, Fits, cell, word_place, word_at}
 use Rattle.tce_array.specs.Files.{bytes_of_run, with_words, ChangesWords}
+use Rattle.tce_array.proofs.Overwrites.{length-overwritten, get_or-overwritten, get_or-overwritten_other}
 use Rattle.tce_array.proofs.WordBytes.{word_in_same, word_of_words}
-
--- what stands in a list after a write
-length-overwritten : (old : List ℕ) (at : ℕ) (bs : List ℕ) → at + length bs ≤ length old → length (overwritten old at bs) ≡ length old
-length-overwritten old at bs h =
-    let before = length-take-le at old (omega arith) in
-    let behind = length-drop (at + length bs) old in
-    let both = length-append (take at old ++ bs) (drop (at + length bs) old) in
-    let first = length-append (take at old) bs in
-    omega arith
-
-get_or-overwritten : (old : List ℕ) (at : ℕ) (bs : List ℕ) (i : ℕ) → at + length bs ≤ length old → i < length bs → slice_index (overwritten old at bs) (at + i) ≡ slice_index bs i
-get_or-overwritten old at bs i h l =
-    let before : length (take at old) ≡ at = length-take-le at old (omega arith) in
-    let first = length-append (take at old) bs in
-    let place : length (take at old) + i ≡ at + i = omega arith in
-    get_or_append_left (take at old ++ bs) (drop (at + length bs) old) 0 (at + i) (omega arith)
-    ∙ ap (slice_index (take at old ++ bs)) (sym place)
-    ∙ get_or-append-add (take at old) bs i 0
-
-get_or-overwritten_other : (old : List ℕ) (at : ℕ) (bs : List ℕ) (j : ℕ) → at + length bs ≤ length old → (j < at) ⊎ (at + length bs ≤ j) → slice_index (overwritten old at bs) j ≡ slice_index old j
-get_or-overwritten_other old at bs j h out =
-    let before : length (take at old) ≡ at = length-take-le at old (omega arith) in
-    let first : length (take at old ++ bs) ≡ at + length bs = omega (arith, length-append (take at old) bs) in
-    elim out [
-      | inl low ↦
-          get_or_append_left (take at old ++ bs) (drop (at + length bs) old) 0 j (omega arith)
-          ∙ get_or_append_left (take at old) bs 0 j (omega arith)
-          ∙ get_or-take at old j 0 low
-      | inr high ↦
-          let there : at + length bs + (j - (at + length bs)) ≡ j = omega arith in
-          get_or-append_right (take at old ++ bs) (drop (at + length bs) old) (at + length bs) j 0 first high
-          ∙ get_or-drop (at + length bs) old (j - (at + length bs)) 0
-          ∙ ap (slice_index old) there
-    ]
 
 -- the words of a part
 pub word_of_part : (form : Form) (s : Tiling) (bytes : List ℕ) (from n k : ℕ) → k < n → word_in form (drop (width form * k) (bytes_of_run form s bytes from n)) ≡ word_at form s bytes (from + k)
@@ -62,35 +28,35 @@ word_of_part form s bytes from n k h = word_in_same form _ _ (λ i l.
     ∙ ap (slice_index bytes) place
     ∙ sym (get_or-drop (word_place form s (from + k)) bytes i 0))
 
--- the part that is written lies in the file
-fits_in : (form : Form) (s : Tiling) (bytes ws : List ℕ) (from : ℕ) → IsForm form s bytes → from + length ws ≤ padded_words s → word_place form s from + length (flat_map (word_bytes (width form)) ws) ≤ length bytes
-fits_in form s bytes ws from h l =
-    let len = length-words (width form) ws in
-    let room : width form * (from + length ws) ≤ width form * padded_words s = mul-le-mul_left (width form) l in
-    let whole = h.whole in
-    omega arith
+-- words over a part of a file of the right length, whatever stands in the place of its head
+pub record IsOver (form : Form) (s : Tiling) (old : List ℕ) (from : ℕ) (ws new : List ℕ) : Type 0 where
+  pub len : length new ≡ length old
+  pub head : take (head_len form s) new ≡ take (head_len form s) old
+  pub stored : (k : ℕ) → k < length ws → Fits form (slice_index ws k) → word_at form s new (from + k) ≡ slice_index ws k
+  pub others : (k : ℕ) → (k < from) ⊎ (from + length ws ≤ k) → word_at form s new k ≡ word_at form s old k
 
-pub writes_change : (form : Form) (s : Tiling) (bytes : List ℕ) (from : ℕ) (ws : List ℕ) → IsForm form s bytes → from + length ws ≤ padded_words s → ChangesWords form s bytes from ws (with_words form s bytes from ws)
-writes_change form s bytes from ws h l = record {
-  has_form = record { whole = length-overwritten bytes at all room ∙ h.whole; begins = begins_still };
+pub bytes_over : (form : Form) (s : Tiling) (old : List ℕ) (from : ℕ) (ws : List ℕ) → length old ≡ form_len form s → from + length ws ≤ padded_words s → IsOver form s old from ws (with_words form s old from ws)
+bytes_over form s old from ws whole le = record {
+  len = length-overwritten old at all room;
+  head = head_still;
   stored = λ k lt fits.
       word_in_same form _ (drop (w * k) all) (λ i low.
       let place : word_place form s (from + k) + i ≡ at + (w * k + i) = omega arith in
       let within : w * k + i < length all = omega (arith, len, word-lt w (length ws) k i lt low) in
-      get_or-drop (word_place form s (from + k)) (with_words form s bytes from ws) i 0
-      ∙ ap (slice_index (with_words form s bytes from ws)) place
-      ∙ get_or-overwritten bytes at all (w * k + i) room within
+      get_or-drop (word_place form s (from + k)) new i 0
+      ∙ ap (slice_index new) place
+      ∙ get_or-overwritten old at all (w * k + i) room within
       ∙ sym (get_or-drop (w * k) all i 0))
       ∙ word_of_words form ws k lt fits;
-  others = λ k lt out.
+  others = λ k out.
       word_in_same form _ _ (λ i low.
-      get_or-drop (word_place form s k) (with_words form s bytes from ws) i 0
-      ∙ get_or-overwritten_other bytes at all (word_place form s k + i) room
+      get_or-drop (word_place form s k) new i 0
+      ∙ get_or-overwritten_other old at all (word_place form s k + i) room
       (elim out [
         | inl below ↦ inl (let x : w * k + i < w * from = word-lt w from k i below low in omega arith)
         | inr past ↦ inr (let x : w * (from + length ws) ≤ w * k = mul-le-mul_left w past in omega (arith, len))
       ])
-      ∙ sym (get_or-drop (word_place form s k) bytes i 0));
+      ∙ sym (get_or-drop (word_place form s k) old i 0));
 }
   where
     w : ℕ
@@ -102,20 +68,33 @@ writes_change form s bytes from ws h l = record {
     all : List ℕ
     all = flat_map (word_bytes (width form)) ws
 
+    new : List ℕ
+    new = with_words form s old from ws
+
     len : length (flat_map (word_bytes (width form)) ws) ≡ width form * length ws
     len = length-words (width form) ws
 
-    room : word_place form s from + length (flat_map (word_bytes (width form)) ws) ≤ length bytes
-    room = fits_in form s bytes ws from h l
+    room : word_place form s from + length (flat_map (word_bytes (width form)) ws) ≤ length old
+    room =
+        let inside : width form * (from + length ws) ≤ width form * padded_words s = mul-le-mul_left (width form) le in
+        omega (arith, len, whole)
 
-    begins_still : take (head_len form s) (with_words form s bytes from ws) ≡ head form s
-    begins_still =
-        let before : length (take at bytes) ≡ at = length-take-le at bytes (omega (arith, room)) in
-        let first = length-append (take at bytes) all in
-        take-append-le (head_len form s) (take at bytes ++ all) (drop (at + length all) bytes) (omega arith)
-        ∙ take-append-le (head_len form s) (take at bytes) all (omega arith)
-        ∙ take-take (head_len form s) at bytes (omega arith)
-        ∙ h.begins
+    head_still : take (head_len form s) (with_words form s old from ws) ≡ take (head_len form s) old
+    head_still =
+        let before : length (take at old) ≡ at = length-take-le at old (omega (arith, room)) in
+        let first = length-append (take at old) all in
+        take-append-le (head_len form s) (take at old ++ all) (drop (at + length all) old) (omega arith)
+        ∙ take-append-le (head_len form s) (take at old) all (omega arith)
+        ∙ take-take (head_len form s) at old (omega arith)
+
+pub writes_change : (form : Form) (s : Tiling) (bytes : List ℕ) (from : ℕ) (ws : List ℕ) → IsForm form s bytes → from + length ws ≤ padded_words s → ChangesWords form s bytes from ws (with_words form s bytes from ws)
+writes_change form s bytes from ws h l =
+    let over = bytes_over form s bytes from ws h.whole l in
+    record {
+      has_form = record { whole = over.len ∙ h.whole; begins = over.head ∙ h.begins };
+      stored = over.stored;
+      others = λ k lt out. over.others k out;
+    }
 
 -- a tile that is written
 pub tile_written : (form : Form) (s : Tiling) (bytes : List ℕ) (tile : ℕ) (ws : List ℕ) → IsTiling s → IsForm form s bytes → tile < tiles s → length ws ≡ tile_words s

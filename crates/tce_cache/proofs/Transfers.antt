@@ -1,24 +1,20 @@
 -- Words that are read from a file, and words written over a part of one.
-use Rattle.std.proofs.Common.{◌≡◌, ◌∙◌, ◌⊎◌, ℕ, ◌+◌, ◌-◌, ◌*◌, ◌/◌, ◌^◌, ◌<◌, ◌≤◌, cond, List, [], ◌++◌, length, take, drop, slice_index, slice_range, Option, Some, None, unwrap_or, sym, refl, ap, subst, inl, inr, arith, length-append}
+use Rattle.std.proofs.Common.{◌≡◌, ◌∙◌, ℕ, ◌+◌, ◌-◌, ◌*◌, ◌/◌, ◌^◌, ◌<◌, ◌≤◌, cond, List, [], length, take, drop, slice_index, slice_range, Option, Some, None, unwrap_or, sym, refl, ap, subst, inl, inr, arith}
 use Rattle.std.specs.List.{flat_map}
 use Rattle.std.specs.Option.{IsSomeAnd}
 use Rattle.std.specs.FinMap.{get-insert}
 use Rattle.std.proofs.lemmas.Bool.{cases_lt}
 use Rattle.std.proofs.lemmas.Cmp.{nat_list_cmp_total}
-use Rattle.std.proofs.Math.Nat.{mul-le-mul_left}
-use Rattle.std.proofs.lemmas.List.{get_or-take, get_or-drop, get_or_append_left, get_or-append-add, get_or-append_right, length-take-le, length-drop, take-append-le, take-take}
+use Rattle.std.proofs.lemmas.List.{get_or-take, get_or-drop, length-take-le, length-drop}
 use Rattle.tce_base.specs.Word.{word_bytes}
-use Rattle.tce_base.proofs.WordBytes.{length-words}
 use Rattle.tce_space.specs.Tiling.{Tiling, IsTiling, padded_words}
-use Rattle.tce_space.proofs.Tilings.{word-lt}
 use Rattle.tce_outside.specs.Files.{Files, file, with_file, with_part, without_file, overwritten, part, others, written}
 use Rattle.tce_outside.proofs.Places.{same_name}
 use Rattle.tce_array.specs.declared.form.Form.{Form}
 use Rattle.tce_array.specs.declared.form.Form.TheVariants.{One, Narrow, Wide}
 use Rattle.tce_array.specs.Files.{AreBytes}
 use Rattle.tce_array.specs.Forms.{width, word_in, head_len, form_len, Fits, word_place, word_at}
-use Rattle.tce_array.proofs.WordBytes.{word_in_same, word_of_words}
-use Rattle.tce_array.proofs.Writes.{word_of_part}
+use Rattle.tce_array.proofs.Writes.{word_of_part, bytes_over}
 use Rattle.tce_array.proofs.Fitting.{words_fit}
 use Rattle.tce_words.specs.Load.{IsLoaded}
 use Rattle.tce_cache.specs.declared.array.ArrayRef.{ArrayRef}
@@ -71,40 +67,6 @@ pub others_joined : (at d n m : ℕ) (first old new : List ℕ) → d + n ≤ m 
 others_joined at d n m first old new le before piece p out =
     piece p (elim out [ inl low ↦ inl (omega arith) | inr high ↦ inr (omega arith) ]) ∙ before p out
 
--- what stands in a list after a write
-pub length-overwritten : (old : List ℕ) (at : ℕ) (bs : List ℕ) → at + length bs ≤ length old → length (overwritten old at bs) ≡ length old
-length-overwritten old at bs h =
-    let before = length-take-le at old (omega arith) in
-    let behind = length-drop (at + length bs) old in
-    let both = length-append (take at old ++ bs) (drop (at + length bs) old) in
-    let first = length-append (take at old) bs in
-    omega arith
-
-pub get_or-overwritten : (old : List ℕ) (at : ℕ) (bs : List ℕ) (i : ℕ) → at + length bs ≤ length old → i < length bs → slice_index (overwritten old at bs) (at + i) ≡ slice_index bs i
-get_or-overwritten old at bs i h l =
-    let before : length (take at old) ≡ at = length-take-le at old (omega arith) in
-    let first = length-append (take at old) bs in
-    let place : length (take at old) + i ≡ at + i = omega arith in
-    get_or_append_left (take at old ++ bs) (drop (at + length bs) old) 0 (at + i) (omega arith)
-    ∙ ap (slice_index (take at old ++ bs)) (sym place)
-    ∙ get_or-append-add (take at old) bs i 0
-
-pub get_or-overwritten_other : (old : List ℕ) (at : ℕ) (bs : List ℕ) (j : ℕ) → at + length bs ≤ length old → (j < at) ⊎ (at + length bs ≤ j) → slice_index (overwritten old at bs) j ≡ slice_index old j
-get_or-overwritten_other old at bs j h out =
-    let before : length (take at old) ≡ at = length-take-le at old (omega arith) in
-    let first : length (take at old ++ bs) ≡ at + length bs = omega (arith, length-append (take at old) bs) in
-    elim out [
-      | inl low ↦
-          get_or_append_left (take at old ++ bs) (drop (at + length bs) old) 0 j (omega arith)
-          ∙ get_or_append_left (take at old) bs 0 j (omega arith)
-          ∙ get_or-take at old j 0 low
-      | inr high ↦
-          let there : at + length bs + (j - (at + length bs)) ≡ j = omega arith in
-          get_or-append_right (take at old ++ bs) (drop (at + length bs) old) (at + length bs) j 0 first high
-          ∙ get_or-drop (at + length bs) old (j - (at + length bs)) 0
-          ∙ ap (slice_index old) there
-    ]
-
 -- a file that was put in place of another
 pub file_with : (files : Files) (name bytes : List ℕ) → file (with_file files name bytes) name ≡ Some bytes
 file_with files name bytes =
@@ -122,66 +84,6 @@ file_there a files h = by_file (file files a.file.bytes) h
     by_file None h = absurd h
     by_file (Some bytes) h = (refl, h)
 
--- the bytes of words over a part of a file
-record IsOver (form : Form) (s : Tiling) (old : List ℕ) (from : ℕ) (ws new : List ℕ) : Type 0 where
-  len : length new ≡ length old
-  head : take (head_len form s) new ≡ take (head_len form s) old
-  stored : (k : ℕ) → k < length ws → word_at form s new (from + k) ≡ slice_index ws k
-  others : (k : ℕ) → (k < from) ⊎ (from + length ws ≤ k) → word_at form s new k ≡ word_at form s old k
-
-bytes_over : (form : Form) (s : Tiling) (old : List ℕ) (from : ℕ) (ws : List ℕ) → length old ≡ form_len form s → from + length ws ≤ padded_words s → ((k : ℕ) → k < length ws → Fits form (slice_index ws k))
-    → IsOver form s old from ws (overwritten old (word_place form s from) (flat_map (word_bytes (width form)) ws))
-bytes_over form s old from ws whole le fits = record {
-  len = length-overwritten old at all room;
-  head = head_still;
-  stored = λ k lt.
-      word_in_same form _ (drop (w * k) all) (λ i low.
-      let place : word_place form s (from + k) + i ≡ at + (w * k + i) = omega arith in
-      let within : w * k + i < length all = omega (arith, len, word-lt w (length ws) k i lt low) in
-      get_or-drop (word_place form s (from + k)) new i 0
-      ∙ ap (slice_index new) place
-      ∙ get_or-overwritten old at all (w * k + i) room within
-      ∙ sym (get_or-drop (w * k) all i 0))
-      ∙ word_of_words form ws k lt (fits k lt);
-  others = λ k out.
-      word_in_same form _ _ (λ i low.
-      get_or-drop (word_place form s k) new i 0
-      ∙ get_or-overwritten_other old at all (word_place form s k + i) room
-      (elim out [
-        | inl below ↦ inl (let x : w * k + i < w * from = word-lt w from k i below low in omega arith)
-        | inr past ↦ inr (let x : w * (from + length ws) ≤ w * k = mul-le-mul_left w past in omega (arith, len))
-      ])
-      ∙ sym (get_or-drop (word_place form s k) old i 0));
-}
-  where
-    w : ℕ
-    w = width form
-
-    at : ℕ
-    at = word_place form s from
-
-    all : List ℕ
-    all = flat_map (word_bytes (width form)) ws
-
-    new : List ℕ
-    new = overwritten old (word_place form s from) (flat_map (word_bytes (width form)) ws)
-
-    len : length (flat_map (word_bytes (width form)) ws) ≡ width form * length ws
-    len = length-words (width form) ws
-
-    room : word_place form s from + length (flat_map (word_bytes (width form)) ws) ≤ length old
-    room =
-        let inside : width form * (from + length ws) ≤ width form * padded_words s = mul-le-mul_left (width form) le in
-        omega (arith, len, whole)
-
-    head_still : take (head_len form s) (overwritten old (word_place form s from) (flat_map (word_bytes (width form)) ws)) ≡ take (head_len form s) old
-    head_still =
-        let before : length (take at old) ≡ at = length-take-le at old (omega (arith, room)) in
-        let first = length-append (take at old) all in
-        take-append-le (head_len form s) (take at old ++ all) (drop (at + length all) old) (omega arith)
-        ∙ take-append-le (head_len form s) (take at old) all (omega arith)
-        ∙ take-take (head_len form s) at old (omega arith)
-
 -- a disk that tells its files told them before
 pub told_before : (name : List ℕ) (old new : Option Files) (now : Files) → others name new ≡ others name old → new ≡ Some now → (files : Files) × (old ≡ Some files)
 told_before name None new now same is = absurd (none (sym (ap (others name) is) ∙ same))
@@ -196,14 +98,14 @@ pub words_written : (a : ArrayRef) (files : Files) (from at n : ℕ) (words ws :
     → IsWritten a files (with_part files a.file.bytes (word_place a.form a.shape from) (flat_map (word_bytes (width a.form)) ws)) from words at n
 words_written a files from at n words ws has le count same fit =
     let there = file_there a files has in
-    let over = bytes_over a.form a.shape (contents a files) from ws there.1 (omega arith) (λ k lt. fit k (omega arith)) in
+    let over = bytes_over a.form a.shape (contents a files) from ws there.1 (omega arith) in
     let bytes : List ℕ = overwritten (contents a files) (word_place a.form a.shape from) (flat_map (word_bytes (width a.form)) ws) in
     let now : file (with_file files a.file.bytes bytes) a.file.bytes ≡ Some bytes = file_with files a.file.bytes bytes in
     let contents_is : contents a (with_file files a.file.bytes bytes) ≡ bytes = ap (λ o. unwrap_or o []) now in
     record {
       has_file = subst (λ o. IsSomeAnd o (λ bs. length bs ≡ form_len a.form a.shape)) (sym now) (over.len ∙ there.1);
       head = ap (take (head_len a.form a.shape)) contents_is ∙ over.head;
-      written = λ k lt. sym (same k lt) ∙ sym (over.stored k (omega arith)) ∙ sym (ap (λ bs. word_at a.form a.shape bs (from + k)) contents_is);
+      written = λ k lt. sym (same k lt) ∙ sym (over.stored k (omega arith) (fit k lt)) ∙ sym (ap (λ bs. word_at a.form a.shape bs (from + k)) contents_is);
       others = λ k out. ap (λ bs. word_at a.form a.shape bs k) contents_is ∙ over.others k (elim out [ inl low ↦ inl low | inr high ↦ inr (omega arith) ]);
       bytes = λ are. subst AreBytes (sym contents_is) (overwritten_are (contents a files) (word_place a.form a.shape from) (flat_map (word_bytes (width a.form)) ws) are (words_are (width a.form) ws));
     }

@@ -8,7 +8,6 @@ pub mod Steps
 pub mod Shuffles
 pub mod Forms
 pub mod Misfits
-pub mod Overwrites
 pub mod Pieces
 pub mod Sums
 pub mod Stored

@@ -22,7 +22,7 @@ use Rattle.tce_tools.specs.declared.band.Band.{Band}
 use Rattle.tce_tools.specs.Storage.{form_in, start_of, start_len, words_of, word_count, begun_bytes, bare_bytes, stored_bytes, stored_len, number_of, first_elements, later_elements, HasStored}
 use Rattle.tce_tools.specs.Runs.{AreElements}
 use Rattle.tce_tools.specs.Bands.{IsAt, IsBand, AreTiled, AreZerosBetween, KeepsOutside}
-use Rattle.tce_tools.proofs.Overwrites.{length-overwritten, get_or-overwritten, get_or-overwritten_other}
+use Rattle.tce_array.proofs.Overwrites.{length-overwritten, get_or-overwritten, get_or-overwritten_other}
 use Rattle.tce_tools.proofs.Pieces.{words_written}
 use Rattle.tce_tools.proofs.Shuffles.{IsCopy}
 use Rattle.tce_tools.proofs.Stored.{HoldsElements, storage_holds, bare_same, among_first, behind_first, among_later, length-start}

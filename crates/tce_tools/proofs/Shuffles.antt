@@ -14,7 +14,7 @@ use Rattle.tce_tools.specs.declared.shuffle.Part.{Part}
 use borrow.Rule.Slice.PartMut.{put_mid}
 use Rattle.tce_tools.specs.Runs.{IsRun, AreElements}
 use Rattle.tce_tools.specs.Bands.{IsAt, IsBand, IsPart, AreTiled}
-use Rattle.tce_tools.proofs.Overwrites.{get_or-overwritten, get_or-overwritten_other}
+use Rattle.tce_array.proofs.Overwrites.{get_or-overwritten, get_or-overwritten_other}
 use Rattle.tce_outside.specs.Files.{overwritten}
 
 -- where the first word of a run stands in a band
