@@ -1,13 +1,11 @@
 -- What opening a file answers, and why a file is refused.
-use Rattle.std.specs.Prelude.{◌≡◌, ◌≢◌, ◌⊎◌, ℕ, ◌<◌, List, length, take, slice_index, Option, None, Result, Ok, Err, IsErrOf}
+use Rattle.std.specs.Prelude.{◌≡◌, ◌≢◌, ◌⊎◌, ℕ, ◌<◌, List, length, take, slice_index, Option, None, Result, Ok, Err}
 use Rattle.std.specs.Option.{IsSomeAnd}
 use Rattle.tce_space.specs.Tiling.{Tiling}
 use Rattle.tce_array.specs.Forms.{form_of, form_len, head, head_len, IsArray}
 use Rattle.tce_array.specs.declared.form.Form.{Form}
 use Rattle.tce_array.specs.declared.fault.ArrayFault.{ArrayFault}
 use Rattle.tce_array.specs.declared.fault.ArrayFault.TheVariants.{NoFile, BadLength, BadHeader, Disk}
-use Rattle.tce_outside.specs.declared.device.OutFault.{OutFault}
-use Rattle.tce_outside.specs.declared.device.OutFault.TheVariants.{Failed}
 
 -- two lists of one length differ first at this place
 pub record DifferFirst (xs ys : List ℕ) (p : ℕ) : Type 0 where
@@ -34,6 +32,3 @@ IsOnlyAnswer s found result = (answer : Result Form ArrayFault) → IsAnswer s f
 -- the answer is that the disk failed
 abbrev pub IsDiskFault : {A : Type 0} → Result A ArrayFault → Type 0
 IsDiskFault result = result ≡ Err Disk
-
-abbrev pub HasFailed : {A : Type 0} → Result A OutFault → Type 0
-HasFailed result = IsErrOf result Failed

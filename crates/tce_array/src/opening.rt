@@ -1,9 +1,9 @@
 // Opening and creating array files.
 ghost use Rattle.std.specs.Prelude.{◌≡◌, ℕ, ◌+◌, ◌*◌, ◌≤◌, ◌<◌, List, length, take, IfOk, IfErr, OnOk, IsErr, IsErrOf, Err, codes, ◌++◌};
 ghost use Rattle.tce_outside.specs.Files.{others, written};
-ghost use Rattle.tce_outside.specs.Fault.{HasCause, TellsFaults};
+ghost use Rattle.tce_outside.specs.Fault.{HasCause, HasFailed, TellsFaults};
 ghost use Rattle.tce_array.specs.Forms.{head, form_by_start};
-ghost use Rattle.tce_array.specs.Faults.{HasFailed, IsDiskFault};
+ghost use Rattle.tce_array.specs.Faults.{IsDiskFault};
 ghost use Rattle.std.specs.Str.{bytes_eq};
 ghost use Rattle.tce_base.specs.Word.{word_of_bytes};
 ghost use Rattle.tce_array.specs.OnDisk.{HasLengthOn, HasFormOn, HasArrayOn, HasFaultOn, IsOnlyAnswerOn, HoldsZeros, HasRoomForHead, HoldsHead, SameBehindHead};

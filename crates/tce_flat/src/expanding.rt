@@ -2,8 +2,7 @@
 ghost use Rattle.std.specs.Prelude.{◌≡◌, ◌≢◌, ◌≤◌, Err, IfErr, OnOk, IsErrOf, length};
 ghost use Rattle.tce_space.specs.Limits.{max_name_bytes};
 ghost use Rattle.tce_outside.specs.Files.{file, others};
-ghost use Rattle.tce_outside.specs.Fault.{HasCause, TellsFaults};
-ghost use Rattle.tce_tools.specs.Told.{HasFailed};
+ghost use Rattle.tce_outside.specs.Fault.{HasCause, HasFailed, TellsFaults};
 ghost use Rattle.tce_sym.specs.Storage.{AreRight};
 ghost use Rattle.tce_sym.specs.Told.{IsStoredIn, Expands, MayExpand};
 ghost use Rattle.tce_flat.specs.Tensors.{sym_file};

@@ -3,8 +3,7 @@ ghost use Rattle.std.specs.Prelude.{◌≡◌, ◌≢◌, ◌+◌, ◌<◌, ◌�
 ghost use Rattle.tce_space.specs.Limits.{max_array_words};
 ghost use Rattle.tce_space.specs.Tiling.{padded_words};
 ghost use Rattle.tce_outside.specs.Files.{file, others};
-ghost use Rattle.tce_outside.specs.Fault.{HasCause, TellsFaults};
-ghost use Rattle.tce_tools.specs.Told.{HasFailed};
+ghost use Rattle.tce_outside.specs.Fault.{HasCause, HasFailed, TellsFaults};
 ghost use Rattle.tce_sym.specs.Storage.{AreRight};
 ghost use Rattle.tce_sym.specs.Lines.{HasRoomAt};
 ghost use Rattle.tce_sym.specs.Cells.{AreTriangles};

@@ -1,7 +1,7 @@
 -- Bands of the elements that a file stores, where the disk tells its files.
 use Rattle.std.specs.Prelude.{◌≡◌, ℕ, ◌+◌, ◌*◌, List, Option}
 use Rattle.std.specs.Option.{ForSome}
-use Rattle.tce_outside.specs.Files.{Files, others}
+use Rattle.tce_outside.specs.Files.{Files, others, KeepsBefore, KeepsFrom}
 use Rattle.tce_array.specs.declared.form.Form.{Form}
 use Rattle.tce_array.specs.Forms.{head_len}
 use Rattle.tce_tools.specs.declared.band.Band.{Band}
@@ -11,7 +11,7 @@ use Rattle.tce_tools.specs.Bands.{AreTiled}
 use Rattle.tce_tools.specs.Flat.{contents}
 use Rattle.tce_tools.specs.Runs.{AreElements}
 use Rattle.tce_tools.specs.Storage.{element_in, bytes_ahead}
-use Rattle.tce_tools.specs.Told.{HasStoredIn, KeepsBefore, KeepsFrom, holding_bare}
+use Rattle.tce_tools.specs.Told.{HasStoredIn, holding_bare}
 
 -- the file is there and has the right length; it is there as an array file in this form
 abbrev pub IsThere : Option Files → ElementFile → Type 0

@@ -1,12 +1,10 @@
 -- What is read and made where the disk tells its files.
-use Rattle.std.specs.Prelude.{◌≡◌, ◌≢◌, ℕ, ◌+◌, ◌*◌, ◌<◌, List, drop, length, slice_index, Option, Result, Err, IfErr, IsErrOf}
+use Rattle.std.specs.Prelude.{◌≡◌, ◌≢◌, ℕ, ◌+◌, ◌*◌, ◌<◌, List, drop, length, slice_index, Option, Result, Err, IfErr}
 use Rattle.std.specs.List.{flat_map}
 use Rattle.std.specs.Option.{ForSome, IsSomeAnd}
 use Rattle.tce_base.specs.Word.{word_bytes, wrapping_sum}
 use Rattle.tce_space.specs.Tiling.{Tiling, elements}
-use Rattle.tce_outside.specs.declared.device.OutFault.{OutFault}
-use Rattle.tce_outside.specs.declared.device.OutFault.TheVariants.{Failed}
-use Rattle.tce_outside.specs.Files.{Files, file, holding, written, bytes_before, bytes_from}
+use Rattle.tce_outside.specs.Files.{Files, file, holding, written}
 use Rattle.tce_array.specs.declared.form.Form.{Form}
 use Rattle.tce_array.specs.declared.form.Form.TheVariants.{One}
 use Rattle.tce_array.specs.Forms.{IsForm, width, word_in, cell, head_len, array_bytes, form_bytes}
@@ -19,10 +17,6 @@ use Rattle.tce_tools.specs.Demo.{demo_element}
 use Rattle.tce_tools.specs.Flat.{in_order, contents, flat_bytes, flat_element, array_element}
 use Rattle.tce_tools.specs.NoHalf.{LeavesNoHalfOf}
 use Rattle.tce_tools.specs.Storage.{element_in, bare_bytes, stored_bytes, last_written, holding_by, HasStored, HasWords}
-
--- the call answers that the device failed
-abbrev pub HasFailed : {A : Type 0} → Result A OutFault → Type 0
-HasFailed result = IsErrOf result Failed
 
 -- the file of this name has the length of one that stores elements of the shape in this way
 abbrev pub HasStoredIn : Option Files → List ℕ → Storage → Tiling → Type 0
@@ -62,13 +56,6 @@ IsUnpackAnswerTo told array s result = ForSome told (λ fs. IsUnpackAnswer s (fi
 
 abbrev pub IsConvertAnswerTo : Option Files → List ℕ → Form → Tiling → Result (Unit {0}) ToolFault → Type 0
 IsConvertAnswerTo told array form s result = ForSome told (λ fs. IsConvertAnswer form s (file fs array) result)
-
--- a file keeps what it has before a place, and what it has from one on
-abbrev pub KeepsBefore : List ℕ → ℕ → Option Files → Option Files → Type 0
-KeepsBefore name at before after = bytes_before name at after ≡ bytes_before name at before
-
-abbrev pub KeepsFrom : List ℕ → ℕ → Option Files → Option Files → Type 0
-KeepsFrom name at before after = bytes_from name at after ≡ bytes_from name at before
 
 -- the files with the elements of a shape under a name, stored in this way, while zeros stand in the place of what comes before them, and whole
 abbrev pub holding_bare : List ℕ → Storage → Tiling → (Files → List ℕ → ℕ) → Option Files → Option Files

@@ -1,8 +1,8 @@
 // The elements of one file, stored in another.
 ghost use Rattle.std.specs.Prelude.{◌≡◌, ◌≢◌, OnOk, IsErrOf};
 ghost use Rattle.tce_outside.specs.Files.{others};
-ghost use Rattle.tce_outside.specs.Fault.{HasCause, TellsFaults};
-ghost use Rattle.tce_tools.specs.Told.{HasFailed, HasStoredIn, Copies, CopiesBare, MayCopy};
+ghost use Rattle.tce_outside.specs.Fault.{HasCause, HasFailed, TellsFaults};
+ghost use Rattle.tce_tools.specs.Told.{HasStoredIn, Copies, CopiesBare, MayCopy};
 
 use crate::band::{LONGEST_BAND, band_at};
 use crate::banding::{read_band, write_band};

@@ -2,10 +2,10 @@
 ghost use Rattle.std.specs.Prelude.{◌≡◌, ℕ, ◌+◌, ◌<◌, ◌≤◌, length, slice_index, OnOk, IfOk, IsErrOf};
 ghost use Rattle.tce_space.specs.Tiling.{elements};
 ghost use Rattle.tce_outside.specs.Files.{others};
-ghost use Rattle.tce_outside.specs.Fault.{HasCause, TellsFaults};
+ghost use Rattle.tce_outside.specs.Fault.{HasCause, HasFailed, TellsFaults};
 ghost use Rattle.std.specs.String.{string_bytes};
 ghost use Rattle.tce_tools.specs.Demo.{drawn, digit, range_line, demo_text};
-ghost use Rattle.tce_tools.specs.Told.{HasFailed, Draws, DrawsBare, MayDraw};
+ghost use Rattle.tce_tools.specs.Told.{Draws, DrawsBare, MayDraw};
 
 use crate::band::{LONGEST_BAND, band_at};
 use crate::banding::write_band;

@@ -1,9 +1,9 @@
 // The two ways in which a file stores the elements of an array.
 ghost use Rattle.std.specs.Prelude.{◌≡◌, ℕ, List, Option, OnOk, IsErr, IsErrOf};
-ghost use Rattle.tce_outside.specs.Files.{Files, others, IsKeptOrZeros};
-ghost use Rattle.tce_outside.specs.Fault.{HasCause, TellsFaults};
+ghost use Rattle.tce_outside.specs.Files.{Files, others, IsKeptOrZeros, KeepsFrom};
+ghost use Rattle.tce_outside.specs.Fault.{HasCause, HasFailed, TellsFaults};
 ghost use Rattle.tce_tools.specs.Storage.{start_len};
-ghost use Rattle.tce_tools.specs.Told.{HasFailed, HasStoredIn, MakesZeros, KeepsFrom, holding_bare, holding_whole};
+ghost use Rattle.tce_tools.specs.Told.{HasStoredIn, MakesZeros, holding_bare, holding_whole};
 
 use tce_array::{Form, form_len, write_head};
 use tce_outside::{Disk, Failed, OutFault};

@@ -2,10 +2,10 @@
 ghost use Rattle.std.specs.Prelude.{◌≡◌, ◌+◌, ◌*◌, ◌≤◌, length, drop, OnOk, IsErr};
 ghost use Rattle.std.specs.List.{flat_map};
 ghost use Rattle.tce_base.specs.Word.{word_bytes, word_of_bytes, widened};
-ghost use Rattle.tce_outside.specs.Files.{file, written, others};
+ghost use Rattle.tce_outside.specs.Files.{file, written, others, KeepsBefore, KeepsFrom};
 ghost use Rattle.tce_outside.specs.Fault.{HasCause, TellsFaults};
 ghost use Rattle.tce_array.specs.Forms.{width, word_in};
-ghost use Rattle.tce_tools.specs.Told.{HasWordsIn, AreWordsIn, WritesWords, KeepsBefore, KeepsFrom};
+ghost use Rattle.tce_tools.specs.Told.{HasWordsIn, AreWordsIn, WritesWords};
 ghost use Rattle.tce_tools.specs.Runs.{EachWordIs};
 
 use byteorder::{ByteOrder, LittleEndian};

@@ -1,8 +1,7 @@
 // New files.
 ghost use Rattle.std.specs.Prelude.{◌≡◌, OnOk, IsErrOf};
 ghost use Rattle.tce_outside.specs.Files.{holding, others};
-ghost use Rattle.tce_outside.specs.Fault.{HasCause, TellsFaults};
-ghost use Rattle.tce_array.specs.Faults.{HasFailed};
+ghost use Rattle.tce_outside.specs.Fault.{HasCause, HasFailed, TellsFaults};
 
 use tce_outside::{Disk, OutFault};
 
