@@ -8,10 +8,10 @@ use tce_nesting::{Nesting, Row};
 use tce_space::{IndexSet, MAX_LOOPS};
 
 // A prime, so that parts which differ in few loops mostly have different groups.
-pub(crate) const GROUPS: usize = 32_749;
+pub(crate) const GROUPS: usize = 16_381;
 
-// How many rows have an entry. Others are asked where no other row stands for a state.
-pub(crate) const ENTRIES: usize = 327_680;
+// How many rows have an entry. Those behind them are asked one by one.
+pub(crate) const ENTRIES: usize = 200_704;
 
 // An entry is the place of a row, below this, and above it the marks.
 const PLACES: u32 = 524_288;
@@ -33,8 +33,8 @@ struct Parts {
 // The rows of a node by their three largest upper parts: the outer loops that they put above the others.
 //
 // The upper parts of a row that stands for a state are upper parts of the state too, so the row is looked for in the
-// groups of three of these. No answer rests on it: where no row of a group stands for the state, all rows are asked. So
-// groups without room give the same answers.
+// groups of three of these. No answer rests on it: where no row of a group stands for the state, all rows are asked, those
+// without an entry before the others. So groups without room give the same answers.
 #[derive(Drop)]
 pub(crate) struct Groups<'a> {
     // For each group the place behind its last entry. It begins where the group before it ends.
@@ -248,12 +248,38 @@ impl<'a> Groups<'a> {
         None
     }
 
+    // The place of a row without an entry that stands for the state.
+    fn late_place(&self, rows: &[Row], state: &Row, outer: IndexSet) -> Option<u32>
+        ensures { IfSome result (λ place. Any (StandsFor outer (above state.now.classes)
+            state.now.cost) rows.now) }
+    {
+        for place in self.entries.len()..rows.len() {
+            if let Some(row) = rows.get(place) {
+                if stands_for(row, state, outer) {
+                    return Some(place.min(u32::MAX as usize) as u32);
+                }
+            }
+        }
+        None
+    }
+
+    // The place of a row that stands for the state, where the groups lead to it or it has no entry.
+    fn place_soon(&self, rows: &[Row], state: &Row, outer: IndexSet) -> Option<u32>
+        ensures { IfSome result (λ place. Any (StandsFor outer (above state.now.classes)
+            state.now.cost) rows.now) }
+    {
+        match self.likely_place(rows, state, outer) {
+            Some(place) => Some(place),
+            None => self.late_place(rows, state, outer),
+        }
+    }
+
     // Whether some row stands for a state.
     pub(crate) fn is_stood_for(&self, rows: &[Row], state: &Row, outer: IndexSet) -> bool
         ensures { IsTrue result ↔ Any (StandsFor outer (above state.now.classes) state.now.cost)
             rows.now }
     {
-        if self.likely_place(rows, state, outer).is_some() {
+        if self.place_soon(rows, state, outer).is_some() {
             return true;
         }
         place_of(rows, state, outer).is_some()
@@ -274,7 +300,7 @@ impl<'a> Groups<'a> {
         if stands_at(rows, hints.get(number).copied(), state, outer) {
             return true;
         }
-        if let Some(place) = self.likely_place(rows, state, outer) {
+        if let Some(place) = self.place_soon(rows, state, outer) {
             if let Some(hint) = hints.get_mut(number) {
                 *hint = place;
             }
