@@ -11,7 +11,7 @@ use tce_tree::{Operand, Tree};
 const FEW: usize = 4096;
 
 // After a round that keeps more candidates a pass tells how far the next one has to go.
-const MANY: usize = 50_000;
+const MANY: usize = 70_000;
 
 // A pass goes so many times as far as the round before it.
 const FARTHER: u128 = 4;
