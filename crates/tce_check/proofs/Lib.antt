@@ -3,5 +3,4 @@ pub mod Firsts
 pub mod FromTables
 pub mod Joints
 pub mod RunParts
-pub mod StretchParts
 pub mod Verdicts

@@ -6,8 +6,8 @@ use Rattle.tce_tree.specs.ContractionTree.{operations}
 use Rattle.tce_states.specs.Row.{Row}
 use Rattle.tce_states.specs.Cover.{StepsCovered}
 use Rattle.tce_nesting.specs.Choices.{AreChoices}
+use Rattle.tce_nesting.specs.Stretches.{AreStretches}
 use Rattle.tce_check.specs.Joint.{IsBound}
-use Rattle.tce_check.specs.Stretches.{AreStretches}
 use Rattle.tce_check.specs.Verdict.{WhereJoined, IsLeastUncovered}
 use Rattle.tce_check.specs.declared.steps.Node.{Node}
 

@@ -9,8 +9,7 @@ ghost use Rattle.tce_check.specs.Node.{IsReady, PairCovered, AreBelowLimit};
 use crate::joint::joint;
 use crate::runs::{BLOCK, runs_of};
 use crate::steps::{Node, state_of};
-use crate::stretches::allows_none;
-use tce_nesting::{Choice, Row, Run, ends_of, have_conflict};
+use tce_nesting::{Choice, Row, Run, allows_none, ends_of, have_conflict};
 
 impl<'a> Node<'a> {
     // Whether the choice's set may not be fused, or some row is seen to stand for its step.

@@ -10,7 +10,6 @@ mod root;
 mod rules;
 mod runs;
 mod steps;
-mod stretches;
 mod tables;
 mod verdict;
 

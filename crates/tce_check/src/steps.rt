@@ -11,9 +11,8 @@ ghost use Rattle.tce_check.specs.Node.{IsReady, PairCovered, IsFailing, AreBelow
 
 use crate::groups::Groups;
 use crate::joint::joint;
-use crate::stretches::Stretch;
 use crate::verdict::Verdict;
-use tce_nesting::{Choice, Row};
+use tce_nesting::{Choice, Row, Stretch};
 use tce_space::{IndexSet, Space};
 use tce_tree::Tree;
 

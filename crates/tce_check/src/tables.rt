@@ -11,8 +11,7 @@ use crate::bound::bound_of;
 use crate::groups::{ENTRIES, GROUPS, Groups, HINTS};
 use crate::operands::{leaf_row, left_rows, right_rows};
 use crate::steps::{Node, Step};
-use crate::stretches::stretches_of;
-use tce_nesting::{Tables, choices};
+use tce_nesting::{Tables, choices, stretches_of};
 use tce_space::Space;
 use tce_tree::Tree;
 

@@ -6,4 +6,5 @@ pub mod RowLists
 pub mod NestingLaws
 pub mod SubsetLists
 pub mod RunParts
+pub mod StretchParts
 pub mod Tops

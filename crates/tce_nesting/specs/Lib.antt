@@ -4,3 +4,4 @@ pub mod Choices
 pub mod Plan
 pub mod Laws
 pub mod Ends
+pub mod Stretches

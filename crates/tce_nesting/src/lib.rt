@@ -8,6 +8,7 @@ mod nesting;
 mod plan;
 mod row;
 mod runs;
+mod stretches;
 mod subset_list;
 mod tables;
 
@@ -20,5 +21,6 @@ pub use nesting::Nesting;
 pub use plan::Plan;
 pub use row::Row;
 pub use runs::Run;
+pub use stretches::{MAX_CHOICES, Stretch, allows_none, stretches_of};
 pub use subset_list::subsets;
 pub use tables::Tables;

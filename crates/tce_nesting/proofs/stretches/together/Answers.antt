@@ -1,5 +1,5 @@
-use Rattle.tce_check.proofs.StretchParts.{stretches_together}
-use Rattle.tce_check.proofs.stretches.together.Goals as goal
+use Rattle.tce_nesting.proofs.StretchParts.{stretches_together}
+use Rattle.tce_nesting.proofs.stretches.together.Goals as goal
 
 pub returns-clause-whole : goal.returns-clause-whole
 returns-clause-whole c =

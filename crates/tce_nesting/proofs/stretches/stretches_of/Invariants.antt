@@ -1,6 +1,6 @@
 use Rattle.std.proofs.Common.{◌≡◌, ◌≤◌, length}
-use Rattle.tce_check.proofs.StretchParts.{AreStretchesFrom}
-use Rattle.tce_check.proofs.stretches.stretches_of.Given as goal
+use Rattle.tce_nesting.proofs.StretchParts.{AreStretchesFrom}
+use Rattle.tce_nesting.proofs.stretches.stretches_of.Given as goal
 
 abbrev pub invariant-loop-place : goal.invariant-loop-place
 invariant-loop-place l = record {

@@ -1,6 +1,6 @@
 use Rattle.std.proofs.Common.{arith, sym, subst}
-use Rattle.tce_check.specs.Stretches.{IsStretch}
-use Rattle.tce_check.proofs.stretches.stretch_from.Goals as goal
+use Rattle.tce_nesting.specs.Stretches.{IsStretch}
+use Rattle.tce_nesting.proofs.stretches.stretch_from.Goals as goal
 
 pub loop-stretch-smaller : goal.loop-stretch-smaller
 loop-stretch-smaller c =

@@ -4,8 +4,8 @@ use Rattle.tce_states.specs.Relation.{above}
 use Rattle.tce_nesting.proofs.Classes.{drop-item}
 use Rattle.tce_nesting.specs.Ends.{IsTopOf}
 use Rattle.tce_nesting.proofs.Tops.{IsReached, reached_further, reached_is_top}
-use Rattle.tce_check.proofs.StretchParts.{none_between}
-use Rattle.tce_check.proofs.stretches.allows_none.Goals as goal
+use Rattle.tce_nesting.proofs.StretchParts.{none_between}
+use Rattle.tce_nesting.proofs.stretches.allows_none.Goals as goal
 
 pub returns-then-not-within-2 : goal.returns-then-not-within-2
 returns-then-not-within-2 c h fused low high allowed =

@@ -1,7 +1,7 @@
 use Rattle.std.proofs.Common.{◌-◌, ◌∙◌, arith}
 use Rattle.std.proofs.lemmas.List.{length-set}
-use Rattle.tce_check.proofs.StretchParts.{stretches_earlier}
-use Rattle.tce_check.proofs.stretches.stretches_of.Goals as goal
+use Rattle.tce_nesting.proofs.StretchParts.{stretches_earlier}
+use Rattle.tce_nesting.proofs.stretches.stretches_of.Goals as goal
 
 pub loop-place-preserved : goal.loop-place-preserved
 loop-place-preserved c =

@@ -1,6 +1,6 @@
 use Rattle.std.proofs.Common.{◌-◌, length}
-use Rattle.tce_check.specs.Stretches.{IsStretch}
-use Rattle.tce_check.proofs.stretches.stretch_from.Given as goal
+use Rattle.tce_nesting.specs.Stretches.{IsStretch}
+use Rattle.tce_nesting.proofs.stretches.stretch_from.Given as goal
 
 abbrev pub invariant-loop-stretch : goal.invariant-loop-stretch
 invariant-loop-stretch l = IsStretch l.choices l.place l.stretch

@@ -1,30 +1,31 @@
 // Stretches of neighbouring choices, which are told together not to be allowed.
 ghost use Rattle.std.specs.Prelude.{◌≡◌, ℕ, ◌<◌, ◌≤◌, ◌+◌, length, slice_index_or, IsTrue};
 ghost use Rattle.tce_states.specs.Relation.{above};
-ghost use Rattle.tce_check.specs.Stretches.{AreStretches, IsStretch, IsTogether, AllowsNone};
-ghost use Rattle.tce_check.specs.declared.stretches.Stretch as own;
+ghost use Rattle.tce_nesting.specs.Stretches.{AreStretches, IsStretch, IsTogether, AllowsNone};
+ghost use Rattle.tce_nesting.specs.declared.stretches.Stretch as own;
 
-use tce_nesting::{Choice, Nesting};
+use crate::choice::Choice;
+use crate::nesting::Nesting;
 use tce_space::IndexSet;
 
-// A node has so many choices at most.
-pub(crate) const CHOICES: usize = 1024;
+/// A node has so many choices at most.
+pub const MAX_CHOICES: usize = 1024;
 
-// What all sets from a choice on up to a later place have in common, and what they have together.
-#[derive(Clone, Copy, Default)]
-pub(crate) struct Stretch {
-    pub(crate) common: IndexSet,
-    pub(crate) all: IndexSet,
-    pub(crate) until: usize,
+/// What all sets from a choice on up to a later place have in common, and what they have together.
+#[derive(Clone, Copy, Debug, Default, PartialEq, Eq)]
+pub struct Stretch {
+    pub common: IndexSet,
+    pub all: IndexSet,
+    pub until: usize,
 }
 
-// For each choice a stretch from it on, as long as the greatest power of two that divides its place. The sets are in the
-// order of their bits, so those of a stretch differ in few indexes.
-pub(crate) fn stretches_of(choices: &[Choice]) -> [Stretch; CHOICES]
+/// For each choice a stretch from it on, as long as the greatest power of two that divides its place. Where the sets go up
+/// or down in the order of their bits, those of a stretch differ in few indexes.
+pub fn stretches_of(choices: &[Choice]) -> [Stretch; MAX_CHOICES]
     requires { length choices.now ≤ 1024 }
     ensures { AreStretches choices.now result }
 {
-    let mut stretches = [Stretch::default(); CHOICES];
+    let mut stretches = [Stretch::default(); MAX_CHOICES];
     let mut place = choices.len();
     while 0 < place {
         place -= 1;
@@ -58,7 +59,7 @@ fn stretch_from(choices: &[Choice], stretches: &[Stretch], place: usize) -> Stre
 // How long the stretch from a place on is to be.
 fn longest(place: usize) -> usize {
     if place == 0 {
-        CHOICES
+        MAX_CHOICES
     } else {
         place & !(place - 1)
     }
@@ -76,8 +77,8 @@ fn together(first: &Stretch, next: &Stretch) -> Stretch
     }
 }
 
-// Whether none of the sets of a stretch is seen to be allowed: loops that are above others reach beyond all of them, and lack some that is in each.
-pub(crate) fn allows_none(classes: &Nesting, stretch: &Stretch, loops: IndexSet) -> bool
+/// Whether none of the sets of a stretch is seen to be allowed: loops that are above others reach beyond all of them, and lack some that is in each.
+pub fn allows_none(classes: &Nesting, stretch: &Stretch, loops: IndexSet) -> bool
     ensures { IsTrue result → AllowsNone (above classes.now) stretch.now.common stretch.now.all }
 {
     let lower = stretch.common.meet(loops);

@@ -6,22 +6,21 @@ use Rattle.std.proofs.lemmas.List.{get_or-set_same, get_or-set_other}
 use Rattle.std.proofs.lemmas.List.Elements.{at_read}
 use Rattle.tce_space.specs.IndexSet.{IsWithin, has}
 use Rattle.tce_states.specs.Relation.{above}
-use Rattle.tce_states.specs.Row.{Row}
 use Rattle.tce_nesting.specs.declared.choice.Choice.{Choice}
-use Rattle.tce_check.specs.declared.stretches.Stretch.{Stretch}
+use Rattle.tce_nesting.specs.declared.stretches.Stretch.{Stretch}
+use Rattle.tce_nesting.specs.Classes.{AllowsSet}
 use Rattle.tce_nesting.specs.Ends.{IsTopOf}
-use Rattle.tce_check.specs.Joint.{ChoiceCovered}
-use Rattle.tce_check.specs.Stretches.{LiesBetween, IsStretch, AreStretches, IsTogether, AllowsNone}
+use Rattle.tce_nesting.specs.Stretches.{LiesBetween, IsStretch, AreStretches, IsTogether, AllowsNone}
 
--- a stretch none of whose sets is allowed
-pub stretch_skipped : (outer place : ℕ) (rows : List Row) (joint : Row) (choices : List Choice) (stretch : Stretch) → IsStretch choices place stretch
-    → AllowsNone (above joint.classes) stretch.common stretch.all → AllWithin (ChoiceCovered outer rows joint) choices 0 place
-    → AllWithin (ChoiceCovered outer rows joint) choices 0 stretch.until
-stretch_skipped outer place rows joint choices stretch is none before k d from low = elim (cases_lt k place) [
+-- what holds of each choice whose set is not allowed, where a stretch has no other ones
+pub stretch_passed : (P : Choice → Type 0) (place : ℕ) (classes : List ℕ) (choices : List Choice) (stretch : Stretch) → IsStretch choices place stretch
+    → AllowsNone (above classes) stretch.common stretch.all → ((x : Choice) → (AllowsSet (above classes) x.fused → ⊥) → P x)
+    → AllWithin P choices 0 place → AllWithin P choices 0 stretch.until
+stretch_passed P place classes choices stretch is none holds before k d from low = elim (cases_lt k place) [
   | inl earlier ↦ before k d from earlier
   | inr later ↦
       let between = is.each k d later low in
-      λ allowed. absurd (none (get_or choices k d).fused between.lower between.upper allowed)
+      holds (get_or choices k d) (λ allowed. none (get_or choices k d).fused between.lower between.upper allowed)
 ]
 
 -- the stretch at a place

@@ -4,7 +4,7 @@ use Rattle.tce_space.specs.IndexSet.{IsWithin}
 use Rattle.tce_states.specs.Relation.{Relation}
 use Rattle.tce_nesting.specs.Classes.{AllowsSet}
 use Rattle.tce_nesting.specs.declared.choice.Choice.{Choice}
-use Rattle.tce_check.specs.declared.stretches.Stretch.{Stretch}
+use Rattle.tce_nesting.specs.declared.stretches.Stretch.{Stretch}
 
 -- the choice's set has what is common, and lies within all
 pub record LiesBetween (common all : ℕ) (choice : Choice) : Type 0 where
