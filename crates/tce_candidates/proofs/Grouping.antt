@@ -1,19 +1,20 @@
 -- Candidates that stand for a state have entries in the groups of its upper parts.
-use Rattle.std.proofs.Common.{◌≡◌, ◌↔◌, ℕ, ◌+◌, ◌*◌, ◌<◌, ◌≤◌, ◌%◌, ◌∙◌, ◌⊎◌, Bool, inl, inr, sym, ap, subst, arith, List, [], ◌∷◌, ◌++◌, length, map, get_or, set, replicate}
+use Rattle.std.proofs.Common.{◌≡◌, ◌↔◌, ℕ, ◌+◌, ◌<◌, ◌≤◌, ◌%◌, ◌∙◌, Bool, inl, inr, sym, ap, subst, arith, List, [], ◌∷◌, ◌++◌, length, map, get_or, set, insert, replicate}
 use Rattle.std.specs.Prelude.{IsTrue}
-use Rattle.std.specs.List.{All, Any, Contains}
+use Rattle.std.specs.List.{All, AllWithin, Any, Contains}
 use Rattle.std.proofs.lemmas.Bool.{cases_eq, cases_lt}
-use Rattle.std.proofs.lemmas.List.{length_push, length-map, get_or_append_left, get_or_push, get_or-set_same, get_or-set_other, length-set, get_or-replicate, get_or_past, length-replicate}
-use Rattle.std.proofs.lemmas.List.Elements.{All-contains, Contains-append_left, Contains-push, Contains-push_cases}
+use Rattle.std.proofs.lemmas.List.{length_push, length-map, get_or_append_left, get_or_push, get_or-set_same, get_or-set_other, length-set, map-set, get_or-map, get_or-replicate, get_or_past, length-replicate}
+use Rattle.std.proofs.lemmas.List.Elements.{All-contains, Contains-append_right, Contains-append_cases, Contains-push, Contains-push_cases, Contains-append_left, at_read}
+use Rattle.std.proofs.lemmas.List.Sorted.{IsPermutation-insert, IsPermutation-sym, Contains-permutation, IsNonDecreasingBy-insert}
 use Rattle.std.proofs.lemmas.Grind.{get_or_default_zero}
 use Rattle.tce_space.specs.IndexSet.{IsWithin, has}
 use Rattle.tce_states.specs.Relation.{Relation, above}
-use Rattle.tce_nesting.proofs.RowLists.{unchanged_at, appended_at}
+use Rattle.tce_nesting.proofs.RowLists.{unchanged_at}
 use Rattle.tce_candidates.specs.declared.candidate.Candidate.{Candidate}
 use Rattle.tce_candidates.specs.declared.groups.Entry.{Entry}
 use Rattle.tce_candidates.specs.Candidates.{Stands}
 use Rattle.tce_candidates.specs.Parts.{IsUpperPart, AreMarksOf}
-use Rattle.tce_candidates.specs.Groups.{IsEntered, AreEntered, AreFalling, HaveLeasts, StandsAt, PartStands, key_of, group_of}
+use Rattle.tce_candidates.specs.Groups.{IsEntered, AreEntered, AreFalling, AreByCost, ArePut, HaveLeasts, StandsAt, PartStands, key_of, group_of}
 use Rattle.tce_candidates.proofs.Parts.{upper_of_coarser}
 
 -- some group of the parts has an entry of a candidate that stands for the state
@@ -110,17 +111,36 @@ entered_last outer groups old new last parts part under third marks place key en
           subst (IsEntered outer groups k) (sym (get_or_append_left old (last ∷ []) d k inside)) (entered k d inside)
     ]
 
--- one group grows
-module _ (old : List (List Entry)) (number : ℕ) (entry : Entry) (low : number < length old) where
-  abbrev more : List Entry
-  more = get_or old number [] ++ entry ∷ []
+-- an entry that is put among entries by cost
+pub entries_put : (old : List Entry) (place : ℕ) (entry : Entry) → AreByCost old → place ≤ length old → ((k : ℕ) (e : Entry) → k < place → (get_or old k e).cost ≤ entry.cost)
+    → ((k : ℕ) (e : Entry) → place ≤ k → k < length old → entry.cost ≤ (get_or old k e).cost) → ArePut old entry (insert old place entry)
+entries_put old place entry order inside before behind = record {
+  has = moved entry (Contains-append_left (entry ∷ []) old entry (Contains-push [] entry));
+  kept = λ e inn. moved e (Contains-append_right (entry ∷ []) old e inn);
+  origin = λ e inn. elim (Contains-append_cases (entry ∷ []) old e (back e inn)) [
+    | inl one ↦ elim (Contains-push_cases [] entry e one) [ inl none ↦ absurd (nothing e none) | inr same ↦ inr same ]
+    | inr was ↦ inl was
+  ];
+  order = IsNonDecreasingBy-insert (λ (e : Entry). e.cost) old place entry order inside before behind;
+}
+  where
+    nothing : (e : Entry) → Contains {X = Entry} [] e → ⊥
+    nothing e inn = omega (arith, inn.1)
 
+    moved : (e : Entry) → Contains (entry ∷ old) e → Contains (insert old place entry) e
+    moved e inn = Contains-permutation (entry ∷ old) (insert old place entry) e (IsPermutation-insert old place entry) inn
+
+    back : (e : Entry) → Contains (insert old place entry) e → Contains (entry ∷ old) e
+    back e inn = Contains-permutation (insert old place entry) (entry ∷ old) e (IsPermutation-sym (entry ∷ old) (insert old place entry) (IsPermutation-insert old place entry)) inn
+
+-- one group grows
+module _ (old : List (List Entry)) (number : ℕ) (entry : Entry) (more : List Entry) (low : number < length old) (put : ArePut (get_or old number []) entry more) where
   stays_at : (k : ℕ) (e : Entry) → Contains (get_or old k []) e → Contains (get_or (set old number more) k []) e
   stays_at k e inn = elim (cases_eq k number) [
     | inl same ↦
         subst (λ n. Contains (get_or (set old number more) n []) e) (sym same)
         (subst (λ xs. Contains xs e) (sym (get_or-set_same old number more [] low))
-        (Contains-append_left (get_or old number []) (entry ∷ []) e (subst (λ n. Contains (get_or old n []) e) same inn)))
+        (put.kept e (subst (λ n. Contains (get_or old n []) e) same inn)))
     | inr other ↦ subst (λ xs. Contains xs e) (sym (get_or-set_other old number k more [] other)) inn
   ]
 
@@ -129,17 +149,24 @@ module _ (old : List (List Entry)) (number : ℕ) (entry : Entry) (low : number 
       subst (λ n. Contains (get_or (set old number more) (key % n) []) e) (sym (length-set old number more))
       (stays_at (key % length old) e inn)
 
-  -- so does its least cost
+  -- so does its least cost, and entries go by cost
   least_stays : (leasts lower : List ℕ) → HaveLeasts old leasts → length lower ≡ length leasts → ((k : ℕ) → get_or lower k 0 ≤ get_or leasts k 0) → get_or lower number 0 ≤ entry.cost
       → HaveLeasts (set old number more) lower
   least_stays leasts lower before same below at = record {
     some = subst (λ n. 0 < n) (sym (length-set old number more)) before.some;
     each = same ∙ before.each ∙ sym (length-set old number more);
+    order = order;
     least = least;
   }
     where
+      order : (k : ℕ) → AreByCost (get_or (set old number more) k [])
+      order k = elim (cases_eq k number) [
+        | inl is ↦ subst (λ n. AreByCost (get_or (set old number more) n [])) (sym is) (subst AreByCost (sym (get_or-set_same old number more [] low)) put.order)
+        | inr other ↦ subst AreByCost (sym (get_or-set_other old number k more [] other)) (before.order k)
+      ]
+
       here : (e : Entry) → Contains more e → get_or lower number 0 ≤ e.cost
-      here e inn = elim (Contains-push_cases (get_or old number []) entry e inn) [
+      here e inn = elim (put.origin e inn) [
         | inl was ↦ omega (arith, below number, before.least number e was)
         | inr same_entry ↦ subst (λ (x : Entry). get_or lower number 0 ≤ x.cost) same_entry at
       ]
@@ -157,17 +184,37 @@ pub leasts_of_none : (groups : List (List Entry)) (leasts : List ℕ) (count : �
 leasts_of_none groups leasts count some is each = record {
   some = subst (λ gs. 0 < length gs) (sym is) (omega (arith, some, length-replicate {A = List Entry} count []));
   each = each;
-  least = λ k e inn. absurd (none k e (subst (λ gs. Contains (get_or gs k []) e) is inn));
+  order = λ k. subst (λ gs. AreByCost (get_or gs k [])) (sym is) (subst AreByCost (sym (empty k)) in_order);
+  least = λ k e inn. absurd (nothing e (subst (λ xs. Contains xs e) (empty k) (subst (λ gs. Contains (get_or gs k []) e) is inn)));
 }
   where
     nothing : (e : Entry) → Contains {X = Entry} [] e → ⊥
-    nothing e inn = omega (arith, inn.2)
+    nothing e inn = omega (arith, inn.1)
 
-    none : (k : ℕ) (e : Entry) → Contains (get_or (replicate {A = List Entry} count []) k []) e → ⊥
-    none k e inn = elim (cases_lt k count) [
-      | inl low ↦ nothing e (subst (λ xs. Contains xs e) (get_or-replicate {A = List Entry} count k [] [] low) inn)
-      | inr past ↦ nothing e (subst (λ xs. Contains xs e) (get_or_past (replicate {A = List Entry} count []) k [] (omega (arith, past, length-replicate {A = List Entry} count []))) inn)
+    in_order : AreByCost []
+    in_order i j d le lt = omega (arith, lt)
+
+    empty : (k : ℕ) → get_or (replicate {A = List Entry} count []) k [] ≡ []
+    empty k = elim (cases_lt k count) [
+      | inl low ↦ get_or-replicate {A = List Entry} count k [] [] low
+      | inr past ↦ get_or_past (replicate {A = List Entry} count []) k [] (omega (arith, past, length-replicate {A = List Entry} count []))
     ]
+
+-- the entries of a list go by cost, as those of its group do
+pub list_ordered : {X : Type 0} (lists : List X) (f : X → List Entry) (leasts : List ℕ) (number : ℕ) (list : X) → HaveLeasts (map f lists) leasts → number < length lists
+    → list ≡ get_or lists number list → AreByCost (f list)
+list_ordered lists f leasts number list have low is =
+    subst AreByCost (get_or-map f lists number list [] low ∙ sym (ap f is)) (have.order number)
+
+-- no entry behind one that costs more than a state is at a candidate that stands for it
+pub none_behind : (outer : ℕ) (relation : Relation) (limit marks : ℕ) (candidates : List Candidate) (group : List Entry) (k : ℕ) (entry : Entry) → AreByCost group → k < length group
+    → entry ≡ get_or group k entry → limit < entry.cost → AllWithin (λ e. StandsAt outer relation limit marks candidates e → ⊥) group 0 k
+    → Any (StandsAt outer relation limit marks candidates) group → ⊥
+none_behind outer relation limit marks candidates group k entry order low is dear before found = elim (cases_lt found.0 k) [
+  | inl earlier ↦ before found.0 found.1 (omega arith) earlier (subst (StandsAt outer relation limit marks candidates) (sym found.3) found.4)
+  | inr later ↦
+      omega (arith, order k found.0 found.1 later found.2, at_read group (λ (e : Entry). limit < e.cost) k entry low is dear found.1, ap (λ (e : Entry). e.cost) found.3, found.4.cheap)
+]
 
 -- the least cost of a group, as it is read
 pub least_found : {X : Type 0} (lists : List X) (f : X → List Entry) (groups : List (List Entry)) (leasts : List ℕ) (count number key least : ℕ) → map f lists ≡ groups
@@ -190,31 +237,36 @@ number_named lists count number key is same = is ∙ ap (λ n. key % n) same
 
 module _ {X : Type 0} (lists : List X) (f : X → List Entry) (groups : List (List Entry)) (number key : ℕ) (old new : X)
     (shown : map f lists ≡ groups) (named : number ≡ key % length lists) (low : number < length lists) (is : old ≡ get_or lists number old) where
-  shown_set : (more : List Entry) → f new ≡ f old ++ more → map f (set lists number new) ≡ set groups number (get_or groups number [] ++ more)
-  shown_set more grown = appended_at lists f number old new more low is grown ∙ ap (λ gs. set gs number (get_or gs number [] ++ more)) shown
+  shown_set : map f (set lists number new) ≡ set groups number (f new)
+  shown_set = map-set f lists number new ∙ ap (λ gs. set gs number (f new)) shown
 
   inside : number < length groups
   inside = subst (λ gs. number < length gs) shown (omega (arith, low, length-map lists f))
 
-  pub groups_added : (entry : Entry) → f new ≡ f old ++ entry ∷ [] → Contains (group_of (map f (set lists number new)) key) entry
-  groups_added entry grown =
+  was : f old ≡ get_or groups number []
+  was = ap f is ∙ sym (get_or-map f lists number old [] low) ∙ ap (λ gs. get_or gs number []) shown
+
+  put_in : (entry : Entry) → ArePut (f old) entry (f new) → ArePut (get_or groups number []) entry (f new)
+  put_in entry put = subst (λ xs. ArePut xs entry (f new)) was put
+
+  pub groups_added : (entry : Entry) → ArePut (f old) entry (f new) → Contains (group_of (map f (set lists number new)) key) entry
+  groups_added entry put =
       let at : key % length (map f (set lists number new)) ≡ number =
       ap (λ n. key % n) (length-map (set lists number new) f ∙ length-set lists number new) ∙ sym named in
       subst (λ k. Contains (get_or (map f (set lists number new)) k []) entry) (sym at)
-      (subst (λ gs. Contains (get_or gs number []) entry) (sym (shown_set (entry ∷ []) grown))
-      (subst (λ xs. Contains xs entry) (sym (get_or-set_same groups number (get_or groups number [] ++ entry ∷ []) [] inside))
-      (Contains-push (get_or groups number []) entry)))
+      (subst (λ gs. Contains (get_or gs number []) entry) (sym shown_set)
+      (subst (λ xs. Contains xs entry) (sym (get_or-set_same groups number (f new) [] inside)) put.has))
 
-  pub groups_kept : (entry : Entry) → f new ≡ f old ++ entry ∷ [] → StayEntered groups (map f (set lists number new))
-  groups_kept entry grown = subst (StayEntered groups) (sym (shown_set (entry ∷ []) grown)) (entries_stay groups number entry inside)
+  pub groups_kept : (entry : Entry) → ArePut (f old) entry (f new) → StayEntered groups (map f (set lists number new))
+  groups_kept entry put = subst (StayEntered groups) (sym shown_set) (entries_stay groups number entry (f new) inside (put_in entry put))
 
   pub groups_unchanged : f new ≡ f old → StayEntered groups (map f (set lists number new))
   groups_unchanged same = subst (StayEntered groups) (sym (unchanged_at lists f number old new is same ∙ shown)) (λ k e inn. inn)
 
-  pub leasts_kept : (entry : Entry) (leasts lower : List ℕ) → f new ≡ f old ++ entry ∷ [] → HaveLeasts groups leasts → length lower ≡ length leasts
+  pub leasts_kept : (entry : Entry) (leasts lower : List ℕ) → ArePut (f old) entry (f new) → HaveLeasts groups leasts → length lower ≡ length leasts
       → ((k : ℕ) → get_or lower k 0 ≤ get_or leasts k 0) → get_or lower number 0 ≤ entry.cost → HaveLeasts (map f (set lists number new)) lower
-  leasts_kept entry leasts lower grown before same below at =
-      subst (λ gs. HaveLeasts gs lower) (sym (shown_set (entry ∷ []) grown)) (least_stays groups number entry inside leasts lower before same below at)
+  leasts_kept entry leasts lower put before same below at =
+      subst (λ gs. HaveLeasts gs lower) (sym shown_set) (least_stays groups number entry (f new) inside (put_in entry put) leasts lower before same below at)
 
   pub leasts_unchanged : (leasts lower : List ℕ) → f new ≡ f old → HaveLeasts groups leasts → length lower ≡ length leasts
       → ((k : ℕ) → get_or lower k 0 ≤ get_or leasts k 0) → HaveLeasts (map f (set lists number new)) lower
@@ -222,6 +274,7 @@ module _ {X : Type 0} (lists : List X) (f : X → List Entry) (groups : List (Li
       subst (λ gs. HaveLeasts gs lower) (sym (unchanged_at lists f number old new is same ∙ shown)) (record {
         some = before.some;
         each = count ∙ before.each;
+        order = before.order;
         least = λ k e inn. omega (arith, below k, before.least k e inn);
       })
 

@@ -15,4 +15,5 @@ pub mod RunParts
 pub mod StartParts
 pub mod Standing
 pub mod Steppings
+pub mod Stretching
 pub mod Thinning

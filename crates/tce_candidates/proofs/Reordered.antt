@@ -3,7 +3,7 @@ use Rattle.std.proofs.Common.{◌≡◌, ℕ, ◌<◌, ◌⊎◌, List, length, 
 use Rattle.std.specs.List.{AllPairs, Any, swap}
 use Rattle.std.specs.List.Sorted.{IsPermutation}
 use Rattle.std.proofs.lemmas.Bool.{cases_eq, cases_order}
-use Rattle.std.proofs.lemmas.List.Edits.{Swapped, swapped_from_swap, length-swap}
+use Rattle.std.proofs.lemmas.List.Edits.{swapped_from_swap, length-swap}
 use Rattle.std.proofs.lemmas.List.Sorted.{Contains-permutation, IsPermutation-keeps}
 use Rattle.tce_candidates.specs.declared.candidate.Candidate.{Candidate}
 use Rattle.tce_candidates.specs.Candidates.{Stands, StandForAll, AreApart}

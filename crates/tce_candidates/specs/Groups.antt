@@ -1,6 +1,7 @@
 -- Groups of candidates by upper parts of the outer loops.
-use Rattle.std.specs.Prelude.{◌≡◌, ℕ, ◌+◌, ◌-◌, ◌*◌, ◌<◌, ◌≤◌, ◌%◌, List, [], length, slice_index_or}
+use Rattle.std.specs.Prelude.{◌≡◌, ◌⊎◌, ℕ, ◌+◌, ◌-◌, ◌*◌, ◌<◌, ◌≤◌, ◌%◌, List, [], length, slice_index_or}
 use Rattle.std.specs.List.{All, Any, Contains}
+use Rattle.std.specs.List.Sorted.{IsNonDecreasingBy}
 use Rattle.tce_space.specs.IndexSet.{IsWithin}
 use Rattle.tce_states.specs.Relation.{Relation, above}
 use Rattle.tce_candidates.specs.declared.candidate.Candidate.{Candidate}
@@ -25,11 +26,23 @@ key_of part under third = (part * 1021 + under) * 1021 + third
 abbrev pub group_of : List (List Entry) → ℕ → List Entry
 group_of groups key = slice_index_or groups (key % length groups) []
 
--- there are groups, and for each a cost that none of its entries is below
+-- none of the entries costs more than a later one
+abbrev pub AreByCost : List Entry → Type 0
+AreByCost entries = IsNonDecreasingBy (λ entry. entry.cost) entries
+
+-- there are groups, whose entries go by cost, and for each a cost that none of its entries is below
 pub record HaveLeasts (groups : List (List Entry)) (leasts : List ℕ) : Type 0 where
   pub some : 0 < length groups
   pub each : length leasts ≡ length groups
+  pub order : (k : ℕ) → AreByCost (slice_index_or groups k [])
   pub least : (k : ℕ) (entry : Entry) → Contains (slice_index_or groups k []) entry → slice_index_or leasts k 0 ≤ entry.cost
+
+-- the entry and the old ones are the new ones, which go by cost
+pub record ArePut (old : List Entry) (entry : Entry) (new : List Entry) : Type 0 where
+  pub has : Contains new entry
+  pub kept : (e : Entry) → Contains old e → Contains new e
+  pub origin : (e : Entry) → Contains new e → Contains old e ⊎ (entry ≡ e)
+  pub order : AreByCost new
 
 -- three of the parts fall as numbers, or end in empty ones
 pub record AreFalling (parts : List ℕ) (part under third : ℕ) : Type 0 where

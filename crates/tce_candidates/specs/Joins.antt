@@ -1,5 +1,5 @@
 -- What two candidates of a node's operands are together, and which of it candidates stand for.
-use Rattle.std.specs.Prelude.{◌≡◌, ◌⊎◌, ℕ, ◌+◌, ◌<◌, ◌≤◌, ◌^◌, List, [], ◌∷◌, ◌++◌, length}
+use Rattle.std.specs.Prelude.{◌≡◌, ◌⊎◌, ℕ, ◌+◌, ◌<◌, ◌≤◌, ◌^◌, List, [], ◌∷◌, ◌++◌, length, slice_index_or}
 use Rattle.std.specs.List.{All, AllPairs, AllWithin, Any, Contains}
 use Rattle.tce_space.specs.Limits.{max_loops, max_nodes}
 use Rattle.tce_space.specs.IndexSet.{count}
@@ -7,6 +7,8 @@ use Rattle.tce_states.specs.Relation.{above, HasNoConflict}
 use Rattle.tce_states.specs.Row.{rows_joined}
 use Rattle.tce_nesting.specs.Classes.{AllowsSet}
 use Rattle.tce_nesting.specs.declared.choice.Choice.{Choice}
+use Rattle.tce_nesting.specs.declared.stretches.Stretch.{Stretch}
+use Rattle.tce_nesting.specs.Stretches.{IsStretch}
 use Rattle.tce_candidates.specs.Steps.{IsRowJoin, IsRestricted}
 use Rattle.tce_candidates.specs.declared.candidate.Candidate.{Candidate}
 use Rattle.tce_candidates.specs.Candidates.{Stands, StandForAll, IsLimited, LeavesRoom}
@@ -78,3 +80,7 @@ pub record IsSomeStepFrom (limit : ℕ) (choices : List Choice) (join candidate 
 -- the candidate's cost is within twice the limit of a plan's numbers, and its sets leave room for one more
 abbrev pub HasNext : Candidate → Type 0
 HasNext join = (join.row.cost < 2 ^ 97) × (length join.sets.items < max_nodes)
+
+-- each of the first choices has a stretch at its place
+abbrev pub KnowsStretches : List Choice → List Stretch → Type 0
+KnowsStretches choices stretches = (k : ℕ) (s : Stretch) → k < length choices → k < 1024 → IsStretch choices k (slice_index_or stretches k s)

@@ -3,7 +3,7 @@ ghost use Rattle.std.specs.Prelude.{◌≡◌, ◌↔◌, ◌-◌, ◌<◌, ◌�
 ghost use Rattle.tce_space.specs.IndexSet.{empty};
 ghost use Rattle.tce_states.specs.Relation.{above};
 ghost use Rattle.tce_candidates.specs.Candidates.{Stands};
-ghost use Rattle.tce_candidates.specs.Groups.{group_of, StandsAt, TripleStands, PairStands, PartStands};
+ghost use Rattle.tce_candidates.specs.Groups.{group_of, AreByCost, StandsAt, TripleStands, PairStands, PartStands};
 
 use crate::candidate::Candidate;
 use crate::groups::{Entry, Groups, key_of};
@@ -245,15 +245,22 @@ fn key_covers(candidates: &[Candidate], groups: &Groups, sought: &Sought, key: u
     group_covers(candidates, groups.of(key), sought)
 }
 
-// Whether some candidate of a group stands for the state. What came last is asked first: it mostly costs least.
+// Whether some candidate of a group stands for the state. They go by cost, so none behind one that costs more is asked.
 fn group_covers(candidates: &[Candidate], group: &[Entry], sought: &Sought) -> bool
+    requires { AreByCost group.now }
     ensures { IsTrue result ↔ Any (StandsAt sought.now.outer (above sought.now.state.now.classes)
         sought.now.state.now.cost sought.now.marks candidates.now) group.now }
 {
-    group
-        .iter()
-        .rev()
-        .any(|entry| stands_at(candidates, entry, sought))
+    let state = sought.state;
+    for entry in group {
+        if state.cost < entry.cost {
+            return false;
+        }
+        if stands_at(candidates, entry, sought) {
+            return true;
+        }
+    }
+    false
 }
 
 // Whether there is a candidate at the entry's place that stands for the state, the entry's cost is no more, and its marks are among those of the state.

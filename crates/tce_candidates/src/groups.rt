@@ -1,6 +1,6 @@
 // Places of candidates in groups, so that few of them need be compared with a state.
-ghost use Rattle.std.specs.Prelude.{◌≡◌, ◌<◌, ◌≤◌, ◌+◌, ◌*◌, ◌%◌, ℕ, replicate, slice_index_or, [], length, IfOk, OnOk, Contains};
-ghost use Rattle.tce_candidates.specs.Groups.{key_of, group_of};
+ghost use Rattle.std.specs.Prelude.{◌≡◌, ◌<◌, ◌≤◌, ◌+◌, ◌*◌, ◌%◌, ℕ, replicate, slice_index_or, [], length, IfOk, OnOk, OnErr, Contains};
+ghost use Rattle.tce_candidates.specs.Groups.{key_of, group_of, AreByCost, ArePut};
 ghost use Rattle.tce_candidates.specs.declared.groups.Entry.{Entry};
 
 use std::alloc::{AllocError, Global};
@@ -15,7 +15,7 @@ pub(crate) struct Entry {
     pub(crate) marks: IndexSet,
 }
 
-/// Lists of entries, one for each remainder of a key, with a cost for each that none of its entries is below.
+/// Lists of entries by cost, one for each remainder of a key, with a cost for each that none of its entries is below.
 #[derive(Drop)]
 pub(crate) struct Groups {
     lists: Vec<Vec<Entry>>,
@@ -63,6 +63,36 @@ fn lower(leasts: &mut Vec<u128>, number: usize, cost: u128)
     }
 }
 
+// Where an entry of this cost goes among entries by cost: behind those that cost less.
+fn place_for(entries: &[Entry], cost: u128) -> usize
+    requires { AreByCost entries.now }
+    ensures inside { result ≤ length entries.now }
+    ensures before { (k : ℕ) (e : Entry) → k < result
+        → (slice_index_or entries.now k e).cost ≤ cost }
+    ensures behind { (k : ℕ) (e : Entry) → result ≤ k → k < length entries.now
+        → cost ≤ (slice_index_or entries.now k e).cost }
+{
+    let mut place = entries.len();
+    while 0 < place {
+        if entries[place - 1].cost < cost {
+            return place;
+        }
+        place -= 1;
+    }
+    0
+}
+
+// Puts an entry among entries by cost.
+fn put(entries: &mut Vec<Entry>, entry: Entry) -> Result<(), AllocError>
+    requires { AreByCost entries.old.items }
+    ensures put { OnOk result (ArePut entries.old.items entry entries.new.items) }
+    ensures unchanged { OnErr result (entries.new.items ≡ entries.old.items) }
+{
+    let place = place_for(entries.as_slice(), entry.cost);
+    entries.insert(place, entry)?;
+    Ok(())
+}
+
 impl Groups {
     /// So many groups without entries.
     pub(crate) fn new(alloc: Global, count: usize) -> Result<Groups, AllocError>
@@ -78,9 +108,10 @@ impl Groups {
         Ok(Groups { lists, leasts })
     }
 
-    /// The entries of the group of a key.
+    /// The entries of the group of a key, by cost.
     pub(crate) fn of(&self, key: usize) -> &[Entry]
-        ensures { result.now ≡ group_of self.now key }
+        ensures value { result.now ≡ group_of self.now key }
+        ensures order { AreByCost result.now }
     {
         self.lists[number_of(key, self.lists.len())].as_slice()
     }
@@ -93,7 +124,7 @@ impl Groups {
         self.leasts[number]
     }
 
-    /// Appends an entry to the group of a key.
+    /// Puts an entry into the group of a key.
     pub(crate) fn push(&mut self, key: usize, entry: Entry) -> Result<(), AllocError>
         ensures added { OnOk result (Contains (group_of self.new key) entry) }
         ensures kept { (k : ℕ) (e : Entry) → Contains (group_of self.old k) e
@@ -101,7 +132,7 @@ impl Groups {
     {
         let number = number_of(key, self.lists.len());
         lower(&mut self.leasts, number, entry.cost);
-        self.lists[number].push(entry)?;
+        put(&mut self.lists[number], entry)?;
         Ok(())
     }
 }

@@ -5,7 +5,7 @@ ghost use Rattle.tce_space.specs.IndexSet.{count};
 ghost use Rattle.tce_states.specs.Relation.{none};
 ghost use Rattle.tce_candidates.specs.Candidates.{Stands, StandForAll, AreApart, ChoiceCovered, PairCovered, IsReachedBelow, IsLimited, IsSmall, HaveRoom, limit_candidate};
 ghost use Rattle.tce_candidates.specs.Groups.{LeavesOpen};
-ghost use Rattle.tce_candidates.specs.Joins.{IsStepFrom, IsSomeStepFrom, HasNext};
+ghost use Rattle.tce_candidates.specs.Joins.{IsStepFrom, IsSomeStepFrom, HasNext, KnowsStretches};
 
 use crate::candidate::{Candidate, at_limit, with_set};
 use crate::candidate_list::CandidateList;
@@ -14,7 +14,7 @@ use crate::ordered::by_ends;
 use crate::step;
 use crate::thinned::thinned;
 use std::alloc::{AllocError, Global};
-use tce_nesting::Choice;
+use tce_nesting::{Choice, MAX_CHOICES, Stretch, allows_none, stretches_of};
 use tce_space::IndexSet;
 
 // Appends the step of one choice, where its set is allowed, it costs less than the limit, and no candidate stands for it.
@@ -51,16 +51,26 @@ fn add_step(
     Ok(())
 }
 
-// Appends the steps of all choices from what two operands' candidates are together, where they cost less than the limit and no candidate stands for them.
+// For each of the first choices a stretch from it on.
+fn first_stretches(choices: &[Choice]) -> [Stretch; MAX_CHOICES]
+    ensures { KnowsStretches choices.now result }
+{
+    stretches_of(&choices[..choices.len().min(MAX_CHOICES)])
+}
+
+// Appends the steps of all choices from what two operands' candidates are together, where they cost less than the limit and no candidate stands for them. Of most stretches of choices none is allowed.
 fn add_steps(
     list: &mut CandidateList,
     join: &Candidate,
     choices: &[Choice],
+    stretches: &[Stretch; MAX_CHOICES],
+    loops: IndexSet,
     limit: u128,
 ) -> Result<(), AllocError>
     requires limit { Any (Stands list.old.outer none limit) list.old.candidates }
     requires next { HasNext join.now }
     requires choices { All IsSmall choices.now }
+    requires stretches { KnowsStretches choices.now stretches.now }
     ensures covered { OnOk result (All (ChoiceCovered list.old.outer join.now.row
         list.new.candidates) choices.now) }
     ensures outer { OnOk result (list.new.outer ≡ list.old.outer) }
@@ -71,8 +81,17 @@ fn add_steps(
     ensures origin { OnOk result (All (λ x. Contains list.old.candidates x
         ⊎ IsSomeStepFrom limit choices.now join.now x) list.new.candidates) }
 {
-    for choice in choices {
-        add_step(list, join, choice, limit)?;
+    let mut place = 0;
+    while place < choices.len() {
+        if place < MAX_CHOICES {
+            let stretch = stretches[place];
+            if allows_none(&join.row.classes, &stretch, loops) {
+                place = stretch.until;
+                continue;
+            }
+        }
+        add_step(list, join, &choices[place], limit)?;
+        place += 1;
     }
     Ok(())
 }
@@ -82,11 +101,14 @@ fn add_all_steps(
     list: &mut CandidateList,
     joins: &[Candidate],
     choices: &[Choice],
+    stretches: &[Stretch; MAX_CHOICES],
+    loops: IndexSet,
     limit: u128,
 ) -> Result<(), AllocError>
     requires limit { Any (Stands list.old.outer none limit) list.old.candidates }
     requires next { All HasNext joins.now }
     requires choices { All IsSmall choices.now }
+    requires stretches { KnowsStretches choices.now stretches.now }
     ensures covered { OnOk result (All (λ join. All
         (ChoiceCovered list.old.outer join.row list.new.candidates) choices.now) joins.now) }
     ensures outer { OnOk result (list.new.outer ≡ list.old.outer) }
@@ -98,7 +120,7 @@ fn add_all_steps(
         ⊎ Any (λ join. IsSomeStepFrom limit choices.now join x) joins.now) list.new.candidates) }
 {
     for join in joins {
-        add_steps(list, join, choices, limit)?;
+        add_steps(list, join, choices, stretches, loops, limit)?;
     }
     Ok(())
 }
@@ -138,7 +160,15 @@ pub fn candidates_of(
     let joins = joins_of(alloc, lefts, rights, loops.own, limit)?;
     let mut list = CandidateList::new(alloc, loops.outer, joins.len())?;
     list.push(at_limit(limit))?;
-    add_all_steps(&mut list, joins.as_slice(), choices, limit)?;
+    let stretches = first_stretches(choices);
+    add_all_steps(
+        &mut list,
+        joins.as_slice(),
+        choices,
+        &stretches,
+        loops.own,
+        limit,
+    )?;
     let kept = thinned(alloc, list)?;
     let table = by_ends(kept, loops.outer)?;
     Ok(table)

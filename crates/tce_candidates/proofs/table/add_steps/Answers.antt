@@ -1,7 +1,9 @@
-use Rattle.std.proofs.Common.{◌⊎◌, ◌<◌, inl, inr, subst}
+use Rattle.std.proofs.Common.{◌⊎◌, ◌<◌, inl, inr, arith, subst, get_or}
 use Rattle.std.specs.List.{Contains}
 use Rattle.std.proofs.lemmas.List.Elements.{AllWithin-none, AllWithin-more, All-from_all_within, All-weaker, All-contains_itself, at_read, AllWithin-upto}
-use Rattle.tce_states.specs.Relation.{none}
+use Rattle.tce_states.specs.Relation.{above, none}
+use Rattle.tce_nesting.specs.Stretches.{AllowsNone}
+use Rattle.tce_nesting.proofs.StretchParts.{stretch_passed}
 use Rattle.tce_candidates.specs.declared.candidate.Candidate.{Candidate}
 use Rattle.tce_candidates.specs.Candidates.{ChoiceCovered}
 use Rattle.tce_candidates.specs.Joins.{IsStepFrom, IsSomeStepFrom}
@@ -9,8 +11,8 @@ use Rattle.tce_candidates.proofs.Covers.{choices_later, from_earlier, read_conta
 use Rattle.tce_candidates.proofs.Growing.{Grows, grows_none, grows_from, grows_further, stands_later}
 use Rattle.tce_candidates.proofs.table.add_steps.Goals as goal
 
-pub loop-choice-init : goal.loop-choice-init
-loop-choice-init c =
+pub loop-place-init : goal.loop-place-init
+loop-place-init c =
     let start = c.args.list.now in
     let choices = c.args.choices.now in
     let join = c.args.join.now in
@@ -22,31 +24,54 @@ loop-choice-init c =
       origin = All-weaker (Contains start.candidates) from (λ x inn. inl inn) start.candidates (All-contains_itself start.candidates);
     }
 
-pub loop-choice-preserved : goal.loop-choice-preserved
-loop-choice-preserved c =
-    let choice = c.choice-item.result in
+pub loop-place-preserved-then-allows_none : goal.loop-place-preserved-then-allows_none
+loop-place-preserved-then-allows_none c =
     let choices = c.args.choices.now in
-    let k = c.loop-choice.choice-index in
+    let k = c.loop-place.place in
+    let join = c.args.join.now in
+    let outer = c.args.list.now.outer in
+    let invariant = c.loop-place.invariant in
+    let stretch = get_or c.args.stretches.now k c.index-stretches-place.result in
+    record {
+      covered = stretch_passed (ChoiceCovered outer join.row c.loop-place.list.candidates) k join.row.classes choices stretch
+          (c.requires.stretches k c.index-stretches-place.result c.loop-place-test.true c.if-place-lt-MAX_CHOICES.true)
+          (subst (λ (x : Candidate). AllowsNone (above x.row.classes) stretch.common stretch.all) c.join.view_is (c.allows_none.ensures c.if-allows_none.true))
+          (λ x refused allowed. absurd (refused allowed)) invariant.covered;
+      grows = invariant.grows;
+      limit = invariant.limit;
+      origin = invariant.origin;
+    }
+
+pub loop-place-smaller-then-allows_none : goal.loop-place-smaller-then-allows_none
+loop-place-smaller-then-allows_none c =
+    let is = c.requires.stretches c.loop-place.place c.index-stretches-place.result c.loop-place-test.true c.if-place-lt-MAX_CHOICES.true in
+    omega (arith, is.later, is.inside)
+
+pub loop-place-preserved : goal.loop-place-preserved
+loop-place-preserved c =
+    let choices = c.args.choices.now in
+    let k = c.loop-place.place in
+    let choice = c.index-choices-place.result in
     let join = c.args.join.now in
     let start = c.args.list.now in
-    let old = c.loop-choice.list in
+    let old = c.loop-place.list in
     let new = c.add_step.new.list in
     let here = c.in_ok-add_step.ensures in
-    let first = c.loop-choice.invariant.grows in
+    let first = c.loop-place.invariant.grows in
     let second : Grows old new = record { outer = here.outer; others = here.others; later = here.later } in
     let covers = ChoiceCovered start.outer join.row new.candidates in
     record {
       covered = AllWithin-more covers choices 0 k
-          (choices_later start.outer join.row old.candidates new.candidates choices k (grows_from start old new first.outer second) c.loop-choice.invariant.covered)
-          (at_read choices covers k choice c.loop-choice-test.true c.choice-item.is (subst (λ o. ChoiceCovered o join.row new.candidates choice) first.outer here.covered));
+          (choices_later start.outer join.row old.candidates new.candidates choices k (grows_from start old new first.outer second) c.loop-place.invariant.covered)
+          (at_read choices covers k choice c.loop-place-test.true c.index-choices-place.is (subst (λ o. ChoiceCovered o join.row new.candidates choice) first.outer here.covered));
       grows = grows_further start old new first second;
-      limit = stands_later none c.args.limit old new second c.loop-choice.invariant.limit;
+      limit = stands_later none c.args.limit old new second c.loop-place.invariant.limit;
       origin = from_earlier (λ (x : Candidate). Contains start.candidates x ⊎ IsSomeStepFrom c.args.limit choices join x) (λ (x : Candidate). IsStepFrom join choice x × (x.row.cost < c.args.limit)) old.candidates new.candidates here.origin
-          (λ x s. inr (record { choice = choice; chosen = read_contains choices k choice c.loop-choice-test.true c.choice-item.is; step = s.0; cheap = s.1 }))
-          c.loop-choice.invariant.origin;
+          (λ x s. inr (record { choice = choice; chosen = read_contains choices k choice c.loop-place-test.true c.index-choices-place.is; step = s.0; cheap = s.1 }))
+          c.loop-place.invariant.origin;
     }
 
 pub returns-clause-covered : goal.returns-clause-covered
 returns-clause-covered c =
-    let covers = ChoiceCovered c.args.list.now.outer c.args.join.now.row c.loop-choice.list.candidates in
-    All-from_all_within covers c.args.choices.now (AllWithin-upto covers c.args.choices.now 0 c.loop-choice.choice-index _ c.loop-choice-test.false c.loop-choice.invariant.covered)
+    let covers = ChoiceCovered c.args.list.now.outer c.args.join.now.row c.loop-place.list.candidates in
+    All-from_all_within covers c.args.choices.now (AllWithin-upto covers c.args.choices.now 0 c.loop-place.place _ c.loop-place-test.false c.loop-place.invariant.covered)

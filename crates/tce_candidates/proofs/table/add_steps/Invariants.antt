@@ -1,4 +1,4 @@
-use Rattle.std.proofs.Common.{◌⊎◌}
+use Rattle.std.proofs.Common.{◌⊎◌, ◌-◌, length}
 use Rattle.std.specs.List.{All, AllWithin, Any, Contains}
 use Rattle.tce_states.specs.Relation.{none}
 use Rattle.tce_candidates.specs.Candidates.{Stands, ChoiceCovered}
@@ -6,10 +6,13 @@ use Rattle.tce_candidates.specs.Joins.{IsSomeStepFrom}
 use Rattle.tce_candidates.proofs.Growing.{Grows}
 use Rattle.tce_candidates.proofs.table.add_steps.Given as goal
 
-abbrev pub invariant-loop-choice : goal.invariant-loop-choice
-invariant-loop-choice l = record {
-  covered : AllWithin (ChoiceCovered l.fn.list.outer l.join.row l.list.candidates) l.choices 0 l.choice-index;
+abbrev pub invariant-loop-place : goal.invariant-loop-place
+invariant-loop-place l = record {
+  covered : AllWithin (ChoiceCovered l.fn.list.outer l.join.row l.list.candidates) l.choices 0 l.place;
   grows : Grows l.fn.list l.list;
   limit : Any (Stands l.list.outer none l.limit) l.list.candidates;
   origin : All (λ x. Contains l.fn.list.candidates x ⊎ IsSomeStepFrom l.limit l.choices l.join x) l.list.candidates;
 }
+
+abbrev pub decreases-loop-place : goal.decreases-loop-place
+decreases-loop-place l = length l.choices - l.place
