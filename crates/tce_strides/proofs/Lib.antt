@@ -1,5 +1,6 @@
 pub mod Folds
 pub mod Fours
+pub mod FourWords
 pub mod Innermost
 pub mod Moves
 pub mod Outer

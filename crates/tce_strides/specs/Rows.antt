@@ -1,5 +1,5 @@
 -- Parts of a run of two loops.
-use Rattle.std.specs.Prelude.{◌≡◌, ℕ, ◌+◌, ◌≤◌, List, [], ◌∷◌, slice_index}
+use Rattle.std.specs.Prelude.{◌≡◌, ℕ, ◌+◌, List, [], ◌∷◌, slice_index}
 use Rattle.std.specs.List.{range_with_len, fold}
 use Rattle.tce_base.specs.Word.{wrapping_add, wrapping_mul}
 use Rattle.tce_strides.specs.declared.loops.Loop.{Loop}
@@ -10,9 +10,9 @@ use Rattle.tce_strides.specs.Running.{left_place, right_place}
 abbrev pub loops_of : Rows → List Loop
 loops_of rows = rows.outer ∷ rows.along ∷ []
 
--- each row is long, and goes with one factor to the same words of the result
-abbrev pub AreScaled : Loop → Loop → Type 0
-AreScaled outer along = (outer.out ≡ 0) × (along.out ≡ 1) × (along.left ≡ 0) × (along.right ≡ 1) × (8 ≤ along.len)
+-- a loop that goes with one factor along words of the result
+abbrev pub IsScaled : Loop → Type 0
+IsScaled along = (along.out ≡ 1) × (along.left ≡ 0) × (along.right ≡ 1)
 
 -- a word and the products of the operands' words in the turns of one loop
 abbrev pub products_along : List ℕ → Loop → ℕ → ℕ → ℕ → ℕ

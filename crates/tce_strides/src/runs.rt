@@ -2,7 +2,7 @@
 ghost use Rattle.std.specs.Prelude.{◌≡◌, ◌↔◌, ◌+◌, ◌^◌, ◌<◌, ◌≤◌, IsTrue, length, [], ◌∷◌};
 ghost use Rattle.tce_strides.specs.Turns.{operate};
 ghost use Rattle.tce_strides.specs.Running.{CanRun, CanSum, IsLeftWithin, IsRightWithin, AreAdded, AreTurned, AreComputed};
-ghost use Rattle.tce_strides.specs.Rows.{AreFourWords, AreScaled, four_products, loops_of, products_along};
+ghost use Rattle.tce_strides.specs.Rows.{AreFourWords, IsScaled, four_products, loops_of, products_along};
 
 use crate::loops::{Loop, Rows, SumLoop, Turn};
 use tce_space::Arithmetic;
@@ -241,12 +241,11 @@ pub(crate) fn turns_in_rows(
     }
 }
 
-// Whether each row is long, and goes with one factor to the same words of the result.
-fn are_scaled(rows: Rows) -> bool
-    ensures { IsTrue result ↔ AreScaled rows.outer rows.along }
+// Whether a loop goes with one factor along words of the result.
+fn is_scaled(along: Loop) -> bool
+    ensures { IsTrue result ↔ IsScaled along }
 {
-    let Rows { outer, along } = rows;
-    outer.out == 0 && along.out == 1 && along.left == 0 && along.right == 1 && LONG <= along.len
+    along.out == 1 && along.left == 0 && along.right == 1
 }
 
 // Two loops that add products.
@@ -255,8 +254,8 @@ fn grow_in_rows(words: &mut Words, rows: Rows, out: u64, left: u64, right: u64)
     requires run { CanRun (length words.old) (loops_of rows) out left right }
     ensures { AreTurned Turn.Grow (loops_of rows) out left right words.old words.new }
 {
-    if are_scaled(rows) {
-        rows_by_four(words, rows, out, left, right);
+    if is_scaled(rows.along) {
+        grow_by_scaled_rows(words, rows, out, left, right);
     } else {
         grow_in_rows_of_left(words, rows, out, left, right);
     }
@@ -280,10 +279,107 @@ fn grow_in_rows_of_left(words: &mut Words, rows: Rows, out: u64, left: u64, righ
             ..rows.along
         },
     };
-    if are_scaled(swapped) {
-        rows_by_four(words, swapped, out, right, left);
+    if is_scaled(swapped.along) {
+        grow_by_scaled_rows(words, swapped, out, right, left);
+    } else {
+        grow_by_dots(words, rows, out, left, right);
+    }
+}
+
+// Rows that are added with one factor each.
+fn grow_by_scaled_rows(words: &mut Words, rows: Rows, out: u64, left: u64, right: u64)
+    requires limit { length words.old < 2 ^ 60 }
+    requires run { CanRun (length words.old) (loops_of rows) out left right }
+    requires scaled { IsScaled rows.along }
+    ensures { AreTurned Turn.Grow (loops_of rows) out left right words.old words.new }
+{
+    if rows.along.len == 4 {
+        rows_of_four(words, rows, out, left, right);
+    } else if rows.outer.out == 0 && LONG <= rows.along.len {
+        rows_by_four(words, rows, out, left, right);
     } else {
         rows_by_one(words, Turn::Grow, rows, out, left, right);
+    }
+}
+
+// Rows of which each may be the sum of the products of four words.
+fn grow_by_dots(words: &mut Words, rows: Rows, out: u64, left: u64, right: u64)
+    requires limit { length words.old < 2 ^ 60 }
+    requires run { CanRun (length words.old) (loops_of rows) out left right }
+    ensures { AreTurned Turn.Grow (loops_of rows) out left right words.old words.new }
+{
+    if rows.along.out == 0 && are_four_words(rows.along) {
+        dots_of_four(words, rows, out, left, right);
+    } else {
+        rows_by_one(words, Turn::Grow, rows, out, left, right);
+    }
+}
+
+// Adds the products of one factor and four words to four words of the result, without a loop.
+#[inline]
+fn grow_four(words: &mut Words, _along: Loop, out: u64, left: u64, right: u64)
+    requires limit { length words.old < 2 ^ 60 }
+    requires run { CanRun (length words.old) (_along ∷ []) out left right }
+    requires scaled { IsScaled _along }
+    requires four { _along.len ≡ 4 }
+    ensures { AreTurned Turn.Grow (_along ∷ []) out left right words.old words.new }
+{
+    turn_once(words, Turn::Grow, out, left, right);
+    turn_once(words, Turn::Grow, out + 1, left, right + 1);
+    turn_once(words, Turn::Grow, out + 2, left, right + 2);
+    turn_once(words, Turn::Grow, out + 3, left, right + 3);
+}
+
+// Rows of four words that are added with one factor each.
+fn rows_of_four(words: &mut Words, rows: Rows, out: u64, left: u64, right: u64)
+    requires limit { length words.old < 2 ^ 60 }
+    requires run { CanRun (length words.old) (loops_of rows) out left right }
+    requires scaled { IsScaled rows.along }
+    requires four { rows.along.len ≡ 4 }
+    ensures { AreTurned Turn.Grow (loops_of rows) out left right words.old words.new }
+{
+    let Rows { outer, along } = rows;
+    for x in 0..outer.len {
+        grow_four(
+            words,
+            along,
+            out + x * outer.out,
+            left + x * outer.left,
+            right + x * outer.right,
+        );
+    }
+}
+
+// Adds the products of four words of each operand to one word.
+#[inline]
+fn dot_of_four(words: &mut Words, _along: Loop, out: u64, left: u64, right: u64)
+    requires limit { length words.old < 2 ^ 60 }
+    requires run { CanRun (length words.old) (_along ∷ []) out left right }
+    requires still { _along.out ≡ 0 }
+    requires four { AreFourWords _along }
+    ensures { AreTurned Turn.Grow (_along ∷ []) out left right words.old words.new }
+{
+    let word = grown_by_four(words, words.get(out), left, right);
+    words.put(out, word);
+}
+
+// Rows that each add the products of four words to one word.
+fn dots_of_four(words: &mut Words, rows: Rows, out: u64, left: u64, right: u64)
+    requires limit { length words.old < 2 ^ 60 }
+    requires run { CanRun (length words.old) (loops_of rows) out left right }
+    requires still { rows.along.out ≡ 0 }
+    requires four { AreFourWords rows.along }
+    ensures { AreTurned Turn.Grow (loops_of rows) out left right words.old words.new }
+{
+    let Rows { outer, along } = rows;
+    for x in 0..outer.len {
+        dot_of_four(
+            words,
+            along,
+            out + x * outer.out,
+            left + x * outer.left,
+            right + x * outer.right,
+        );
     }
 }
 
