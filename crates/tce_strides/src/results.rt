@@ -45,7 +45,12 @@ pub fn compute(
 {
     // The length's limit keeps the places within a word.
     let _count = words.len();
-    turns_below(words, Turn::Compute(operation), loops, out, left, right);
+    let turn = Turn::Compute(operation);
+    // One result alone is common, and too little work for a call.
+    match loops {
+        [] => runs::turn_once(words, turn, out, left, right),
+        _ => turns_below(words, turn, loops, out, left, right),
+    }
 }
 
 fn turns_below(words: &mut Words, turn: Turn, loops: &[Loop], out: u64, left: u64, right: u64)

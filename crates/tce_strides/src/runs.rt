@@ -256,6 +256,8 @@ fn grow_in_rows(words: &mut Words, rows: Rows, out: u64, left: u64, right: u64)
 {
     if is_scaled(rows.along) {
         grow_by_scaled_rows(words, rows, out, left, right);
+    } else if rows.along.out == 0 && are_four_words(rows.along) {
+        dots_of_four(words, rows, out, left, right);
     } else {
         grow_in_rows_of_left(words, rows, out, left, right);
     }
@@ -282,7 +284,7 @@ fn grow_in_rows_of_left(words: &mut Words, rows: Rows, out: u64, left: u64, righ
     if is_scaled(swapped.along) {
         grow_by_scaled_rows(words, swapped, out, right, left);
     } else {
-        grow_by_dots(words, rows, out, left, right);
+        rows_by_one(words, Turn::Grow, rows, out, left, right);
     }
 }
 
@@ -297,19 +299,6 @@ fn grow_by_scaled_rows(words: &mut Words, rows: Rows, out: u64, left: u64, right
         rows_of_four(words, rows, out, left, right);
     } else if rows.outer.out == 0 && LONG <= rows.along.len {
         rows_by_four(words, rows, out, left, right);
-    } else {
-        rows_by_one(words, Turn::Grow, rows, out, left, right);
-    }
-}
-
-// Rows of which each may be the sum of the products of four words.
-fn grow_by_dots(words: &mut Words, rows: Rows, out: u64, left: u64, right: u64)
-    requires limit { length words.old < 2 ^ 60 }
-    requires run { CanRun (length words.old) (loops_of rows) out left right }
-    ensures { AreTurned Turn.Grow (loops_of rows) out left right words.old words.new }
-{
-    if rows.along.out == 0 && are_four_words(rows.along) {
-        dots_of_four(words, rows, out, left, right);
     } else {
         rows_by_one(words, Turn::Grow, rows, out, left, right);
     }
