@@ -1,16 +1,20 @@
 -- The first block of a list of cuts.
 use Rattle.std.proofs.Common.{◌≡◌, ◌∙◌, ℕ, suc, ◌+◌, ◌*◌, ◌<◌, List, [], ◌∷◌, ◌++◌, length, take, drop, map, sym, refl, ap, ap₂, subst, inl, inr, arith, get_or}
 use Rattle.std.specs.List.{All}
+use Rattle.std.specs.Prelude.{replicate}
 use Rattle.std.specs.Int.{div_ceil}
 use Rattle.std.proofs.lemmas.Bool.{cases_lt}
 use Rattle.std.proofs.lemmas.Grind.{div_ceil_times}
-use Rattle.std.proofs.lemmas.List.{take_more, map-append}
+use Rattle.std.proofs.lemmas.List.{take_more, map-append, length-map, length-replicate}
+use Rattle.arrayvec.specs.ArrayVec.{ArrayVec, with_items}
+use Rattle.arrayvec.proofs.ArrayVecLemmas.{items-with_items}
 use Rattle.tce_space.specs.Box.{place, IsInside}
 use Rattle.tce_space.specs.Tiling.{counts_along}
 use Rattle.tce_block.specs.Parts.{blocks}
 use Rattle.tce_block.specs.Cuts.{IsCut, extents_of, edges_of}
 use Rattle.tce_block.specs.Numbers.{AreWithin}
 use Rattle.tce_block.specs.declared.cut.Cut.{Cut}
+use Rattle.tce_space.proofs.Boxes.{length_inside}
 
 -- how many edges cover the extent of each cut
 abbrev pub counts_of : List Cut → List ℕ
@@ -77,3 +81,17 @@ rightly_begun cuts extents edges counts numbers h a b c d =
       within = subst (λ ns. AreWithin ns edges) (sym a) (subst (λ es. AreWithin (extents_of cuts) es) (sym b) (within_limits cuts h));
       first = ap (λ k. drop k (blocks extents edges)) (ap (place (counts_along extents edges)) d ∙ zeros_first cuts (counts_along extents edges)) ∙ ap₂ blocks a b;
     }
+
+zeros_are : (cuts : List Cut) (n : ℕ) → n ≡ length cuts → replicate n 0 ≡ zeros_of cuts
+zeros_are [] n is = ap (λ k. replicate k 0) is
+zeros_are (c ∷ cs) n is = ap (λ k. replicate k 0) is ∙ ap (λ ns. 0 ∷ ns) (zeros_are cs (length cs) refl)
+
+-- what it makes of lists that were those of the same cuts before: the numbers are cleared through a slice
+pub begun_anew : (cuts : List Cut) (extents edges counts slice new : List ℕ) (numbers : ArrayVec ℕ) → All IsCut cuts → extents ≡ extents_of cuts → edges ≡ edges_of cuts
+    → counts ≡ counts_along extents edges → IsInside counts numbers.items → slice ≡ numbers.items → new ≡ replicate (length slice) 0
+    → IsBegun cuts extents edges counts (with_items numbers new).items
+begun_anew cuts extents edges counts slice new numbers h a b along inside whole cleared =
+    let counts_is : counts ≡ counts_of cuts = along ∙ ap₂ counts_along a b ∙ sym (counts_are cuts) in
+    let as_many : length slice ≡ length cuts = ap length whole ∙ length_inside counts numbers.items inside ∙ ap length counts_is ∙ length-map cuts (λ (c : Cut). div_ceil c.extent c.edge) in
+    let same : length new ≡ length numbers.items = ap length cleared ∙ length-replicate (length slice) 0 ∙ ap length whole in
+    rightly_begun cuts extents edges counts (with_items numbers new).items h a b counts_is (items-with_items numbers new same ∙ cleared ∙ zeros_are cuts (length slice) as_many)

@@ -1,5 +1,5 @@
 // The blocks of a box, one after the other.
-ghost use Rattle.std.specs.Prelude.{◌≡◌, ℕ, ◌+◌, ◌*◌, ◌≤◌, if◌then◌else◌, List, length, drop, slice_get, Some, None};
+ghost use Rattle.std.specs.Prelude.{◌≡◌, ℕ, ◌+◌, ◌*◌, ◌≤◌, if◌then◌else◌, IsTrue, List, length, drop, replicate, slice_get, Some, None};
 ghost use Rattle.std.specs.List.{All};
 ghost use Rattle.std.specs.Option.{option_map};
 ghost use Rattle.tce_space.specs.Limits.{max_loops};
@@ -65,6 +65,19 @@ impl Blocks {
         }
     }
 
+    /// Begins with all blocks of a box, as `new` does. Where the box is that of before, its lists are kept.
+    pub fn restart(&mut self, cuts: &ArrayVec<Cut, MAX_LOOPS>)
+        requires { All IsCut cuts.now.items }
+        ensures { self.new ≡ blocks (extents_of cuts.now.items) (edges_of cuts.now.items) }
+    {
+        if are_cut_so(cuts, &self.extents, &self.edges) {
+            clear(&mut self.numbers);
+            self.finished = false;
+        } else {
+            *self = Self::new(cuts);
+        }
+    }
+
     /// The next block, or `None` exactly after the last one, however often it is asked.
     pub fn next(&mut self) -> Option<Block>
         ensures block { option_map part_of result ≡ slice_get self.old 0 }
@@ -90,6 +103,31 @@ impl Blocks {
         fill_block(&self.extents, &self.edges, &self.numbers, block);
         self.finished = advance(&mut self.numbers, &self.counts);
         true
+    }
+}
+
+// Whether cuts have these extents and edges.
+fn are_cut_so(cuts: &[Cut], extents: &[u64], edges: &[u64]) -> bool
+    ensures { IsTrue result
+        → (extents.now ≡ extents_of cuts.now) × (edges.now ≡ edges_of cuts.now) }
+{
+    if extents.len() != cuts.len() || edges.len() != cuts.len() {
+        return false;
+    }
+    for d in 0..cuts.len() {
+        if extents[d] != cuts[d].extent || edges[d] != cuts[d].edge {
+            return false;
+        }
+    }
+    true
+}
+
+// Makes all numbers 0.
+fn clear(numbers: &mut [u64])
+    ensures { numbers.new ≡ replicate (length numbers.old) 0 }
+{
+    for d in 0..numbers.len() {
+        numbers[d] = 0;
     }
 }
 

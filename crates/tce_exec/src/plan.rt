@@ -13,7 +13,7 @@ use crate::cuts::{cuts_of, sequence_of};
 use crate::position::Position;
 use crate::steps::{Windows, set_steps};
 use arrayvec::ArrayVec;
-use tce_block::Cut;
+use tce_block::{Block, Blocks, Cut};
 use tce_cache::Cache;
 use tce_space::{LoopOrder, MAX_LOOPS, Space};
 use tce_walk::Tail;
@@ -34,6 +34,9 @@ pub(crate) struct Plan {
     pub made: bool,
     pub tail: Tail,
     pub cuts: ArrayVec<Cut, MAX_LOOPS>,
+    // The blocks that are still to come, and the one that runs. Each run of the tail begins with all of them.
+    pub blocks: Blocks,
+    pub block: Block,
     pub nest: Nest,
 }
 
@@ -56,6 +59,8 @@ impl Plan {
     {
         let windows = Windows::blank();
         let sequence = LoopSequence::of(&[], &[], &windows.out, &windows.left, &windows.right);
+        let cuts = ArrayVec::new();
+        let blocks = Blocks::new(&cuts);
         Plan {
             made: false,
             tail: Tail {
@@ -63,7 +68,9 @@ impl Plan {
                 node: 0,
                 sum: None,
             },
-            cuts: ArrayVec::new(),
+            cuts,
+            blocks,
+            block: Block::default(),
             nest: Nest { windows, sequence },
         }
     }

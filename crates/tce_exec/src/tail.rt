@@ -12,7 +12,6 @@ use crate::block::run_block;
 use crate::plan::{Kept, Plan};
 use crate::position::Position;
 use crate::turns::TailBlock;
-use tce_block::{Block, Blocks};
 use tce_outside::{Disk, Failed};
 use tce_space::Numbers;
 use tce_walk::Tail;
@@ -48,13 +47,12 @@ fn run_blocks<D: Disk>(
     let _indexes = evaluation.space.index_count();
     let _nodes = evaluation.tree.count();
     let _len = store.words.len();
-    let mut blocks = Blocks::new(&plan.cuts);
-    let mut block = Block::default();
-    while blocks.next_in(&mut block) {
+    plan.blocks.restart(&plan.cuts);
+    while plan.blocks.next_in(&mut plan.block) {
         let at = TailBlock {
             tail,
             numbers,
-            block: &block,
+            block: &plan.block,
         };
         run_block(evaluation, store, &at, first, &mut plan.nest)?;
     }

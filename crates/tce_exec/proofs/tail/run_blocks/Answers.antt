@@ -12,12 +12,12 @@ use Rattle.tce_exec.specs.Plans.{IsNest}
 use Rattle.tce_exec.proofs.Along.{begun, is_block, few_left, stepped, has_turns, ended, first_told, none_told}
 use Rattle.tce_exec.proofs.tail.run_blocks.Goals as goal
 
-pub loop-blocks-init : goal.loop-blocks-init
-loop-blocks-init g c =
+pub loop-plan-init : goal.loop-plan-init
+loop-plan-init g c =
     let x : Workspace = work_of g.D.Disk.files c.args.evaluation.now c.args.store.now in
     let e = c.requires.plan in
-    let all : c.new-blocks.result ≡ blocks_of x.places.space c.args.tail.now =
-    c.new-blocks.ensures ∙ ap₂ blocks (e.is.extents_are ∙ ap (λ (t : Tail). map (extent_at x.places.space) (loops_of t)) e.tail_is) (e.is.edges_are ∙ ap (λ (t : Tail). map (edge_at x.places.space) (loops_of t)) e.tail_is) in
+    let all : c.restart.new.self ≡ blocks_of x.places.space c.args.tail.now =
+    c.restart.ensures ∙ ap₂ blocks (e.is.extents_are ∙ ap (λ (t : Tail). map (extent_at x.places.space) (loops_of t)) e.tail_is) (e.is.edges_are ∙ ap (λ (t : Tail). map (edge_at x.places.space) (loops_of t)) e.tail_is) in
     record {
       along = subst (IsAlong x x c.args.tail.now (slice_index c.args.numbers.now)) (sym all) (begun x c.args.tail.now (slice_index c.args.numbers.now) c.requires.prepared);
       others = λ i m. ap (λ f. f i) c.requires.outside;
@@ -33,45 +33,45 @@ loop-blocks-init g c =
 pub run_block-requires-clause-block : goal.run_block-requires-clause-block
 run_block-requires-clause-block g c =
     let x : Workspace = work_of g.D.Disk.files c.args.evaluation.now c.args.store.now in
-    let y : Workspace = work_of g.D.Disk.files c.args.evaluation.now c.loop-blocks.store in
-    is_block x y c.args.tail.now (slice_index c.args.numbers.now) c.loop-blocks.blocks (part_of c.next_in.new.block) c.loop-blocks.invariant.along (first_told c.next_in.result (part_of c.next_in.new.block) c.loop-blocks.blocks c.next_in.ensures.block c.loop-blocks-test.true)
+    let y : Workspace = work_of g.D.Disk.files c.args.evaluation.now c.loop-plan.store in
+    is_block x y c.args.tail.now (slice_index c.args.numbers.now) c.loop-plan.plan.blocks (part_of c.next_in.new.block) c.loop-plan.invariant.along (first_told c.next_in.result (part_of c.next_in.new.block) c.loop-plan.plan.blocks c.next_in.ensures.block c.loop-plan-test.true)
 
 pub run_block-requires-clause-few : goal.run_block-requires-clause-few
 run_block-requires-clause-few g c =
     let x : Workspace = work_of g.D.Disk.files c.args.evaluation.now c.args.store.now in
-    let y : Workspace = work_of g.D.Disk.files c.args.evaluation.now c.loop-blocks.store in
-    few_left x y c.args.tail.now (slice_index c.args.numbers.now) c.loop-blocks.blocks (part_of c.next_in.new.block) c.loop-blocks.invariant.along (first_told c.next_in.result (part_of c.next_in.new.block) c.loop-blocks.blocks c.next_in.ensures.block c.loop-blocks-test.true) c.requires.few
+    let y : Workspace = work_of g.D.Disk.files c.args.evaluation.now c.loop-plan.store in
+    few_left x y c.args.tail.now (slice_index c.args.numbers.now) c.loop-plan.plan.blocks (part_of c.next_in.new.block) c.loop-plan.invariant.along (first_told c.next_in.result (part_of c.next_in.new.block) c.loop-plan.plan.blocks c.next_in.ensures.block c.loop-plan-test.true) c.requires.few
 
-pub loop-blocks-preserved : goal.loop-blocks-preserved
-loop-blocks-preserved g c =
+pub loop-plan-preserved : goal.loop-plan-preserved
+loop-plan-preserved g c =
     let x : Workspace = work_of g.D.Disk.files c.args.evaluation.now c.args.store.now in
-    let y : Workspace = work_of g.D.Disk.files c.args.evaluation.now c.loop-blocks.store in
+    let y : Workspace = work_of g.D.Disk.files c.args.evaluation.now c.loop-plan.store in
     let z : Workspace = work_of g.D.Disk.files c.args.evaluation.now c.run_block.new.store in
     let e = c.in_ok-run_block.ensures in
     record {
       along = subst (IsAlong x z c.args.tail.now (slice_index c.args.numbers.now)) (sym c.next_in.ensures.rest)
-          (stepped x y z c.args.tail.now (slice_index c.args.numbers.now) c.loop-blocks.blocks (part_of c.next_in.new.block) c.requires.prepared c.loop-blocks.invariant.along (first_told c.next_in.result (part_of c.next_in.new.block) c.loop-blocks.blocks c.next_in.ensures.block c.loop-blocks-test.true)
+          (stepped x y z c.args.tail.now (slice_index c.args.numbers.now) c.loop-plan.plan.blocks (part_of c.next_in.new.block) c.requires.prepared c.loop-plan.invariant.along (first_told c.next_in.result (part_of c.next_in.new.block) c.loop-plan.plan.blocks c.next_in.ensures.block c.loop-plan-test.true)
           e.kept e.changed);
       others = e.others;
       position = e.position;
       nest = e.nest;
-      same = same_on c.args.store.now c.loop-blocks.store c.run_block.new.store c.loop-blocks.invariant.same e.same;
-      made = c.loop-blocks.invariant.made;
-      tail_is = c.loop-blocks.invariant.tail_is;
-      cuts_are = c.loop-blocks.invariant.cuts_are;
-      counted = e.told (search rules) ∙ c.loop-blocks.invariant.counted;
+      same = same_on c.args.store.now c.loop-plan.store c.run_block.new.store c.loop-plan.invariant.same e.same;
+      made = c.loop-plan.invariant.made;
+      tail_is = c.loop-plan.invariant.tail_is;
+      cuts_are = c.loop-plan.invariant.cuts_are;
+      counted = e.told (search rules) ∙ c.loop-plan.invariant.counted;
     }
 
 pub returns-in_err-run_block-clause-kept : goal.returns-in_err-run_block-clause-kept
 returns-in_err-run_block-clause-kept g c =
     let x : Workspace = work_of g.D.Disk.files c.args.evaluation.now c.args.store.now in
-    let y : Workspace = work_of g.D.Disk.files c.args.evaluation.now c.loop-blocks.store in
+    let y : Workspace = work_of g.D.Disk.files c.args.evaluation.now c.loop-plan.store in
     let z : Workspace = work_of g.D.Disk.files c.args.evaluation.now c.run_block.new.store in
-    kept_on x y z c.loop-blocks.invariant.along.kept c.in_err-run_block.ensures.kept
+    kept_on x y z c.loop-plan.invariant.along.kept c.in_err-run_block.ensures.kept
 
 pub returns-clause-changed : goal.returns-clause-changed
 returns-clause-changed g c =
     let x : Workspace = work_of g.D.Disk.files c.args.evaluation.now c.args.store.now in
-    let y : Workspace = work_of g.D.Disk.files c.args.evaluation.now c.loop-blocks.store in
-    ended x y c.args.tail.now (slice_index c.args.numbers.now) c.loop-blocks.blocks c.index_count-indexes.ensures.limits (has_turns x.places.space c.index_count-indexes.ensures.limits)
-    c.requires.prepared c.len-len.ensures.words c.requires.tail c.loop-blocks.invariant.along (none_told c.next_in.result (part_of c.next_in.new.block) c.loop-blocks.blocks c.next_in.ensures.block c.loop-blocks-test.false)
+    let y : Workspace = work_of g.D.Disk.files c.args.evaluation.now c.loop-plan.store in
+    ended x y c.args.tail.now (slice_index c.args.numbers.now) c.loop-plan.plan.blocks c.index_count-indexes.ensures.limits (has_turns x.places.space c.index_count-indexes.ensures.limits)
+    c.requires.prepared c.len-len.ensures.words c.requires.tail c.loop-plan.invariant.along (none_told c.next_in.result (part_of c.next_in.new.block) c.loop-plan.plan.blocks c.next_in.ensures.block c.loop-plan-test.false)

@@ -7,10 +7,10 @@ use Rattle.tce_exec.specs.Positions.{IsPosition}
 use Rattle.tce_exec.specs.Plans.{IsNest}
 use Rattle.tce_exec.proofs.tail.run_blocks.Given as goal
 
-abbrev pub invariant-loop-blocks : goal.invariant-loop-blocks
-invariant-loop-blocks g l =
+abbrev pub invariant-loop-plan : goal.invariant-loop-plan
+invariant-loop-plan g l =
     record {
-      along : IsAlong (work_of g.D.Disk.files l.evaluation l.fn.store) (work_of g.D.Disk.files l.evaluation l.store) l.tail (slice_index l.numbers) l.blocks;
+      along : IsAlong (work_of g.D.Disk.files l.evaluation l.fn.store) (work_of g.D.Disk.files l.evaluation l.store) l.tail (slice_index l.numbers) l.plan.blocks;
       others : AreOutside (loops_of l.tail) (slice_index l.numbers) (slice_index l.first.numbers);
       position : IsPosition l.evaluation.space.now l.first;
       nest : IsNest (places_of l.evaluation) l.tail l.plan.nest;
@@ -21,5 +21,5 @@ invariant-loop-blocks g l =
       counted : g.D.Disk.faults l.store.disk.now ≡ g.D.Disk.faults l.fn.store.disk.now;
     }
 
-abbrev pub decreases-loop-blocks : goal.decreases-loop-blocks
-decreases-loop-blocks g l = length l.blocks
+abbrev pub decreases-loop-plan : goal.decreases-loop-plan
+decreases-loop-plan g l = length l.plan.blocks
