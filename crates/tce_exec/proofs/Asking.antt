@@ -33,7 +33,8 @@ use Rattle.tce_workspace.proofs.Operating.{own_place}
 use Rattle.tce_exec.specs.Blocks.{loops_of, AreOutside, IsWithin, HaveNone}
 use Rattle.tce_exec.specs.Windows.{IsOperandWindow, IsPlaceWindow}
 use Rattle.tce_exec.proofs.Operands.{left_place, right_place, sum_place}
-use Rattle.tce_exec.proofs.Turning.{IsAtBlock, Reads, each_positive, loop_edge, block_turns, block_loops, node_at_turn, operand_within}
+use Rattle.tce_exec.specs.TailBlocks.{IsAtBlock}
+use Rattle.tce_exec.proofs.Turning.{Reads, each_positive, loop_edge, block_turns, block_loops, node_at_turn, operand_within}
 use Rattle.tce_exec.proofs.Placing.{Puts, place_within, place_apart}
 use Rattle.tce_exec.proofs.Leaving.{turns_at, joined_product}
 

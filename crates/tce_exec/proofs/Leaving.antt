@@ -34,7 +34,8 @@ use Rattle.tce_workspace.proofs.Operating.{left_word_is, right_word_is}
 use Rattle.tce_workspace.proofs.Putting.{with_words}
 use Rattle.tce_workspace.proofs.Workspaces.{kept_setting}
 use Rattle.tce_exec.specs.Blocks.{loops_of}
-use Rattle.tce_exec.proofs.Turning.{IsAtBlock, Reads, block_loops, view, operand_within, operand_words}
+use Rattle.tce_exec.specs.TailBlocks.{IsAtBlock}
+use Rattle.tce_exec.proofs.Turning.{Reads, block_loops, view, operand_within, operand_words}
 use Rattle.tce_exec.proofs.Placing.{Puts, ChangesWords, place_shows, place_changes}
 
 abbrev pub turns_at : Tail → Assignment → Part → Turns

@@ -21,7 +21,8 @@ use Rattle.tce_workspace.proofs.Putting.{with_words}
 use Rattle.tce_exec.specs.Blocks.{loops_of, IsWithin, HaveNone}
 use Rattle.tce_exec.specs.Windows.{AreSumWindows, ArePairWindows}
 use Rattle.tce_exec.specs.declared.steps.Windows.{Windows}
-use Rattle.tce_exec.proofs.Turning.{IsAtBlock, block_later, Reads}
+use Rattle.tce_exec.specs.TailBlocks.{IsAtBlock}
+use Rattle.tce_exec.proofs.Turning.{block_later, Reads}
 use Rattle.tce_exec.proofs.Placing.{Puts}
 use Rattle.tce_exec.proofs.Leaving.{turns_at, ReadsBoth, IsRun, run_from, sum_leaves, pair_leaves, joined_leaves}
 use Rattle.tce_exec.proofs.Asking.{reads_left, reads_right, puts_own, puts_sum, own_window, left_apart, right_apart, place_in_words, operand_in_words, none_common, is_sum, is_binary, joined_at}

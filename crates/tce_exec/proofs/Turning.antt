@@ -44,15 +44,8 @@ use Rattle.tce_workspace.specs.Steps.{IsKept}
 use Rattle.tce_workspace.proofs.Reading.{leaf_word_is}
 use Rattle.tce_workspace.proofs.Workspaces.{kept_setting}
 use Rattle.tce_exec.specs.Blocks.{IsBlockOf, loops_of}
+use Rattle.tce_exec.specs.TailBlocks.{IsAtBlock}
 use Rattle.tce_exec.specs.Windows.{HasPlace, IsTouchedTile, IsOperandWindow}
-
--- a block of a tail on a workspace
-pub record IsAtBlock (y : Workspace) (tail : Tail) (a : Assignment) (part : Part) : Type 0 where
-  pub space : IsSpace y.places.space
-  pub tree : IsTree y.places.tree
-  pub prepared : IsPrepared y
-  pub tail_is : IsTailAt (setting_in y) tail a
-  pub block : IsBlockOf y.places.space tail part
 
 pub block_later : (x y : Workspace) (tail : Tail) (a : Assignment) (part : Part) → IsKept x y → IsPrepared y → IsAtBlock x tail a part → IsAtBlock y tail a part
 block_later x y tail a part kept is h = record {

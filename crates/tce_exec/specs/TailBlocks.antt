@@ -1,18 +1,22 @@
 -- One block of a tail, at the numbers of the loops round it.
 use Rattle.std.specs.Prelude.{ℕ, List, Option}
+use Rattle.tce_space.specs.Space.{IsSpace}
 use Rattle.tce_block.specs.Cuts.{part_of}
 use Rattle.tce_block.specs.Parts.{Part}
 use Rattle.tce_outside.specs.Files.{Files}
+use Rattle.tce_tree.specs.FlatTree.{IsTree}
 use Rattle.tce_tree.specs.Value.{Assignment}
 use Rattle.tce_code.specs.Execution.{State, exec}
 use Rattle.tce_walk.specs.Machine.{assignment_of, tail_program, IsTailAt}
 use Rattle.tce_walk.specs.declared.machine.Tail.{Tail}
 use Rattle.tce_walk.specs.Parts.{after_part}
 use Rattle.tce_windows.specs.Turns.{turns_of}
-use Rattle.tce_workspace.specs.Storages.{setting_of}
+use Rattle.tce_workspace.specs.Workspace.{Workspace, setting_in}
+use Rattle.tce_workspace.specs.Prepared.{IsPrepared}
+use Rattle.tce_workspace.specs.Storages.{setting_of, work_of}
 use Rattle.tce_workspace.specs.declared.evaluation.Evaluation.{Evaluation}
 use Rattle.tce_workspace.specs.declared.storage.Storage.{Storage}
-use Rattle.tce_exec.specs.Blocks.{loops_of, AreOutside}
+use Rattle.tce_exec.specs.Blocks.{loops_of, AreOutside, IsBlockOf}
 use Rattle.tce_exec.specs.declared.turns.TailBlock.{TailBlock}
 
 -- the numbers of the loops round the tail
@@ -42,3 +46,15 @@ IsInTail files e s b = IsTailAt (setting_of files e s) b.tail.now (around b)
 -- the numbers of all other indexes are those of the loops round the tail
 abbrev pub KeepsAround : TailBlock → Assignment → Type 0
 KeepsAround b first = AreOutside (loops_of b.tail.now) (around b) first
+
+-- a block of a tail on a workspace
+pub record IsAtBlock (y : Workspace) (tail : Tail) (a : Assignment) (part : Part) : Type 0 where
+  pub space : IsSpace y.places.space
+  pub tree : IsTree y.places.tree
+  pub prepared : IsPrepared y
+  pub tail_is : IsTailAt (setting_in y) tail a
+  pub block : IsBlockOf y.places.space tail part
+
+-- the same, where a storage stands for the workspace
+abbrev pub StandsAt : {D : Type 0} → (D → Option Files) → Evaluation → Storage D → TailBlock → Type 0
+StandsAt files e s b = IsAtBlock (work_of files e s) b.tail.now (around b) (part_in b)

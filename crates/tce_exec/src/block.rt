@@ -9,7 +9,7 @@ ghost use Rattle.tce_exec.specs.Blocks.{IsBlockOf};
 ghost use Rattle.tce_exec.specs.Evaluations.{places_of};
 ghost use Rattle.tce_exec.specs.Plans.{IsNest};
 ghost use Rattle.tce_exec.specs.Positions.{IsPosition, numbers_of};
-ghost use Rattle.tce_exec.specs.TailBlocks.{part_in, first_in, after_block, IsInTail, KeepsAround};
+ghost use Rattle.tce_exec.specs.TailBlocks.{part_in, first_in, after_block, IsInTail, KeepsAround, StandsAt};
 
 use crate::plan::Nest;
 use crate::position::Position;
@@ -41,10 +41,8 @@ fn run_sum<D: Disk>(
     first: &Position,
     nest: &mut Nest,
 ) -> Result<(), Failed>
-    requires prepared { IsPrepared (work_of D.files evaluation.now store.old) }
+    requires at { StandsAt D.files evaluation.now store.old at.now }
     requires position { IsPosition evaluation.now.space.now first.now }
-    requires tail { IsInTail D.files evaluation.now store.old at.now }
-    requires block { IsBlockOf evaluation.now.space.now at.now.tail.now (part_in at.now) }
     requires sum { right_of evaluation.now.tree.now at.now.tail.now.node ≡ None }
     requires few { store.old.cache.now.touches + 3 ≤ 2 ^ 100 }
     requires first { numbers_of first.now ≡ first_in at.now }
@@ -57,8 +55,6 @@ fn run_sum<D: Disk>(
     ensures cause { FailsByDisk D.faults store.old store.new (IsErr result) }
     ensures told { TellsOfDisk D.faults store.old store.new (IsErr result) }
 {
-    let _indexes = evaluation.space.index_count();
-    let _nodes = evaluation.tree.count();
     sum_windows(evaluation, store, at.tail.node, first, &mut nest.windows)?;
     // All words are below 2^64.
     let _len = store.words.len();
@@ -75,10 +71,8 @@ fn run_pair<D: Disk>(
     first: &Position,
     nest: &mut Nest,
 ) -> Result<(), Failed>
-    requires prepared { IsPrepared (work_of D.files evaluation.now store.old) }
+    requires at { StandsAt D.files evaluation.now store.old at.now }
     requires position { IsPosition evaluation.now.space.now first.now }
-    requires tail { IsInTail D.files evaluation.now store.old at.now }
-    requires block { IsBlockOf evaluation.now.space.now at.now.tail.now (part_in at.now) }
     requires right { right_of evaluation.now.tree.now at.now.tail.now.node ≡ Some right.now }
     requires alone { at.now.tail.now.sum ≡ None }
     requires few { store.old.cache.now.touches + 3 ≤ 2 ^ 100 }
@@ -92,8 +86,6 @@ fn run_pair<D: Disk>(
     ensures cause { FailsByDisk D.faults store.old store.new (IsErr result) }
     ensures told { TellsOfDisk D.faults store.old store.new (IsErr result) }
 {
-    let _indexes = evaluation.space.index_count();
-    let _nodes = evaluation.tree.count();
     let node = at.tail.node;
     let pairing = Pairing { right, out: node };
     pair_windows(evaluation, store, node, &pairing, first, &mut nest.windows)?;
@@ -121,10 +113,8 @@ fn run_joined<D: Disk>(
     first: &Position,
     nest: &mut Nest,
 ) -> Result<(), Failed>
-    requires prepared { IsPrepared (work_of D.files evaluation.now store.old) }
+    requires at { StandsAt D.files evaluation.now store.old at.now }
     requires position { IsPosition evaluation.now.space.now first.now }
-    requires tail { IsInTail D.files evaluation.now store.old at.now }
-    requires block { IsBlockOf evaluation.now.space.now at.now.tail.now (part_in at.now) }
     requires right { right_of evaluation.now.tree.now at.now.tail.now.node
         ≡ Some pairing.now.right.now }
     requires joined { at.now.tail.now.sum ≡ Some pairing.now.out }
@@ -139,8 +129,6 @@ fn run_joined<D: Disk>(
     ensures cause { FailsByDisk D.faults store.old store.new (IsErr result) }
     ensures told { TellsOfDisk D.faults store.old store.new (IsErr result) }
 {
-    let _indexes = evaluation.space.index_count();
-    let _nodes = evaluation.tree.count();
     let node = at.tail.node;
     pair_windows(evaluation, store, node, pairing, first, &mut nest.windows)?;
     node_window(evaluation, store.words, node, first, &mut nest.windows.own);

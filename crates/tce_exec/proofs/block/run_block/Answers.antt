@@ -6,7 +6,8 @@ use Rattle.tce_walk.specs.Machine.{assignment_of}
 use Rattle.tce_workspace.specs.Workspace.{Workspace}
 use Rattle.tce_workspace.specs.Storages.{work_of}
 use Rattle.tce_exec.specs.Blocks.{loops_of}
-use Rattle.tce_exec.proofs.Turning.{IsAtBlock, block_loops}
+use Rattle.tce_exec.specs.TailBlocks.{IsAtBlock}
+use Rattle.tce_exec.proofs.Turning.{block_loops}
 use Rattle.tce_exec.proofs.Asking.{block_begins, begun_first, outside_still}
 use Rattle.tce_exec.proofs.block.run_block.Goals as goal
 

@@ -6,7 +6,8 @@ use Rattle.tce_walk.specs.Machine.{assignment_of}
 use Rattle.tce_windows.specs.declared.window.Window.{Window}
 use Rattle.tce_workspace.specs.Workspace.{Workspace}
 use Rattle.tce_workspace.specs.Storages.{work_of}
-use Rattle.tce_exec.proofs.Turning.{IsAtBlock, block_loops}
+use Rattle.tce_exec.specs.TailBlocks.{IsAtBlock}
+use Rattle.tce_exec.proofs.Turning.{block_loops}
 use Rattle.tce_exec.proofs.Asking.{node_at_first, sum_at_first, own_slot}
 use Rattle.tce_exec.proofs.Stepping.{joined_steps}
 use Rattle.tce_exec.proofs.Running.{operands_ready, sum_places_ready, slot_places_ready, joined_runs}
@@ -17,7 +18,7 @@ pair_windows-requires-clause-node g c =
     let x : Workspace = work_of g.D.Disk.files c.args.evaluation.now c.args.store.now in
     let a : Assignment = assignment_of c.args.at.now.numbers.now in
     let part : Part = part_of c.args.at.now.block.now in
-    let h : IsAtBlock x c.args.at.now.tail.now a part = record { space = c.index_count-indexes.ensures.limits; tree = c.count-nodes.ensures.kept; prepared = c.requires.prepared; tail_is = c.requires.tail; block = c.requires.block } in
+    let h : IsAtBlock x c.args.at.now.tail.now a part = c.requires.at in
     node_at_first x c.args.at.now.tail.now a part (slice_index c.args.first.now.numbers) h c.requires.first
 
 pub pair_windows-requires-clause-place : goal.pair_windows-requires-clause-place
@@ -25,7 +26,7 @@ pair_windows-requires-clause-place g c =
     let x : Workspace = work_of g.D.Disk.files c.args.evaluation.now c.args.store.now in
     let a : Assignment = assignment_of c.args.at.now.numbers.now in
     let part : Part = part_of c.args.at.now.block.now in
-    let h : IsAtBlock x c.args.at.now.tail.now a part = record { space = c.index_count-indexes.ensures.limits; tree = c.count-nodes.ensures.kept; prepared = c.requires.prepared; tail_is = c.requires.tail; block = c.requires.block } in
+    let h : IsAtBlock x c.args.at.now.tail.now a part = c.requires.at in
     sum_at_first x c.args.at.now.tail.now a part c.args.pairing.now.out (slice_index c.args.first.now.numbers) h c.requires.joined c.requires.first
 
 pub node_window-requires-clause-inner : goal.node_window-requires-clause-inner
@@ -33,7 +34,7 @@ node_window-requires-clause-inner g c =
     let x : Workspace = work_of g.D.Disk.files c.args.evaluation.now c.args.store.now in
     let a : Assignment = assignment_of c.args.at.now.numbers.now in
     let part : Part = part_of c.args.at.now.block.now in
-    let h : IsAtBlock x c.args.at.now.tail.now a part = record { space = c.index_count-indexes.ensures.limits; tree = c.count-nodes.ensures.kept; prepared = c.requires.prepared; tail_is = c.requires.tail; block = c.requires.block } in
+    let h : IsAtBlock x c.args.at.now.tail.now a part = c.requires.at in
     own_slot x c.args.at.now.tail.now a part c.args.pairing.now.out (slice_index c.args.first.now.numbers) h c.requires.joined c.requires.first
 
 pub node_window-requires-clause-room : goal.node_window-requires-clause-room
@@ -46,7 +47,7 @@ join_turns-requires-clause-loops g c =
     let x : Workspace = work_of g.D.Disk.files c.args.evaluation.now c.args.store.now in
     let a : Assignment = assignment_of c.args.at.now.numbers.now in
     let part : Part = part_of c.args.at.now.block.now in
-    let h : IsAtBlock x c.args.at.now.tail.now a part = record { space = c.index_count-indexes.ensures.limits; tree = c.count-nodes.ensures.kept; prepared = c.requires.prepared; tail_is = c.requires.tail; block = c.requires.block } in
+    let h : IsAtBlock x c.args.at.now.tail.now a part = c.requires.at in
     block_loops x c.args.at.now.tail.now a part h
 
 pub join_turns-requires-clause-own : goal.join_turns-requires-clause-own
@@ -55,7 +56,7 @@ join_turns-requires-clause-own g c =
     let y : Workspace = work_of g.D.Disk.files c.args.evaluation.now c.pair_windows.new.store in
     let a : Assignment = assignment_of c.args.at.now.numbers.now in
     let part : Part = part_of c.args.at.now.block.now in
-    let h : IsAtBlock x c.args.at.now.tail.now a part = record { space = c.index_count-indexes.ensures.limits; tree = c.count-nodes.ensures.kept; prepared = c.requires.prepared; tail_is = c.requires.tail; block = c.requires.block } in
+    let h : IsAtBlock x c.args.at.now.tail.now a part = c.requires.at in
     let ready = operands_ready x y c.args.at.now.tail.now a part c.args.pairing.now.right.now c.args.pairing.now.out (slice_index c.args.first.now.numbers) c.pair_windows.new.windows h c.in_ok-pair_windows.ensures.kept c.in_ok-pair_windows.ensures.read
     c.requires.first c.requires.right c.in_ok-pair_windows.ensures.windows in
     let own = slot_places_ready y c.args.at.now.tail.now a part c.args.pairing.now.right.now c.args.pairing.now.out (slice_index c.args.first.now.numbers) c.pair_windows.new.windows.left c.pair_windows.new.windows.right c.node_window.new.window ready
@@ -68,7 +69,7 @@ join_turns-requires-clause-out g c =
     let y : Workspace = work_of g.D.Disk.files c.args.evaluation.now c.pair_windows.new.store in
     let a : Assignment = assignment_of c.args.at.now.numbers.now in
     let part : Part = part_of c.args.at.now.block.now in
-    let h : IsAtBlock x c.args.at.now.tail.now a part = record { space = c.index_count-indexes.ensures.limits; tree = c.count-nodes.ensures.kept; prepared = c.requires.prepared; tail_is = c.requires.tail; block = c.requires.block } in
+    let h : IsAtBlock x c.args.at.now.tail.now a part = c.requires.at in
     let ready = operands_ready x y c.args.at.now.tail.now a part c.args.pairing.now.right.now c.args.pairing.now.out (slice_index c.args.first.now.numbers) c.pair_windows.new.windows h c.in_ok-pair_windows.ensures.kept c.in_ok-pair_windows.ensures.read
     c.requires.first c.requires.right c.in_ok-pair_windows.ensures.windows in
     let places = sum_places_ready y c.args.at.now.tail.now a part c.args.pairing.now.right.now c.args.pairing.now.out (slice_index c.args.first.now.numbers) c.pair_windows.new.windows ready c.requires.first c.requires.joined
@@ -81,7 +82,7 @@ join_turns-requires-clause-left g c =
     let y : Workspace = work_of g.D.Disk.files c.args.evaluation.now c.pair_windows.new.store in
     let a : Assignment = assignment_of c.args.at.now.numbers.now in
     let part : Part = part_of c.args.at.now.block.now in
-    let h : IsAtBlock x c.args.at.now.tail.now a part = record { space = c.index_count-indexes.ensures.limits; tree = c.count-nodes.ensures.kept; prepared = c.requires.prepared; tail_is = c.requires.tail; block = c.requires.block } in
+    let h : IsAtBlock x c.args.at.now.tail.now a part = c.requires.at in
     let ready = operands_ready x y c.args.at.now.tail.now a part c.args.pairing.now.right.now c.args.pairing.now.out (slice_index c.args.first.now.numbers) c.pair_windows.new.windows h c.in_ok-pair_windows.ensures.kept c.in_ok-pair_windows.ensures.read
     c.requires.first c.requires.right c.in_ok-pair_windows.ensures.windows in
     ready.left_in
@@ -92,7 +93,7 @@ join_turns-requires-clause-right g c =
     let y : Workspace = work_of g.D.Disk.files c.args.evaluation.now c.pair_windows.new.store in
     let a : Assignment = assignment_of c.args.at.now.numbers.now in
     let part : Part = part_of c.args.at.now.block.now in
-    let h : IsAtBlock x c.args.at.now.tail.now a part = record { space = c.index_count-indexes.ensures.limits; tree = c.count-nodes.ensures.kept; prepared = c.requires.prepared; tail_is = c.requires.tail; block = c.requires.block } in
+    let h : IsAtBlock x c.args.at.now.tail.now a part = c.requires.at in
     let ready = operands_ready x y c.args.at.now.tail.now a part c.args.pairing.now.right.now c.args.pairing.now.out (slice_index c.args.first.now.numbers) c.pair_windows.new.windows h c.in_ok-pair_windows.ensures.kept c.in_ok-pair_windows.ensures.read
     c.requires.first c.requires.right c.in_ok-pair_windows.ensures.windows in
     ready.right_in
@@ -103,14 +104,14 @@ returns-clause-changed g c =
     let y : Workspace = work_of g.D.Disk.files c.args.evaluation.now c.pair_windows.new.store in
     let a : Assignment = assignment_of c.args.at.now.numbers.now in
     let part : Part = part_of c.args.at.now.block.now in
-    let h : IsAtBlock x c.args.at.now.tail.now a part = record { space = c.index_count-indexes.ensures.limits; tree = c.count-nodes.ensures.kept; prepared = c.requires.prepared; tail_is = c.requires.tail; block = c.requires.block } in
+    let h : IsAtBlock x c.args.at.now.tail.now a part = c.requires.at in
     let ready = operands_ready x y c.args.at.now.tail.now a part c.args.pairing.now.right.now c.args.pairing.now.out (slice_index c.args.first.now.numbers) c.pair_windows.new.windows h c.in_ok-pair_windows.ensures.kept c.in_ok-pair_windows.ensures.read
     c.requires.first c.requires.right c.in_ok-pair_windows.ensures.windows in
     let places = sum_places_ready y c.args.at.now.tail.now a part c.args.pairing.now.right.now c.args.pairing.now.out (slice_index c.args.first.now.numbers) c.pair_windows.new.windows ready c.requires.first c.requires.joined
     c.in_ok-pair_windows.ensures.windows in
     let own = slot_places_ready y c.args.at.now.tail.now a part c.args.pairing.now.right.now c.args.pairing.now.out (slice_index c.args.first.now.numbers) c.pair_windows.new.windows.left c.pair_windows.new.windows.right c.node_window.new.window ready
     c.requires.first c.requires.joined c.node_window.ensures in
-    (joined_runs x y c.args.at.now.tail.now a part c.args.pairing.now.right.now c.args.pairing.now.out c.pair_windows.new.windows c.node_window.new.window c.join_turns.new.words c.requires.prepared
+    (joined_runs x y c.args.at.now.tail.now a part c.args.pairing.now.right.now c.args.pairing.now.out c.pair_windows.new.windows c.node_window.new.window c.join_turns.new.words c.requires.at.prepared
     c.in_ok-pair_windows.ensures.kept c.in_ok-pair_windows.ensures.read ready own places c.len-len.ensures.words c.requires.joined c.join_turns.ensures.made).changed
 
 pub returns-clause-kept : goal.returns-clause-kept
@@ -119,14 +120,14 @@ returns-clause-kept g c =
     let y : Workspace = work_of g.D.Disk.files c.args.evaluation.now c.pair_windows.new.store in
     let a : Assignment = assignment_of c.args.at.now.numbers.now in
     let part : Part = part_of c.args.at.now.block.now in
-    let h : IsAtBlock x c.args.at.now.tail.now a part = record { space = c.index_count-indexes.ensures.limits; tree = c.count-nodes.ensures.kept; prepared = c.requires.prepared; tail_is = c.requires.tail; block = c.requires.block } in
+    let h : IsAtBlock x c.args.at.now.tail.now a part = c.requires.at in
     let ready = operands_ready x y c.args.at.now.tail.now a part c.args.pairing.now.right.now c.args.pairing.now.out (slice_index c.args.first.now.numbers) c.pair_windows.new.windows h c.in_ok-pair_windows.ensures.kept c.in_ok-pair_windows.ensures.read
     c.requires.first c.requires.right c.in_ok-pair_windows.ensures.windows in
     let places = sum_places_ready y c.args.at.now.tail.now a part c.args.pairing.now.right.now c.args.pairing.now.out (slice_index c.args.first.now.numbers) c.pair_windows.new.windows ready c.requires.first c.requires.joined
     c.in_ok-pair_windows.ensures.windows in
     let own = slot_places_ready y c.args.at.now.tail.now a part c.args.pairing.now.right.now c.args.pairing.now.out (slice_index c.args.first.now.numbers) c.pair_windows.new.windows.left c.pair_windows.new.windows.right c.node_window.new.window ready
     c.requires.first c.requires.joined c.node_window.ensures in
-    (joined_runs x y c.args.at.now.tail.now a part c.args.pairing.now.right.now c.args.pairing.now.out c.pair_windows.new.windows c.node_window.new.window c.join_turns.new.words c.requires.prepared
+    (joined_runs x y c.args.at.now.tail.now a part c.args.pairing.now.right.now c.args.pairing.now.out c.pair_windows.new.windows c.node_window.new.window c.join_turns.new.words c.requires.at.prepared
     c.in_ok-pair_windows.ensures.kept c.in_ok-pair_windows.ensures.read ready own places c.len-len.ensures.words c.requires.joined c.join_turns.ensures.made).kept
 
 pub returns-clause-nest : goal.returns-clause-nest

@@ -6,7 +6,8 @@ use Rattle.tce_walk.specs.Machine.{assignment_of}
 use Rattle.tce_workspace.specs.Workspace.{Workspace}
 use Rattle.tce_workspace.specs.Storages.{work_of}
 use Rattle.tce_workspace.proofs.Operating.{own_place}
-use Rattle.tce_exec.proofs.Turning.{IsAtBlock, block_loops}
+use Rattle.tce_exec.specs.TailBlocks.{IsAtBlock}
+use Rattle.tce_exec.proofs.Turning.{block_loops}
 use Rattle.tce_exec.proofs.Asking.{node_at_first, not_sum}
 use Rattle.tce_exec.proofs.Stepping.{pair_steps}
 use Rattle.tce_exec.proofs.Running.{operands_ready, own_ready, pair_runs}
@@ -17,7 +18,7 @@ pair_windows-requires-clause-node g c =
     let x : Workspace = work_of g.D.Disk.files c.args.evaluation.now c.args.store.now in
     let a : Assignment = assignment_of c.args.at.now.numbers.now in
     let part : Part = part_of c.args.at.now.block.now in
-    let h : IsAtBlock x c.args.at.now.tail.now a part = record { space = c.index_count-indexes.ensures.limits; tree = c.count-nodes.ensures.kept; prepared = c.requires.prepared; tail_is = c.requires.tail; block = c.requires.block } in
+    let h : IsAtBlock x c.args.at.now.tail.now a part = c.requires.at in
     node_at_first x c.args.at.now.tail.now a part (slice_index c.args.first.now.numbers) h c.requires.first
 
 pub pair_windows-requires-clause-place : goal.pair_windows-requires-clause-place
@@ -25,7 +26,7 @@ pair_windows-requires-clause-place g c =
     let x : Workspace = work_of g.D.Disk.files c.args.evaluation.now c.args.store.now in
     let a : Assignment = assignment_of c.args.at.now.numbers.now in
     let part : Part = part_of c.args.at.now.block.now in
-    let h : IsAtBlock x c.args.at.now.tail.now a part = record { space = c.index_count-indexes.ensures.limits; tree = c.count-nodes.ensures.kept; prepared = c.requires.prepared; tail_is = c.requires.tail; block = c.requires.block } in
+    let h : IsAtBlock x c.args.at.now.tail.now a part = c.requires.at in
     own_place x c.args.at.now.tail.now.node (slice_index c.args.first.now.numbers) (node_at_first x c.args.at.now.tail.now a part (slice_index c.args.first.now.numbers) h c.requires.first)
 
 pub operation_of-operation-requires : goal.operation_of-operation-requires
@@ -38,7 +39,7 @@ compute_turns-requires-clause-loops g c =
     let x : Workspace = work_of g.D.Disk.files c.args.evaluation.now c.args.store.now in
     let a : Assignment = assignment_of c.args.at.now.numbers.now in
     let part : Part = part_of c.args.at.now.block.now in
-    let h : IsAtBlock x c.args.at.now.tail.now a part = record { space = c.index_count-indexes.ensures.limits; tree = c.count-nodes.ensures.kept; prepared = c.requires.prepared; tail_is = c.requires.tail; block = c.requires.block } in
+    let h : IsAtBlock x c.args.at.now.tail.now a part = c.requires.at in
     block_loops x c.args.at.now.tail.now a part h
 
 pub compute_turns-requires-clause-out : goal.compute_turns-requires-clause-out
@@ -47,7 +48,7 @@ compute_turns-requires-clause-out g c =
     let y : Workspace = work_of g.D.Disk.files c.args.evaluation.now c.pair_windows.new.store in
     let a : Assignment = assignment_of c.args.at.now.numbers.now in
     let part : Part = part_of c.args.at.now.block.now in
-    let h : IsAtBlock x c.args.at.now.tail.now a part = record { space = c.index_count-indexes.ensures.limits; tree = c.count-nodes.ensures.kept; prepared = c.requires.prepared; tail_is = c.requires.tail; block = c.requires.block } in
+    let h : IsAtBlock x c.args.at.now.tail.now a part = c.requires.at in
     let ready = operands_ready x y c.args.at.now.tail.now a part c.args.right.now c.args.at.now.tail.now.node (slice_index c.args.first.now.numbers) c.pair_windows.new.windows h c.in_ok-pair_windows.ensures.kept c.in_ok-pair_windows.ensures.read
     c.requires.first c.requires.right c.in_ok-pair_windows.ensures.windows in
     let places = own_ready y c.args.at.now.tail.now a part c.args.right.now (slice_index c.args.first.now.numbers) c.pair_windows.new.windows ready c.requires.first c.in_ok-pair_windows.ensures.windows in
@@ -59,7 +60,7 @@ compute_turns-requires-clause-left g c =
     let y : Workspace = work_of g.D.Disk.files c.args.evaluation.now c.pair_windows.new.store in
     let a : Assignment = assignment_of c.args.at.now.numbers.now in
     let part : Part = part_of c.args.at.now.block.now in
-    let h : IsAtBlock x c.args.at.now.tail.now a part = record { space = c.index_count-indexes.ensures.limits; tree = c.count-nodes.ensures.kept; prepared = c.requires.prepared; tail_is = c.requires.tail; block = c.requires.block } in
+    let h : IsAtBlock x c.args.at.now.tail.now a part = c.requires.at in
     let ready = operands_ready x y c.args.at.now.tail.now a part c.args.right.now c.args.at.now.tail.now.node (slice_index c.args.first.now.numbers) c.pair_windows.new.windows h c.in_ok-pair_windows.ensures.kept c.in_ok-pair_windows.ensures.read
     c.requires.first c.requires.right c.in_ok-pair_windows.ensures.windows in
     ready.left_in
@@ -70,7 +71,7 @@ compute_turns-requires-clause-right g c =
     let y : Workspace = work_of g.D.Disk.files c.args.evaluation.now c.pair_windows.new.store in
     let a : Assignment = assignment_of c.args.at.now.numbers.now in
     let part : Part = part_of c.args.at.now.block.now in
-    let h : IsAtBlock x c.args.at.now.tail.now a part = record { space = c.index_count-indexes.ensures.limits; tree = c.count-nodes.ensures.kept; prepared = c.requires.prepared; tail_is = c.requires.tail; block = c.requires.block } in
+    let h : IsAtBlock x c.args.at.now.tail.now a part = c.requires.at in
     let ready = operands_ready x y c.args.at.now.tail.now a part c.args.right.now c.args.at.now.tail.now.node (slice_index c.args.first.now.numbers) c.pair_windows.new.windows h c.in_ok-pair_windows.ensures.kept c.in_ok-pair_windows.ensures.read
     c.requires.first c.requires.right c.in_ok-pair_windows.ensures.windows in
     ready.right_in
@@ -81,7 +82,7 @@ compute_turns-requires-clause-apart_from_left g c =
     let y : Workspace = work_of g.D.Disk.files c.args.evaluation.now c.pair_windows.new.store in
     let a : Assignment = assignment_of c.args.at.now.numbers.now in
     let part : Part = part_of c.args.at.now.block.now in
-    let h : IsAtBlock x c.args.at.now.tail.now a part = record { space = c.index_count-indexes.ensures.limits; tree = c.count-nodes.ensures.kept; prepared = c.requires.prepared; tail_is = c.requires.tail; block = c.requires.block } in
+    let h : IsAtBlock x c.args.at.now.tail.now a part = c.requires.at in
     let ready = operands_ready x y c.args.at.now.tail.now a part c.args.right.now c.args.at.now.tail.now.node (slice_index c.args.first.now.numbers) c.pair_windows.new.windows h c.in_ok-pair_windows.ensures.kept c.in_ok-pair_windows.ensures.read
     c.requires.first c.requires.right c.in_ok-pair_windows.ensures.windows in
     let places = own_ready y c.args.at.now.tail.now a part c.args.right.now (slice_index c.args.first.now.numbers) c.pair_windows.new.windows ready c.requires.first c.in_ok-pair_windows.ensures.windows in
@@ -93,7 +94,7 @@ compute_turns-requires-clause-apart_from_right g c =
     let y : Workspace = work_of g.D.Disk.files c.args.evaluation.now c.pair_windows.new.store in
     let a : Assignment = assignment_of c.args.at.now.numbers.now in
     let part : Part = part_of c.args.at.now.block.now in
-    let h : IsAtBlock x c.args.at.now.tail.now a part = record { space = c.index_count-indexes.ensures.limits; tree = c.count-nodes.ensures.kept; prepared = c.requires.prepared; tail_is = c.requires.tail; block = c.requires.block } in
+    let h : IsAtBlock x c.args.at.now.tail.now a part = c.requires.at in
     let ready = operands_ready x y c.args.at.now.tail.now a part c.args.right.now c.args.at.now.tail.now.node (slice_index c.args.first.now.numbers) c.pair_windows.new.windows h c.in_ok-pair_windows.ensures.kept c.in_ok-pair_windows.ensures.read
     c.requires.first c.requires.right c.in_ok-pair_windows.ensures.windows in
     let places = own_ready y c.args.at.now.tail.now a part c.args.right.now (slice_index c.args.first.now.numbers) c.pair_windows.new.windows ready c.requires.first c.in_ok-pair_windows.ensures.windows in
@@ -105,11 +106,11 @@ returns-clause-changed g c =
     let y : Workspace = work_of g.D.Disk.files c.args.evaluation.now c.pair_windows.new.store in
     let a : Assignment = assignment_of c.args.at.now.numbers.now in
     let part : Part = part_of c.args.at.now.block.now in
-    let h : IsAtBlock x c.args.at.now.tail.now a part = record { space = c.index_count-indexes.ensures.limits; tree = c.count-nodes.ensures.kept; prepared = c.requires.prepared; tail_is = c.requires.tail; block = c.requires.block } in
+    let h : IsAtBlock x c.args.at.now.tail.now a part = c.requires.at in
     let ready = operands_ready x y c.args.at.now.tail.now a part c.args.right.now c.args.at.now.tail.now.node (slice_index c.args.first.now.numbers) c.pair_windows.new.windows h c.in_ok-pair_windows.ensures.kept c.in_ok-pair_windows.ensures.read
     c.requires.first c.requires.right c.in_ok-pair_windows.ensures.windows in
     let places = own_ready y c.args.at.now.tail.now a part c.args.right.now (slice_index c.args.first.now.numbers) c.pair_windows.new.windows ready c.requires.first c.in_ok-pair_windows.ensures.windows in
-    (pair_runs x y c.args.at.now.tail.now a part c.args.right.now c.operation_of-operation.result c.kind.result c.pair_windows.new.windows c.compute_turns.new.words c.requires.prepared c.in_ok-pair_windows.ensures.kept
+    (pair_runs x y c.args.at.now.tail.now a part c.args.right.now c.operation_of-operation.result c.kind.result c.pair_windows.new.windows c.compute_turns.new.words c.requires.at.prepared c.in_ok-pair_windows.ensures.kept
     c.in_ok-pair_windows.ensures.read ready places c.len-len.ensures.words c.requires.alone c.kind.ensures c.operation_of-operation.ensures c.compute_turns.ensures.made).changed
 
 pub returns-clause-kept : goal.returns-clause-kept
@@ -118,11 +119,11 @@ returns-clause-kept g c =
     let y : Workspace = work_of g.D.Disk.files c.args.evaluation.now c.pair_windows.new.store in
     let a : Assignment = assignment_of c.args.at.now.numbers.now in
     let part : Part = part_of c.args.at.now.block.now in
-    let h : IsAtBlock x c.args.at.now.tail.now a part = record { space = c.index_count-indexes.ensures.limits; tree = c.count-nodes.ensures.kept; prepared = c.requires.prepared; tail_is = c.requires.tail; block = c.requires.block } in
+    let h : IsAtBlock x c.args.at.now.tail.now a part = c.requires.at in
     let ready = operands_ready x y c.args.at.now.tail.now a part c.args.right.now c.args.at.now.tail.now.node (slice_index c.args.first.now.numbers) c.pair_windows.new.windows h c.in_ok-pair_windows.ensures.kept c.in_ok-pair_windows.ensures.read
     c.requires.first c.requires.right c.in_ok-pair_windows.ensures.windows in
     let places = own_ready y c.args.at.now.tail.now a part c.args.right.now (slice_index c.args.first.now.numbers) c.pair_windows.new.windows ready c.requires.first c.in_ok-pair_windows.ensures.windows in
-    (pair_runs x y c.args.at.now.tail.now a part c.args.right.now c.operation_of-operation.result c.kind.result c.pair_windows.new.windows c.compute_turns.new.words c.requires.prepared c.in_ok-pair_windows.ensures.kept
+    (pair_runs x y c.args.at.now.tail.now a part c.args.right.now c.operation_of-operation.result c.kind.result c.pair_windows.new.windows c.compute_turns.new.words c.requires.at.prepared c.in_ok-pair_windows.ensures.kept
     c.in_ok-pair_windows.ensures.read ready places c.len-len.ensures.words c.requires.alone c.kind.ensures c.operation_of-operation.ensures c.compute_turns.ensures.made).kept
 
 pub returns-clause-nest : goal.returns-clause-nest

@@ -5,7 +5,8 @@ use Rattle.tce_block.specs.Parts.{Part}
 use Rattle.tce_walk.specs.Machine.{assignment_of}
 use Rattle.tce_workspace.specs.Workspace.{Workspace}
 use Rattle.tce_workspace.specs.Storages.{work_of}
-use Rattle.tce_exec.proofs.Turning.{IsAtBlock, block_loops}
+use Rattle.tce_exec.specs.TailBlocks.{IsAtBlock}
+use Rattle.tce_exec.proofs.Turning.{block_loops}
 use Rattle.tce_exec.proofs.Asking.{node_at_first}
 use Rattle.tce_exec.proofs.Stepping.{sum_steps}
 use Rattle.tce_exec.proofs.Running.{sum_ready, sum_runs}
@@ -16,7 +17,7 @@ sum_windows-requires-clause-node g c =
     let x : Workspace = work_of g.D.Disk.files c.args.evaluation.now c.args.store.now in
     let a : Assignment = assignment_of c.args.at.now.numbers.now in
     let part : Part = part_of c.args.at.now.block.now in
-    let h : IsAtBlock x c.args.at.now.tail.now a part = record { space = c.index_count-indexes.ensures.limits; tree = c.count-nodes.ensures.kept; prepared = c.requires.prepared; tail_is = c.requires.tail; block = c.requires.block } in
+    let h : IsAtBlock x c.args.at.now.tail.now a part = c.requires.at in
     node_at_first x c.args.at.now.tail.now a part (slice_index c.args.first.now.numbers) h c.requires.first
 
 pub grow_turns-requires-clause-loops : goal.grow_turns-requires-clause-loops
@@ -24,7 +25,7 @@ grow_turns-requires-clause-loops g c =
     let x : Workspace = work_of g.D.Disk.files c.args.evaluation.now c.args.store.now in
     let a : Assignment = assignment_of c.args.at.now.numbers.now in
     let part : Part = part_of c.args.at.now.block.now in
-    let h : IsAtBlock x c.args.at.now.tail.now a part = record { space = c.index_count-indexes.ensures.limits; tree = c.count-nodes.ensures.kept; prepared = c.requires.prepared; tail_is = c.requires.tail; block = c.requires.block } in
+    let h : IsAtBlock x c.args.at.now.tail.now a part = c.requires.at in
     block_loops x c.args.at.now.tail.now a part h
 
 pub grow_turns-requires-clause-out : goal.grow_turns-requires-clause-out
@@ -33,7 +34,7 @@ grow_turns-requires-clause-out g c =
     let y : Workspace = work_of g.D.Disk.files c.args.evaluation.now c.sum_windows.new.store in
     let a : Assignment = assignment_of c.args.at.now.numbers.now in
     let part : Part = part_of c.args.at.now.block.now in
-    let h : IsAtBlock x c.args.at.now.tail.now a part = record { space = c.index_count-indexes.ensures.limits; tree = c.count-nodes.ensures.kept; prepared = c.requires.prepared; tail_is = c.requires.tail; block = c.requires.block } in
+    let h : IsAtBlock x c.args.at.now.tail.now a part = c.requires.at in
     let ready = sum_ready x y c.args.at.now.tail.now a part (slice_index c.args.first.now.numbers) c.sum_windows.new.windows h c.in_ok-sum_windows.ensures.kept c.in_ok-sum_windows.ensures.read c.requires.first
     c.in_ok-sum_windows.ensures.windows in
     ready.out
@@ -44,7 +45,7 @@ grow_turns-requires-clause-operand g c =
     let y : Workspace = work_of g.D.Disk.files c.args.evaluation.now c.sum_windows.new.store in
     let a : Assignment = assignment_of c.args.at.now.numbers.now in
     let part : Part = part_of c.args.at.now.block.now in
-    let h : IsAtBlock x c.args.at.now.tail.now a part = record { space = c.index_count-indexes.ensures.limits; tree = c.count-nodes.ensures.kept; prepared = c.requires.prepared; tail_is = c.requires.tail; block = c.requires.block } in
+    let h : IsAtBlock x c.args.at.now.tail.now a part = c.requires.at in
     let ready = sum_ready x y c.args.at.now.tail.now a part (slice_index c.args.first.now.numbers) c.sum_windows.new.windows h c.in_ok-sum_windows.ensures.kept c.in_ok-sum_windows.ensures.read c.requires.first
     c.in_ok-sum_windows.ensures.windows in
     ready.operand
@@ -55,7 +56,7 @@ grow_turns-requires-clause-apart g c =
     let y : Workspace = work_of g.D.Disk.files c.args.evaluation.now c.sum_windows.new.store in
     let a : Assignment = assignment_of c.args.at.now.numbers.now in
     let part : Part = part_of c.args.at.now.block.now in
-    let h : IsAtBlock x c.args.at.now.tail.now a part = record { space = c.index_count-indexes.ensures.limits; tree = c.count-nodes.ensures.kept; prepared = c.requires.prepared; tail_is = c.requires.tail; block = c.requires.block } in
+    let h : IsAtBlock x c.args.at.now.tail.now a part = c.requires.at in
     let ready = sum_ready x y c.args.at.now.tail.now a part (slice_index c.args.first.now.numbers) c.sum_windows.new.windows h c.in_ok-sum_windows.ensures.kept c.in_ok-sum_windows.ensures.read c.requires.first
     c.in_ok-sum_windows.ensures.windows in
     ready.apart
@@ -66,10 +67,10 @@ returns-clause-changed g c =
     let y : Workspace = work_of g.D.Disk.files c.args.evaluation.now c.sum_windows.new.store in
     let a : Assignment = assignment_of c.args.at.now.numbers.now in
     let part : Part = part_of c.args.at.now.block.now in
-    let h : IsAtBlock x c.args.at.now.tail.now a part = record { space = c.index_count-indexes.ensures.limits; tree = c.count-nodes.ensures.kept; prepared = c.requires.prepared; tail_is = c.requires.tail; block = c.requires.block } in
+    let h : IsAtBlock x c.args.at.now.tail.now a part = c.requires.at in
     let ready = sum_ready x y c.args.at.now.tail.now a part (slice_index c.args.first.now.numbers) c.sum_windows.new.windows h c.in_ok-sum_windows.ensures.kept c.in_ok-sum_windows.ensures.read c.requires.first
     c.in_ok-sum_windows.ensures.windows in
-    (sum_runs x y c.args.at.now.tail.now a part c.sum_windows.new.windows c.grow_turns.new.words c.requires.prepared c.in_ok-sum_windows.ensures.kept c.in_ok-sum_windows.ensures.read ready c.len-len.ensures.words c.requires.sum
+    (sum_runs x y c.args.at.now.tail.now a part c.sum_windows.new.windows c.grow_turns.new.words c.requires.at.prepared c.in_ok-sum_windows.ensures.kept c.in_ok-sum_windows.ensures.read ready c.len-len.ensures.words c.requires.sum
     c.grow_turns.ensures.made).changed
 
 pub returns-clause-kept : goal.returns-clause-kept
@@ -78,10 +79,10 @@ returns-clause-kept g c =
     let y : Workspace = work_of g.D.Disk.files c.args.evaluation.now c.sum_windows.new.store in
     let a : Assignment = assignment_of c.args.at.now.numbers.now in
     let part : Part = part_of c.args.at.now.block.now in
-    let h : IsAtBlock x c.args.at.now.tail.now a part = record { space = c.index_count-indexes.ensures.limits; tree = c.count-nodes.ensures.kept; prepared = c.requires.prepared; tail_is = c.requires.tail; block = c.requires.block } in
+    let h : IsAtBlock x c.args.at.now.tail.now a part = c.requires.at in
     let ready = sum_ready x y c.args.at.now.tail.now a part (slice_index c.args.first.now.numbers) c.sum_windows.new.windows h c.in_ok-sum_windows.ensures.kept c.in_ok-sum_windows.ensures.read c.requires.first
     c.in_ok-sum_windows.ensures.windows in
-    (sum_runs x y c.args.at.now.tail.now a part c.sum_windows.new.windows c.grow_turns.new.words c.requires.prepared c.in_ok-sum_windows.ensures.kept c.in_ok-sum_windows.ensures.read ready c.len-len.ensures.words c.requires.sum
+    (sum_runs x y c.args.at.now.tail.now a part c.sum_windows.new.windows c.grow_turns.new.words c.requires.at.prepared c.in_ok-sum_windows.ensures.kept c.in_ok-sum_windows.ensures.read ready c.len-len.ensures.words c.requires.sum
     c.grow_turns.ensures.made).kept
 
 pub returns-clause-nest : goal.returns-clause-nest
