@@ -5,6 +5,7 @@
 pub mod laws;
 mod loops;
 mod results;
+mod rows;
 mod runs;
 mod sums;
 

@@ -5,7 +5,7 @@ ghost use Rattle.tce_strides.specs.Steps.{lens};
 ghost use Rattle.tce_strides.specs.Running.{CanRun, IsOutWithin, IsLeftWithin, IsRightWithin, IsApartFromLeft, IsApartFromRight, AreTurned, AreProductsAdded, AreComputed};
 
 use crate::loops::{Loop, Rows, Turn};
-use crate::runs;
+use crate::{rows, runs};
 use tce_space::Arithmetic;
 use tce_words::Words;
 
@@ -66,7 +66,7 @@ fn turns_below(words: &mut Words, turn: Turn, loops: &[Loop], out: u64, left: u6
                 outer: *outer,
                 along: *along,
             };
-            runs::turns_in_rows(words, turn, rows, out, left, right);
+            rows::turns_in_rows(words, turn, rows, out, left, right);
         }
         [first, rest @ ..] => {
             for x in 0..first.len {

@@ -1,6 +1,6 @@
 use Rattle.std.proofs.Common.{length, arith}
 use Rattle.tce_strides.proofs.FourWords.{four_turns, four_within}
-use Rattle.tce_strides.proofs.runs.grow_four.Goals as goal
+use Rattle.tce_strides.proofs.rows.grow_four.Goals as goal
 
 pub turn_once-requires-clause-out : goal.turn_once-requires-clause-out
 turn_once-requires-clause-out c =

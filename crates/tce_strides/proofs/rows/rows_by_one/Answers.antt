@@ -1,6 +1,6 @@
 use Rattle.std.proofs.Common.{[], ◌∷◌, length, refl, arith}
 use Rattle.tce_strides.proofs.Outer.{turn_rest, turn_bases, turn_turns_more}
-use Rattle.tce_strides.proofs.runs.rows_by_one.Goals as goal
+use Rattle.tce_strides.proofs.rows.rows_by_one.Goals as goal
 
 pub overflow_mul-x : goal.overflow_mul-x
 overflow_mul-x c =

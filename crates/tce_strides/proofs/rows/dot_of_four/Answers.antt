@@ -5,7 +5,7 @@ use Rattle.tce_strides.specs.Rows.{four_products}
 use Rattle.tce_strides.specs.declared.loops.Turn.TheVariants.{Grow}
 use Rattle.tce_strides.proofs.FourWords.{four_are}
 use Rattle.tce_strides.proofs.Innermost.{made_at_one, first_within}
-use Rattle.tce_strides.proofs.runs.dot_of_four.Goals as goal
+use Rattle.tce_strides.proofs.rows.dot_of_four.Goals as goal
 
 pub get-requires : goal.get-requires
 get-requires c = first_within _ _ _ _ c.requires.run.positive.0 c.requires.run.out_within

@@ -1,7 +1,7 @@
 use Rattle.std.proofs.Common.{[], ◌∷◌, length, refl, arith}
 use Rattle.tce_strides.specs.declared.loops.Turn.TheVariants.{Grow}
 use Rattle.tce_strides.proofs.Outer.{turn_rest, turn_bases, turn_turns_more}
-use Rattle.tce_strides.proofs.runs.rows_of_four.Goals as goal
+use Rattle.tce_strides.proofs.rows.dots_of_four.Goals as goal
 
 pub overflow_mul-x : goal.overflow_mul-x
 overflow_mul-x c =
@@ -39,8 +39,8 @@ overflow_add-right c =
     let bases = turn_bases (length c.args.words.now) c.args.rows.outer (c.args.rows.along ∷ []) (c.args.rows.outer ∷ c.args.rows.along ∷ []) c.args.out c.args.left c.args.right c.loop-x.x refl fit c.loop-x-test.true in
     omega (arith, bases.2, c.requires.limit)
 
-pub grow_four-requires-clause-run : goal.grow_four-requires-clause-run
-grow_four-requires-clause-run c =
+pub dot_of_four-requires-clause-run : goal.dot_of_four-requires-clause-run
+dot_of_four-requires-clause-run c =
     let fit = c.requires.run in
     let inner = turn_rest (length c.args.words.now) (length c.loop-x.words) c.args.rows.outer (c.args.rows.along ∷ []) (c.args.rows.outer ∷ c.args.rows.along ∷ []) c.args.out c.args.left c.args.right c.loop-x.x refl fit c.loop-x.invariant.same_length c.loop-x-test.true in
     inner
@@ -48,5 +48,5 @@ grow_four-requires-clause-run c =
 pub loop-x-preserved : goal.loop-x-preserved
 loop-x-preserved c =
     let fit = c.requires.run in
-    turn_turns_more Grow c.args.rows.outer (c.args.rows.along ∷ []) (c.args.rows.outer ∷ c.args.rows.along ∷ []) c.args.out c.args.left c.args.right c.loop-x.x c.args.words.now c.loop-x.words c.grow_four.new.words
-    refl fit c.loop-x-test.true c.loop-x.invariant c.grow_four.ensures
+    turn_turns_more Grow c.args.rows.outer (c.args.rows.along ∷ []) (c.args.rows.outer ∷ c.args.rows.along ∷ []) c.args.out c.args.left c.args.right c.loop-x.x c.args.words.now c.loop-x.words c.dot_of_four.new.words
+    refl fit c.loop-x-test.true c.loop-x.invariant c.dot_of_four.ensures

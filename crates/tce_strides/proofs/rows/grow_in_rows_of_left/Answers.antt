@@ -2,7 +2,7 @@ use Rattle.std.proofs.Common.{[], ◌∷◌}
 use Rattle.tce_space.specs.Box.{places}
 use Rattle.tce_strides.specs.Places.{word_place}
 use Rattle.tce_strides.proofs.Fours.{made_swapped}
-use Rattle.tce_strides.proofs.runs.grow_in_rows_of_left.Goals as goal
+use Rattle.tce_strides.proofs.rows.grow_in_rows_of_left.Goals as goal
 
 pub returns-then-is_scaled : goal.returns-then-is_scaled
 returns-then-is_scaled c =

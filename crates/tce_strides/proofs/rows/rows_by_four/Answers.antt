@@ -2,7 +2,7 @@ use Rattle.std.proofs.Common.{◌≡◌, ◌*◌, [], ◌∷◌, length, refl, s
 use Rattle.tce_strides.specs.declared.loops.Turn.TheVariants.{Grow}
 use Rattle.tce_strides.proofs.Fours.{RowFit, AreRowsMade, out_within, factors_within, rows_within, factors_apart, rows_apart, four_more}
 use Rattle.tce_strides.proofs.Outer.{turn_rest, turn_bases, turn_turns_more}
-use Rattle.tce_strides.proofs.runs.rows_by_four.Goals as goal
+use Rattle.tce_strides.proofs.rows.rows_by_four.Goals as goal
 
 pub overflow_mul-factors : goal.overflow_mul-factors
 overflow_mul-factors c =
