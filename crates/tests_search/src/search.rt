@@ -1,10 +1,10 @@
 //! The plans of `(sum{k}(A[i,k])) * (sum{l}(B[j,l]))` with i of extent 5, j of 7, k and l of 2, and of three sums with indexes a to f of extent 3000 and i to l of extent 100.
 
-use crate::given::{TWO_SUMS, spec_of};
+use crate::given::{TWO_SUMS, number, part, set, spec_of};
 use std::alloc::Global;
 use std::process::Abort;
 use tce_nesting::{Plan, Row};
-use tce_search::search;
+use tce_search::{search, search_within};
 
 // a to f of extent 3000, i to l of extent 100.
 const THREE_SUMS: &str =
@@ -72,4 +72,47 @@ fn three_sums_keep_few_elements(rt: HostRuntime) {
     expect_fused(&rt, &plan, wanted.as_slice());
     // all dims of the first product in one class
     expect_first_row(&rt, &plan, 5, 0b1000111110, 1);
+}
+
+// Lines of a tree by its name, a guess of its least memory, a limit, and the memory and the sets of the plan within the
+// limit, or a dash where each legal fusion takes more.
+const WITHIN: &str =
+    "two;0;0;-\ntwo;0;5;-\ntwo;6;5;-\ntwo;1267650600228229401496703205376;5;-\ntwo;0;6;6;,1,\ntwo;3;6;6;,1,\ntwo;6;6;6;,1,\ntwo;7;7;6;,1,\ntwo;1267650600228229401496703205376;18446744073709551615;6;,1,\nthree;0;10003;-\nthree;10004;10003;-\nthree;0;10004;10004;123459,1235,123578,12,012678,\nthree;10004;10004;10004;123459,1235,123578,12,012678,\nthree;20000;1125899906842624;10004;123459,1235,123578,12,012678,";
+
+fn tree_named(name: &str) -> &'static str {
+    if name == "two" { TWO_SUMS } else { THREE_SUMS }
+}
+
+// The plan has this memory and these sets, each by the digits of its indexes.
+fn expect_plan(rt: &impl Abort, plan: &Plan, memory: &str, sets: &str) {
+    expect_memory(rt, plan, number(rt, memory));
+    assert!(rt; sets.split(',').count() == plan.fusion.0.len());
+    for (place, fused) in plan.fusion.0.as_slice().iter().enumerate() {
+        assert!(rt; fused.bits() == set(part(sets, ',', place)).bits());
+    }
+}
+
+fn limit_of(rt: &impl Abort, word: &str) -> u64 {
+    match word.parse::<u64>() {
+        Ok(limit) => limit,
+        Err(_) => panic!(rt; "no limit: {word}"),
+    }
+}
+
+fn expect_within(rt: &impl Abort, alloc: Global, line: &str) {
+    let spec = spec_of(rt, alloc, tree_named(part(line, ';', 0)));
+    let guess = number(rt, part(line, ';', 1));
+    let limit = limit_of(rt, part(line, ';', 2));
+    match search_within(alloc, spec.space(), spec.tree(), guess, limit) {
+        Ok(Some(plan)) => expect_plan(rt, &plan, part(line, ';', 3), part(line, ';', 4)),
+        Ok(None) => assert!(rt; part(line, ';', 3) == "-", "{line}"),
+        Err(_) => panic!(rt; "no memory"),
+    }
+}
+
+#[test]
+fn plans_are_within_their_limits(rt: HostRuntime) {
+    for line in WITHIN.split('\n') {
+        expect_within(&rt, rt.alloc(), line);
+    }
 }
