@@ -1,5 +1,5 @@
 -- The loops along which a place moves, before those along which it stays.
-use Rattle.std.proofs.Common.{◌≡◌, ℕ, ◌+◌, ◌-◌, ◌*◌, ◌<◌, not, eqb, List, [], ◌∷◌, ◌++◌, map, filter, length, slice_index, sum_by, refl, sym, ap, ◌∙◌, subst, inl, inr, arith, zero-add, add-zero}
+use Rattle.std.proofs.Common.{◌≡◌, ℕ, ◌+◌, ◌-◌, ◌*◌, ◌<◌, not, eqb, List, [], ◌∷◌, ◌++◌, map, filter, length, slice_index, sum_by, take, refl, sym, ap, ◌∙◌, subst, inl, inr, arith, zero-add, add-zero}
 use Rattle.std.specs.List.{All}
 use Rattle.std.specs.List.Sorted.{IsPermutation}
 use Rattle.std.proofs.lemmas.Bool.{cases_Bool, eqb-true}
@@ -17,8 +17,10 @@ use Rattle.tce_strides.specs.declared.loops.Loop.{Loop}
 use Rattle.tce_space.specs.declared.arithmetic.Arithmetic.{Arithmetic}
 use Rattle.tce_windows.specs.Loops.{AreLoops, AreMade, numbers_along, place_along}
 use Rattle.tce_windows.specs.Nests.{IsNest, indexes_of, lens_of, pair_loop, moves, advanced}
+use Rattle.tce_windows.specs.Sequences.{ArePuts}
 use Rattle.tce_windows.specs.Windows.{steps_along}
 use Rattle.tce_windows.specs.declared.nest.Axis.{Axis}
+use Rattle.tce_windows.specs.declared.sequence.LoopSequence.{LoopSequence}
 use Rattle.tce_windows.specs.declared.window.Window.{Window}
 use Rattle.tce_windows.proofs.Calls.{positive_nest, within_nest, apart_nest, lens_are, out_are, left_are, right_are}
 use Rattle.tce_windows.proofs.Nests.{same_numbers}
@@ -255,10 +257,10 @@ some_axes order ns axes loops nest =
     all_some [] h = All-nil (λ (x : Axis). 0 < x.len)
     all_some (x ∷ axes) h = All-cons (λ (x : Axis). 0 < x.len) x axes h.0 (all_some axes h.1)
 
-pub runs_kept : (out left right : Window) (axes now : List Axis) (loops : List Loop) (f g : ℕ) → now ≡ axes → f ≡ left.first + sum_by (advanced out left) now
-    → g ≡ right.first + sum_by (advanced out right) now → loops ≡ map (pair_loop out left right) (filter (moves out) now) → RunsKept out left right axes loops f g
-runs_kept out left right axes now loops f g e at there made = record {
-  loops_are = made ∙ ap (λ zs. map (pair_loop out left right) (filter (moves out) zs)) e;
-  left_is = at ∙ ap (λ zs. left.first + sum_by (advanced out left) zs) e;
-  right_is = there ∙ ap (λ zs. right.first + sum_by (advanced out right) zs) e;
+pub runs_kept : (out left right : Window) (sequence : LoopSequence) → ArePuts out left right sequence
+    → RunsKept out left right sequence.axes.items (take sequence.moving.count sequence.puts) (left.first + sequence.moving.left) (right.first + sequence.moving.right)
+runs_kept out left right sequence puts = record {
+  loops_are = puts.loops_are;
+  left_is = ap (λ n. left.first + n) puts.left_is;
+  right_is = ap (λ n. right.first + n) puts.right_is;
 }

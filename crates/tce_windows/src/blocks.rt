@@ -2,9 +2,9 @@
 ghost use Rattle.std.specs.Prelude.{◌≡◌, length};
 ghost use Rattle.tce_windows.specs.Loops.{AreLoops, IsWindowWithin, AreWindowsApart, IsResultWindow, HasGrown, HasGrownByProducts, IsComputed, AreProductsJoined};
 ghost use Rattle.tce_windows.specs.Nests.{IsNest};
-ghost use Rattle.tce_windows.specs.Sequences.{IsLoopSequence};
+ghost use Rattle.tce_windows.specs.Sequences.{IsLoopSequence, ArePuts, AreProducts, AreFilled, FitWindows};
 
-use crate::nest::{fill_pair_loops, fill_sum_loops};
+use crate::nest::{fill_pair_loops, fill_sum_loops, have_lens};
 use crate::sequence::LoopSequence;
 use crate::still::fill_moving_loops;
 use crate::window::Window;
@@ -83,19 +83,28 @@ pub fn grow_by_products(
         words.old words.new }
 {
     sequence.begin(loops.indexes, loops.lens);
-    grow_begun(words, sequence, loops, out, operands);
+    fill_pair_loops(
+        sequence.axes.as_slice(),
+        out,
+        operands.left,
+        operands.right,
+        &mut sequence.pairs,
+    );
+    grow_filled(words, sequence, loops, out, operands);
 }
 
-// Adds the products, where the loops have their numbers.
+// Adds the products by the loops that stand there.
 #[inline]
-fn grow_begun(
+fn grow_filled(
     words: &mut Words,
-    sequence: &mut LoopSequence,
+    sequence: &LoopSequence,
     _loops: &BlockLoops,
     out: &Window,
     operands: &OperandWindows,
 )
-    requires nest { IsNest _loops.now.indexes.now _loops.now.lens.now sequence.old.axes.items }
+    requires nest { IsNest _loops.now.indexes.now _loops.now.lens.now sequence.now.axes.items }
+    requires products { AreProducts out.now operands.now.left.now operands.now.right.now
+        sequence.now }
     requires loops { AreLoops _loops.now.indexes.now _loops.now.lens.now }
     requires out { IsWindowWithin (length words.old) _loops.now.indexes.now _loops.now.lens.now
         out.now }
@@ -107,20 +116,12 @@ fn grow_begun(
         operands.now.left.now }
     requires apart_from_right { AreWindowsApart _loops.now.indexes.now _loops.now.lens.now out.now
         operands.now.right.now }
-    ensures axes { sequence.new.axes ≡ sequence.old.axes }
-    ensures made { HasGrownByProducts _loops.now.indexes.now _loops.now.lens.now out.now
+    ensures { HasGrownByProducts _loops.now.indexes.now _loops.now.lens.now out.now
         operands.now.left.now
         operands.now.right.now
         words.old words.new }
 {
     let count = sequence.axes.len();
-    fill_pair_loops(
-        sequence.axes.as_slice(),
-        out,
-        operands.left,
-        operands.right,
-        &mut sequence.pairs,
-    );
     tce_strides::grow_by_products(
         words,
         &sequence.pairs[..count],
@@ -162,20 +163,45 @@ pub fn compute(
         words.old words.new }
 {
     sequence.begin(loops.indexes, loops.lens);
-    compute_begun(words, operation, sequence, loops, out, operands);
+    fill_puts(words, sequence, loops, out, operands);
+    compute_filled(words, operation, sequence, loops, out, operands);
 }
 
-// Sets the results, where the loops have their numbers.
-#[inline]
-fn compute_begun(
-    words: &mut Words,
-    operation: Arithmetic,
+// Finds the loops along which the place of the result moves, where the loops have their numbers.
+fn fill_puts(
+    words: &Words,
     sequence: &mut LoopSequence,
     _loops: &BlockLoops,
     out: &Window,
     operands: &OperandWindows,
 )
     requires nest { IsNest _loops.now.indexes.now _loops.now.lens.now sequence.old.axes.items }
+    requires loops { AreLoops _loops.now.indexes.now _loops.now.lens.now }
+    requires left { IsWindowWithin (length words.now) _loops.now.indexes.now _loops.now.lens.now
+        operands.now.left.now }
+    requires right { IsWindowWithin (length words.now) _loops.now.indexes.now _loops.now.lens.now
+        operands.now.right.now }
+    ensures axes { sequence.new.axes ≡ sequence.old.axes }
+    ensures puts { ArePuts out.now operands.now.left.now operands.now.right.now sequence.new }
+{
+    // The length's limit keeps the places within a word.
+    let _count = words.len();
+    let axes = sequence.axes.as_slice();
+    sequence.moving = fill_moving_loops(axes, out, operands, &mut sequence.puts);
+}
+
+// Sets the results by the loops that stand there.
+#[inline]
+fn compute_filled(
+    words: &mut Words,
+    operation: Arithmetic,
+    sequence: &LoopSequence,
+    _loops: &BlockLoops,
+    out: &Window,
+    operands: &OperandWindows,
+)
+    requires nest { IsNest _loops.now.indexes.now _loops.now.lens.now sequence.now.axes.items }
+    requires puts { ArePuts out.now operands.now.left.now operands.now.right.now sequence.now }
     requires loops { AreLoops _loops.now.indexes.now _loops.now.lens.now }
     requires out { IsWindowWithin (length words.old) _loops.now.indexes.now _loops.now.lens.now
         out.now }
@@ -187,22 +213,21 @@ fn compute_begun(
         operands.now.left.now }
     requires apart_from_right { AreWindowsApart _loops.now.indexes.now _loops.now.lens.now out.now
         operands.now.right.now }
-    ensures axes { sequence.new.axes ≡ sequence.old.axes }
-    ensures made { IsComputed operation _loops.now.indexes.now _loops.now.lens.now out.now
+    ensures { IsComputed operation _loops.now.indexes.now _loops.now.lens.now out.now
         operands.now.left.now
         operands.now.right.now
         words.old words.new }
 {
     // The length's limit keeps the places within a word.
     let _count = words.len();
-    let moving = fill_moving_loops(sequence.axes.as_slice(), out, operands, &mut sequence.pairs);
+    let moving = sequence.moving;
     tce_strides::compute(
         words,
         operation,
-        &sequence.pairs[..moving.count],
+        &sequence.puts[..moving.count],
         out.first,
-        moving.left,
-        moving.right,
+        operands.left.first + moving.left,
+        operands.right.first + moving.right,
     );
 }
 
@@ -238,9 +263,110 @@ pub fn compute_and_grow(
         operands.now.right.now
         words.old words.new }
 {
-    sequence.begin(loops.indexes, loops.lens);
-    compute_begun(words, Arithmetic::Multiply, sequence, loops, own, operands);
+    sequence.filled = false;
+    compute_and_grow_again(words, sequence, loops, own, out, operands);
+}
+
+/// The same, where the windows have the steps of those of the call before, if that has filled the sequence's loops. They are
+/// filled anew only where a loop has another number of turns.
+pub fn compute_and_grow_again(
+    words: &mut Words,
+    sequence: &mut LoopSequence,
+    loops: &BlockLoops,
+    own: &Window,
+    out: &Window,
+    operands: &OperandWindows,
+)
+    requires sequence { IsLoopSequence loops.now.indexes.now sequence.old }
+    requires fit { FitWindows own.now out.now operands.now.left.now operands.now.right.now
+        sequence.old }
+    requires loops { AreLoops loops.now.indexes.now loops.now.lens.now }
+    requires own { IsResultWindow (length words.old) loops.now.indexes.now loops.now.lens.now
+        own.now
+        operands.now.left.now
+        operands.now.right.now }
+    requires out { IsResultWindow (length words.old) loops.now.indexes.now loops.now.lens.now
+        out.now
+        operands.now.left.now
+        operands.now.right.now }
+    requires left { IsWindowWithin (length words.old) loops.now.indexes.now loops.now.lens.now
+        operands.now.left.now }
+    requires right { IsWindowWithin (length words.old) loops.now.indexes.now loops.now.lens.now
+        operands.now.right.now }
+    ensures sequence { IsLoopSequence loops.now.indexes.now sequence.new }
+    ensures fit { FitWindows own.now out.now operands.now.left.now operands.now.right.now
+        sequence.new }
+    ensures made { AreProductsJoined loops.now.indexes.now loops.now.lens.now own.now out.now
+        operands.now.left.now
+        operands.now.right.now
+        words.old words.new }
+{
+    refill(words, sequence, loops, own, out, operands);
+    compute_filled(words, Arithmetic::Multiply, sequence, loops, own, operands);
     // All words are below 2^64 where the products are put.
     let _len = words.len();
-    grow_begun(words, sequence, loops, out, operands);
+    grow_filled(words, sequence, loops, out, operands);
+}
+
+// Has the loops that put and that add products stand there: those of the call before, where they have the same numbers.
+#[inline]
+fn refill(
+    words: &Words,
+    sequence: &mut LoopSequence,
+    loops: &BlockLoops,
+    own: &Window,
+    out: &Window,
+    operands: &OperandWindows,
+)
+    requires sequence { IsLoopSequence loops.now.indexes.now sequence.old }
+    requires fit { FitWindows own.now out.now operands.now.left.now operands.now.right.now
+        sequence.old }
+    requires loops { AreLoops loops.now.indexes.now loops.now.lens.now }
+    requires left { IsWindowWithin (length words.now) loops.now.indexes.now loops.now.lens.now
+        operands.now.left.now }
+    requires right { IsWindowWithin (length words.now) loops.now.indexes.now loops.now.lens.now
+        operands.now.right.now }
+    ensures sequence { IsLoopSequence loops.now.indexes.now sequence.new }
+    ensures nest { IsNest loops.now.indexes.now loops.now.lens.now sequence.new.axes.items }
+    ensures filled { AreFilled own.now out.now operands.now.left.now operands.now.right.now
+        sequence.new }
+{
+    if sequence.filled && have_lens(sequence.axes.as_slice(), loops.indexes, loops.lens) {
+        return;
+    }
+    fill(words, sequence, loops, own, out, operands);
+}
+
+// Fills the loops that put and that add products.
+#[inline(never)]
+fn fill(
+    words: &Words,
+    sequence: &mut LoopSequence,
+    loops: &BlockLoops,
+    own: &Window,
+    out: &Window,
+    operands: &OperandWindows,
+)
+    requires sequence { IsLoopSequence loops.now.indexes.now sequence.old }
+    requires loops { AreLoops loops.now.indexes.now loops.now.lens.now }
+    requires left { IsWindowWithin (length words.now) loops.now.indexes.now loops.now.lens.now
+        operands.now.left.now }
+    requires right { IsWindowWithin (length words.now) loops.now.indexes.now loops.now.lens.now
+        operands.now.right.now }
+    ensures sequence { IsLoopSequence loops.now.indexes.now sequence.new }
+    ensures nest { IsNest loops.now.indexes.now loops.now.lens.now sequence.new.axes.items }
+    ensures filled { AreFilled own.now out.now operands.now.left.now operands.now.right.now
+        sequence.new }
+{
+    sequence.begin(loops.indexes, loops.lens);
+    fill_puts(words, sequence, loops, own, operands);
+    let axes = sequence.axes.as_slice();
+    fill_pair_loops(
+        axes,
+        out,
+        operands.left,
+        operands.right,
+        &mut sequence.pairs,
+    );
+    sequence.filled = true;
 }

@@ -1,5 +1,5 @@
 // The sequence in which loops run.
-ghost use Rattle.std.specs.Prelude.{◌≡◌, ℕ, ◌<◌, ◌≤◌, List, length, map, take, slice_set};
+ghost use Rattle.std.specs.Prelude.{◌≡◌, ℕ, ◌<◌, ◌≤◌, IsTrue, List, length, map, take, slice_set};
 ghost use Rattle.std.specs.List.{All};
 ghost use Rattle.tce_space.specs.Limits.{max_indexes, max_loops};
 ghost use Rattle.tce_windows.specs.Loops.{AreLoops};
@@ -89,6 +89,21 @@ pub(crate) fn set_lens(axes: &mut [Axis], _loops: &[u8], lens: &[u64])
     for d in 0..axes.len() {
         axes[d].len = lens[axes[d].at];
     }
+}
+
+/// Whether each loop has its numbers in a block already.
+#[inline]
+pub(crate) fn have_lens(axes: &[Axis], _loops: &[u8], lens: &[u64]) -> bool
+    requires placed { ArePlaced _loops.now axes.now }
+    requires each { length lens.now ≡ length _loops.now }
+    ensures { IsTrue result → axes.now ≡ map (with_len lens.now) axes.now }
+{
+    for d in 0..axes.len() {
+        if axes[d].len != lens[axes[d].at] {
+            return false;
+        }
+    }
+    true
 }
 
 // Puts a loop into its place, where another one stands there: from block to block most stay.

@@ -1,10 +1,11 @@
 //! The sequence in which the loops of blocks run.
-ghost use Rattle.std.specs.Prelude.{◌≡◌, ◌≤◌, length};
+ghost use Rattle.std.specs.Prelude.{◌≡◌, ◌≤◌, false, length};
 ghost use Rattle.tce_space.specs.Limits.{max_loops};
 ghost use Rattle.tce_windows.specs.Loops.{AreLoops};
 ghost use Rattle.tce_windows.specs.Nests.{IsNest};
 
 use crate::nest::{Axis, axes_of, set_lens};
+use crate::still::Moving;
 use crate::window::Window;
 use arrayvec::ArrayVec;
 use tce_space::MAX_LOOPS;
@@ -12,16 +13,20 @@ use tce_strides::{Loop, SumLoop};
 
 /// The sequence in which loops run best over windows with some steps, the last one innermost, for one block after another.
 ///
-/// It has room for the loops of the block that runs, with their steps.
+/// It has room for the loops of the block that runs, with their steps. From block to block of a joined product most stay.
 #[derive(Drop)]
 pub struct LoopSequence {
     pub(crate) axes: ArrayVec<Axis, MAX_LOOPS>,
     pub(crate) sums: [SumLoop; MAX_LOOPS],
     pub(crate) pairs: [Loop; MAX_LOOPS],
+    pub(crate) puts: [Loop; MAX_LOOPS],
+    pub(crate) moving: Moving,
+    // Whether the loops that put and that add products are those of the block before.
+    pub(crate) filled: bool,
 }
 
 impl LoopSequence {
-    ghost use Rattle.tce_windows.specs.Sequences.{IsLoopSequence};
+    ghost use Rattle.tce_windows.specs.Sequences.{IsLoopSequence, IsUnfilled};
 
     /// The sequence for blocks with so many numbers in each loop, over windows with these steps. Loops of other lengths may
     /// run in it too.
@@ -34,10 +39,17 @@ impl LoopSequence {
     ) -> LoopSequence
         requires few { length loops.now ≤ max_loops }
         requires loops { AreLoops loops.now lens.now }
-        ensures { IsLoopSequence loops.now result }
+        ensures sequence { IsLoopSequence loops.now result }
+        ensures unfilled { IsUnfilled result }
     {
         let mut axes = axes_of(loops, lens, out, left, right);
         axes.sort_unstable_by_key(|axis| axis.rank);
+        let pair = Loop {
+            len: 1,
+            out: 0,
+            left: 0,
+            right: 0,
+        };
         LoopSequence {
             axes,
             sums: [SumLoop {
@@ -45,12 +57,10 @@ impl LoopSequence {
                 out: 0,
                 operand: 0,
             }; MAX_LOOPS],
-            pairs: [Loop {
-                len: 1,
-                out: 0,
-                left: 0,
-                right: 0,
-            }; MAX_LOOPS],
+            pairs: [pair; MAX_LOOPS],
+            puts: [pair; MAX_LOOPS],
+            moving: Moving::default(),
+            filled: false,
         }
     }
 
@@ -62,5 +72,6 @@ impl LoopSequence {
         ensures sequence { IsLoopSequence loops.now self.new }
     {
         set_lens(self.axes.as_mut_slice(), loops, lens);
+        self.filled = false;
     }
 }

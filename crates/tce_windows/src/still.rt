@@ -10,8 +10,9 @@ use crate::window::Window;
 use tce_space::MAX_LOOPS;
 use tce_strides::Loop;
 
-/// The loops along which the place of a result moves, and where the operands begin: all other loops have their last numbers.
-#[derive(Drop)]
+/// How many loops there are along which the place of a result moves, and how far the operands' places are moved before they
+/// run: all other loops have their last numbers.
+#[derive(Clone, Copy, Default)]
 pub(crate) struct Moving {
     pub(crate) count: usize,
     pub(crate) left: u64,
@@ -34,8 +35,8 @@ fn advance(axis: Axis, out: &Window, window: &Window) -> u64
     }
 }
 
-/// Puts the loops along which the place of the result moves at the front of a list, and answers how many they are, and the
-/// places of the operands' words where all other loops have their last numbers, and these their first ones.
+/// Puts the loops along which the place of the result moves at the front of a list, and answers how many they are, and how far
+/// the operands' words are moved where all other loops have their last numbers, and these their first ones.
 #[inline]
 pub(crate) fn fill_moving_loops(
     axes: &[Axis],
@@ -46,27 +47,23 @@ pub(crate) fn fill_moving_loops(
     requires few { length axes.now ≤ max_loops }
     requires below { All (λ x. x.index < max_indexes) axes.now }
     requires some { All (λ x. 0 < x.len) axes.now }
-    requires left { operands.now.left.now.first
-        + sum_by (advanced out.now operands.now.left.now) axes.now < 2 ^ 60 }
-    requires right { operands.now.right.now.first
-        + sum_by (advanced out.now operands.now.right.now) axes.now < 2 ^ 60 }
+    requires left { sum_by (advanced out.now operands.now.left.now) axes.now < 2 ^ 60 }
+    requires right { sum_by (advanced out.now operands.now.right.now) axes.now < 2 ^ 60 }
     ensures few { result.count ≤ max_loops }
     ensures loops { take result.count loops.new
         ≡ moving_loops out.now operands.now.left.now operands.now.right.now axes.now }
-    ensures left { result.left
-        ≡ operands.now.left.now.first + sum_by (advanced out.now operands.now.left.now) axes.now }
-    ensures right { result.right ≡ operands.now.right.now.first
-        + sum_by (advanced out.now operands.now.right.now) axes.now }
+    ensures left { result.left ≡ sum_by (advanced out.now operands.now.left.now) axes.now }
+    ensures right { result.right ≡ sum_by (advanced out.now operands.now.right.now) axes.now }
 {
     let left = operands.left;
     let right = operands.right;
     let mut count = 0;
-    let mut left_first = left.first;
-    let mut right_first = right.first;
+    let mut left_moved = 0;
+    let mut right_moved = 0;
     for axis in axes {
         let i = axis.index as usize;
-        left_first += advance(*axis, out, left);
-        right_first += advance(*axis, out, right);
+        left_moved += advance(*axis, out, left);
+        right_moved += advance(*axis, out, right);
         if out.steps[i] != 0 {
             let next = Loop {
                 len: axis.len,
@@ -80,7 +77,7 @@ pub(crate) fn fill_moving_loops(
     }
     Moving {
         count,
-        left: left_first,
-        right: right_first,
+        left: left_moved,
+        right: right_moved,
     }
 }

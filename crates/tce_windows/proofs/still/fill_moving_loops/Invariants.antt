@@ -1,4 +1,4 @@
-use Rattle.std.proofs.Common.{◌≡◌, ◌+◌, ◌≤◌, length, map, take, filter, sum_by}
+use Rattle.std.proofs.Common.{◌≡◌, ◌≤◌, length, map, take, filter, sum_by}
 use Rattle.tce_windows.specs.Nests.{moves, pair_loop, advanced}
 use Rattle.tce_windows.proofs.still.fill_moving_loops.Given as goal
 
@@ -7,6 +7,6 @@ invariant-loop-axis l = record {
   room : length l.loops ≡ 10;
   few : l.count ≤ l.axis-index;
   made : take l.count l.loops ≡ map (pair_loop l.out l.operands.left.now l.operands.right.now) (filter (moves l.out) (take l.axis-index l.axes));
-  left_at : l.left_first ≡ l.operands.left.now.first + sum_by (advanced l.out l.operands.left.now) (take l.axis-index l.axes);
-  right_at : l.right_first ≡ l.operands.right.now.first + sum_by (advanced l.out l.operands.right.now) (take l.axis-index l.axes);
+  left_at : l.left_moved ≡ sum_by (advanced l.out l.operands.left.now) (take l.axis-index l.axes);
+  right_at : l.right_moved ≡ sum_by (advanced l.out l.operands.right.now) (take l.axis-index l.axes);
 }

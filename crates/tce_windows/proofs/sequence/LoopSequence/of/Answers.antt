@@ -4,8 +4,8 @@ use Rattle.tce_windows.specs.Nests.{ArePlaced}
 use Rattle.tce_windows.proofs.Nests.{placed_from, refill_whole}
 use Rattle.tce_windows.proofs.sequence.LoopSequence.of.Goals as goal
 
-pub returns : goal.returns
-returns c =
+pub returns-clause-sequence : goal.returns-clause-sequence
+returns-clause-sequence c =
     let now = c.sort_unstable_by_key.new.self in
     let listed = c.axes_of-axes.result.items in
     let same : IsPermutation listed now = subst (λ xs. IsPermutation xs now) c.deref_mut.ensures.value c.sort_unstable_by_key.ensures.permutation in
