@@ -12,12 +12,14 @@ use Rattle.tce_layout.specs.Layout.{slot_at}
 use Rattle.tce_operands.specs.NodeStates.{Places}
 use Rattle.tce_walk.specs.Machine.{IsNodeAt, IsTailAt}
 use Rattle.tce_walk.specs.declared.machine.Tail.{Tail}
+use Rattle.tce_windows.specs.Sequences.{AreFilled}
+use Rattle.tce_windows.specs.declared.sequence.LoopSequence.{LoopSequence}
 use Rattle.tce_windows.specs.declared.window.Window.{Window}
 use Rattle.tce_workspace.specs.Workspace.{Workspace, setting_in}
 use Rattle.tce_workspace.specs.Prepared.{IsPrepared}
 use Rattle.tce_workspace.proofs.Reading.{result_known}
 use Rattle.tce_exec.specs.Blocks.{loops_of}
-use Rattle.tce_exec.specs.Windows.{HasPlace, IsOperandWindow, IsPlaceWindow, AreOperandSteps, ArePlaceSteps, AreSteps, HasSteps, CanStep, AreSumWindows, ArePairWindows}
+use Rattle.tce_exec.specs.Windows.{HasPlace, IsOperandWindow, IsPlaceWindow, AreOperandSteps, ArePlaceSteps, AreSteps, HasSteps, CanStep, AreSumWindows, ArePairWindows, HaveSameSteps, FitSequence}
 use Rattle.tce_exec.specs.declared.steps.Windows.{Windows}
 use Rattle.tce_exec.proofs.Along.{loop_declared, has_turns}
 use Rattle.tce_exec.proofs.Leaving.{joined_product}
@@ -123,3 +125,35 @@ pub joined_steps : (y : Workspace) (tail : Tail) (o : Operand) (v : ℕ) (first 
 joined_steps y tail o v first w own right some h e =
     steps_of_joined y.places tail o v (record w { own = own }) right some (operand_steps_of 3 y (left_of y.places.tree tail.node) first w.left h.left_is) (operand_steps_of 2 y o first w.right h.right_is)
     (place_steps_of 1 y v first w.out h.out_is) e
+
+-- ---- the loops that stand in a sequence
+
+-- windows that begin elsewhere
+moved_filled : (w : Windows) (f g h k : ℕ) (sequence : LoopSequence) → AreFilled w.own w.out w.left w.right sequence
+    → AreFilled (record { first = f; steps = w.own.steps }) (record { first = g; steps = w.out.steps }) (record { first = h; steps = w.left.steps }) (record { first = k; steps = w.right.steps }) sequence
+moved_filled w f g h k sequence filled = record {
+  puts = record { few = filled.puts.few; loops_are = filled.puts.loops_are; left_is = filled.puts.left_is; right_is = filled.puts.right_is };
+  products = filled.products;
+}
+
+-- they fit windows with the same steps
+pub fit_again : (old new : Windows) (sequence : LoopSequence) → HaveSameSteps old new → FitSequence old sequence → FitSequence new sequence
+fit_again old new sequence same fit = λ filled.
+    let moved = moved_filled old new.own.first new.out.first new.left.first new.right.first sequence (fit filled) in
+    subst (λ ss. AreFilled (record { first = new.own.first; steps = ss }) new.out new.left new.right sequence) (sym same.own_same)
+    (subst (λ ss. AreFilled (record { first = new.own.first; steps = old.own.steps }) (record { first = new.out.first; steps = ss }) new.left new.right sequence) (sym same.out_same)
+    (subst (λ ss. AreFilled (record { first = new.own.first; steps = old.own.steps }) (record { first = new.out.first; steps = old.out.steps }) (record { first = new.left.first; steps = ss }) new.right sequence) (sym same.left_same)
+    (subst (λ ss. AreFilled (record { first = new.own.first; steps = old.own.steps }) (record { first = new.out.first; steps = old.out.steps }) (record { first = new.left.first; steps = old.left.steps })
+    (record { first = new.right.first; steps = ss }) sequence) (sym same.right_same) moved)))
+
+-- where a place is put after the windows of a joined product, whose own window has its steps
+pub joined_fit : (old mid : Windows) (own : Window) (sequence : LoopSequence) → HaveSameSteps old mid → own.steps ≡ old.own.steps → FitSequence old sequence → FitSequence (record mid { own = own }) sequence
+joined_fit old mid own sequence same e fit =
+    fit_again old (record mid { own = own }) sequence (record { left_same = same.left_same; right_same = same.right_same; out_same = same.out_same; own_same = e }) fit
+
+-- no loops stand in the sequence of a tail without a joined product
+pub alone_fits : (tail : Tail) (w : Windows) (sequence : LoopSequence) → tail.sum ≡ None → (v : ℕ) → tail.sum ≡ Some v → FitSequence w sequence
+alone_fits tail w sequence none v some = absurd (let k : ⊥ = cc in k)
+
+pub single_fits : (p : Places) (tail : Tail) (w : Windows) (sequence : LoopSequence) → right_of p.tree tail.node ≡ None → (o : Operand) → right_of p.tree tail.node ≡ Some o → FitSequence w sequence
+single_fits p tail w sequence none o some = absurd (let k : ⊥ = cc in k)

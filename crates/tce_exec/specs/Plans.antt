@@ -1,22 +1,25 @@
 -- What stays from run to run of one tail.
-use Rattle.std.specs.Prelude.{◌≡◌, IsTrue, map}
+use Rattle.std.specs.Prelude.{◌≡◌, ℕ, IsTrue, map, Some}
 use Rattle.std.specs.List.{All}
 use Rattle.tce_space.specs.Space.{extent_at, edge_at}
 use Rattle.tce_block.specs.Cuts.{IsCut, extents_of, edges_of}
 use Rattle.tce_operands.specs.NodeStates.{Places}
+use Rattle.tce_tree.specs.FlatTree.{right_of}
+use Rattle.tce_tree.specs.declared.node.Operand.{Operand}
 use Rattle.tce_walk.specs.declared.machine.Tail.{Tail}
 use Rattle.tce_windows.specs.Sequences.{IsLoopSequence}
 use Rattle.tce_exec.specs.Blocks.{loops_of}
 use Rattle.tce_exec.specs.Positions.{IsPosition}
-use Rattle.tce_exec.specs.Windows.{AreSteps}
+use Rattle.tce_exec.specs.Windows.{AreSteps, FitSequence}
 use Rattle.tce_exec.specs.declared.plan.Nest.{Nest}
 use Rattle.tce_exec.specs.declared.plan.Plan.{Plan}
 use Rattle.tce_exec.specs.declared.plan.Kept.{Kept}
 
--- a sequence of a tail's loops, and the steps of its windows
+-- a sequence of a tail's loops, and the steps of its windows; where a product is joined to its sum, the loops that stand in the sequence have these steps
 pub record IsNest (p : Places) (tail : Tail) (nest : Nest) : Type 0 where
   pub sequence_is : IsLoopSequence (loops_of tail) nest.sequence
   pub steps_are : AreSteps p tail nest.windows
+  pub loops_fit : (v : ℕ) → tail.sum ≡ Some v → (o : Operand) → right_of p.tree tail.node ≡ Some o → FitSequence nest.windows nest.sequence
 
 -- the cuts of its tail's loops, and the nest of them
 pub record IsPlan (p : Places) (plan : Plan) : Type 0 where

@@ -14,6 +14,8 @@ use Rattle.tce_operands.specs.Laws.{HasShape}
 use Rattle.tce_operands.specs.NodeStates.{Places}
 use Rattle.tce_operands.specs.Slots.{IsSlotAt}
 use Rattle.tce_walk.specs.declared.machine.Tail.{Tail}
+use Rattle.tce_windows.specs.Sequences.{FitWindows}
+use Rattle.tce_windows.specs.declared.sequence.LoopSequence.{LoopSequence}
 use Rattle.tce_windows.specs.declared.window.Window.{Window}
 use Rattle.tce_exec.specs.OperandWindows.{AreTileSteps, IsSlotWindow, IsTileWindow}
 use Rattle.tce_exec.specs.Touches.{IsAmongLast}
@@ -71,6 +73,17 @@ pub record AreSteps (p : Places) (tail : Tail) (windows : Windows) : Type 0 wher
   pub sum_are : right_of p.tree tail.node ≡ None → ArePlaceSteps p tail.node windows.out.steps
   pub pair_are : (o : Operand) → right_of p.tree tail.node ≡ Some o → tail.sum ≡ None → ArePlaceSteps p tail.node windows.out.steps
   pub joined_are : (o : Operand) (w : ℕ) → right_of p.tree tail.node ≡ Some o → tail.sum ≡ Some w → ArePlaceSteps p w windows.out.steps × (windows.own.steps ≡ (slot_at p.slots tail.node).steps)
+
+-- each window has the steps that it had
+pub record HaveSameSteps (old new : Windows) : Type 0 where
+  pub left_same : new.left.steps ≡ old.left.steps
+  pub right_same : new.right.steps ≡ old.right.steps
+  pub out_same : new.out.steps ≡ old.out.steps
+  pub own_same : new.own.steps ≡ old.own.steps
+
+-- the loops that stand in a sequence are those over windows with these steps
+abbrev pub FitSequence : Windows → LoopSequence → Type 0
+FitSequence windows sequence = FitWindows windows.own windows.out windows.left windows.right sequence
 
 -- an operand is a tensor with an array, or an inner node
 abbrev pub HasSteps : Places → CacheState → Operand → Type 0

@@ -4,7 +4,7 @@ ghost use Rattle.tce_space.specs.Limits.{max_loops};
 ghost use Rattle.tce_space.specs.Space.{extent_at, edge_at};
 ghost use Rattle.tce_block.specs.Cuts.{IsCut, extents_of, edges_of};
 ghost use Rattle.tce_windows.specs.Loops.{AreLoops};
-ghost use Rattle.tce_windows.specs.Sequences.{IsLoopSequence};
+ghost use Rattle.tce_windows.specs.Sequences.{IsLoopSequence, IsUnfilled};
 ghost use Rattle.tce_exec.specs.Blocks.{loops_of};
 
 use crate::steps::Windows;
@@ -42,7 +42,8 @@ pub(crate) fn sequence_of(
 ) -> LoopSequence
     requires cuts { All IsCut cuts.now.items }
     requires loops { AreLoops (loops_of tail.now) (edges_of cuts.now.items) }
-    ensures { IsLoopSequence (loops_of tail.now) result }
+    ensures sequence { IsLoopSequence (loops_of tail.now) result }
+    ensures unfilled { IsUnfilled result }
 {
     let edges = edges_in(cuts.as_slice());
     LoopSequence::of(

@@ -8,6 +8,7 @@ ghost use Rattle.tce_windows.specs.Turns.{turns_of};
 ghost use Rattle.tce_exec.specs.Blocks.{loops_of, IsWithin, HaveNone};
 ghost use Rattle.tce_exec.specs.Positions.{IsPosition};
 ghost use Rattle.tce_exec.specs.TailBlocks.{part_in};
+ghost use Rattle.tce_exec.specs.Windows.{FitSequence};
 
 use crate::position::Position;
 use crate::steps::Windows;
@@ -15,7 +16,7 @@ use tce_block::Block;
 use tce_space::{Arithmetic, Numbers, Space};
 use tce_walk::Tail;
 use tce_windows::{
-    BlockLoops, LoopSequence, OperandWindows, Window, compute, compute_and_grow, grow,
+    BlockLoops, LoopSequence, OperandWindows, Window, compute, compute_and_grow_again, grow,
 };
 use tce_words::Words;
 
@@ -81,7 +82,8 @@ pub(crate) fn grow_turns(
     grow(words, sequence, &loops_in(at), &windows.out, &windows.left);
 }
 
-/// Puts the products of the operands' words into those of `own`, and adds them after that to the result's.
+/// Puts the products of the operands' words into those of `own`, and adds them after that to the result's. The windows have the
+/// steps that they had in the block before.
 pub(crate) fn join_turns(
     words: &mut Words,
     sequence: &mut LoopSequence,
@@ -90,6 +92,7 @@ pub(crate) fn join_turns(
 )
     requires loops { AreLoops (loops_of at.now.tail.now) (part_in at.now).len }
     requires sequence { IsLoopSequence (loops_of at.now.tail.now) sequence.old }
+    requires fit { FitSequence windows.now sequence.old }
     requires own { IsResultWindow (length words.old) (loops_of at.now.tail.now) (part_in at.now).len
         windows.now.own
         windows.now.left
@@ -103,6 +106,7 @@ pub(crate) fn join_turns(
     requires right { IsWithin (length words.old) at.now.tail.now
         (part_in at.now) windows.now.right }
     ensures sequence { IsLoopSequence (loops_of at.now.tail.now) sequence.new }
+    ensures fit { FitSequence windows.now sequence.new }
     ensures made { AreProductsJoined (loops_of at.now.tail.now) (part_in at.now).len windows.now.own
         windows.now.out
         windows.now.left
@@ -110,7 +114,7 @@ pub(crate) fn join_turns(
         words.old
         words.new }
 {
-    compute_and_grow(
+    compute_and_grow_again(
         words,
         sequence,
         &loops_in(at),

@@ -14,7 +14,7 @@ ghost use Rattle.tce_workspace.specs.Storages.{work_of, setting_of, IsSame, Keep
 ghost use Rattle.tce_exec.specs.Evaluations.{places_of, shape_of, ReadsNone};
 ghost use Rattle.tce_exec.specs.OperandWindows.{IsSlotWindow};
 ghost use Rattle.tce_exec.specs.Positions.{IsPosition, numbers_of};
-ghost use Rattle.tce_exec.specs.Windows.{AreTensorSteps, AreOperandSteps, ArePlaceSteps, HasPlace, IsTouchedTile, IsOperandWindow, IsPlaceWindow, KeepsLast, AreSumWindows, ArePairWindows};
+ghost use Rattle.tce_exec.specs.Windows.{AreTensorSteps, AreOperandSteps, ArePlaceSteps, HasPlace, IsTouchedTile, IsOperandWindow, IsPlaceWindow, KeepsLast, HaveSameSteps, AreSumWindows, ArePairWindows};
 
 use crate::position::Position;
 use crate::steps::Windows;
@@ -88,6 +88,7 @@ fn touch_window<D: Disk>(
     requires few { store.old.cache.now.touches + 1 ≤ 2 ^ 100 }
     ensures window { OnOk result (IsTouchedTile 1 store.new.cache.now leaf.now.tensor
         (shape_of evaluation.now leaf.now) leaf.now.indexes.items (numbers_of first.now) write window.new) }
+    ensures steps { window.new.steps ≡ window.old.steps }
     ensures last { OnOk result (KeepsLast store.old.cache.now store.new.cache.now) }
     ensures read { OnOk result (Reads 1 D.files evaluation.now store.old store.new) }
     ensures kept { Keeps D.files evaluation.now store.old store.new }
@@ -121,6 +122,7 @@ pub(crate) fn operand_window<D: Disk>(
     requires few { store.old.cache.now.touches + 1 ≤ 2 ^ 100 }
     ensures window { OnOk result (IsOperandWindow 1 (work_of D.files evaluation.now store.new)
         operand.now (numbers_of first.now) window.new) }
+    ensures steps { window.new.steps ≡ window.old.steps }
     ensures last { OnOk result (KeepsLast store.old.cache.now store.new.cache.now) }
     ensures read { OnOk result (Reads 1 D.files evaluation.now store.old store.new) }
     ensures kept { Keeps D.files evaluation.now store.old store.new }
@@ -154,6 +156,7 @@ pub(crate) fn place_window<D: Disk>(
     requires few { store.old.cache.now.touches + 1 ≤ 2 ^ 100 }
     ensures window { OnOk result (IsPlaceWindow 1 (work_of D.files evaluation.now store.new)
         v (numbers_of first.now) window.new) }
+    ensures steps { window.new.steps ≡ window.old.steps }
     ensures last { OnOk result (KeepsLast store.old.cache.now store.new.cache.now) }
     ensures read { OnOk result (Reads 1 D.files evaluation.now store.old store.new) }
     ensures kept { Keeps D.files evaluation.now store.old store.new }
@@ -226,7 +229,7 @@ pub(crate) fn pair_windows<D: Disk>(
     requires out_steps { ArePlaceSteps (places_of evaluation.now)
         pairing.now.out windows.old.out.steps }
     requires few { store.old.cache.now.touches + 3 ≤ 2 ^ 100 }
-    ensures own { windows.new.own ≡ windows.old.own }
+    ensures steps { OnOk result (HaveSameSteps windows.old windows.new) }
     ensures windows { OnOk result (ArePairWindows (work_of D.files evaluation.now store.new)
         (left_of evaluation.now.tree.now v) pairing.now.right.now pairing.now.out (numbers_of first.now) windows.new) }
     ensures read { OnOk result (Reads 3 D.files evaluation.now store.old store.new) }

@@ -1,15 +1,14 @@
-use Rattle.std.proofs.Common.{slice_index, ap, ◌∙◌, arith}
+use Rattle.std.proofs.Common.{slice_index, sym, ◌∙◌, arith}
 use Rattle.tce_tree.specs.Value.{Assignment}
 use Rattle.tce_block.specs.Cuts.{part_of}
 use Rattle.tce_block.specs.Parts.{Part}
 use Rattle.tce_walk.specs.Machine.{assignment_of}
-use Rattle.tce_windows.specs.declared.window.Window.{Window}
 use Rattle.tce_workspace.specs.Workspace.{Workspace}
 use Rattle.tce_workspace.specs.Storages.{work_of}
 use Rattle.tce_exec.specs.TailBlocks.{IsAtBlock}
 use Rattle.tce_exec.proofs.Turning.{block_loops}
 use Rattle.tce_exec.proofs.Asking.{node_at_first, sum_at_first, own_slot}
-use Rattle.tce_exec.proofs.Stepping.{joined_steps}
+use Rattle.tce_exec.proofs.Stepping.{joined_steps, joined_fit}
 use Rattle.tce_exec.proofs.Running.{operands_ready, sum_places_ready, slot_places_ready, joined_runs}
 use Rattle.tce_exec.proofs.block.run_joined.Goals as goal
 
@@ -136,7 +135,14 @@ returns-clause-nest g c =
     record {
       sequence_is = c.join_turns.ensures.sequence;
       steps_are = joined_steps y c.args.at.now.tail.now c.args.pairing.now.right.now c.args.pairing.now.out (slice_index c.args.first.now.numbers) c.pair_windows.new.windows c.node_window.new.window c.requires.right c.requires.joined c.in_ok-pair_windows.ensures.windows c.node_window.ensures.steps_are;
+      loops_fit = λ v joined o right. c.join_turns.ensures.fit;
     }
+
+pub join_turns-requires-clause-fit : goal.join_turns-requires-clause-fit
+join_turns-requires-clause-fit g c =
+    let own = (c.requires.nest.steps_are.joined_are c.args.pairing.now.right.now c.args.pairing.now.out c.requires.right c.requires.joined).1 in
+    joined_fit c.args.nest.now.windows c.pair_windows.new.windows c.node_window.new.window c.args.nest.now.sequence c.in_ok-pair_windows.ensures.steps (c.node_window.ensures.steps_are ∙ sym own)
+    (c.requires.nest.loops_fit c.args.pairing.now.out c.requires.joined c.args.pairing.now.right.now c.requires.right)
 
 pub pair_windows-requires-clause-right_steps : goal.pair_windows-requires-clause-right_steps
 pair_windows-requires-clause-right_steps g c = c.requires.nest.steps_are.right_are c.args.pairing.now.right.now c.requires.right
@@ -146,4 +152,4 @@ pair_windows-requires-clause-out_steps g c = (c.requires.nest.steps_are.joined_a
 
 pub node_window-requires-clause-steps : goal.node_window-requires-clause-steps
 node_window-requires-clause-steps g c =
-    ap (λ (w : Window). w.steps) c.in_ok-pair_windows.ensures.own ∙ (c.requires.nest.steps_are.joined_are c.args.pairing.now.right.now c.args.pairing.now.out c.requires.right c.requires.joined).1
+    c.in_ok-pair_windows.ensures.steps.own_same ∙ (c.requires.nest.steps_are.joined_are c.args.pairing.now.right.now c.args.pairing.now.out c.requires.right c.requires.joined).1

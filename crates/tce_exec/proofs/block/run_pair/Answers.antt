@@ -9,7 +9,7 @@ use Rattle.tce_workspace.proofs.Operating.{own_place}
 use Rattle.tce_exec.specs.TailBlocks.{IsAtBlock}
 use Rattle.tce_exec.proofs.Turning.{block_loops}
 use Rattle.tce_exec.proofs.Asking.{node_at_first, not_sum}
-use Rattle.tce_exec.proofs.Stepping.{pair_steps}
+use Rattle.tce_exec.proofs.Stepping.{pair_steps, alone_fits}
 use Rattle.tce_exec.proofs.Running.{operands_ready, own_ready, pair_runs}
 use Rattle.tce_exec.proofs.block.run_pair.Goals as goal
 
@@ -132,6 +132,7 @@ returns-clause-nest g c =
     record {
       sequence_is = c.compute_turns.ensures.sequence;
       steps_are = pair_steps y c.args.at.now.tail.now c.args.right.now (slice_index c.args.first.now.numbers) c.pair_windows.new.windows c.requires.right c.requires.alone c.in_ok-pair_windows.ensures.windows;
+      loops_fit = λ v joined o right. alone_fits c.args.at.now.tail.now c.pair_windows.new.windows c.compute_turns.new.sequence c.requires.alone v joined;
     }
 
 pub pair_windows-requires-clause-right_steps : goal.pair_windows-requires-clause-right_steps

@@ -8,7 +8,7 @@ use Rattle.tce_workspace.specs.Storages.{work_of}
 use Rattle.tce_exec.specs.TailBlocks.{IsAtBlock}
 use Rattle.tce_exec.proofs.Turning.{block_loops}
 use Rattle.tce_exec.proofs.Asking.{node_at_first}
-use Rattle.tce_exec.proofs.Stepping.{sum_steps}
+use Rattle.tce_exec.proofs.Stepping.{sum_steps, single_fits}
 use Rattle.tce_exec.proofs.Running.{sum_ready, sum_runs}
 use Rattle.tce_exec.proofs.block.run_sum.Goals as goal
 
@@ -91,6 +91,7 @@ returns-clause-nest g c =
     record {
       sequence_is = c.grow_turns.ensures.sequence;
       steps_are = sum_steps y c.args.at.now.tail.now (slice_index c.args.first.now.numbers) c.sum_windows.new.windows c.requires.sum c.in_ok-sum_windows.ensures.windows;
+      loops_fit = λ v joined o right. single_fits y.places c.args.at.now.tail.now c.sum_windows.new.windows c.grow_turns.new.sequence c.requires.sum o right;
     }
 
 pub sum_windows-requires-clause-out_steps : goal.sum_windows-requires-clause-out_steps
