@@ -1,5 +1,5 @@
 -- Words written over those of a file, and the pieces of a band.
-use Rattle.std.proofs.Common.{◌≡◌, ◌∙◌, ◌⊎◌, ℕ, ◌+◌, ◌-◌, ◌*◌, ◌<◌, ◌≤◌, true, false, nat_lt, if◌then◌else◌, List, [], ◌++◌, length, get_or, slice_index, Option, Some, None, unwrap_or, replicate, refl, sym, ap, subst, inl, inr, arith}
+use Rattle.std.proofs.Common.{◌≡◌, ◌∙◌, ◌⊎◌, ℕ, ◌+◌, ◌-◌, ◌*◌, ◌<◌, ◌≤◌, true, false, nat_lt, if◌then◌else◌, List, [], ◌++◌, length, take, drop, get_or, slice_index, Option, Some, None, unwrap_or, replicate, refl, sym, ap, subst, inl, inr, arith}
 use Rattle.std.specs.List.{flat_map}
 use Rattle.std.specs.Option.{ForSome}
 use Rattle.std.proofs.Math.Nat.{mul-le-mul_left}
@@ -14,17 +14,18 @@ use Rattle.tce_space.proofs.Boxes.{places_every, place-lt}
 use Rattle.tce_space.specs.Tiling.{Tiling, IsTiling, word_number, elements, padded_words}
 use Rattle.tce_outside.specs.Files.{Files, file, with_file, written, overwritten}
 use Rattle.tce_array.specs.declared.form.Form.{Form}
+use Rattle.tce_array.specs.declared.form.Form.TheVariants.{One, Narrow, Wide}
 use Rattle.tce_array.specs.Forms.{width, head_len}
 use Rattle.tce_array.proofs.MadeFiles.{file-with_file}
 use Rattle.tce_tools.specs.declared.storage.Storage.{Storage}
 use Rattle.tce_tools.specs.declared.storage.Storage.TheVariants.{Flat, Array}
 use Rattle.tce_tools.specs.declared.band.Band.{Band}
-use Rattle.tce_tools.specs.Storage.{form_in, start_of, start_len, words_of, word_count, begun_bytes, bare_bytes, stored_bytes, stored_len, number_of, first_elements, later_elements, HasStored}
+use Rattle.tce_tools.specs.Storage.{form_in, start_of, start_len, words_of, word_count, begun_bytes, bare_bytes, stored_bytes, stored_len, number_of, first_elements, later_elements, HasStored, HasWords}
 use Rattle.tce_tools.specs.Runs.{AreElements}
 use Rattle.tce_tools.specs.Bands.{IsAt, IsBand, AreTiled, AreZerosBetween, KeepsOutside}
 use Rattle.tce_array.proofs.Overwrites.{length-overwritten, get_or-overwritten, get_or-overwritten_other}
 use Rattle.tce_tools.proofs.Pieces.{words_written}
-use Rattle.tce_tools.proofs.Shuffles.{IsCopy}
+use Rattle.tce_tools.proofs.Shuffles.{IsCopy, copy_of}
 use Rattle.tce_tools.proofs.Stored.{HoldsElements, storage_holds, bare_same, among_first, behind_first, among_later, length-start}
 
 -- words that are written change the elements that stand there, and no padding
@@ -242,6 +243,9 @@ still_stored (Some files) after name storage s at bytes e there room = λ fs tol
 pub piece_room : (band : Band) (t : ℕ) → t < band.pieces → t * band.piece_len + band.piece_len ≤ band.pieces * band.piece_len
 piece_room band t lt = let last : band.piece_len * (t + 1) ≤ band.piece_len * band.pieces = mul-le-mul_left band.piece_len (omega (arith, lt)) in omega (arith, last)
 
+pub piece_copy : (band : Band) (t : ℕ) (tiled : List ℕ) → t < band.pieces → length tiled ≡ band.pieces * band.piece_len → IsCopy (t * band.piece_len) band.piece_len tiled (take (t * band.piece_len + band.piece_len - t * band.piece_len) (drop (t * band.piece_len) tiled))
+piece_copy band t tiled lt len = copy_of (t * band.piece_len) band.piece_len (t * band.piece_len + band.piece_len - t * band.piece_len) tiled (take (t * band.piece_len + band.piece_len - t * band.piece_len) (drop (t * band.piece_len) tiled)) refl (omega arith) (omega (arith, piece_room band t lt, len))
+
 pub index_below : (band : Band) (n word index : ℕ) → band.pieces ≤ n → IsAt band word index → index < n * band.piece_len
 index_below band n word index le at =
     let last : band.piece_len * (at.piece + 1) ≤ band.piece_len * n = mul-le-mul_left band.piece_len (omega (arith, at.among)) in
@@ -252,6 +256,16 @@ piece_fits form s band t at n b lt len is =
     let room : band.word + t * band.stride + n ≤ padded_words s = omega (arith, b.room t lt) in
     let all : width form * (band.word + t * band.stride + n) ≤ width form * padded_words s = mul-le-mul_left (width form) room in
     omega (arith, is, all)
+
+-- a file with so many bytes has the words; those of a piece fit the buffer of bytes
+pub words_there : (storage : Storage) (s : Tiling) (form : Form) (at n : ℕ) (found : Option (List ℕ)) → at + width form * n ≤ stored_len storage s → HasStored storage s found → HasWords form at n found
+words_there storage s form at n None room h = absurd h
+words_there storage s form at n (Some bytes) room h = omega (arith, room, h)
+
+pub buffer_fits : (form : Form) (n m : ℕ) → n ≤ 32768 → 262144 ≤ m → width form * n ≤ m
+buffer_fits One n m few long = omega arith
+buffer_fits Narrow n m few long = omega arith
+buffer_fits Wide n m few long = omega arith
 
 pub piece_bytes_fit : (form : Form) (s : Tiling) (band : Band) (t at : ℕ) (vs : List ℕ) → IsBand s band → t < band.pieces → length vs ≡ band.piece_len → at ≡ head_len form s + width form * (band.word + t * band.stride)
     → at + length (flat_map (word_bytes (width form)) vs) ≤ stored_len (Array form) s

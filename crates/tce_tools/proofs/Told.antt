@@ -1,9 +1,10 @@
 -- A file that is made and then written piece by piece, where the disk tells its files.
-use Rattle.std.proofs.Common.{◌≡◌, ◌≢◌, ◌∙◌, ap, sym, refl, subst, List, [], ℕ, cond, Some, None, Option, unwrap_or, inl, inr}
+use Rattle.std.proofs.Common.{◌≡◌, ◌≢◌, ◌∙◌, ◌≤◌, ap, sym, refl, subst, List, [], ℕ, cond, Some, None, Option, unwrap_or, inl, inr, arith}
 use Rattle.std.proofs.lemmas.Cmp.{nat_list_cmp_total}
 use Rattle.std.proofs.lemmas.Option.{none-some}
 use Rattle.std.specs.Option.{ForSome}
 use Rattle.std.specs.FinMap.{get-insert}
+use Rattle.tce_outside.specs.Fault.{HasCause, Rose}
 use Rattle.tce_outside.specs.Files.{Files, file, with_file, written, overwritten}
 use Rattle.tce_outside.proofs.Places.{same_name}
 use Rattle.tce_array.proofs.MadeFiles.{file-with_file, with_part-with_file}
@@ -65,3 +66,11 @@ held_beside before now name bytes other P e differs holds files was =
 pub held_told : (before now : Option Files) (name : List ℕ) (old new : Files → List ℕ) → now ≡ holding_by name old before → ((files : Files) → before ≡ Some files → old files ≡ new files) → now ≡ holding_by name new before
 held_told None now name old new e same = e
 held_told (Some files) now name old new e same = e ∙ ap (λ bytes. Some (with_file files name bytes)) (same files refl)
+
+-- a call that failed, behind others, is the cause of a failure
+pub failed_from : (before then now : ℕ) (call failed : Type 0) → before ≤ then → HasCause then now call → call → HasCause before now failed
+failed_from before then now call failed le cause it = record { later = omega (arith, cause.later, le); rose = λ f. rose_from (cause.rose it) }
+  where
+    rose_from : Rose then now → Rose before now
+    rose_from (inl p) = inl (omega (arith, le, p))
+    rose_from (inr p) = inr p

@@ -1,11 +1,38 @@
-use Rattle.std.proofs.Common.{sym, subst}
+use Rattle.std.proofs.Common.{◌+◌, ◌*◌, ◌≤◌, ℕ, length, sym, subst, arith}
+use Rattle.tce_space.specs.Tiling.{Tiling}
+use Rattle.tce_outside.specs.Files.{file}
+use Rattle.tce_array.specs.declared.form.Form.TheVariants.{One}
 use Rattle.tce_tools.specs.declared.storage.Storage.{Storage}
 use Rattle.tce_tools.specs.declared.storage.Storage.TheVariants.{Array}
 use Rattle.tce_tools.specs.Flat.{contents}
-use Rattle.tce_tools.specs.Storage.{element_in}
+use Rattle.tce_tools.specs.Storage.{element_in, stored_len}
 use Rattle.tce_tools.specs.Runs.{AreElements}
+use Rattle.tce_tools.specs.Told.{HasStoredIn}
 use Rattle.tce_tools.proofs.PieceReads.{flat_read}
+use Rattle.tce_tools.proofs.PieceWrites.{words_there, buffer_fits}
 use Rattle.tce_tools.proofs.banding.read_band.Goals as goal
+
+pub overflow_mul-band : goal.overflow_mul-band
+overflow_mul-band g c = omega (arith, c.requires.band.inside, c.requires.band.few, c.requires.band.tiling.room)
+
+pub read_words-requires-clause-buffer : goal.read_words-requires-clause-buffer
+read_words-requires-clause-buffer g c = buffer_fits One _ _ (omega (arith, c.requires.words, c.requires.band.short)) c.requires.buffer
+
+pub read_words-requires-clause-file : goal.read_words-requires-clause-file
+read_words-requires-clause-file g c = λ x told.
+    let s : Tiling = c.args.file.now.shape.now in
+    let n : ℕ = length c.args.words.now in
+    words_there c.args.file.now.storage s One (8 * c.args.band.start) n (file x c.args.file.now.name.now)
+    (subst (λ (t : Storage). 8 * c.args.band.start + 8 * n ≤ stored_len t s) (sym c.in-Flat.is) (omega (arith, c.requires.words, c.requires.band.inside))) (c.requires.file x told)
+
+pub overflow_mul-pieces : goal.overflow_mul-pieces
+overflow_mul-pieces g c = omega (arith, c.requires.band.small)
+
+pub slice_bounds-pieces-end : goal.slice_bounds-pieces-end
+slice_bounds-pieces-end g c = omega (arith, c.requires.band.small, c.requires.tiled)
+
+pub read_pieces-requires-clause-file : goal.read_pieces-requires-clause-file
+read_pieces-requires-clause-file g c = subst (λ (t : Storage). HasStoredIn (g.D.Disk.files c.args.disk.now) c.args.file.now.name.now t c.args.file.now.shape.now) c.in-Array.is c.requires.file
 
 pub returns-in_ok-read_words-in-Flat-clause-read : goal.returns-in_ok-read_words-in-Flat-clause-read
 returns-in_ok-read_words-in-Flat-clause-read g c = λ x told. flat_read c.args.file.now.storage c.args.file.now.shape.now (contents x c.args.file.now.name.now) c.read_words.new.words c.args.band.start c.in-Flat.is (c.in_ok-read_words-in-Flat.ensures.read x told)

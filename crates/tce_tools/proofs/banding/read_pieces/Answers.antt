@@ -1,18 +1,37 @@
-use Rattle.std.proofs.Common.{◌∙◌, ◌+◌, ◌-◌, ◌*◌, ℕ, drop, arith, rules}
+use Rattle.std.proofs.Common.{◌∙◌, ℕ, sym, arith, rules}
+use Rattle.tce_outside.specs.Files.{file}
+use Rattle.tce_tools.specs.declared.storage.Storage.TheVariants.{Array}
 use Rattle.tce_tools.specs.Flat.{contents}
 use Rattle.tce_tools.proofs.PieceReads.{piece_read}
-use Rattle.tce_tools.proofs.PieceWrites.{piece_room, index_below}
-use Rattle.std.proofs.lemmas.List.{length-take-le, length-drop}
+use Rattle.tce_tools.proofs.PieceWrites.{piece_room, piece_copy, piece_fits, words_there, buffer_fits, index_below}
 use Rattle.tce_tools.proofs.banding.read_pieces.Goals as goal
+
+pub overflow_mul-from : goal.overflow_mul-from
+overflow_mul-from g c = omega (arith, piece_room c.args.band c.loop-piece.piece c.loop-piece-test.true, c.requires.band.small)
+
+pub overflow_add-words : goal.overflow_add-words
+overflow_add-words g c = omega (arith, piece_room c.args.band c.loop-piece.piece c.loop-piece-test.true, c.requires.band.small)
+
+pub slice_bounds-words-end : goal.slice_bounds-words-end
+slice_bounds-words-end g c = omega (arith, piece_room c.args.band c.loop-piece.piece c.loop-piece-test.true, c.loop-piece.auto.tiled, c.requires.tiled)
+
+pub read_words-requires-clause-buffer : goal.read_words-requires-clause-buffer
+read_words-requires-clause-buffer g c =
+    let len = (piece_copy c.args.band c.loop-piece.piece c.loop-piece.tiled c.loop-piece-test.true (omega (arith, c.loop-piece.auto.tiled, c.requires.tiled))).len in
+    buffer_fits c.args.form _ _ (omega (arith, len, piece_room c.args.band c.loop-piece.piece c.loop-piece-test.true, c.requires.band.small)) (omega (arith, c.loop-piece.auto.bytes, c.requires.buffer))
+
+pub read_words-requires-clause-file : goal.read_words-requires-clause-file
+read_words-requires-clause-file g c = λ x told.
+    let len = (piece_copy c.args.band c.loop-piece.piece c.loop-piece.tiled c.loop-piece-test.true (omega (arith, c.loop-piece.auto.tiled, c.requires.tiled))).len in
+    words_there (Array c.args.form) c.args.file.now.shape.now c.args.form c.piece_place.result _ (file x c.args.file.now.name.now)
+    (piece_fits c.args.form c.args.file.now.shape.now c.args.band c.loop-piece.piece c.piece_place.result _ c.requires.band c.loop-piece-test.true len c.piece_place.ensures) (c.requires.file x (sym c.loop-piece.invariant.files ∙ told))
 
 pub loop-piece-preserved : goal.loop-piece-preserved
 loop-piece-preserved g c =
-    let n : ℕ = c.args.band.piece_len in
     let t : ℕ = c.loop-piece.piece in
     let room = piece_room c.args.band t c.loop-piece-test.true in
     let all = c.loop-piece.auto.tiled in
-    let long = length-drop (t * n) c.loop-piece.tiled in
-    let len = length-take-le (t * n + n - t * n) (drop (t * n) c.loop-piece.tiled) (omega (arith, room, all, long, c.requires.tiled)) in
+    let len = (piece_copy c.args.band t c.loop-piece.tiled c.loop-piece-test.true (omega (arith, all, c.requires.tiled))).len in
     record {
       read = λ x told.
           piece_read c.args.form c.args.file.now.shape.now c.args.band (contents x c.args.file.now.name.now) c.loop-piece.tiled c.read_words.new.words t c.piece_place.result (omega (arith, c.read_words.auto.words, len)) (omega (arith, room, all, c.requires.tiled)) c.piece_place.ensures

@@ -1,13 +1,13 @@
-use Rattle.std.proofs.Common.{◌∙◌, ◌+◌, ◌-◌, ◌*◌, ◌≤◌, List, ℕ, length, take, drop, refl, arith, rules}
+use Rattle.std.proofs.Common.{◌∙◌, ◌+◌, ◌-◌, ◌*◌, List, ℕ, take, drop, refl, arith, rules}
 use Rattle.std.specs.List.{flat_map}
 use Rattle.tce_base.specs.Word.{word_bytes}
 use Rattle.tce_space.specs.Tiling.{Tiling}
+use Rattle.tce_outside.specs.Files.{file}
 use Rattle.tce_array.specs.Forms.{width, head_len}
 use Rattle.tce_tools.specs.declared.storage.Storage.TheVariants.{Array}
 use Rattle.tce_tools.specs.Storage.{bare_bytes}
-use Rattle.tce_tools.proofs.Shuffles.{copy_of}
 use Rattle.tce_tools.proofs.Told.{held_told, held_written}
-use Rattle.tce_tools.proofs.PieceWrites.{after_pieces, piece_bare, piece_room, piece_bytes_fit, no_pieces, all_pieces, still_stored}
+use Rattle.tce_tools.proofs.PieceWrites.{after_pieces, piece_bare, piece_room, piece_copy, piece_fits, piece_bytes_fit, words_there, buffer_fits, no_pieces, all_pieces, still_stored}
 use Rattle.tce_tools.proofs.NoHalf.{shorter_before}
 use Rattle.tce_tools.proofs.banding.write_pieces.Goals as goal
 
@@ -22,14 +22,33 @@ loop-piece-init g c = record {
   counted = refl;
 }
 
+pub overflow_mul-from : goal.overflow_mul-from
+overflow_mul-from g c = omega (arith, piece_room c.args.band c.loop-piece.piece c.loop-piece-test.true, c.requires.band.small)
+
+pub overflow_add-words : goal.overflow_add-words
+overflow_add-words g c = omega (arith, piece_room c.args.band c.loop-piece.piece c.loop-piece-test.true, c.requires.band.small)
+
+pub slice_bounds-words-end : goal.slice_bounds-words-end
+slice_bounds-words-end g c = omega (arith, piece_room c.args.band c.loop-piece.piece c.loop-piece-test.true, c.requires.tiled)
+
+pub write_words-requires-clause-buffer : goal.write_words-requires-clause-buffer
+write_words-requires-clause-buffer g c =
+    let len = (piece_copy c.args.band c.loop-piece.piece c.args.tiled.now c.loop-piece-test.true c.requires.tiled).len in
+    buffer_fits c.args.form _ _ (omega (arith, len, piece_room c.args.band c.loop-piece.piece c.loop-piece-test.true, c.requires.band.small)) (omega (arith, c.loop-piece.auto.bytes, c.requires.buffer))
+
+pub write_words-requires-clause-file : goal.write_words-requires-clause-file
+write_words-requires-clause-file g c = λ x told.
+    let len = (piece_copy c.args.band c.loop-piece.piece c.args.tiled.now c.loop-piece-test.true c.requires.tiled).len in
+    words_there (Array c.args.form) c.args.file.now.shape.now c.args.form c.piece_place.result _ (file x c.args.file.now.name.now)
+    (piece_fits c.args.form c.args.file.now.shape.now c.args.band c.loop-piece.piece c.piece_place.result _ c.requires.band c.loop-piece-test.true len c.piece_place.ensures) (c.loop-piece.invariant.there x told)
+
 pub loop-piece-preserved : goal.loop-piece-preserved
 loop-piece-preserved g c =
     let s : Tiling = c.args.file.now.shape.now in
     let n : ℕ = c.args.band.piece_len in
     let t : ℕ = c.loop-piece.piece in
-    let room : t * n + n ≤ length c.args.tiled.now = omega (arith, piece_room c.args.band t c.loop-piece-test.true, c.requires.tiled) in
     let vs : List ℕ = take (t * n + n - t * n) (drop (t * n) c.args.tiled.now) in
-    let copy = copy_of (t * n) n (t * n + n - t * n) c.args.tiled.now vs refl (omega arith) room in
+    let copy = piece_copy c.args.band t c.args.tiled.now c.loop-piece-test.true c.requires.tiled in
     record {
       written = λ before old new is values keeps.
           held_written before _ _ c.args.file.now.name.now (λ fs. bare_bytes (Array c.args.form) s (after_pieces s c.args.band (old fs) (new fs) t)) (λ fs. bare_bytes (Array c.args.form) s (after_pieces s c.args.band (old fs) (new fs) (t + 1))) c.piece_place.result (flat_map (word_bytes (width c.args.form)) vs)

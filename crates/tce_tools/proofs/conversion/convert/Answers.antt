@@ -1,12 +1,12 @@
-use Rattle.std.proofs.Common.{◌∙◌, ap, List, ℕ, Ok}
+use Rattle.std.proofs.Common.{◌∙◌, ap, List, ℕ, Ok, Err, is_err, arith}
 use Rattle.tce_space.specs.Tiling.{Tiling}
-use Rattle.tce_outside.specs.Files.{Files, file}
+use Rattle.tce_outside.specs.Files.{Files, file, others}
 use Rattle.tce_tools.specs.declared.storage.Storage.TheVariants.{Array}
 use Rattle.tce_tools.specs.Flat.{contents, array_element}
 use Rattle.tce_tools.specs.Storage.{stored_bytes, element_in, holding_by}
 use Rattle.tce_tools.proofs.Forms.{opened_form, opened_fits, array_elements}
 use Rattle.tce_tools.proofs.NoHalf.{moved_left}
-use Rattle.tce_tools.proofs.Told.{held_told}
+use Rattle.tce_tools.proofs.Told.{held_told, failed_from}
 use Rattle.tce_tools.proofs.conversion.convert.Goals as goal
 
 pub returns-in-Ok-copy-clause-converted : goal.returns-in-Ok-copy-clause-converted
@@ -38,3 +38,28 @@ returns-in-Err-Failed-clause-no_half g c =
 pub returns-in-Err-Memory-clause-no_half : goal.returns-in-Err-Memory-clause-no_half
 returns-in-Err-Memory-clause-no_half g c =
     moved_left (Array c.args.form) c.args.shape.now c.in-Ok.found c.args.array.now c.args.to.now (g.D.Disk.files c.args.disk.now) _ _ (c.in-Ok-None.ensures.same ∙ c.in-Ok.ensures.same) c.in-Ok.ensures.form c.copy.ensures.no_half
+
+pub returns-in-Ok-copy-clause-others : goal.returns-in-Ok-copy-clause-others
+returns-in-Ok-copy-clause-others g c = c.copy.ensures.others ∙ ap (others c.args.to.now) (c.in-Ok-None.ensures.same ∙ c.in-Ok.ensures.same)
+
+pub returns-in-Err-Failed-clause-others : goal.returns-in-Err-Failed-clause-others
+returns-in-Err-Failed-clause-others g c = c.copy.ensures.others ∙ ap (others c.args.to.now) (c.in-Ok-None.ensures.same ∙ c.in-Ok.ensures.same)
+
+pub returns-in-Err-Memory-clause-others : goal.returns-in-Err-Memory-clause-others
+returns-in-Err-Memory-clause-others g c = c.copy.ensures.others ∙ ap (others c.args.to.now) (c.in-Ok-None.ensures.same ∙ c.in-Ok.ensures.same)
+
+pub returns-in-Ok-copy-clause-cause : goal.returns-in-Ok-copy-clause-cause
+returns-in-Ok-copy-clause-cause g c = record { later = omega (arith, c.in-Ok.ensures.cause.later, c.in-Ok-None.ensures.cause.later, c.copy.ensures.cause.later); rose = λ e. absurd cc }
+
+pub returns-in-Err-Memory-clause-cause : goal.returns-in-Err-Memory-clause-cause
+returns-in-Err-Memory-clause-cause g c = record { later = omega (arith, c.in-Ok.ensures.cause.later, c.in-Ok-None.ensures.cause.later, c.copy.ensures.cause.later); rose = λ e. absurd cc }
+
+pub returns-in-Err-Failed-clause-cause : goal.returns-in-Err-Failed-clause-cause
+returns-in-Err-Failed-clause-cause g c =
+    failed_from _ (g.D.Disk.faults c.misfit_for.new.disk) _ _ _ (omega (arith, c.in-Ok.ensures.cause.later, c.in-Ok-None.ensures.cause.later)) c.copy.ensures.cause (c.in-Err-Failed.is ∙ ap Err c.in-Err-Failed.field-0-is)
+
+pub returns-in-Ok-Some-clause-cause : goal.returns-in-Ok-Some-clause-cause
+returns-in-Ok-Some-clause-cause g c = record { later = omega (arith, c.in-Ok.ensures.cause.later, c.misfit_for.ensures.cause.later); rose = λ e. absurd cc }
+
+pub returns-in-Err-misfit_for-clause-cause : goal.returns-in-Err-misfit_for-clause-cause
+returns-in-Err-misfit_for-clause-cause g c = failed_from _ (g.D.Disk.faults c.open.new.disk) _ _ _ c.in-Ok.ensures.cause.later c.misfit_for.ensures.cause (ap is_err c.in-Err-misfit_for.is)

@@ -1,13 +1,28 @@
-use Rattle.std.proofs.Common.{◌≡◌, ◌∙◌, ◌+◌, subst, arith, List, ℕ, rules}
-use Rattle.tce_space.specs.Tiling.{Tiling}
+use Rattle.std.proofs.Common.{◌≡◌, ◌∙◌, ◌+◌, sym, subst, arith, List, ℕ, rules}
+use Rattle.tce_space.specs.Tiling.{Tiling, elements}
 use Rattle.tce_array.specs.declared.form.Form.TheVariants.{Narrow}
 use Rattle.tce_tools.specs.declared.storage.Storage.TheVariants.{Array}
 use Rattle.tce_tools.specs.Flat.{contents}
 use Rattle.tce_tools.specs.Storage.{element_in}
 use Rattle.tce_tools.specs.Runs.{AreElements}
-use Rattle.tce_tools.specs.Answers.{IsFirstMisfit}
+use Rattle.tce_tools.specs.Answers.{FitBefore, IsFirstMisfit}
 use Rattle.tce_tools.proofs.Misfits.{fit_more, misfit_at}
 use Rattle.tce_tools.proofs.conversion.find_misfit.Goals as goal
+
+pub read_band-requires-clause-file : goal.read_band-requires-clause-file
+read_band-requires-clause-file g c = λ x told. c.requires x (sym c.loop-done.invariant.files ∙ told)
+
+pub overflow_add-result : goal.overflow_add-result
+overflow_add-result g c = omega (arith, c.in-Some.ensures.some.0, c.in_ok-read_band.ensures.len, c.band_at-band.ensures.band.inside, c.band_at-band.ensures.band.few, c.band_at-band.ensures.band.tiling.room, c.band_at-band.ensures.start)
+
+pub overflow_add-done : goal.overflow_add-done
+overflow_add-done g c = omega (arith, c.band_at-band.ensures.band.inside, c.band_at-band.ensures.band.few, c.band_at-band.ensures.band.tiling.room, c.band_at-band.ensures.start)
+
+pub returns-clause-none : goal.returns-clause-none
+returns-clause-none g c = λ none x told.
+    let s : Tiling = c.args.shape.now in
+    let end : c.loop-done.done ≡ elements s = omega (arith, c.loop-done.invariant.done, c.loop-done-test.false, c.elements-elements.ensures.elements) in
+    subst (FitBefore Narrow s (element_in (Array c.args.form) s (contents x c.args.name.now))) end (c.loop-done.invariant.fits x told)
 
 pub returns-in-Some-clause-some : goal.returns-in-Some-clause-some
 returns-in-Some-clause-some g c k e x told =

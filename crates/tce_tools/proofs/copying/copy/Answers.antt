@@ -1,6 +1,8 @@
+use Rattle.std.proofs.Common.{◌∙◌, ap, is_err, arith}
 use Rattle.tce_tools.specs.Flat.{contents}
 use Rattle.tce_tools.specs.Storage.{element_in}
 use Rattle.tce_tools.proofs.NoHalf.{bare_left, bare_stored}
+use Rattle.tce_tools.proofs.Told.{failed_from}
 use Rattle.tce_tools.proofs.copying.copy.Goals as goal
 
 pub write_start-requires : goal.write_start-requires
@@ -17,3 +19,15 @@ returns-in-Ok-clause-no_half g c =
 pub returns-in-Err-clause-no_half : goal.returns-in-Err-clause-no_half
 returns-in-Err-clause-no_half g c =
     bare_left c.args.to c.args.shape.now c.args.target.now (λ fs. element_in c.args.from c.args.shape.now (contents fs c.args.source.now)) (g.D.Disk.files c.args.disk.now) (g.D.Disk.files c.copy_elements.new.disk) _ c.in_ok-copy_elements.ensures.copied c.write_start.ensures.behind
+
+pub returns-in-Ok-clause-others : goal.returns-in-Ok-clause-others
+returns-in-Ok-clause-others g c = c.write_start.ensures.others ∙ c.copy_elements.ensures.others
+
+pub returns-in-Err-clause-others : goal.returns-in-Err-clause-others
+returns-in-Err-clause-others g c = c.write_start.ensures.others ∙ c.copy_elements.ensures.others
+
+pub returns-in-Ok-clause-cause : goal.returns-in-Ok-clause-cause
+returns-in-Ok-clause-cause g c = record { later = omega (arith, c.copy_elements.ensures.cause.later, c.write_start.ensures.cause.later); rose = λ e. absurd cc }
+
+pub returns-in-Err-clause-cause : goal.returns-in-Err-clause-cause
+returns-in-Err-clause-cause g c = failed_from _ (g.D.Disk.faults c.copy_elements.new.disk) _ _ _ c.copy_elements.ensures.cause.later c.write_start.ensures.cause (ap is_err c.in-Err.is)

@@ -1,4 +1,4 @@
-use Rattle.std.proofs.Common.{◌≡◌, ◌∙◌, ◌+◌, ◌*◌, refl, sym, ap, subst, arith, List, ℕ, Option, Some, rules}
+use Rattle.std.proofs.Common.{◌≡◌, ◌∙◌, ◌+◌, ◌*◌, refl, sym, ap, subst, arith, List, ℕ, Option, Some, is_err, rules}
 use Rattle.tce_space.specs.Tiling.{Tiling}
 use Rattle.tce_outside.specs.Files.{Files, others, bytes_before, bytes_from}
 use Rattle.tce_tools.specs.declared.band.Band.{Band}
@@ -8,7 +8,7 @@ use Rattle.tce_tools.specs.Runs.{AreElements}
 use Rattle.tce_tools.proofs.NoHalf.{some_elements, unmade_left, later_left, last_left, bare_left, bare_stored}
 use Rattle.tce_tools.proofs.PieceWrites.{keeps_outside, keeps_last, first_values, later_values}
 use Rattle.tce_tools.proofs.Stored.{no_later_elements}
-use Rattle.tce_tools.proofs.Told.{held, held_same, held_beside}
+use Rattle.tce_tools.proofs.Told.{held, held_same, held_beside, failed_from}
 use Rattle.tce_tools.proofs.copying.copy_elements.Goals as goal
 
 pub loop-done-init : goal.loop-done-init
@@ -111,3 +111,35 @@ returns-clause-copied g c =
 
 pub returns-clause-no_half : goal.returns-clause-no_half
 returns-clause-no_half g c = bare_left c.args.to c.args.shape.now c.args.target.now (λ fs. element_in c.args.from c.args.shape.now (contents fs c.args.source.now)) (g.D.Disk.files c.args.disk.now) _ _ (returns-clause-copied g c) refl
+
+pub returns-in_default-clause-others : goal.returns-in_default-clause-others
+returns-in_default-clause-others g c = ap (others c.args.target.now) c.read_band.ensures.same ∙ c.loop-done.invariant.others
+
+pub returns-in_default-write_band-clause-others : goal.returns-in_default-write_band-clause-others
+returns-in_default-write_band-clause-others g c = c.write_band.ensures.others ∙ ap (others c.args.target.now) c.in-Ok.ensures.same ∙ c.loop-done.invariant.others
+
+pub returns-in_default-read_band-clause-others : goal.returns-in_default-read_band-clause-others
+returns-in_default-read_band-clause-others g c = ap (others c.args.target.now) c.read_band-2.ensures.same ∙ c.loop-done.invariant.others
+
+pub returns-in_default-write_band-2-clause-others : goal.returns-in_default-write_band-2-clause-others
+returns-in_default-write_band-2-clause-others g c = c.write_band-2.ensures.others ∙ ap (others c.args.target.now) c.in-Ok-read_band.ensures.same ∙ c.loop-done.invariant.others
+
+pub returns-clause-others : goal.returns-clause-others
+returns-clause-others g c = c.in-Ok-write_band-2.ensures.others ∙ ap (others c.args.target.now) c.in-Ok-read_band.ensures.same ∙ c.loop-done.invariant.others
+
+pub returns-in_default-clause-cause : goal.returns-in_default-clause-cause
+returns-in_default-clause-cause g c = failed_from _ (g.D.Disk.faults c.loop-done.disk) _ _ _ c.loop-done.invariant.later c.read_band.ensures.cause (ap is_err c.in_default.is)
+
+pub returns-in_default-write_band-clause-cause : goal.returns-in_default-write_band-clause-cause
+returns-in_default-write_band-clause-cause g c =
+    failed_from _ (g.D.Disk.faults c.read_band.new.disk) _ _ _ (omega (arith, c.loop-done.invariant.later, c.in-Ok.ensures.cause.later)) c.write_band.ensures.cause (ap is_err c.in_default-write_band.is)
+
+pub returns-in_default-read_band-clause-cause : goal.returns-in_default-read_band-clause-cause
+returns-in_default-read_band-clause-cause g c = failed_from _ (g.D.Disk.faults c.loop-done.disk) _ _ _ c.loop-done.invariant.later c.read_band-2.ensures.cause (ap is_err c.in_default-read_band.is)
+
+pub returns-in_default-write_band-2-clause-cause : goal.returns-in_default-write_band-2-clause-cause
+returns-in_default-write_band-2-clause-cause g c =
+    failed_from _ (g.D.Disk.faults c.read_band-2.new.disk) _ _ _ (omega (arith, c.loop-done.invariant.later, c.in-Ok-read_band.ensures.cause.later)) c.write_band-2.ensures.cause (ap is_err c.in_default-write_band-2.is)
+
+pub returns-clause-cause : goal.returns-clause-cause
+returns-clause-cause g c = record { later = omega (arith, c.loop-done.invariant.later, c.in-Ok-read_band.ensures.cause.later, c.in-Ok-write_band-2.ensures.cause.later); rose = λ e. absurd cc }

@@ -1,4 +1,4 @@
-use Rattle.std.proofs.Common.{◌≡◌, ◌∙◌, ◌+◌, refl, sym, ap, subst, arith, length, List, ℕ, Option, rules}
+use Rattle.std.proofs.Common.{◌≡◌, ◌∙◌, ◌+◌, refl, sym, ap, subst, arith, length, List, ℕ, Option, is_err, rules}
 use Rattle.std.proofs.lemmas.List.{length-take-le}
 use Rattle.tce_space.specs.Tiling.{Tiling}
 use Rattle.tce_outside.specs.Files.{Files}
@@ -13,7 +13,7 @@ use Rattle.tce_tools.proofs.Draws.{drawn_none, drawn_more, digits_are_elements}
 use Rattle.tce_tools.proofs.NoHalf.{first_left, bare_left, bare_stored}
 use Rattle.tce_tools.proofs.PieceWrites.{keeps_outside, first_values}
 use Rattle.tce_tools.proofs.Stored.{no_elements, all_elements}
-use Rattle.tce_tools.proofs.Told.{held_same}
+use Rattle.tce_tools.proofs.Told.{held_same, failed_from}
 use Rattle.tce_tools.proofs.demo.demo_elements.Goals as goal
 
 pub loop-done-init : goal.loop-done-init
@@ -70,3 +70,12 @@ returns-in_default-clause-no_half g c =
 
 pub returns-clause-no_half : goal.returns-clause-no_half
 returns-clause-no_half g c = bare_left (Array One) c.args.shape.now c.args.array.now (λ _. demo_element c.args.shape.now c.args.x) (g.D.Disk.files c.args.disk.now) _ _ (returns-clause-made g c) refl
+
+pub returns-in_default-clause-others : goal.returns-in_default-clause-others
+returns-in_default-clause-others g c = c.write_band.ensures.others ∙ c.loop-done.invariant.others
+
+pub returns-in_default-clause-cause : goal.returns-in_default-clause-cause
+returns-in_default-clause-cause g c = failed_from _ (g.D.Disk.faults c.loop-done.disk) _ _ _ c.loop-done.invariant.later c.write_band.ensures.cause (ap is_err c.in_default.is)
+
+pub returns-clause-cause : goal.returns-clause-cause
+returns-clause-cause g c = record { later = c.loop-done.invariant.later; rose = λ e. absurd cc }

@@ -5,6 +5,12 @@ use Rattle.tce_tools.specs.Flat.{contents}
 use Rattle.tce_tools.proofs.Pieces.{piece_is, word_of_piece}
 use Rattle.tce_tools.proofs.transfer.read_words.Goals as goal
 
+pub overflow_mul-piece : goal.overflow_mul-piece
+overflow_mul-piece g c = omega (arith, ap (λ m. m * length c.args.words.now) c.width.ensures, c.requires.buffer)
+
+pub slice_bounds-piece-end : goal.slice_bounds-piece-end
+slice_bounds-piece-end g c = omega (arith, ap (λ m. m * length c.args.words.now) c.width.ensures, c.requires.buffer)
+
 pub returns-clause-read : goal.returns-clause-read
 returns-clause-read g c x told k lt =
     let bs : List ℕ = contents x c.args.name.now in
