@@ -17,6 +17,9 @@ use tce_space::IndexSet;
 // A list has no fewer groups.
 const LEAST_GROUPS: usize = 61;
 
+// It has so many for each candidate that is expected, since a group that has none is passed over at once.
+const GROUPS_EACH: usize = 4;
+
 /// Candidates of a node in the order in which they came, to be compared on outer loops.
 ///
 /// Each has an entry in the group of its three largest upper parts. The upper parts of what stands for a state are upper parts of the state too, so a candidate that does is in the group of three of these.
@@ -49,7 +52,10 @@ impl CandidateList {
         Ok(CandidateList {
             outer,
             candidates: Vec::new(alloc),
-            groups: Groups::new(alloc, expected / 2 + LEAST_GROUPS)?,
+            groups: Groups::new(
+                alloc,
+                expected.saturating_mul(GROUPS_EACH).max(LEAST_GROUPS),
+            )?,
         })
     }
 

@@ -19,7 +19,8 @@ pub(crate) struct Entry {
 #[derive(Drop)]
 pub(crate) struct Groups {
     lists: Vec<Vec<Entry>>,
-    leasts: Vec<u128>,
+    // A word each, so that more of them stay in the processor's cache. The greatest word is kept for costs that are more.
+    leasts: Vec<u64>,
 }
 
 impl Model for Groups {
@@ -51,15 +52,15 @@ fn number_of(key: usize, count: usize) -> usize
 }
 
 // Lowers one of the costs to another, where that is less.
-fn lower(leasts: &mut Vec<u128>, number: usize, cost: u128)
+fn lower(leasts: &mut Vec<u64>, number: usize, cost: u128)
     requires { number < length leasts.old.items }
     ensures count { length leasts.new.items ≡ length leasts.old.items }
     ensures none_raised { (k : ℕ) → slice_index_or leasts.new.items k 0 ≤ slice_index_or
         leasts.old.items k 0 }
     ensures at { slice_index_or leasts.new.items number 0 ≤ cost }
 {
-    if cost < leasts[number] {
-        leasts[number] = cost;
+    if cost < u128::from(leasts[number]) {
+        leasts[number] = cost as u64;
     }
 }
 
@@ -103,7 +104,7 @@ impl Groups {
         let mut leasts = Vec::with_capacity(alloc, count)?;
         for _ in 0..count {
             lists.push(Vec::new(alloc))?;
-            leasts.push(u128::MAX)?;
+            leasts.push(u64::MAX)?;
         }
         Ok(Groups { lists, leasts })
     }
@@ -121,7 +122,7 @@ impl Groups {
         ensures { (e : Entry) → Contains (group_of self.now key) e → result ≤ e.cost }
     {
         let number = number_of(key, self.lists.len());
-        self.leasts[number]
+        u128::from(self.leasts[number])
     }
 
     /// Puts an entry into the group of a key.
