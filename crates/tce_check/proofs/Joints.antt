@@ -56,16 +56,16 @@ cost_of_choice : (space : IndexSpace) (tree : ContractionTree) (v : ℕ) (left r
     → LeavesSize space tree v choice → joint.cost + choice.size ≡ step_cost space tree v left right choice.fused
 cost_of_choice space tree v left right joint choice join size = ap (λ x. x + choice.size) join.cost ∙ ap (λ x. left.cost + right.cost + x) size
 
--- where all states of the rows' cost have a row, all steps have
-pub steps_of_bound : (space : IndexSpace) (tree : ContractionTree) (outer v : ℕ) (rows : List Row) (left right : Row)
-    → ((relation : Relation) → Any (StandsFor outer relation (left.cost + right.cost)) rows) → StepsCovered space tree outer v rows left right
-steps_of_bound space tree outer v rows left right all fused within allows =
+-- where all states of a cost have a row, all steps from rows that cost no less have
+pub steps_of_bound : (space : IndexSpace) (tree : ContractionTree) (outer v bound : ℕ) (rows : List Row) (left right : Row) → bound ≤ left.cost + right.cost
+    → ((relation : Relation) → Any (StandsFor outer relation bound) rows) → StepsCovered space tree outer v rows left right
+steps_of_bound space tree outer v bound rows left right low all fused within allows =
     let found = all (step_relation left right fused) in (
       found.0,
       found.1,
       found.2,
       found.3,
-      record { coarser = found.4.coarser; cheap = omega (arith, found.4.cheap) },
+      record { coarser = found.4.coarser; cheap = omega (arith, found.4.cheap, low) },
     )
 
 -- what covers the choice of a set covers the step

@@ -5,11 +5,14 @@ ghost use Rattle.tce_tree.specs.ContractionTree.{node_loops};
 ghost use Rattle.tce_nesting.specs.Ends.{AreRuns};
 ghost use Rattle.tce_check.specs.Joint.{ChoiceCovered};
 ghost use Rattle.tce_check.specs.Node.{IsReady, PairCovered, AreBelowLimit};
+ghost use Rattle.tce_check.specs.Tops.{AreTops};
 
 use crate::joint::joint;
 use crate::runs::{BLOCK, runs_of};
 use crate::steps::{Node, state_of};
+use crate::tops::{are_crossed, tops_of};
 use tce_nesting::{Choice, Row, Run, allows_none, ends_of, have_conflict};
+use tce_space::IndexSet;
 
 impl<'a> Node<'a> {
     // Whether the choice's set may not be fused, or some row is seen to stand for its step.
@@ -69,7 +72,21 @@ impl<'a> Node<'a> {
         }
     }
 
-    // Whether of one left row and each of the right ones the ends show that no step from them needs a row, or else some row stands for each.
+    // The same, where the tops of the left row may show that there is no step.
+    fn covers_next(&self, left: &Row, tops: &[IndexSet], right: &Row, hints: &mut [u32]) -> bool
+        requires ready { IsReady self.now }
+        requires left { left.now.cost < cost_limit }
+        requires right { right.now.cost < cost_limit }
+        requires tops { AreTops (node_loops self.now.tree.now self.now.number) left.now tops.now }
+        ensures { IsTrue result → PairCovered self.now left.now right.now }
+    {
+        if are_crossed(tops, right, self.tree.loops(self.number)) {
+            return true;
+        }
+        self.covers_pair(left, right, hints)
+    }
+
+    // The same of one left row and each of the right ones. Runs that have a conflict with it, or cost so much with it that some row stands for all states, are passed over.
     fn covers_with(&self, left: &Row, rights: &[Row], runs: &[Run], hints: &mut [u32]) -> bool
         requires ready { IsReady self.now }
         requires left { left.now.cost < cost_limit }
@@ -77,7 +94,9 @@ impl<'a> Node<'a> {
         requires runs { AreRuns (node_loops self.now.tree.now self.now.number) rights.now runs.now }
         ensures { IsTrue result → All (PairCovered self.now left.now) rights.now }
     {
-        let own = ends_of(left, self.tree.loops(self.number));
+        let loops = self.tree.loops(self.number);
+        let own = ends_of(left, loops);
+        let tops = tops_of(left, loops);
         let mut place = 0;
         while place < rights.len() {
             let run = runs[place];
@@ -85,7 +104,11 @@ impl<'a> Node<'a> {
                 place = run.until;
                 continue;
             }
-            if !self.covers_pair(left, &rights[place], hints) {
+            if self.stands_for_all(left.cost.saturating_add(run.cost)) {
+                place = run.until;
+                continue;
+            }
+            if !self.covers_next(left, tops.as_slice(), &rights[place], hints) {
                 return false;
             }
             place += 1;

@@ -11,6 +11,7 @@ mod rules;
 mod runs;
 mod steps;
 mod tables;
+mod tops;
 mod verdict;
 
 pub use rules::check;

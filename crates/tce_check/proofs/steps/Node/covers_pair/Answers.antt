@@ -1,4 +1,4 @@
-use Rattle.std.proofs.Common.{◌+◌, ap, ◌∙◌, subst}
+use Rattle.std.proofs.Common.{◌+◌, arith, ap, ◌∙◌, subst}
 use Rattle.std.specs.List.{Any}
 use Rattle.tce_states.specs.Relation.{Relation}
 use Rattle.tce_states.specs.Row.{Row, StandsFor}
@@ -12,7 +12,7 @@ returns-then-stands_for_all c _ =
     let cost = ap (λ (l : Row). l.cost + c.right.inside.cost) c.left.view_is ∙ ap (λ (r : Row). c.args.left.now.cost + r.cost) c.right.view_is in
     let all = subst (λ n. (relation : Relation) → Any (StandsFor node.outer relation n) node.rows.now) cost
     (c.stands_for_all.ensures c.if-stands_for_all.true) in
-    λ quiet. steps_of_bound node.space.now node.tree.now node.outer node.number node.rows.now c.args.left.now c.args.right.now all
+    λ quiet. steps_of_bound node.space.now node.tree.now node.outer node.number (c.args.left.now.cost + c.args.right.now.cost) node.rows.now c.args.left.now c.args.right.now (omega arith) all
 
 pub returns-in-Some : goal.returns-in-Some
 returns-in-Some c h _ =

@@ -1,11 +1,13 @@
-use Rattle.std.proofs.Common.{arith, subst}
+use Rattle.std.proofs.Common.{arith, ap, sym, subst}
+use Rattle.tce_states.specs.Row.{Row}
 use Rattle.tce_states.specs.Cover.{StepsCovered}
 use Rattle.tce_check.specs.Verdict.{WhereJoined}
 use Rattle.tce_nesting.specs.Ends.{AreEnds}
 use Rattle.tce_tree.specs.ContractionTree.{node_loops}
+use Rattle.tce_check.specs.Tops.{AreTops}
 use Rattle.tce_check.proofs.Firsts.{one_more}
 use Rattle.tce_nesting.proofs.RunParts.{run_at}
-use Rattle.tce_check.proofs.RunParts.{run_skipped}
+use Rattle.tce_check.proofs.RunParts.{run_skipped, run_dear}
 use Rattle.tce_check.proofs.steps.Node.covers_with.Goals as goal
 
 pub loop-place-preserved-then-have_conflict : goal.loop-place-preserved-then-have_conflict
@@ -15,10 +17,25 @@ loop-place-preserved-then-have_conflict c =
     let run = c.index-runs-place.result in
     let is = run_at loops c.loop-place.place c.args.rights.now c.args.runs.now run c.requires.runs c.loop-place-test.true c.index-runs-place.is in
     run_skipped node.tree.now node.number c.loop-place.place (StepsCovered node.space.now node.tree.now node.outer node.number node.rows.now) c.args.rights.now c.args.left.now c.ends_of-own.result run
-    (subst (λ o. AreEnds o c.args.left.now c.ends_of-own.result) c.loops.ensures.value c.ends_of-own.ensures) is (c.have_conflict.ensures c.if-have_conflict.true) c.loop-place.invariant
+    (subst (λ o. AreEnds o c.args.left.now c.ends_of-own.result) c.loops-loops.ensures.value c.ends_of-own.ensures) is (c.have_conflict.ensures c.if-have_conflict.true) c.loop-place.invariant
 
 pub loop-place-smaller-then-have_conflict : goal.loop-place-smaller-then-have_conflict
 loop-place-smaller-then-have_conflict c =
+    let node = c.args.self.now in
+    let is = run_at (node_loops node.tree.now node.number) c.loop-place.place c.args.rights.now c.args.runs.now c.index-runs-place.result c.requires.runs c.loop-place-test.true c.index-runs-place.is in
+    omega (arith, is.later, is.inside)
+
+pub loop-place-preserved-then-stands_for_all : goal.loop-place-preserved-then-stands_for_all
+loop-place-preserved-then-stands_for_all c =
+    let node = c.args.self.now in
+    let run = c.index-runs-place.result in
+    let is = run_at (node_loops node.tree.now node.number) c.loop-place.place c.args.rights.now c.args.runs.now run c.requires.runs c.loop-place-test.true c.index-runs-place.is in
+    let own = ap (λ (l : Row). l.cost) c.left.view_is in
+    run_dear node.space.now node.tree.now node.outer node.number c.loop-place.place c.saturating_add.result node.rows.now c.args.rights.now c.args.left.now run is
+    (omega (arith, own, c.saturating_add.ensures)) (c.stands_for_all.ensures c.if-stands_for_all.true) c.loop-place.invariant
+
+pub loop-place-smaller-then-stands_for_all : goal.loop-place-smaller-then-stands_for_all
+loop-place-smaller-then-stands_for_all c =
     let node = c.args.self.now in
     let is = run_at (node_loops node.tree.now node.number) c.loop-place.place c.args.rights.now c.args.runs.now c.index-runs-place.result c.requires.runs c.loop-place-test.true c.index-runs-place.is in
     omega (arith, is.later, is.inside)
@@ -27,4 +44,11 @@ pub loop-place-preserved : goal.loop-place-preserved
 loop-place-preserved c =
     let node = c.args.self.now in
     one_more (WhereJoined node.tree.now node.number (StepsCovered node.space.now node.tree.now node.outer node.number node.rows.now) c.args.left.now)
-    c.args.rights.now c.loop-place.place c.index-rights-place.result c.loop-place-test.true c.index-rights-place.is c.loop-place.invariant (c.covers_pair.ensures c.if-not-covers_pair.false)
+    c.args.rights.now c.loop-place.place c.index-rights-place.result c.loop-place-test.true c.index-rights-place.is c.loop-place.invariant (c.covers_next.ensures c.if-not-covers_next.false)
+
+pub covers_next-requires-clause-tops : goal.covers_next-requires-clause-tops
+covers_next-requires-clause-tops c =
+    let node = c.args.self.now in
+    let left = c.args.left.now in
+    subst (AreTops (node_loops node.tree.now node.number) left) (sym c.as_slice.ensures.value)
+    (subst (λ loops. AreTops loops left c.tops_of-tops.result.items) c.loops-loops.ensures.value c.tops_of-tops.ensures)
