@@ -11,7 +11,7 @@ use tce_space::{IndexSet, MAX_LOOPS};
 pub(crate) const GROUPS: usize = 16_381;
 
 // How many rows have an entry. Those behind them are asked one by one.
-pub(crate) const ENTRIES: usize = 200_704;
+pub(crate) const ENTRIES: usize = 262_144;
 
 // An entry is the place of a row, below this, and above it the marks.
 const PLACES: u32 = 524_288;
@@ -236,16 +236,14 @@ impl<'a> Groups<'a> {
             uppers,
             marks,
         };
-        if let Some(place) = self.place_with(&Parts::default(), &sought) {
-            return Some(place);
-        }
+        // Most rows are found by the largest part, so that comes first.
         let uppers = sought.uppers.as_slice();
-        for (count, first) in uppers.iter().enumerate() {
-            if let Some(place) = self.place_under(*first, &uppers[..count], &sought) {
+        for count in (0..uppers.len()).rev() {
+            if let Some(place) = self.place_under(uppers[count], &uppers[..count], &sought) {
                 return Some(place);
             }
         }
-        None
+        self.place_with(&Parts::default(), &sought)
     }
 
     // The place of a row without an entry that stands for the state.
