@@ -19,6 +19,9 @@ const PLACES: u32 = 524_288;
 // The greatest prime for which all remainders are bits of a mark.
 const MARKS: u32 = 13;
 
+// Fewer rows have no entries, since to fill the groups would take longer than to ask all rows.
+const FEW: usize = 48;
+
 // How many hints there are, a prime.
 pub(crate) const HINTS: usize = 16_381;
 
@@ -40,6 +43,8 @@ pub(crate) struct Groups<'a> {
     // For each group the place behind its last entry. It begins where the group before it ends.
     pub(crate) ends: &'a mut [u32],
     pub(crate) entries: &'a mut [u32],
+    // How many rows of the node have an entry.
+    pub(crate) kept: usize,
 }
 
 // A state for which a row is sought, its upper parts, the least first, and their marks.
@@ -108,7 +113,12 @@ fn hint_of(classes: &Nesting) -> usize {
 impl<'a> Groups<'a> {
     // Takes the rows of a node in the place of those that it had.
     pub(crate) fn fill(&mut self, rows: &[Row], outer: IndexSet) {
+        if rows.len() < FEW {
+            self.kept = 0;
+            return;
+        }
         let kept = &rows[..rows.len().min(self.entries.len())];
+        self.kept = kept.len();
         self.count(kept, outer);
         self.begin();
         for (place, row) in kept.iter().enumerate() {
@@ -251,7 +261,7 @@ impl<'a> Groups<'a> {
         ensures { IfSome result (λ place. Any (StandsFor outer (above state.now.classes)
             state.now.cost) rows.now) }
     {
-        for place in self.entries.len()..rows.len() {
+        for place in self.kept..rows.len() {
             if let Some(row) = rows.get(place) {
                 if stands_for(row, state, outer) {
                     return Some(place.min(u32::MAX as usize) as u32);
@@ -266,10 +276,12 @@ impl<'a> Groups<'a> {
         ensures { IfSome result (λ place. Any (StandsFor outer (above state.now.classes)
             state.now.cost) rows.now) }
     {
-        match self.likely_place(rows, state, outer) {
-            Some(place) => Some(place),
-            None => self.late_place(rows, state, outer),
+        if 0 < self.kept {
+            if let Some(place) = self.likely_place(rows, state, outer) {
+                return Some(place);
+            }
         }
+        self.late_place(rows, state, outer)
     }
 
     // Whether some row stands for a state.

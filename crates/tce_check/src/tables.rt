@@ -57,7 +57,7 @@ fn first_uncovered_at(
 }
 
 // How many rows a table has at least whose rows go by groups.
-const MANY: usize = 96;
+const MANY: usize = 250;
 
 // Whether some table has many rows.
 fn has_many_rows(tables: &Tables) -> bool {
@@ -88,6 +88,7 @@ pub(crate) fn first_uncovered_node(
     let mut groups = Groups {
         ends: &mut [],
         entries: &mut [],
+        kept: 0,
     };
     first_uncovered_of(space, tree, tables, &mut groups, &mut [])
 }
@@ -110,6 +111,7 @@ fn first_uncovered_of_many(space: &Space, tree: &Tree, tables: &Tables) -> Optio
     let mut groups = Groups {
         ends: &mut ends,
         entries: &mut entries,
+        kept: 0,
     };
     first_uncovered_of(space, tree, tables, &mut groups, &mut hints)
 }
