@@ -16,7 +16,7 @@ use tce_block::Block;
 use tce_space::{Arithmetic, Numbers, Space};
 use tce_walk::Tail;
 use tce_windows::{
-    BlockLoops, LoopSequence, OperandWindows, Window, compute, compute_and_grow_again, grow,
+    BlockLoops, LoopSequence, OperandWindows, Window, compute, compute_and_grow, grow,
 };
 use tce_words::Words;
 
@@ -114,7 +114,7 @@ pub(crate) fn join_turns(
         words.old
         words.new }
 {
-    compute_and_grow_again(
+    compute_and_grow(
         words,
         sequence,
         &loops_in(at),

@@ -234,42 +234,9 @@ fn compute_filled(
 /// Sets in each turn of the loops the word of `own` to the product of the operands' words, and after that adds in each turn
 /// this product to the result's word.
 ///
-/// It leaves what `compute` and `grow_by_products` leave one after the other, and the loops begin once.
+/// It leaves what `compute` and `grow_by_products` leave one after the other. The windows have the steps of those of the call
+/// before, if that has filled the sequence's loops: they are filled anew only where a loop has another number of turns.
 pub fn compute_and_grow(
-    words: &mut Words,
-    sequence: &mut LoopSequence,
-    loops: &BlockLoops,
-    own: &Window,
-    out: &Window,
-    operands: &OperandWindows,
-)
-    requires sequence { IsLoopSequence loops.now.indexes.now sequence.old }
-    requires loops { AreLoops loops.now.indexes.now loops.now.lens.now }
-    requires own { IsResultWindow (length words.old) loops.now.indexes.now loops.now.lens.now
-        own.now
-        operands.now.left.now
-        operands.now.right.now }
-    requires out { IsResultWindow (length words.old) loops.now.indexes.now loops.now.lens.now
-        out.now
-        operands.now.left.now
-        operands.now.right.now }
-    requires left { IsWindowWithin (length words.old) loops.now.indexes.now loops.now.lens.now
-        operands.now.left.now }
-    requires right { IsWindowWithin (length words.old) loops.now.indexes.now loops.now.lens.now
-        operands.now.right.now }
-    ensures sequence { IsLoopSequence loops.now.indexes.now sequence.new }
-    ensures made { AreProductsJoined loops.now.indexes.now loops.now.lens.now own.now out.now
-        operands.now.left.now
-        operands.now.right.now
-        words.old words.new }
-{
-    sequence.filled = false;
-    compute_and_grow_again(words, sequence, loops, own, out, operands);
-}
-
-/// The same, where the windows have the steps of those of the call before, if that has filled the sequence's loops. They are
-/// filled anew only where a loop has another number of turns.
-pub fn compute_and_grow_again(
     words: &mut Words,
     sequence: &mut LoopSequence,
     loops: &BlockLoops,

@@ -12,9 +12,6 @@ mod sequence;
 mod still;
 mod window;
 
-pub use blocks::{
-    BlockLoops, OperandWindows, compute, compute_and_grow, compute_and_grow_again, grow,
-    grow_by_products,
-};
+pub use blocks::{BlockLoops, OperandWindows, compute, compute_and_grow, grow, grow_by_products};
 pub use sequence::LoopSequence;
 pub use window::Window;
