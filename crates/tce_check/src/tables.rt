@@ -95,7 +95,7 @@ pub(crate) fn first_uncovered_node(
 
 // The same, where the rows go by groups.
 //
-// These take 1,152 KiB of stack, which are not to stand in the frame of what calls this.
+// These take 944 KiB of stack, which are not to stand in the frame of what calls this.
 #[inline(never)]
 fn first_uncovered_of_many(space: &Space, tree: &Tree, tables: &Tables) -> Option<(u8, Step)>
     requires measured { IsMeasured space.now tree.now }
