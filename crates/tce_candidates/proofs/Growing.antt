@@ -4,12 +4,7 @@ use Rattle.std.specs.List.{AllPairs, Any}
 use Rattle.tce_states.specs.Relation.{Relation}
 use Rattle.tce_candidates.specs.Candidates.{Stands, StandForAll}
 use Rattle.tce_candidates.specs.Groups.{Listed, LeavesOpen}
-
--- the new candidates stand for each state for which old ones do; where no old one stands for a later one's state, no new one does
-pub record Grows (old new : Listed) : Type 0 where
-  pub outer : new.outer ≡ old.outer
-  pub others : StandForAll old.outer old.candidates new.candidates
-  pub later : AllPairs (LeavesOpen old.outer) old.candidates → AllPairs (LeavesOpen old.outer) new.candidates
+use Rattle.tce_candidates.specs.Joins.{Grows}
 
 pub grows_none : (list : Listed) → Grows list list
 grows_none list = record { outer = refl; others = λ r n found. found; later = λ pairs. pairs }

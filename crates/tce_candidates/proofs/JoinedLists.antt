@@ -8,7 +8,8 @@ use Rattle.tce_candidates.specs.Candidates.{StandForAll}
 use Rattle.tce_candidates.specs.Groups.{Listed, LeavesOpen}
 use Rattle.tce_candidates.specs.Joins.{IsJoinBelow, HasGrownBy}
 use Rattle.tce_candidates.proofs.Covers.{from_earlier}
-use Rattle.tce_candidates.proofs.Growing.{Grows, grows_further}
+use Rattle.tce_candidates.specs.Joins.{Grows}
+use Rattle.tce_candidates.proofs.Growing.{grows_further}
 
 module _ (left : Candidate) (rights : Rights) where
   -- a candidate was there, or is what two are together

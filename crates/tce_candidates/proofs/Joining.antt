@@ -4,18 +4,20 @@ use Rattle.std.specs.Prelude.{IsTrue}
 use Rattle.std.specs.List.{All, AllPairs, Any, Contains}
 use Rattle.std.proofs.lemmas.Bool.{cases_Bool, cases_lt, false≢true}
 use Rattle.std.proofs.lemmas.List.{append_assoc, length-append}
-use Rattle.std.proofs.lemmas.List.Elements.{All-weaker, All-contains}
-use Rattle.tce_space.specs.IndexSet.{IsIndexSet, has}
+use Rattle.std.proofs.lemmas.List.Elements.{All-weaker, All-contains, All-nil}
+use Rattle.tce_space.specs.IndexSet.{IsIndexSet, IsWithin, has}
 use Rattle.tce_states.specs.Relation.{none, above, IsCoarser}
 use Rattle.tce_states.specs.Classes.{in_class}
 use Rattle.tce_states.specs.Row.{Row, rows_joined}
 use Rattle.tce_nesting.specs.Classes.{restricted, AllowsSet}
+use Rattle.tce_nesting.specs.Plan.{LiesWithin}
 use Rattle.tce_nesting.specs.declared.choice.Choice.{Choice}
 use Rattle.tce_nesting.proofs.Joins.{in_class-above}
 use Rattle.tce_nesting.proofs.Cuts.{above-restricted}
 use Rattle.tce_candidates.specs.Steps.{IsRowJoin}
 use Rattle.tce_candidates.specs.declared.candidate.Candidate.{Candidate}
-use Rattle.tce_candidates.specs.Candidates.{Stands, StandForAll, ChoiceCovered, PairCovered, IsReachedBelow, IsLimited, LeavesRoom, HaveRoom, limit_candidate}
+use Rattle.tce_candidates.specs.declared.table.Choosing.{Choosing}
+use Rattle.tce_candidates.specs.Candidates.{Stands, StandForAll, ChoiceCovered, PairCovered, IsReachedOrBound, IsBound, IsLimited, LeavesRoom, HaveRoom, limit_candidate}
 use Rattle.tce_candidates.specs.Groups.{LeavesOpen}
 use Rattle.tce_candidates.specs.Joins.{IsSomeJoinBelow, JoinCovered, IsSomeStepFrom, HasNext}
 use Rattle.tce_candidates.proofs.Existing.{joined_row}
@@ -104,30 +106,38 @@ module _ (limit loops outer : ℕ) (choices : List Choice) (table joins : List C
 pub joins_placed : (limit loops : ℕ) (lefts rights joins : List Candidate) → All (IsSomeJoinBelow limit loops lefts rights) joins → All (IsPlaced loops) joins
 joins_placed limit loops lefts rights joins all = All-weaker (IsSomeJoinBelow limit loops lefts rights) (IsPlaced loops) (λ x h. h.join.join.joins.classes.placed) joins all
 
--- a step from what two candidates are together is one from these two
-pub step_reached : (limit loops : ℕ) (choices : List Choice) (lefts rights : List Candidate) (join x : Candidate)
-    → IsSomeJoinBelow limit loops lefts rights join → IsSomeStepFrom limit choices join x → IsReachedBelow limit loops choices lefts rights x
-step_reached limit loops choices lefts rights join x from step = record {
-  reached = record {
-    left = from.left;
-    right = from.right;
-    from_left = from.from_left;
-    from_right = from.from_right;
-    step = record {
-      joined = join.row;
-      choice = step.choice;
-      quiet = from.join.join.quiet;
-      joins = from.join.join.joins;
-      chosen = step.chosen;
+-- a step from what two candidates are together is one from these two, or it has no sets
+pub step_reached : (loops : ℕ) (choosing : Choosing) (lefts rights : List Candidate) (join x : Candidate) → choosing.limit < 2 ^ 96
+    → IsSomeJoinBelow choosing.limit loops lefts rights join → IsSomeStepFrom choosing join x → IsReachedOrBound choosing.limits.least loops choosing.choices.now lefts rights x
+step_reached loops choosing lefts rights join x small from step = elim step.step.0 [
+  | inl own ↦ inl (record {
+    reached = record {
+      left = from.left;
+      right = from.right;
+      from_left = from.from_left;
+      from_right = from.from_right;
       step = record {
-        allowed = step.step.allowed;
-        row = step.step.row;
-        sets = step.step.sets ∙ ap (λ xs. xs ++ step.choice.fused ∷ []) from.join.join.sets ∙ append_assoc from.left.sets.items from.right.sets.items (step.choice.fused ∷ []);
+        joined = join.row;
+        choice = step.choice;
+        quiet = from.join.join.quiet;
+        joins = from.join.join.joins;
+        chosen = step.chosen;
+        step = record {
+          allowed = own.allowed;
+          row = own.row;
+          sets = own.sets ∙ ap (λ xs. xs ++ step.choice.fused ∷ []) from.join.join.sets ∙ append_assoc from.left.sets.items from.right.sets.items (step.choice.fused ∷ []);
+        };
       };
     };
-  };
-  cheap = step.cheap;
-}
+    cheap = omega (arith, step.step.1, small);
+  })
+  | inr bound ↦ inr (record {
+    sets = bound.sets;
+    high = bound.high;
+    cheap = omega (arith, step.step.1, small);
+    within = λ dims all. bound.within dims (All-contains (λ (choice : Choice). IsWithin choice.fused dims) choosing.choices.now step.choice all step.chosen);
+  })
+]
 
 -- what is covered stays so where the candidates stand for as much
 pub join_later : (limit loops : ℕ) (old new : List Candidate) (left right : Candidate) → StandForAll loops old new → JoinCovered limit loops old left right → JoinCovered limit loops new left right
@@ -168,10 +178,15 @@ module _ (outer limit : ℕ) (list : List Candidate) (is : list ≡ limit_candid
   pub limit_alone : AllPairs (LeavesOpen outer) list
   limit_alone = subst (AllPairs (LeavesOpen outer)) (sym is) (λ i j d order low. absurd (omega (arith, order, low)))
 
-  pub all_at_limit : (x : Candidate) → Contains list x → x ≡ limit_candidate limit
+  all_at_limit : (x : Candidate) → Contains list x → x ≡ limit_candidate limit
   all_at_limit x inn = only (subst (λ xs. Contains xs x) is inn)
     where
       only : Contains (limit_candidate limit ∷ []) x → x ≡ limit_candidate limit
       only inn =
           let first : inn.0 ≡ 0 = omega (arith, inn.1) in
           sym inn.2 ∙ ap (λ k. get_or (limit_candidate limit ∷ []) k x) first
+
+  -- it has no sets, and its classes lie anywhere
+  pub limit_bounds : (least : ℕ) (choices : List Choice) (x : Candidate) → least ≤ limit → limit < 2 ^ 96 → Contains list x → IsBound least choices x
+  limit_bounds least choices x high small inn =
+      subst (IsBound least choices) (sym (all_at_limit x inn)) (record { sets = refl; high = high; cheap = omega (arith, small); within = λ dims all. All-nil (LiesWithin dims) })

@@ -1,4 +1,5 @@
 pub mod Agreeing
+pub mod Bounding
 pub mod Covers
 pub mod Existing
 pub mod Grouping

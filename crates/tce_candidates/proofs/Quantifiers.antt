@@ -30,6 +30,9 @@ Any-append_left P (x ∷ xs) ys found = elim (Any-cases P x xs found) [
   | inr later ↦ Any-later P x (xs ++ ys) (Any-append_left P xs ys later)
 ]
 
+pub Any-last : {X : Type 0} (P : X → Type 0) (xs : List X) (y : X) → P y → Any P (xs ++ y ∷ [])
+Any-last P xs y p = (length xs, y, omega (arith, length_push xs y), get_or_push xs y y (length xs) refl, p)
+
 pub Any-push_cases : {X : Type 0} (P : X → Type 0) (xs : List X) (y : X) → Any P (xs ++ y ∷ []) → Any P xs ⊎ P y
 Any-push_cases P [] y found = elim (Any-cases P y [] found) [ inl p ↦ inr p | inr later ↦ absurd (Any-nil P later) ]
 Any-push_cases P (x ∷ xs) y found = elim (Any-cases P x (xs ++ y ∷ []) found) [

@@ -1,10 +1,12 @@
 -- Candidates of a node, and which steps from those of its operands they cover.
-use Rattle.std.specs.Prelude.{◌≡◌, ℕ, ◌+◌, ◌<◌, List, [], ◌∷◌, ◌++◌, length}
+use Rattle.std.specs.Prelude.{◌≡◌, ◌⊎◌, ℕ, ◌+◌, ◌<◌, ◌≤◌, List, [], ◌∷◌, ◌++◌, length}
 use Rattle.std.specs.List.{All, Any, Contains}
-use Rattle.tce_space.specs.Limits.{cost_limit, max_nodes}
+use Rattle.tce_space.specs.Limits.{cost_limit, max_loops, max_nodes}
+use Rattle.tce_space.specs.IndexSet.{IsWithin, count}
 use Rattle.tce_states.specs.Relation.{Relation, above, HasNoConflict}
 use Rattle.tce_states.specs.Row.{Row, StandsFor, rows_joined}
 use Rattle.tce_nesting.specs.Classes.{AllowsSet, restricted}
+use Rattle.tce_nesting.specs.Plan.{LiesWithin}
 use Rattle.tce_nesting.specs.declared.choice.Choice.{Choice}
 use Rattle.tce_candidates.specs.Steps.{IsRowJoin, IsRestricted}
 use Rattle.tce_candidates.specs.declared.candidate.Candidate.{Candidate}
@@ -84,3 +86,28 @@ LeavesRoom left right = length left.sets.items + length right.sets.items < max_n
 -- so do those of each two candidates of the operands
 abbrev pub HaveRoom : List Candidate → List Candidate → Type 0
 HaveRoom lefts rights = All (λ left. All (LeavesRoom left) rights) lefts
+
+-- the rows of the operands' candidates can be joined on the loops: there are at most ten of these, each row fits a plan, and the sets leave room
+pub record AreOperands (loops : ℕ) (lefts rights : List Candidate) : Type 0 where
+  pub few : count loops ≤ max_loops
+  pub limited_left : All IsLimited lefts
+  pub limited_right : All IsLimited rights
+  pub room : HaveRoom lefts rights
+
+-- a candidate without sets that costs at least so much, and whose classes lie within the choice's set
+pub record IsBoundOf (least : ℕ) (choice : Choice) (candidate : Candidate) : Type 0 where
+  pub sets : candidate.sets.items ≡ []
+  pub high : least ≤ candidate.row.cost
+  pub within : (dims : ℕ) → IsWithin choice.fused dims → All (LiesWithin dims) candidate.row.classes
+
+-- a candidate without sets that costs at least so much and fits a plan, and whose classes lie within what all choices lie within
+pub record IsBound (least : ℕ) (choices : List Choice) (candidate : Candidate) : Type 0 where
+  pub sets : candidate.sets.items ≡ []
+  pub high : least ≤ candidate.row.cost
+  pub cheap : IsLimited candidate
+  pub within : (dims : ℕ) → All (λ choice. IsWithin choice.fused dims) choices → All (LiesWithin dims) candidate.row.classes
+
+-- a step from some two of the operands' candidates that fits a plan, or such a candidate without sets
+abbrev pub IsReachedOrBound : ℕ → ℕ → List Choice → List Candidate → List Candidate → Candidate → Type 0
+IsReachedOrBound least loops choices lefts rights candidate =
+    IsReachedBelow cost_limit loops choices lefts rights candidate ⊎ IsBound least choices candidate

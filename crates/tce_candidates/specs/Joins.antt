@@ -5,16 +5,17 @@ use Rattle.tce_space.specs.Limits.{max_loops, max_nodes}
 use Rattle.tce_space.specs.IndexSet.{count}
 use Rattle.tce_states.specs.Relation.{above, HasNoConflict}
 use Rattle.tce_states.specs.Row.{rows_joined}
-use Rattle.tce_nesting.specs.Classes.{AllowsSet}
+use Rattle.tce_nesting.specs.Classes.{AllowsSet, restricted}
 use Rattle.tce_nesting.specs.declared.choice.Choice.{Choice}
 use Rattle.tce_nesting.specs.declared.stretches.Stretch.{Stretch}
 use Rattle.tce_nesting.specs.Stretches.{IsStretch}
 use Rattle.tce_candidates.specs.Steps.{IsRowJoin, IsRestricted}
 use Rattle.tce_candidates.specs.declared.candidate.Candidate.{Candidate}
-use Rattle.tce_candidates.specs.Candidates.{Stands, StandForAll, IsLimited, LeavesRoom}
+use Rattle.tce_candidates.specs.Candidates.{Stands, StandForAll, IsBoundOf, IsLimited, LeavesRoom}
 use Rattle.tce_candidates.specs.Groups.{Listed, LeavesOpen}
 use Rattle.tce_candidates.specs.Ends.{KnowsRuns}
 use Rattle.tce_candidates.specs.declared.starts.Rights.{Rights}
+use Rattle.tce_candidates.specs.declared.table.Choosing.{Choosing}
 
 -- the joined row of two candidates without conflict, with the sets of both
 pub record IsJoin (loops : ℕ) (left right candidate : Candidate) : Type 0 where
@@ -57,6 +58,12 @@ RunCovered loops joins left rights from until = AllWithin (JoinCovered rights.li
 abbrev pub AllCovered : ℕ → List Candidate → Candidate → Rights → Type 0
 AllCovered loops joins left rights = All (JoinCovered rights.limit loops joins left) rights.candidates.now
 
+-- the new candidates stand for each state for which old ones do; where no old one stands for a later one's state, no new one does
+pub record Grows (old new : Listed) : Type 0 where
+  pub outer : new.outer ≡ old.outer
+  pub others : StandForAll old.outer old.candidates new.candidates
+  pub later : AllPairs (LeavesOpen old.outer) old.candidates → AllPairs (LeavesOpen old.outer) new.candidates
+
 -- a list has grown by what the candidate and some of the right ones are together, and by nothing for which one before stands
 pub record HasGrownBy (left : Candidate) (rights : Rights) (old new : Listed) : Type 0 where
   pub outer : new.outer ≡ old.outer
@@ -70,12 +77,23 @@ pub record IsStepFrom (join : Candidate) (choice : Choice) (candidate : Candidat
   pub row : IsRestricted join.row choice candidate.row
   pub sets : candidate.sets.items ≡ join.sets.items ++ choice.fused ∷ []
 
--- with one of the choices, where it costs less than a limit
-pub record IsSomeStepFrom (limit : ℕ) (choices : List Choice) (join candidate : Candidate) : Type 0 where
+-- or it has no sets, and its classes lie within the choice's set
+abbrev pub IsStepOrBound : ℕ → Candidate → Choice → Candidate → Type 0
+IsStepOrBound least join choice candidate = IsStepFrom join choice candidate ⊎ IsBoundOf least choice candidate
+
+-- the candidate stands for what is left of a joined one where the choice's set is fused
+abbrev pub StandsForStep : Candidate → Choice → Candidate → Type 0
+StandsForStep join choice candidate = (outer : ℕ) → Stands outer (above (restricted join.row.classes choice.fused)) (join.row.cost + choice.size) candidate
+
+-- such a step, or what stands for it, that costs less than the limit
+abbrev pub IsNewStep : Choosing → Candidate → Choice → Candidate → Type 0
+IsNewStep choosing join choice candidate = IsStepOrBound choosing.limits.least join choice candidate × (candidate.row.cost < choosing.limit)
+
+-- with one of the choices
+pub record IsSomeStepFrom (choosing : Choosing) (join candidate : Candidate) : Type 0 where
   pub choice : Choice
-  pub chosen : Contains choices choice
-  pub step : IsStepFrom join choice candidate
-  pub cheap : candidate.row.cost < limit
+  pub chosen : Contains choosing.choices.now choice
+  pub step : IsNewStep choosing join choice candidate
 
 -- the candidate's cost is within twice the limit of a plan's numbers, and its sets leave room for one more
 abbrev pub HasNext : Candidate → Type 0

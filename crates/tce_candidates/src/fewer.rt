@@ -7,7 +7,7 @@ use std::alloc::{AllocError, Global};
 use tce_nesting::{Row, ends_of};
 use tce_space::IndexSet;
 
-/// Of a node's candidates those that cost least, at most so many for each largest upper part on the outer loops, in the order of a table.
+/// Of a node's candidates those states that cost least, at most so many for each largest upper part on the outer loops, in the order of a table.
 ///
 /// They need not cover the others: what is found with them alone is a state, but perhaps not a least one. Only want of memory is refused.
 pub fn cheapest_few(
@@ -38,7 +38,16 @@ fn rank_of(row: &Row, outer: IndexSet) -> (u32, u128) {
     (ends.largest.bits(), u128::MAX - row.cost)
 }
 
-// Of neighbours with the same largest upper part the last ones, at most so many, from the last of all on.
+// How many sets a candidate has at most: those that have fewer are no states.
+fn most_sets(candidates: &[Candidate]) -> usize {
+    let mut most = 0;
+    for candidate in candidates {
+        most = most.max(candidate.sets.len());
+    }
+    most
+}
+
+// Of neighbours with the same largest upper part the last states, at most so many, from the last of all on.
 fn last_of_each(
     alloc: Global,
     candidates: Vec<Candidate>,
@@ -47,6 +56,7 @@ fn last_of_each(
 ) -> Result<Vec<Candidate>, AllocError>
     ensures { IfOk result (λ kept. All (Contains candidates.items) kept.items) }
 {
+    let full = most_sets(candidates.as_slice());
     let mut rest = candidates;
     let mut kept = Vec::new(alloc);
     let mut part = IndexSet::empty();
@@ -57,7 +67,7 @@ fn last_of_each(
             part = largest;
             count = 0;
         }
-        if count < most {
+        if count < most && candidate.sets.len() == full {
             count += 1;
             kept.push(candidate)?;
         }

@@ -1,53 +1,77 @@
 // Tables of candidates of which none stands for another.
-ghost use Rattle.std.specs.Prelude.{◌≡◌, ◌⊎◌, ◌<◌, ◌≤◌, IfOk, OnOk, All, AllPairs, Any, Contains};
-ghost use Rattle.tce_space.specs.Limits.{max_loops};
-ghost use Rattle.tce_space.specs.IndexSet.{count};
-ghost use Rattle.tce_states.specs.Relation.{none};
-ghost use Rattle.tce_candidates.specs.Candidates.{Stands, StandForAll, AreApart, ChoiceCovered, PairCovered, IsReachedBelow, IsLimited, IsSmall, HaveRoom, limit_candidate};
-ghost use Rattle.tce_candidates.specs.Groups.{LeavesOpen};
-ghost use Rattle.tce_candidates.specs.Joins.{IsStepFrom, IsSomeStepFrom, HasNext, KnowsStretches};
+ghost use Rattle.std.specs.Prelude.{◌⊎◌, ◌<◌, IfOk, OnOk, IfSome, IsSome, All, AllPairs, Any, Contains};
+ghost use Rattle.tce_space.specs.Limits.{cost_limit};
+ghost use Rattle.tce_states.specs.Relation.{above, none};
+ghost use Rattle.tce_nesting.specs.Classes.{AllowsSet};
+ghost use Rattle.tce_candidates.specs.Candidates.{Stands, AreApart, AreOperands, ChoiceCovered, PairCovered, IsReachedOrBound, IsSmall};
+ghost use Rattle.tce_candidates.specs.Joins.{IsNewStep, IsSomeStepFrom, IsStepOrBound, StandsForStep, Grows, HasNext, KnowsStretches};
 
 use crate::candidate::{Candidate, at_limit, with_set};
 use crate::candidate_list::CandidateList;
 use crate::joins::joins_of;
+use crate::limits::{Limits, bound_of};
 use crate::ordered::by_ends;
 use crate::step;
 use crate::thinned::thinned;
+use arrayvec::ArrayVec;
 use std::alloc::{AllocError, Global};
 use tce_nesting::{Choice, MAX_CHOICES, Stretch, allows_none, stretches_of};
 use tce_space::IndexSet;
 
-// Appends the step of one choice, where its set is allowed, it costs less than the limit, and no candidate stands for it.
+// The choices of a node, its loops, and from which cost on steps are of no use.
+#[derive(Clone, Copy)]
+pub(crate) struct Choosing<'a> {
+    pub(crate) choices: &'a [Choice],
+    pub(crate) loops: IndexSet,
+    pub(crate) limit: u128,
+    pub(crate) limits: Limits<'a>,
+}
+
+// The step of one choice, or where it is of no use what stands for all such steps; `None` where its set is not allowed.
+fn useful_step(join: &Candidate, choice: &Choice, limits: &Limits) -> Option<Candidate>
+    requires next { HasNext join.now }
+    requires size { IsSmall choice.now }
+    ensures some { AllowsSet (above join.now.row.classes) choice.now.fused → IsSome result }
+    ensures stands { IfSome result (StandsForStep join.now choice.now) }
+    ensures origin { IfSome result (IsStepOrBound limits.now.least join.now choice.now) }
+{
+    let row = step(&join.row, choice)?;
+    match bound_of(&row, limits) {
+        Some(bound) => Some(Candidate {
+            row: bound,
+            sets: ArrayVec::new(),
+        }),
+        None => {
+            let sets = with_set(join.sets.as_slice(), choice.fused);
+            Some(Candidate { row, sets })
+        }
+    }
+}
+
+// Appends the step of one choice, or what stands for it, where its set is allowed, it costs less than the limit, and no candidate stands for it.
 fn add_step(
     list: &mut CandidateList,
     join: &Candidate,
     choice: &Choice,
-    limit: u128,
+    choosing: &Choosing,
 ) -> Result<(), AllocError>
-    requires limit { Any (Stands list.old.outer none limit) list.old.candidates }
+    requires limit { Any (Stands list.old.outer none choosing.now.limit) list.old.candidates }
     requires next { HasNext join.now }
     requires size { IsSmall choice.now }
-    ensures covered { OnOk result (ChoiceCovered list.old.outer join.now.row list.new.candidates
-        choice.now) }
-    ensures outer { OnOk result (list.new.outer ≡ list.old.outer) }
-    ensures others { OnOk result (StandForAll list.old.outer list.old.candidates
-        list.new.candidates) }
-    ensures later { OnOk result (AllPairs (LeavesOpen list.old.outer) list.old.candidates
-        → AllPairs (LeavesOpen list.old.outer) list.new.candidates) }
-    ensures origin { OnOk result (All (λ x. Contains list.old.candidates x
-        ⊎ (IsStepFrom join.now choice.now x × (x.row.cost < limit))) list.new.candidates) }
+    ensures covered { OnOk result (ChoiceCovered list.old.outer join.now.row list.new.candidates choice.now) }
+    ensures grows { OnOk result (Grows list.old list.new) }
+    ensures origin { OnOk result (All (λ x. Contains list.old.candidates x ⊎ IsNewStep choosing.now join.now choice.now x) list.new.candidates) }
 {
-    if limit <= join.row.cost + choice.size {
+    if choosing.limit <= join.row.cost + choice.size {
         return Ok(());
     }
-    let Some(row) = step(&join.row, choice) else {
+    let Some(candidate) = useful_step(join, choice, &choosing.limits) else {
         return Ok(());
     };
-    if list.covers(&row) {
+    if list.covers(&candidate.row) {
         return Ok(());
     }
-    let sets = with_set(join.sets.as_slice(), choice.fused);
-    list.push(Candidate { row, sets })?;
+    list.push(candidate)?;
     Ok(())
 }
 
@@ -62,35 +86,28 @@ fn first_stretches(choices: &[Choice]) -> [Stretch; MAX_CHOICES]
 fn add_steps(
     list: &mut CandidateList,
     join: &Candidate,
-    choices: &[Choice],
+    choosing: &Choosing,
     stretches: &[Stretch; MAX_CHOICES],
-    loops: IndexSet,
-    limit: u128,
 ) -> Result<(), AllocError>
-    requires limit { Any (Stands list.old.outer none limit) list.old.candidates }
+    requires limit { Any (Stands list.old.outer none choosing.now.limit) list.old.candidates }
     requires next { HasNext join.now }
-    requires choices { All IsSmall choices.now }
-    requires stretches { KnowsStretches choices.now stretches.now }
-    ensures covered { OnOk result (All (ChoiceCovered list.old.outer join.now.row
-        list.new.candidates) choices.now) }
-    ensures outer { OnOk result (list.new.outer ≡ list.old.outer) }
-    ensures others { OnOk result (StandForAll list.old.outer list.old.candidates
-        list.new.candidates) }
-    ensures later { OnOk result (AllPairs (LeavesOpen list.old.outer) list.old.candidates
-        → AllPairs (LeavesOpen list.old.outer) list.new.candidates) }
-    ensures origin { OnOk result (All (λ x. Contains list.old.candidates x
-        ⊎ IsSomeStepFrom limit choices.now join.now x) list.new.candidates) }
+    requires small { All IsSmall choosing.now.choices.now }
+    requires stretches { KnowsStretches choosing.now.choices.now stretches.now }
+    ensures covered { OnOk result (All (ChoiceCovered list.old.outer join.now.row list.new.candidates) choosing.now.choices.now) }
+    ensures grows { OnOk result (Grows list.old list.new) }
+    ensures origin { OnOk result (All (λ x. Contains list.old.candidates x ⊎ IsSomeStepFrom choosing.now join.now x) list.new.candidates) }
 {
+    let choices = choosing.choices;
     let mut place = 0;
     while place < choices.len() {
         if place < MAX_CHOICES {
             let stretch = stretches[place];
-            if allows_none(&join.row.classes, &stretch, loops) {
+            if allows_none(&join.row.classes, &stretch, choosing.loops) {
                 place = stretch.until;
                 continue;
             }
         }
-        add_step(list, join, &choices[place], limit)?;
+        add_step(list, join, &choices[place], choosing)?;
         place += 1;
     }
     Ok(())
@@ -100,27 +117,19 @@ fn add_steps(
 fn add_all_steps(
     list: &mut CandidateList,
     joins: &[Candidate],
-    choices: &[Choice],
+    choosing: &Choosing,
     stretches: &[Stretch; MAX_CHOICES],
-    loops: IndexSet,
-    limit: u128,
 ) -> Result<(), AllocError>
-    requires limit { Any (Stands list.old.outer none limit) list.old.candidates }
+    requires limit { Any (Stands list.old.outer none choosing.now.limit) list.old.candidates }
     requires next { All HasNext joins.now }
-    requires choices { All IsSmall choices.now }
-    requires stretches { KnowsStretches choices.now stretches.now }
-    ensures covered { OnOk result (All (λ join. All
-        (ChoiceCovered list.old.outer join.row list.new.candidates) choices.now) joins.now) }
-    ensures outer { OnOk result (list.new.outer ≡ list.old.outer) }
-    ensures others { OnOk result (StandForAll list.old.outer list.old.candidates
-        list.new.candidates) }
-    ensures later { OnOk result (AllPairs (LeavesOpen list.old.outer) list.old.candidates
-        → AllPairs (LeavesOpen list.old.outer) list.new.candidates) }
-    ensures origin { OnOk result (All (λ x. Contains list.old.candidates x
-        ⊎ Any (λ join. IsSomeStepFrom limit choices.now join x) joins.now) list.new.candidates) }
+    requires small { All IsSmall choosing.now.choices.now }
+    requires stretches { KnowsStretches choosing.now.choices.now stretches.now }
+    ensures covered { OnOk result (All (λ join. All (ChoiceCovered list.old.outer join.row list.new.candidates) choosing.now.choices.now) joins.now) }
+    ensures grows { OnOk result (Grows list.old list.new) }
+    ensures origin { OnOk result (All (λ x. Contains list.old.candidates x ⊎ Any (λ join. IsSomeStepFrom choosing.now join x) joins.now) list.new.candidates) }
 {
     for join in joins {
-        add_steps(list, join, choices, stretches, loops, limit)?;
+        add_steps(list, join, choosing, stretches)?;
     }
     Ok(())
 }
@@ -134,41 +143,36 @@ pub struct NodeLoops {
 
 /// The candidates of a node: of the steps from its operands' candidates with one of the choices so many that for each step one of them is coarser on the outer loops and costs no more. None of them is so for another.
 ///
-/// Steps that cost the limit or more are not among them. One candidate without classes and sets, which costs as much as the limit, stands for these.
+/// Steps that are of no use by the limits are not among them. Candidates without sets stand for these, of which one has no classes either. What is stepped to from such a one has fewer sets than there are operations.
 pub fn candidates_of(
     alloc: Global,
     lefts: &[Candidate],
     rights: &[Candidate],
     loops: NodeLoops,
     choices: &[Choice],
-    limit: u128,
+    limits: &Limits,
 ) -> Result<Vec<Candidate>, AllocError>
-    requires loops { count loops.own ≤ max_loops }
-    requires lefts { All IsLimited lefts.now }
-    requires rights { All IsLimited rights.now }
-    requires room { HaveRoom lefts.now rights.now }
+    requires known { AreOperands loops.own lefts.now rights.now }
     requires choices { All IsSmall choices.now }
-    ensures covered { IfOk result (λ table. All
-        (λ left. All (PairCovered loops.own loops.outer choices.now table.items left) rights.now)
-        lefts.now) }
-    ensures reached { IfOk result (λ table. All
-        (λ x. IsReachedBelow limit loops.own choices.now lefts.now rights.now x
-        ⊎ (x ≡ limit_candidate limit)) table.items) }
+    requires target { limits.now.target < cost_limit }
+    requires least { limits.now.least < cost_limit }
+    ensures covered { IfOk result (λ table. All (λ left. All (PairCovered loops.own loops.outer choices.now table.items left) rights.now) lefts.now) }
+    ensures reached { IfOk result (λ table. All (IsReachedOrBound limits.now.least loops.own choices.now lefts.now rights.now) table.items) }
     ensures apart { IfOk result (λ table. AllPairs (AreApart loops.outer) table.items) }
 {
     let _number = loops.own.bits();
+    let limit = limits.of(IndexSet::empty());
     let joins = joins_of(alloc, lefts, rights, loops.own, limit)?;
     let mut list = CandidateList::new(alloc, loops.outer, joins.len())?;
     list.push(at_limit(limit))?;
-    let stretches = first_stretches(choices);
-    add_all_steps(
-        &mut list,
-        joins.as_slice(),
+    let choosing = Choosing {
         choices,
-        &stretches,
-        loops.own,
+        loops: loops.own,
         limit,
-    )?;
+        limits: *limits,
+    };
+    let stretches = first_stretches(choices);
+    add_all_steps(&mut list, joins.as_slice(), &choosing, &stretches)?;
     let kept = thinned(alloc, list)?;
     let table = by_ends(kept, loops.outer)?;
     Ok(table)

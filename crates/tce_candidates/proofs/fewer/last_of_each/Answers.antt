@@ -9,8 +9,8 @@ loop-candidate-init c =
     let all = c.args.candidates.items in
     record { rest = All-contains_itself all; kept = rw c.new-kept.ensures.items (All-nil (Contains all)) }
 
-pub loop-candidate-preserved-in-Continue-1 : goal.loop-candidate-preserved-in-Continue-1
-loop-candidate-preserved-in-Continue-1 c =
+pub loop-candidate-preserved-then-len-full : goal.loop-candidate-preserved-then-len-full
+loop-candidate-preserved-then-len-full c =
     let all = c.args.candidates.items in
     let rest = c.pop.new.self.items in
     let last = c.in-Some.candidate in

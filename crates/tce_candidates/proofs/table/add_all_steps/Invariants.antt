@@ -2,14 +2,13 @@ use Rattle.std.proofs.Common.{◌⊎◌}
 use Rattle.std.specs.List.{All, AllWithin, Any, Contains}
 use Rattle.tce_states.specs.Relation.{none}
 use Rattle.tce_candidates.specs.Candidates.{Stands, ChoiceCovered}
-use Rattle.tce_candidates.specs.Joins.{IsSomeStepFrom}
-use Rattle.tce_candidates.proofs.Growing.{Grows}
+use Rattle.tce_candidates.specs.Joins.{IsSomeStepFrom, Grows}
 use Rattle.tce_candidates.proofs.table.add_all_steps.Given as goal
 
 abbrev pub invariant-loop-join : goal.invariant-loop-join
 invariant-loop-join l = record {
-  covered : AllWithin (λ join. All (ChoiceCovered l.fn.list.outer join.row l.list.candidates) l.choices) l.joins 0 l.join-index;
+  covered : AllWithin (λ join. All (ChoiceCovered l.fn.list.outer join.row l.list.candidates) l.choosing.choices.now) l.joins 0 l.join-index;
   grows : Grows l.fn.list l.list;
-  limit : Any (Stands l.list.outer none l.limit) l.list.candidates;
-  origin : All (λ x. Contains l.fn.list.candidates x ⊎ Any (λ join. IsSomeStepFrom l.limit l.choices join x) l.joins) l.list.candidates;
+  limit : Any (Stands l.list.outer none l.choosing.limit) l.list.candidates;
+  origin : All (λ x. Contains l.fn.list.candidates x ⊎ Any (λ join. IsSomeStepFrom l.choosing join x) l.joins) l.list.candidates;
 }

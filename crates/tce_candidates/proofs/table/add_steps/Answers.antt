@@ -1,4 +1,4 @@
-use Rattle.std.proofs.Common.{◌⊎◌, ◌<◌, inl, inr, arith, subst, get_or}
+use Rattle.std.proofs.Common.{◌⊎◌, inl, inr, arith, subst, get_or}
 use Rattle.std.specs.List.{Contains}
 use Rattle.std.proofs.lemmas.List.Elements.{AllWithin-none, AllWithin-more, All-from_all_within, All-weaker, All-contains_itself, at_read, AllWithin-upto}
 use Rattle.tce_states.specs.Relation.{above, none}
@@ -6,17 +6,17 @@ use Rattle.tce_nesting.specs.Stretches.{AllowsNone}
 use Rattle.tce_nesting.proofs.StretchParts.{stretch_passed}
 use Rattle.tce_candidates.specs.declared.candidate.Candidate.{Candidate}
 use Rattle.tce_candidates.specs.Candidates.{ChoiceCovered}
-use Rattle.tce_candidates.specs.Joins.{IsStepFrom, IsSomeStepFrom}
+use Rattle.tce_candidates.specs.Joins.{IsNewStep, IsSomeStepFrom, Grows}
 use Rattle.tce_candidates.proofs.Covers.{choices_later, from_earlier, read_contains}
-use Rattle.tce_candidates.proofs.Growing.{Grows, grows_none, grows_from, grows_further, stands_later}
+use Rattle.tce_candidates.proofs.Growing.{grows_none, grows_from, grows_further, stands_later}
 use Rattle.tce_candidates.proofs.table.add_steps.Goals as goal
 
 pub loop-place-init : goal.loop-place-init
 loop-place-init c =
     let start = c.args.list.now in
-    let choices = c.args.choices.now in
+    let choices = c.args.choosing.now.choices.now in
     let join = c.args.join.now in
-    let from = λ (x : Candidate). Contains start.candidates x ⊎ IsSomeStepFrom c.args.limit choices join x in
+    let from = λ (x : Candidate). Contains start.candidates x ⊎ IsSomeStepFrom c.args.choosing.now join x in
     record {
       covered = AllWithin-none (ChoiceCovered start.outer join.row start.candidates) choices 0;
       grows = grows_none start;
@@ -26,7 +26,7 @@ loop-place-init c =
 
 pub loop-place-preserved-then-allows_none : goal.loop-place-preserved-then-allows_none
 loop-place-preserved-then-allows_none c =
-    let choices = c.args.choices.now in
+    let choices = c.args.choosing.now.choices.now in
     let k = c.loop-place.place in
     let join = c.args.join.now in
     let outer = c.args.list.now.outer in
@@ -49,7 +49,7 @@ loop-place-smaller-then-allows_none c =
 
 pub loop-place-preserved : goal.loop-place-preserved
 loop-place-preserved c =
-    let choices = c.args.choices.now in
+    let choices = c.args.choosing.now.choices.now in
     let k = c.loop-place.place in
     let choice = c.index-choices-place.result in
     let join = c.args.join.now in
@@ -58,20 +58,20 @@ loop-place-preserved c =
     let new = c.add_step.new.list in
     let here = c.in_ok-add_step.ensures in
     let first = c.loop-place.invariant.grows in
-    let second : Grows old new = record { outer = here.outer; others = here.others; later = here.later } in
+    let second : Grows old new = here.grows in
     let covers = ChoiceCovered start.outer join.row new.candidates in
     record {
       covered = AllWithin-more covers choices 0 k
           (choices_later start.outer join.row old.candidates new.candidates choices k (grows_from start old new first.outer second) c.loop-place.invariant.covered)
           (at_read choices covers k choice c.loop-place-test.true c.index-choices-place.is (subst (λ o. ChoiceCovered o join.row new.candidates choice) first.outer here.covered));
       grows = grows_further start old new first second;
-      limit = stands_later none c.args.limit old new second c.loop-place.invariant.limit;
-      origin = from_earlier (λ (x : Candidate). Contains start.candidates x ⊎ IsSomeStepFrom c.args.limit choices join x) (λ (x : Candidate). IsStepFrom join choice x × (x.row.cost < c.args.limit)) old.candidates new.candidates here.origin
-          (λ x s. inr (record { choice = choice; chosen = read_contains choices k choice c.loop-place-test.true c.index-choices-place.is; step = s.0; cheap = s.1 }))
+      limit = stands_later none c.args.choosing.now.limit old new second c.loop-place.invariant.limit;
+      origin = from_earlier (λ (x : Candidate). Contains start.candidates x ⊎ IsSomeStepFrom c.args.choosing.now join x) (IsNewStep c.args.choosing.now join choice) old.candidates new.candidates here.origin
+          (λ x s. inr (record { choice = choice; chosen = read_contains choices k choice c.loop-place-test.true c.index-choices-place.is; step = s }))
           c.loop-place.invariant.origin;
     }
 
 pub returns-clause-covered : goal.returns-clause-covered
 returns-clause-covered c =
     let covers = ChoiceCovered c.args.list.now.outer c.args.join.now.row c.loop-place.list.candidates in
-    All-from_all_within covers c.args.choices.now (AllWithin-upto covers c.args.choices.now 0 c.loop-place.place _ c.loop-place-test.false c.loop-place.invariant.covered)
+    All-from_all_within covers c.args.choosing.now.choices.now (AllWithin-upto covers c.args.choosing.now.choices.now 0 c.loop-place.place _ c.loop-place-test.false c.loop-place.invariant.covered)
