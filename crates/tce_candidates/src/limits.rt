@@ -8,32 +8,50 @@ use crate::subset_numbers::SubsetNumbers;
 use tce_nesting::{Nesting, Row};
 use tce_space::IndexSet;
 
-/// What all nodes above a node keep together at least, in elements, for each set of its parent's loops that a state puts above the others.
+/// What a node and all above it keep together at least, in elements, for each set of its loops that a joined state puts above the others.
+///
+/// A set that may be fused above the node lies within that set, or has it within itself. So its loops that are no dims of the node matter only as far as there are some.
 #[derive(Drop)]
 pub struct Ahead {
+    loops: IndexSet,
+    dims: IndexSet,
     numbers: SubsetNumbers,
-    costs: Vec<u128>,
+    within: Vec<u128>,
+    beyond: Vec<u128>,
 }
 
 impl Ahead {
-    /// The costs of the subsets of the loops, by their numbers; 0 where there are fewer.
-    pub fn new(loops: IndexSet, costs: Vec<u128>) -> Ahead {
+    /// The costs of the subsets of the dims by their numbers: of each alone, and together with loops that are no dims. A set without a cost has 0.
+    pub fn new(loops: IndexSet, dims: IndexSet, within: Vec<u128>, beyond: Vec<u128>) -> Ahead {
         Ahead {
-            numbers: SubsetNumbers::new(loops),
-            costs,
+            loops,
+            dims,
+            numbers: SubsetNumbers::new(dims),
+            within,
+            beyond,
         }
     }
 
-    /// The cost of a set.
+    /// The cost of a set. All loops are above no others, so they cost what none of them does.
     pub fn of(&self, set: IndexSet) -> u128 {
-        match self.costs.get(self.numbers.number(set)) {
+        let above = if self.loops.within(set) {
+            IndexSet::empty()
+        } else {
+            set
+        };
+        let costs = if above.within(self.dims) {
+            &self.within
+        } else {
+            &self.beyond
+        };
+        match costs.get(self.numbers.number(above)) {
             Some(cost) => *cost,
             None => 0,
         }
     }
 }
 
-/// How much a node's states and all above may cost together, and what is at least ahead of them. No state is held to be of no use at less than the least cost.
+/// How much the states of a node and all that is ahead of them may cost together, and what that is at least: the costs of its parent. No state is of no use that costs less than the least.
 ///
 /// They only choose which states are told apart: whatever they are, a row stands for each state.
 #[derive(Clone, Copy)]
