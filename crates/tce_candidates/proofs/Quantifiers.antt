@@ -66,7 +66,7 @@ AllPairs-last R xs y all k d low =
 
 -- ---- the other order
 
-All-of_reversed : {X : Type 0} (P : X → Type 0) (xs : List X) → All P xs → All P (reverse xs)
+pub All-of_reversed : {X : Type 0} (P : X → Type 0) (xs : List X) → All P xs → All P (reverse xs)
 All-of_reversed P xs all k d low =
     let inside : k < length xs = omega (arith, low, length-reverse xs) in
     subst P (sym (get_or-reverse xs k d inside)) (all (length xs - 1 - k) d (omega arith))
