@@ -1,11 +1,13 @@
 -- Fusions of the whole tree that candidates of the root's operands make.
-use Rattle.std.proofs.Common.{◌≡◌, ℕ, ◌+◌, ◌-◌, ◌<◌, ◌≤◌, Option, Some, None, List, length, get_or, refl, sym, ◌∙◌, subst, arith}
+use Rattle.std.proofs.Common.{◌≡◌, ℕ, ◌+◌, ◌-◌, ◌<◌, ◌≤◌, Option, Some, None, List, [], ◌∷◌, ◌++◌, length, get_or, refl, sym, ap, ◌∙◌, subst, inl, inr, arith}
 use Rattle.std.specs.Prelude.{IfSome, IsSome}
 use Rattle.std.specs.List.{All, Any, Contains}
-use Rattle.std.proofs.lemmas.List.{length-map, get_or-map, get_or_default}
+use Rattle.std.proofs.lemmas.List.{length-append, length_push, length-map, get_or-map, get_or_default}
 use Rattle.std.proofs.lemmas.List.Elements.{All-contains, All-map}
+use Rattle.tce_space.specs.IndexSet.{empty}
 use Rattle.tce_space.specs.Space.{IndexSpace}
 use Rattle.tce_tree.specs.ContractionTree.{ContractionTree, operations, node_loops}
+use Rattle.tce_tree.proofs.Nodes.{node-root}
 use Rattle.tce_tree.proofs.Parents.{parent_is}
 use Rattle.tce_states.specs.Relation.{HasNoConflict}
 use Rattle.tce_states.specs.Row.{Row, rows_joined}
@@ -19,10 +21,11 @@ use Rattle.tce_candidates.specs.declared.candidate.Candidate.{Candidate}
 use Rattle.tce_candidates.specs.Laws.{rows_of}
 use Rattle.tce_candidates.specs.Reached.{IsStateOf}
 use Rattle.tce_search.specs.declared.root.WholeFusion.{WholeFusion}
-use Rattle.tce_search.specs.CandidateLists.{tables_of, leaf_candidate, left_candidates, right_candidates, left_limit, right_limit, Searched, IsStateWithin, IsLimitOf, AreFound}
+use Rattle.tce_search.specs.CandidateLists.{tables_of, leaf_candidate, left_candidates, right_candidates, Searched, IsKept, AreFound}
 use Rattle.tce_search.specs.LeastPlan.{IsBelowFusions}
 use Rattle.tce_search.specs.Root.{IsMadeOfSome, IsAtMost, IsBound, IsBoundOfAll}
-use Rattle.tce_search.proofs.Operands.{tables-at, left_rows-are, right_rows-are, left_kept, right_kept, state_below}
+use Rattle.tce_search.proofs.Growing.{found_kept}
+use Rattle.tce_search.proofs.Operands.{tables-at, left_rows-are, right_rows-are, left_kept, right_kept, sets_kept, full_is_state, operand_sizes}
 
 -- ---- the best of two lists
 
@@ -55,16 +58,16 @@ best_exists loops best lefts rights bound some =
 
 -- ---- at the root
 
-module _ (space : IndexSpace) (tree : ContractionTree) (limit : ℕ) (found : Searched) (root : ℕ) (all : AreFound space tree found) (is_limit : IsLimitOf tree found root limit)
+module _ (space : IndexSpace) (tree : ContractionTree) (found : Searched) (root : ℕ) (all : AreFound space tree found)
     (next : length found.lists ≡ root) (last : root + 1 ≡ operations tree) where
   is_root : root ≡ operations tree - 1
   is_root = omega arith
 
   pub nodes_covered : NodesCovered space tree (tables_of found.lists)
-  nodes_covered v p is = let up = parent_is tree v p is in (all.each v (omega (arith, up.above, up.inside, next, last))).covered p is
+  nodes_covered v p is = let up = parent_is tree v p is in (all v (omega (arith, up.above, up.inside, next, last))).covered p is
 
   pub pruned : ArePruned tree (tables_of found.lists)
-  pruned v p is = let up = parent_is tree v p is in rw (tables-at found.lists v) ((all.each v (omega (arith, up.above, up.inside, next, last))).apart p is)
+  pruned v p is = let up = parent_is tree v p is in rw (tables-at found.lists v) ((all v (omega (arith, up.above, up.inside, next, last))).apart p is)
 
   pub root_joins : (loops : ℕ) (best : Option WholeFusion) → loops ≡ node_loops tree root
       → IsBoundOfAll loops best (left_candidates tree found.lists root) (right_candidates tree found.lists root) → IsSome best
@@ -89,28 +92,72 @@ module _ (space : IndexSpace) (tree : ContractionTree) (limit : ℕ) (found : Se
   state_of : (subtree : ContractionTree) (candidate : Candidate) → IsStateOf space subtree candidate → reached.IsStateOf space subtree candidate.sets.items candidate.row
   state_of subtree candidate state = record { count = state.count; within = state.within; exists = state.has_state; relation = state.relation; cost_is = state.cost }
 
-  pub root_legal : (loops : ℕ) (whole : WholeFusion) → loops ≡ node_loops tree root
-      → whole.memory < limit → IsMadeOfSome loops (left_candidates tree found.lists root) (right_candidates tree found.lists root) whole → IsLegalWith space tree whole.sets.items whole.memory
-  root_legal loops whole is low from =
-      let inside : root < operations tree = omega (arith, last) in
-      let sum = from.made.memory_is in
-      let beside_left = All-contains (λ (other : Candidate). limit ≤ left_limit tree found root + other.row.cost) (right_candidates tree found.lists root) from.right is_limit.left from.from_right in
-      let beside_right = All-contains (λ (other : Candidate). limit ≤ right_limit tree found root + other.row.cost) (left_candidates tree found.lists root) from.left is_limit.right from.from_left in
-      let left_within = All-contains (IsStateWithin space (left_below tree root) (left_limit tree found root)) (left_candidates tree found.lists root) from.left (left_kept space tree found all.states root inside next) from.from_left in
-      let right_within = All-contains (IsStateWithin space (right_below tree root) (right_limit tree found root)) (right_candidates tree found.lists root) from.right (right_kept space tree found all.states root inside next) from.from_right in
-      let left = state_of (left_below tree root) from.left (state_below space (left_below tree root) (left_limit tree found root) from.left left_within (omega (arith, low, sum, beside_left))) in
-      let right = state_of (right_below tree root) from.right (state_below space (right_below tree root) (right_limit tree found root) from.right right_within (omega (arith, low, sum, beside_right))) in
+  inside : root < operations tree
+  inside = omega (arith, last)
+
+  left_of_root : (whole : WholeFusion) (from : IsMadeOfSome (node_loops tree root) (left_candidates tree found.lists root) (right_candidates tree found.lists root) whole) → IsKept space (left_below tree root) found.least from.left
+  left_of_root whole from = All-contains (IsKept space (left_below tree root) found.least) (left_candidates tree found.lists root) from.left (left_kept space tree found (found_kept space tree found all) root inside next) from.from_left
+
+  right_of_root : (whole : WholeFusion) (from : IsMadeOfSome (node_loops tree root) (left_candidates tree found.lists root) (right_candidates tree found.lists root) whole) → IsKept space (right_below tree root) found.least from.right
+  right_of_root whole from = All-contains (IsKept space (right_below tree root) found.least) (right_candidates tree found.lists root) from.right (right_kept space tree found (found_kept space tree found all) root inside next) from.from_right
+
+  -- it has the sets of both, and one more
+  made_sets : (whole : WholeFusion) (from : IsMadeOfSome (node_loops tree root) (left_candidates tree found.lists root) (right_candidates tree found.lists root) whole)
+      → length whole.sets.items ≡ length from.left.sets.items + length from.right.sets.items + 1
+  made_sets whole from =
+      let count = ap length from.made.sets_are ∙ length-append from.left.sets.items (from.right.sets.items ++ empty ∷ []) in
+      omega (arith, count, length_push from.right.sets.items empty)
+
+  -- as many as the operands' subtrees have operations, and one more
+  root_sizes : operations tree ≡ operations (left_below tree root) + operations (right_below tree root) + 1
+  root_sizes = subst (λ t. operations t ≡ operations (left_below tree root) + operations (right_below tree root) + 1) (node-root tree root (omega (arith, last))) (operand_sizes tree root inside)
+
+  root_legal : (whole : WholeFusion) → length whole.sets.items ≡ operations tree
+      → IsMadeOfSome (node_loops tree root) (left_candidates tree found.lists root) (right_candidates tree found.lists root) whole → IsLegalWith space tree whole.sets.items whole.memory
+  root_legal whole full from =
+      let left_is = left_of_root whole from in
+      let right_is = right_of_root whole from in
+      let count = made_sets whole from in
+      let left_sets = sets_kept space (left_below tree root) found.least from.left left_is in
+      let right_sets = sets_kept space (right_below tree root) found.least from.right right_is in
+      let left = state_of (left_below tree root) from.left (full_is_state space (left_below tree root) found.least from.left left_is (omega (arith, full, count, root_sizes, left_sets, right_sets))) in
+      let right = state_of (right_below tree root) from.right (full_is_state space (right_below tree root) found.least from.right right_is (omega (arith, full, count, root_sizes, left_sets, right_sets))) in
       rw (from.made.sets_are, from.made.memory_is)
       (root_is_reached space tree from.left.sets.items from.right.sets.items from.left.row from.right.row (omega (arith, last))
       (subst (λ r. reached.IsStateOf space (left_below tree r) from.left.sets.items from.left.row) is_root left)
       (subst (λ r. reached.IsStateOf space (right_below tree r) from.right.sets.items from.right.row) is_root right)
-      (subst (λ r. HasNoConflict (node_loops tree r) (rows_joined from.left.row from.right.row)) is_root (subst (λ s. HasNoConflict s (rows_joined from.left.row from.right.row)) is from.made.quiet)))
+      (subst (λ r. HasNoConflict (node_loops tree r) (rows_joined from.left.row from.right.row)) is_root from.made.quiet))
+
+  -- where it has another number of sets, one of the two is no state
+  root_high : (whole : WholeFusion) → (length whole.sets.items ≡ operations tree → ⊥)
+      → IsMadeOfSome (node_loops tree root) (left_candidates tree found.lists root) (right_candidates tree found.lists root) whole → found.least ≤ whole.memory
+  root_high whole other from =
+      let left_is = left_of_root whole from in
+      let right_is = right_of_root whole from in
+      let count = made_sets whole from in
+      let sum = from.made.memory_is in
+      elim left_is.kind [
+        | inr none ↦ omega (arith, none.high, sum)
+        | inl left ↦ elim right_is.kind [
+          | inr none ↦ omega (arith, none.high, sum)
+          | inl right ↦ absurd (other (omega (arith, count, root_sizes, left.count, right.count)))
+        ]
+      ]
 
   -- what is said of the best, said of the fusion that it is
-  pub whole_legal : (loops : ℕ) (best : Option WholeFusion) (whole : WholeFusion) → loops ≡ node_loops tree root → whole.memory < limit → best ≡ Some whole
+  made_of : (loops : ℕ) (best : Option WholeFusion) (whole : WholeFusion) → best ≡ Some whole
+      → IfSome best (IsMadeOfSome loops (left_candidates tree found.lists root) (right_candidates tree found.lists root)) → IsMadeOfSome loops (left_candidates tree found.lists root) (right_candidates tree found.lists root) whole
+  made_of loops best whole are made = subst (λ o. IfSome o (IsMadeOfSome loops (left_candidates tree found.lists root) (right_candidates tree found.lists root))) are made
+
+  pub whole_legal : (loops : ℕ) (best : Option WholeFusion) (whole : WholeFusion) → loops ≡ node_loops tree root → length whole.sets.items ≡ operations tree → best ≡ Some whole
       → IfSome best (IsMadeOfSome loops (left_candidates tree found.lists root) (right_candidates tree found.lists root)) → IsLegalWith space tree whole.sets.items whole.memory
-  whole_legal loops best whole is low are made =
-      root_legal loops whole is low (subst (λ o. IfSome o (IsMadeOfSome loops (left_candidates tree found.lists root) (right_candidates tree found.lists root))) are made)
+  whole_legal loops best whole is full are made =
+      root_legal whole full (subst (λ s. IsMadeOfSome s (left_candidates tree found.lists root) (right_candidates tree found.lists root) whole) is (made_of loops best whole are made))
+
+  pub whole_high : (loops : ℕ) (best : Option WholeFusion) (whole : WholeFusion) → loops ≡ node_loops tree root → (length whole.sets.items ≡ operations tree → ⊥) → best ≡ Some whole
+      → IfSome best (IsMadeOfSome loops (left_candidates tree found.lists root) (right_candidates tree found.lists root)) → found.least ≤ whole.memory
+  whole_high loops best whole is other are made =
+      root_high whole other (subst (λ s. IsMadeOfSome s (left_candidates tree found.lists root) (right_candidates tree found.lists root) whole) is (made_of loops best whole are made))
 
   pub whole_below : (loops : ℕ) (best : Option WholeFusion) (whole : WholeFusion) → loops ≡ node_loops tree root → best ≡ Some whole
       → IsBoundOfAll loops best (left_candidates tree found.lists root) (right_candidates tree found.lists root) → RootBelow tree (tables_of found.lists) whole.memory

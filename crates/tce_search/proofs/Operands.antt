@@ -1,10 +1,11 @@
 -- The candidates of the operands of a node.
-use Rattle.std.proofs.Common.{◌≡◌, ℕ, ◌+◌, ◌^◌, ◌<◌, ◌≤◌, true, Option, Some, None, List, [], ◌∷◌, ◌++◌, map, length, get_or, refl, sym, ap, ◌∙◌, subst, inl, inr, arith}
+use Rattle.std.proofs.Common.{◌≡◌, ℕ, ◌+◌, ◌<◌, ◌≤◌, true, Option, Some, None, List, [], ◌∷◌, ◌++◌, map, length, get_or, refl, sym, ap, ◌∙◌, subst, inl, inr, arith}
 use Rattle.std.specs.Prelude.{IfSome}
 use Rattle.std.specs.List.{All}
 use Rattle.std.proofs.lemmas.Bool.{cases_lt}
 use Rattle.std.proofs.lemmas.List.{length-map, get_or-map, get_or_past, get_or_append_left}
 use Rattle.std.proofs.lemmas.List.Elements.{All-cons, All-nil}
+use Rattle.tce_space.specs.IndexSet.{count}
 use Rattle.tce_space.specs.Space.{IndexSpace}
 use Rattle.tce_tree.specs.ContractionTree.{ContractionTree, leaf, constant, is_leaf, operations, node}
 use Rattle.tce_tree.specs.FlatTree.{IsBefore, left_of, right_of}
@@ -18,11 +19,11 @@ use Rattle.tce_states.specs.Reached.{tree_of_operand, tree_of_right, left_below,
 use Rattle.tce_states.proofs.Operands.{operations-node, node_of_some}
 use Rattle.tce_states.proofs.Reached.{operands_are_joined}
 use Rattle.tce_candidates.specs.declared.candidate.Candidate.{Candidate}
-use Rattle.tce_candidates.specs.Candidates.{IsLimited, HaveRoom}
+use Rattle.tce_candidates.specs.Candidates.{IsLimited, HaveRoom, AreOperands}
 use Rattle.tce_candidates.specs.Laws.{rows_of}
 use Rattle.tce_candidates.specs.Reached.{IsStateOf}
 use Rattle.tce_candidates.proofs.ReachedStates.{leaves_have_states}
-use Rattle.tce_search.specs.CandidateLists.{candidates_at, tables_of, leaf_candidate, operand_candidates, right_operand_candidates, left_candidates, right_candidates, Searched, operand_limit, right_operand_limit, left_limit, right_limit, IsStateWithin, AreStates, AreAtLeast}
+use Rattle.tce_search.specs.CandidateLists.{candidates_at, tables_of, leaf_candidate, operand_candidates, right_operand_candidates, left_candidates, right_candidates, Searched, IsKept, AreKept}
 
 -- ---- their rows
 
@@ -74,111 +75,62 @@ right_candidates-push tree found more v inside next =
 
 -- ---- what is kept of them
 
--- what a candidate within the limit keeps
-pub cost_within : (space : IndexSpace) (tree : ContractionTree) (limit : ℕ) (candidate : Candidate) → IsStateWithin space tree limit candidate → candidate.row.cost ≤ limit
-cost_within space tree limit candidate (inl below) = omega (arith, below.cheap)
-cost_within space tree limit candidate (inr at_limit) = rw at_limit (omega arith)
+-- it has no more sets than there are operations
+pub sets_kept : (space : IndexSpace) (tree : ContractionTree) (least : ℕ) (candidate : Candidate) → IsKept space tree least candidate → length candidate.sets.items ≤ operations tree
+sets_kept space tree least candidate kept = elim kept.kind [ inl is ↦ omega (arith, is.count) | inr none ↦ omega (arith, none.fewer) ]
 
-pub sets_within : (space : IndexSpace) (tree : ContractionTree) (limit : ℕ) (candidate : Candidate) → IsStateWithin space tree limit candidate → length candidate.sets.items ≤ operations tree
-sets_within space tree limit candidate (inl below) = omega (arith, below.state.count)
-sets_within space tree limit candidate (inr at_limit) = rw at_limit (omega arith)
-
--- it is a state where it costs less
-pub state_below : (space : IndexSpace) (tree : ContractionTree) (limit : ℕ) (candidate : Candidate) → IsStateWithin space tree limit candidate → candidate.row.cost < limit
+-- it is a state where it has as many
+pub full_is_state : (space : IndexSpace) (tree : ContractionTree) (least : ℕ) (candidate : Candidate) → IsKept space tree least candidate → operations tree ≤ length candidate.sets.items
     → IsStateOf space tree candidate
-state_below space tree limit candidate (inl below) low = below.state
-state_below space tree limit candidate (inr at_limit) low = absurd (let cost = ap (λ (c : Candidate). c.row.cost) at_limit in omega (arith, cost, low))
+full_is_state space tree least candidate kept full = elim kept.kind [ inl is ↦ is | inr none ↦ absurd (omega (arith, none.fewer, full)) ]
 
-module _ (space : IndexSpace) (tree : ContractionTree) (found : Searched) (all : AreStates space tree found) where
-  leaf_kept : (subtree : ContractionTree) → is_leaf subtree ≡ true → All (IsStateWithin space subtree found.ceiling) (leaf_candidate ∷ [])
+-- where it has fewer, it costs at least so much
+pub short_is_high : (space : IndexSpace) (tree : ContractionTree) (least : ℕ) (candidate : Candidate) → IsKept space tree least candidate → length candidate.sets.items < operations tree
+    → least ≤ candidate.row.cost
+short_is_high space tree least candidate kept short = elim kept.kind [ inl is ↦ absurd (omega (arith, is.count, short)) | inr none ↦ none.high ]
+
+module _ (space : IndexSpace) (tree : ContractionTree) (found : Searched) (all : AreKept space tree found) where
+  leaf_kept : (subtree : ContractionTree) → is_leaf subtree ≡ true → All (IsKept space subtree found.least) (leaf_candidate ∷ [])
   leaf_kept subtree leaf_tree =
-      All-cons (IsStateWithin space subtree found.ceiling) leaf_candidate [] (inl (record { state = leaves_have_states space subtree leaf_candidate leaf_tree refl refl; cheap = all.some }))
-      (All-nil (IsStateWithin space subtree found.ceiling))
+      All-cons (IsKept space subtree found.least) leaf_candidate [] (record { limited = omega arith; kind = inl (leaves_have_states space subtree leaf_candidate leaf_tree refl refl) })
+      (All-nil (IsKept space subtree found.least))
 
-  operand_kept : (operand : Operand) → IsBefore (length found.lists) operand → All (IsStateWithin space (tree_of_operand tree operand) (operand_limit found operand)) (operand_candidates found.lists operand)
+  operand_kept : (operand : Operand) → IsBefore (length found.lists) operand → All (IsKept space (tree_of_operand tree operand) found.least) (operand_candidates found.lists operand)
   operand_kept (Leaf reference) before = leaf_kept (leaf reference.tensor reference.indexes.items) refl
   operand_kept (Constant number) before = leaf_kept (constant number) refl
-  operand_kept (Node v) before = (all.each v before).states
+  operand_kept (Node v) before = all v before
 
-  right_operand_kept : (operand : Option Operand) → IfSome operand (IsBefore (length found.lists)) → All (IsStateWithin space (tree_of_right tree operand) (right_operand_limit found operand)) (right_operand_candidates found.lists operand)
+  right_operand_kept : (operand : Option Operand) → IfSome operand (IsBefore (length found.lists)) → All (IsKept space (tree_of_right tree operand) found.least) (right_operand_candidates found.lists operand)
   right_operand_kept None before = leaf_kept (constant 0) refl
   right_operand_kept (Some operand) before = operand_kept operand before
 
-  left_is_before : (v : ℕ) → v < operations tree → length found.lists ≡ v → IsBefore (length found.lists) (left_of tree v)
-  left_is_before v inside next = subst (λ n. IsBefore n (left_of tree v)) (sym next) (left_before tree v inside)
+  pub left_kept : (v : ℕ) → v < operations tree → length found.lists ≡ v → All (IsKept space (left_below tree v) found.least) (left_candidates tree found.lists v)
+  left_kept v inside next = operand_kept (left_of tree v) (subst (λ n. IsBefore n (left_of tree v)) (sym next) (left_before tree v inside))
 
-  right_is_before : (v : ℕ) → v < operations tree → length found.lists ≡ v → IfSome (right_of tree v) (IsBefore (length found.lists))
-  right_is_before v inside next = subst (λ n. IfSome (right_of tree v) (IsBefore n)) (sym next) (right_before tree v inside)
+  pub right_kept : (v : ℕ) → v < operations tree → length found.lists ≡ v → All (IsKept space (right_below tree v) found.least) (right_candidates tree found.lists v)
+  right_kept v inside next = right_operand_kept (right_of tree v) (subst (λ n. IfSome (right_of tree v) (IsBefore n)) (sym next) (right_before tree v inside))
 
-  pub left_kept : (v : ℕ) → v < operations tree → length found.lists ≡ v → All (IsStateWithin space (left_below tree v) (left_limit tree found v)) (left_candidates tree found.lists v)
-  left_kept v inside next = operand_kept (left_of tree v) (left_is_before v inside next)
-
-  pub right_kept : (v : ℕ) → v < operations tree → length found.lists ≡ v → All (IsStateWithin space (right_below tree v) (right_limit tree found v)) (right_candidates tree found.lists v)
-  right_kept v inside next = right_operand_kept (right_of tree v) (right_is_before v inside next)
-
-  -- no limit of an operand is above the ceiling
-  operand_low : (operand : Operand) → IsBefore (length found.lists) operand → operand_limit found operand ≤ found.ceiling
-  operand_low (Leaf reference) before = omega arith
-  operand_low (Constant number) before = omega arith
-  operand_low (Node v) before = (all.each v before).low
-
-  right_operand_low : (operand : Option Operand) → IfSome operand (IsBefore (length found.lists)) → right_operand_limit found operand ≤ found.ceiling
-  right_operand_low None before = omega arith
-  right_operand_low (Some operand) before = operand_low operand before
-
-  pub left_small : (v : ℕ) → v < operations tree → length found.lists ≡ v → left_limit tree found v < 2 ^ 96
-  left_small v inside next = omega (arith, all.small, operand_low (left_of tree v) (left_is_before v inside next))
-
-  pub right_small : (v : ℕ) → v < operations tree → length found.lists ≡ v → right_limit tree found v < 2 ^ 96
-  right_small v inside next = omega (arith, all.small, right_operand_low (right_of tree v) (right_is_before v inside next))
-
--- ---- limits
-
--- the subtrees of both operands and the node itself have at most as many nodes as the tree
-operand_sizes : (tree : ContractionTree) (v : ℕ) → v < operations tree → operations (left_below tree v) + operations (right_below tree v) + 1 ≤ operations tree
+-- the subtrees of both operands and the node itself are the subtree of the node
+pub operand_sizes : (tree : ContractionTree) (v : ℕ) → v < operations tree → operations (node tree v) ≡ operations (left_below tree v) + operations (right_below tree v) + 1
 operand_sizes tree v inside =
     let both = operands_are_joined tree v inside in
     let bounds = size_bounds tree v inside in
     let whole = operations-node (node tree v) (node_of_some (node tree v) bounds.0) in
-    rw (both.0, both.1) (omega (arith, whole, bounds))
+    rw (both.0, both.1) (omega (arith, whole))
 
-module _ (space : IndexSpace) (tree : ContractionTree) (found : Searched) (v : ℕ) (few : operations tree ≤ 32) (all : AreStates space tree found)
+module _ (space : IndexSpace) (tree : ContractionTree) (found : Searched) (v : ℕ) (few : operations tree ≤ 32) (all : AreKept space tree found)
     (inside : v < operations tree) (next : length found.lists ≡ v) where
-  pub left_limited : All IsLimited (left_candidates tree found.lists v)
-  left_limited k d low =
-      omega (
-        arith,
-        left_small space tree found all v inside next,
-        cost_within space (left_below tree v) (left_limit tree found v) (get_or (left_candidates tree found.lists v) k d) (left_kept space tree found all v inside next k d low),
-      )
+  left_limited : All IsLimited (left_candidates tree found.lists v)
+  left_limited k d low = (left_kept space tree found all v inside next k d low).limited
 
-  pub right_limited : All IsLimited (right_candidates tree found.lists v)
-  right_limited k d low =
-      omega (
-        arith,
-        right_small space tree found all v inside next,
-        cost_within space (right_below tree v) (right_limit tree found v) (get_or (right_candidates tree found.lists v) k d) (right_kept space tree found all v inside next k d low),
-      )
+  right_limited : All IsLimited (right_candidates tree found.lists v)
+  right_limited k d low = (right_kept space tree found all v inside next k d low).limited
 
-  pub have_room : HaveRoom (left_candidates tree found.lists v) (right_candidates tree found.lists v)
+  have_room : HaveRoom (left_candidates tree found.lists v) (right_candidates tree found.lists v)
   have_room k d low m e inner =
-      let left = sets_within space (left_below tree v) (left_limit tree found v) (get_or (left_candidates tree found.lists v) k d) (left_kept space tree found all v inside next k d low) in
-      let right = sets_within space (right_below tree v) (right_limit tree found v) (get_or (right_candidates tree found.lists v) m e) (right_kept space tree found all v inside next m e inner) in
-      omega (arith, few, left, right, operand_sizes tree v inside)
+      let left = sets_kept space (left_below tree v) found.least (get_or (left_candidates tree found.lists v) k d) (left_kept space tree found all v inside next k d low) in
+      let right = sets_kept space (right_below tree v) found.least (get_or (right_candidates tree found.lists v) m e) (right_kept space tree found all v inside next m e inner) in
+      omega (arith, few, left, right, operand_sizes tree v inside, size_bounds tree v inside)
 
--- where each limit of a node is at least the ceiling, so is that of an operand
-module _ (tree : ContractionTree) (found : Searched) (same : length found.limits ≡ length found.lists) (full : AreAtLeast found.ceiling found.limits) where
-  operand_full : (operand : Operand) → IsBefore (length found.lists) operand → found.ceiling ≤ operand_limit found operand
-  operand_full (Leaf reference) before = omega arith
-  operand_full (Constant number) before = omega arith
-  operand_full (Node v) before = full v 0 (omega (arith, same, before))
-
-  right_operand_full : (operand : Option Operand) → IfSome operand (IsBefore (length found.lists)) → found.ceiling ≤ right_operand_limit found operand
-  right_operand_full None before = omega arith
-  right_operand_full (Some operand) before = operand_full operand before
-
-  pub left_full : (v : ℕ) → v < operations tree → length found.lists ≡ v → found.ceiling ≤ left_limit tree found v
-  left_full v inside next = operand_full (left_of tree v) (subst (λ n. IsBefore n (left_of tree v)) (sym next) (left_before tree v inside))
-
-  pub right_full : (v : ℕ) → v < operations tree → length found.lists ≡ v → found.ceiling ≤ right_limit tree found v
-  right_full v inside next = right_operand_full (right_of tree v) (subst (λ n. IfSome (right_of tree v) (IsBefore n)) (sym next) (right_before tree v inside))
+  pub are_operands : (loops : ℕ) (lefts rights : List Candidate) → count loops ≤ 10 → lefts ≡ left_candidates tree found.lists v → rights ≡ right_candidates tree found.lists v → AreOperands loops lefts rights
+  are_operands loops lefts rights few_loops a b = rw (a, b) (record { few = few_loops; limited_left = left_limited; limited_right = right_limited; room = have_room })

@@ -1,10 +1,10 @@
 -- The plan that is found is that of a least fusion.
-use Rattle.std.proofs.Common.{◌≡◌, ℕ, ◌+◌, ◌^◌, ◌<◌, List, length, get_or, sym, ap, ◌∙◌, subst, arith}
+use Rattle.std.proofs.Common.{◌≡◌, ℕ, ◌+◌, ◌<◌, List, length, sym, ap, ◌∙◌, subst}
 use Rattle.std.specs.List.{All}
 use Rattle.std.proofs.lemmas.List.{length-map}
 use Rattle.std.proofs.lemmas.List.Elements.{All-map}
 use Rattle.tce_space.specs.Space.{IndexSpace}
-use Rattle.tce_tree.specs.ContractionTree.{ContractionTree, operations, node, node_dims}
+use Rattle.tce_tree.specs.ContractionTree.{ContractionTree, operations, node_dims}
 use Rattle.tce_tree.specs.Fusion.{FusionFits}
 use Rattle.tce_tree.specs.Memory.{memory}
 use Rattle.tce_fusion.specs.Scope.{IsLegal}
@@ -16,24 +16,21 @@ use Rattle.tce_nesting.specs.declared.plan.Plan.{Plan}
 use Rattle.tce_nesting.specs.Plan.{RowFits, RowsFit}
 use Rattle.tce_candidates.specs.declared.candidate.Candidate.{Candidate}
 use Rattle.tce_candidates.specs.Laws.{rows_of}
-use Rattle.tce_search.specs.CandidateLists.{candidates_at, tables_of, Searched, limit_at, AreCandidates, AreFound}
+use Rattle.tce_search.specs.CandidateLists.{candidates_at, tables_of, Searched, AreCandidates, AreFound}
 use Rattle.tce_search.specs.LeastPlan.{IsLeastPlan, IsPlanOf}
-use Rattle.tce_search.proofs.Operands.{tables-at, cost_within}
+use Rattle.tce_search.proofs.Operands.{tables-at}
 
 -- the rows of a node fit it
-rows_fit_node : (space : IndexSpace) (tree : ContractionTree) (limit : ℕ) (found : List (List Candidate)) (v : ℕ) → limit < 2 ^ 96 → AreCandidates space tree limit found v
+rows_fit_node : (space : IndexSpace) (tree : ContractionTree) (least : ℕ) (found : List (List Candidate)) (v : ℕ) → AreCandidates space tree least found v
     → All (RowFits (node_dims tree v)) (rows_of (candidates_at found v))
-rows_fit_node space tree limit found v small kept =
+rows_fit_node space tree least found v are =
     All-map (RowFits (node_dims tree v)) (λ (c : Candidate). c.row) (candidates_at found v)
-    (λ k d low.
-    let cost = cost_within space (node tree v) limit (get_or (candidates_at found v) k d) (kept.states k d low) in
-    record { classes = kept.classes k d low; cost = omega (arith, cost, small) })
+    (λ k d low. record { classes = are.classes k d low; cost = (are.kept k d low).limited })
 
 rows_fit : (space : IndexSpace) (tree : ContractionTree) (found : Searched) → AreFound space tree found → RowsFit tree (tables_of found.lists)
 rows_fit space tree found all v low =
     let inside : v < length found.lists = rw length-map at low in
-    let low_limit = (all.states.each v inside).low in
-    rw (tables-at found.lists v) (rows_fit_node space tree (limit_at found.limits v) found.lists v (omega (arith, low_limit, all.states.small)) (all.each v inside))
+    rw (tables-at found.lists v) (rows_fit_node space tree found.least found.lists v (all v inside))
 
 -- the plan of a legal fusion has its memory
 pub plan_memory : (space : IndexSpace) (tree : ContractionTree) (fusion : List ℕ) (total : ℕ) (tables : List (List Row)) (plan : Plan)

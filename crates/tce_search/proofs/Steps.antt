@@ -1,14 +1,12 @@
 -- The candidates of a node are found where those of its operands are.
-use Rattle.std.proofs.Common.{Result, Ok, Err, ◌≡◌, ℕ, ◌+◌, ◌-◌, ◌<◌, ◌≤◌, not, eqb, Some, List, [], ◌∷◌, ◌++◌, map, reverse, take, length, get_or, sym, ap, ◌∙◌, subst, inl, inr, arith}
+use Rattle.std.proofs.Common.{Result, Ok, Err, ◌≡◌, ℕ, ◌+◌, ◌-◌, ◌<◌, ◌≤◌, ◌^◌, Some, List, [], ◌∷◌, ◌++◌, reverse, take, length, get_or, sym, ap, ◌∙◌, subst, inl, inr, arith}
 use Rattle.std.specs.Prelude.{IfOk, ◌⊎◌}
 use Rattle.std.specs.declared.vec.Vec.{Vec}
 use Rattle.std.specs.List.{All, AllPairs, Contains, refill}
-use Rattle.std.proofs.lemmas.Bool.{and_parts}
-use Rattle.std.proofs.lemmas.List.{append-nil, drop_all, take_all, length-map, length-reverse, get_or-map, get_or_push, get_or-reverse}
-use Rattle.std.proofs.lemmas.List.Elements.{All-contains, All-filter, All-map, All-nil, All-same, All-weaker}
-use Rattle.tce_space.specs.IndexSet.{IsWithin, has, meet, empty}
+use Rattle.std.proofs.lemmas.List.{append-nil, drop_all, take_all, length-append, length-map, length-reverse, length_push, get_or-map, get_or_push, get_or-reverse, get_or_default}
+use Rattle.std.proofs.lemmas.List.Elements.{All-contains, All-map, All-same, All-weaker}
+use Rattle.tce_space.specs.IndexSet.{IsWithin}
 use Rattle.tce_space.specs.Space.{IndexSpace}
-use Rattle.tce_space.proofs.IndexSetLaws.{has-meet}
 use Rattle.tce_tree.specs.ContractionTree.{ContractionTree, operations, node, node_dims, node_loops, parent}
 use Rattle.tce_states.specs.Relation.{HasNoConflict}
 use Rattle.tce_states.specs.Row.{Row, AreApart, rows_at, rows_joined}
@@ -20,20 +18,15 @@ use Rattle.tce_nesting.specs.Plan.{LiesWithin}
 use Rattle.tce_nesting.specs.declared.choice.Choice.{Choice}
 use Rattle.tce_nesting.specs.Choices.{AreChoices}
 use Rattle.tce_candidates.specs.declared.candidate.Candidate.{Candidate}
-use Rattle.tce_candidates.specs.Candidates.{AreApart as CandidatesApart, ChoiceCovered, PairCovered, IsStepOf, IsReachedBelow, limit_candidate}
+use Rattle.tce_candidates.specs.Candidates.{AreApart as CandidatesApart, ChoiceCovered, PairCovered, IsStepOf, IsReachedBelow, IsReachedOrBound}
 use Rattle.tce_candidates.specs.Laws.{rows_of}
 use Rattle.tce_candidates.specs.Reached.{IsStateOf}
+use Rattle.tce_candidates.proofs.Bounding.{restricted_within}
+use Rattle.tce_candidates.proofs.Quantifiers.{All-of_reversed}
 use Rattle.tce_candidates.proofs.ReachedStates.{steps_are_states}
 use Rattle.tce_candidates.proofs.Steppings.{covered_pairs_cover_steps}
-use Rattle.tce_search.specs.CandidateLists.{candidates_at, tables_of, leaf_candidate, left_candidates, right_candidates, left_limit, right_limit, Searched, IsStateWithin, HasClassesWithin, AreCandidates, IsLimitOf, AreStates}
-use Rattle.tce_search.proofs.Operands.{tables-at, left_rows-are, right_rows-are, left_candidates-push, right_candidates-push, left_kept, right_kept, state_below}
-
--- each class of what is left lies within the fused set
-restricted_within : (dims fused : ℕ) (classes : List ℕ) → IsWithin fused dims → All (LiesWithin dims) (restricted classes fused)
-restricted_within dims fused classes within =
-    All-filter (λ (c : ℕ). not (eqb c empty)) (LiesWithin dims) (map (λ (c : ℕ). meet c fused) classes)
-    (All-map (LiesWithin dims) (λ (c : ℕ). meet c fused) classes
-    (λ k d low i inn. within i (and_parts (has (get_or classes k d) i) (has fused i) (sym (has-meet (get_or classes k d) fused i) ∙ inn)).1))
+use Rattle.tce_search.specs.CandidateLists.{candidates_at, tables_of, leaf_candidate, left_candidates, right_candidates, Searched, IsKept, IsNoState, HasClassesWithin, AreCandidates, AreKept}
+use Rattle.tce_search.proofs.Operands.{tables-at, left_rows-are, right_rows-are, left_candidates-push, right_candidates-push, left_kept, right_kept, sets_kept, operand_sizes}
 
 fused_within : (space : IndexSpace) (tree : ContractionTree) (v : ℕ) (choices : List Choice) (choice : Choice) → AreChoices space tree v choices → Contains choices choice
     → IsWithin choice.fused (node_dims tree v)
@@ -55,36 +48,58 @@ rows_apart outer table apart i j d order low =
     let second = get_or-map (λ (c : Candidate). c.row) table j leaf_candidate d inner in
     rw (first, second) (apart i j leaf_candidate order inner)
 
-module _ (space : IndexSpace) (tree : ContractionTree) (limit : ℕ) (found : Searched) (v outer : ℕ) (choices : List Choice) (table : List Candidate)
-    (all : AreStates space tree found) (is_limit : IsLimitOf tree found v limit) (inside : v < operations tree) (next : length found.lists ≡ v)
+-- where a candidate of one operand is no state, a step from it has fewer sets than there are operations
+step_is_short : (tree : ContractionTree) (v : ℕ) (left right candidate : Candidate) (fused : ℕ) → v < operations tree → candidate.sets.items ≡ left.sets.items ++ (right.sets.items ++ fused ∷ [])
+    → length left.sets.items + length right.sets.items < operations (left_below tree v) + operations (right_below tree v) → length candidate.sets.items < operations (node tree v)
+step_is_short tree v left right candidate fused inside is short =
+    let count = ap length is ∙ length-append left.sets.items (right.sets.items ++ fused ∷ []) in
+    omega (arith, count, length_push right.sets.items fused, short, operand_sizes tree v inside)
+
+module _ (space : IndexSpace) (tree : ContractionTree) (bound : ℕ) (found : Searched) (v outer : ℕ) (choices : List Choice) (table : List Candidate)
+    (all : AreKept space tree found) (high : found.least ≤ bound) (inside : v < operations tree) (next : length found.lists ≡ v)
     (parent_loops : (p : ℕ) → parent tree v ≡ Some p → outer ≡ node_loops tree p)
     (are_choices : AreChoices space tree v choices)
     (covered : All (λ (left : Candidate). All (PairCovered (node_loops tree v) outer choices table left) (right_candidates tree found.lists v)) (left_candidates tree found.lists v))
-    (reached : All (λ (c : Candidate). IsReachedBelow limit (node_loops tree v) choices (left_candidates tree found.lists v) (right_candidates tree found.lists v) c ⊎ (c ≡ limit_candidate limit)) table)
+    (reached : All (IsReachedOrBound bound (node_loops tree v) choices (left_candidates tree found.lists v) (right_candidates tree found.lists v)) table)
     (apart : AllPairs (CandidatesApart outer) table) where
-  reached_state : (candidate : Candidate) → IsReachedBelow limit (node_loops tree v) choices (left_candidates tree found.lists v) (right_candidates tree found.lists v) candidate → IsStateOf space (node tree v) candidate
-  reached_state candidate from =
+  step_kind : (candidate : Candidate) → IsReachedBelow (2 ^ 96) (node_loops tree v) choices (left_candidates tree found.lists v) (right_candidates tree found.lists v) candidate
+      → IsStateOf space (node tree v) candidate ⊎ IsNoState (node tree v) found.least candidate
+  step_kind candidate from =
       let both = operands_are_joined tree v inside in
       let pair = from.reached in
       let cost = pair.step.step.row.cost in
       let sum = pair.step.joins.cost in
-      let beside_left = All-contains (λ (other : Candidate). limit ≤ left_limit tree found v + other.row.cost) (right_candidates tree found.lists v) pair.right is_limit.left pair.from_right in
-      let beside_right = All-contains (λ (other : Candidate). limit ≤ right_limit tree found v + other.row.cost) (left_candidates tree found.lists v) pair.left is_limit.right pair.from_left in
-      let left = All-contains (IsStateWithin space (left_below tree v) (left_limit tree found v)) (left_candidates tree found.lists v) pair.left (left_kept space tree found all v inside next) pair.from_left in
-      let right = All-contains (IsStateWithin space (right_below tree v) (right_limit tree found v)) (right_candidates tree found.lists v) pair.right (right_kept space tree found all v inside next) pair.from_right in
-      steps_are_states space tree v choices pair.left pair.right candidate inside are_choices pair.step
-      (subst (λ t. IsStateOf space t pair.left) both.0 (state_below space (left_below tree v) (left_limit tree found v) pair.left left (omega (arith, from.cheap, cost, sum, beside_left))))
-      (subst (λ t. IsStateOf space t pair.right) both.1 (state_below space (right_below tree v) (right_limit tree found v) pair.right right (omega (arith, from.cheap, cost, sum, beside_right))))
+      let left = All-contains (IsKept space (left_below tree v) found.least) (left_candidates tree found.lists v) pair.left (left_kept space tree found all v inside next) pair.from_left in
+      let right = All-contains (IsKept space (right_below tree v) found.least) (right_candidates tree found.lists v) pair.right (right_kept space tree found all v inside next) pair.from_right in
+      let left_sets = sets_kept space (left_below tree v) found.least pair.left left in
+      let right_sets = sets_kept space (right_below tree v) found.least pair.right right in
+      let short = step_is_short tree v pair.left pair.right candidate pair.step.choice.fused inside pair.step.step.sets in
+      elim left.kind [
+        | inr none ↦ inr (record { fewer = short (omega (arith, none.fewer, right_sets)); high = omega (arith, none.high, cost, sum) })
+        | inl of_left ↦ elim right.kind [
+          | inr none ↦ inr (record { fewer = short (omega (arith, none.fewer, left_sets)); high = omega (arith, none.high, cost, sum) })
+          | inl of_right ↦
+              inl (steps_are_states space tree v choices pair.left pair.right candidate inside are_choices pair.step
+              (subst (λ t. IsStateOf space t pair.left) both.0 of_left)
+              (subst (λ t. IsStateOf space t pair.right) both.1 of_right))
+        ]
+      ]
 
-  reached_within : (candidate : Candidate) → IsReachedBelow limit (node_loops tree v) choices (left_candidates tree found.lists v) (right_candidates tree found.lists v) candidate ⊎ (candidate ≡ limit_candidate limit)
-      → IsStateWithin space (node tree v) limit candidate
-  reached_within candidate (inl from) = inl (record { state = reached_state candidate from; cheap = from.cheap })
-  reached_within candidate (inr at_limit) = inr at_limit
+  candidate_kept : (candidate : Candidate) → IsReachedOrBound bound (node_loops tree v) choices (left_candidates tree found.lists v) (right_candidates tree found.lists v) candidate
+      → IsKept space (node tree v) found.least candidate
+  candidate_kept candidate (inl from) = record { limited = from.cheap; kind = step_kind candidate from }
+  candidate_kept candidate (inr bounds) = record {
+    limited = bounds.cheap;
+    kind = inr (record { fewer = omega (arith, ap length bounds.sets, operand_sizes tree v inside); high = omega (arith, high, bounds.high) });
+  }
 
-  reached_classes : (candidate : Candidate) → IsReachedBelow limit (node_loops tree v) choices (left_candidates tree found.lists v) (right_candidates tree found.lists v) candidate ⊎ (candidate ≡ limit_candidate limit)
+  choices_within : All (λ (choice : Choice). IsWithin choice.fused (node_dims tree v)) choices
+  choices_within k d low = fused_within space tree v choices (get_or choices k d) are_choices (k, low, get_or_default choices k (get_or choices k d) d low)
+
+  candidate_classes : (candidate : Candidate) → IsReachedOrBound bound (node_loops tree v) choices (left_candidates tree found.lists v) (right_candidates tree found.lists v) candidate
       → HasClassesWithin (node_dims tree v) candidate
-  reached_classes candidate (inl from) = classes_within space tree v (node_loops tree v) choices from.reached.left from.reached.right candidate are_choices from.reached.step
-  reached_classes candidate (inr at_limit) = rw at_limit (All-nil (LiesWithin (node_dims tree v)))
+  candidate_classes candidate (inl from) = classes_within space tree v (node_loops tree v) choices from.reached.left from.reached.right candidate are_choices from.reached.step
+  candidate_classes candidate (inr bounds) = bounds.within (node_dims tree v) choices_within
 
   here : candidates_at (found.lists ++ table ∷ []) v ≡ table
   here = get_or_push found.lists table [] v next
@@ -113,10 +128,10 @@ module _ (space : IndexSpace) (tree : ContractionTree) (limit : ℕ) (found : Se
   node_covered o is =
       rw (lefts_here, rights_here, rows_here) (joins_covered o is)
 
-  pub candidates_are : AreCandidates space tree limit (found.lists ++ table ∷ []) v
+  pub candidates_are : AreCandidates space tree found.least (found.lists ++ table ∷ []) v
   candidates_are = record {
-    states = rw here (All-weaker (λ (c : Candidate). IsReachedBelow limit (node_loops tree v) choices (left_candidates tree found.lists v) (right_candidates tree found.lists v) c ⊎ (c ≡ limit_candidate limit)) (IsStateWithin space (node tree v) limit) reached_within table reached);
-    classes = rw here (All-weaker (λ (c : Candidate). IsReachedBelow limit (node_loops tree v) choices (left_candidates tree found.lists v) (right_candidates tree found.lists v) c ⊎ (c ≡ limit_candidate limit)) (HasClassesWithin (node_dims tree v)) reached_classes table reached);
+    kept = rw here (All-weaker (IsReachedOrBound bound (node_loops tree v) choices (left_candidates tree found.lists v) (right_candidates tree found.lists v)) (IsKept space (node tree v) found.least) candidate_kept table reached);
+    classes = rw here (All-weaker (IsReachedOrBound bound (node_loops tree v) choices (left_candidates tree found.lists v) (right_candidates tree found.lists v)) (HasClassesWithin (node_dims tree v)) candidate_classes table reached);
     covered = λ p is. node_covered (node_loops tree p) (parent_loops p is);
     apart = λ p is. rw here (subst (λ o. AllPairs (AreApart o) (rows_of table)) (parent_loops p is) (rows_apart outer table apart));
   }
@@ -150,10 +165,11 @@ covered_reversed loops outer choices table left right covered quiet =
     let here = covered quiet in
     record { joined = here.joined; joins = here.joins; each = all_reversed (ChoiceCovered outer here.joined table) choices here.each }
 
-reached_reversed : (limit loops : ℕ) (choices : List Choice) (lefts rights : List Candidate) (candidate : Candidate)
-    → IsReachedBelow limit loops (reverse choices) lefts rights candidate ⊎ (candidate ≡ limit_candidate limit) → IsReachedBelow limit loops choices lefts rights candidate ⊎ (candidate ≡ limit_candidate limit)
-reached_reversed limit loops choices lefts rights candidate (inr at_limit) = inr at_limit
-reached_reversed limit loops choices lefts rights candidate (inl from) =
+reached_reversed : (bound loops : ℕ) (choices : List Choice) (lefts rights : List Candidate) (candidate : Candidate)
+    → IsReachedOrBound bound loops (reverse choices) lefts rights candidate → IsReachedOrBound bound loops choices lefts rights candidate
+reached_reversed bound loops choices lefts rights candidate (inr bounds) =
+    inr (record { sets = bounds.sets; high = bounds.high; cheap = bounds.cheap; within = λ dims all. bounds.within dims (All-of_reversed (λ (choice : Choice). IsWithin choice.fused dims) choices all) })
+reached_reversed bound loops choices lefts rights candidate (inl from) =
     let pair = from.reached in
     inl (record {
       reached = record {
@@ -174,21 +190,22 @@ reached_reversed limit loops choices lefts rights candidate (inl from) =
     })
 
 -- the same of what the call that makes them from the choices in the other order answers
-pub candidates_of_operands_are : {T : Type 0} {E : Type 0} (space : IndexSpace) (tree : ContractionTree) (limit : ℕ) (found : Searched) (v outer loops : ℕ) (choices given : List Choice) (lefts rights : List Candidate)
-    (answer : Result (Vec Candidate T) E) → AreStates space tree found → IsLimitOf tree found v limit → v < operations tree → length found.lists ≡ v
+pub candidates_of_operands_are : {T : Type 0} {E : Type 0} (space : IndexSpace) (tree : ContractionTree) (bound : ℕ) (found : Searched) (v outer loops : ℕ) (choices given : List Choice) (lefts rights : List Candidate)
+    (answer : Result (Vec Candidate T) E) → AreKept space tree found → found.least ≤ bound → v < operations tree → length found.lists ≡ v
     → ((p : ℕ) → parent tree v ≡ Some p → outer ≡ node_loops tree p) → AreChoices space tree v choices
     → loops ≡ node_loops tree v → given ≡ reverse choices → lefts ≡ left_candidates tree found.lists v → rights ≡ right_candidates tree found.lists v
     → IfOk answer (λ table. All (λ (left : Candidate). All (PairCovered loops outer given table.items left) rights) lefts)
-    → IfOk answer (λ table. All (λ (c : Candidate). IsReachedBelow limit loops given lefts rights c ⊎ (c ≡ limit_candidate limit)) table.items)
+    → IfOk answer (λ table. All (IsReachedOrBound bound loops given lefts rights) table.items)
     → IfOk answer (λ table. AllPairs (CandidatesApart outer) table.items)
-    → IfOk answer (λ table. AreCandidates space tree limit (found.lists ++ table.items ∷ []) v)
-candidates_of_operands_are space tree limit found v outer loops choices given lefts rights (Err e) all is_limit inside next parent_loops are a b c d covered reached apart = tt
-candidates_of_operands_are space tree limit found v outer loops choices given lefts rights (Ok table) all is_limit inside next parent_loops are a b c d covered reached apart =
+    → IfOk answer (λ table. AreCandidates space tree found.least (found.lists ++ table.items ∷ []) v)
+candidates_of_operands_are space tree bound found v outer loops choices given lefts rights (Err e) all high inside next parent_loops are a b c d covered reached apart = tt
+candidates_of_operands_are space tree bound found v outer loops choices given lefts rights (Ok table) all high inside next parent_loops are a b c d covered reached apart =
     let all_covered : All (λ (left : Candidate). All (PairCovered (node_loops tree v) outer (reverse choices) table.items left) (right_candidates tree found.lists v)) (left_candidates tree found.lists v) =
     rw (← a, ← b, ← c, ← d) covered in
-    let all_reached : All (λ (x : Candidate). IsReachedBelow limit (node_loops tree v) (reverse choices) (left_candidates tree found.lists v) (right_candidates tree found.lists v) x ⊎ (x ≡ limit_candidate limit)) table.items = rw (← a, ← b, ← c, ← d) reached in
-    candidates_are space tree limit found v outer choices table.items all is_limit inside next parent_loops are
+    let all_reached : All (IsReachedOrBound bound (node_loops tree v) (reverse choices) (left_candidates tree found.lists v) (right_candidates tree found.lists v)) table.items = rw (← a, ← b, ← c, ← d) reached in
+    candidates_are space tree bound found v outer choices table.items all high inside next parent_loops are
     (λ k x low m y inner. covered_reversed (node_loops tree v) outer choices table.items (get_or (left_candidates tree found.lists v) k x) (get_or (right_candidates tree found.lists v) m y) (all_covered k x low m y inner))
-    (All-weaker (λ (x : Candidate). IsReachedBelow limit (node_loops tree v) (reverse choices) (left_candidates tree found.lists v) (right_candidates tree found.lists v) x ⊎ (x ≡ limit_candidate limit)) (λ (x : Candidate). IsReachedBelow limit (node_loops tree v) choices (left_candidates tree found.lists v) (right_candidates tree found.lists v) x ⊎ (x ≡ limit_candidate limit))
-    (reached_reversed limit (node_loops tree v) choices (left_candidates tree found.lists v) (right_candidates tree found.lists v)) table.items all_reached)
+    (All-weaker (IsReachedOrBound bound (node_loops tree v) (reverse choices) (left_candidates tree found.lists v) (right_candidates tree found.lists v))
+    (IsReachedOrBound bound (node_loops tree v) choices (left_candidates tree found.lists v) (right_candidates tree found.lists v))
+    (reached_reversed bound (node_loops tree v) choices (left_candidates tree found.lists v) (right_candidates tree found.lists v)) table.items all_reached)
     apart

@@ -8,10 +8,10 @@ use tce_space::MAX_NODES;
 use tce_tree::{Operand, Tree};
 
 // A round that keeps fewer candidates is so short that the next one may go twice as far.
-const FEW: usize = 4096;
+const FEW: usize = 8192;
 
 // After a round that keeps more candidates a pass tells how far the next one has to go.
-const MANY: usize = 70_000;
+const MANY: usize = 20_000;
 
 // A pass goes so many times as far as the round before it.
 const FARTHER: u128 = 4;
@@ -75,6 +75,14 @@ impl Bounds {
             }
         }
         target
+    }
+
+    /// What each candidate costs at least that is no state: the ceiling where nothing that is known is used.
+    pub(crate) fn least(&self) -> u128
+        ensures small { result ≤ self.now.ceiling }
+        ensures plain { self.now.learns ≡ false → result ≡ self.now.ceiling }
+    {
+        if self.learns { 0 } else { self.ceiling }
     }
 
     // What is known of the other operand of a node.
@@ -208,8 +216,8 @@ impl Bounds {
     }
 }
 
-// The least cost of some candidates, and 0 of none.
-fn least_cost(candidates: &[Candidate]) -> u128 {
+/// The least cost of some candidates, and 0 of none.
+pub(crate) fn least_cost(candidates: &[Candidate]) -> u128 {
     let Some(first) = candidates.first() else {
         return 0;
     };

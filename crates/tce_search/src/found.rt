@@ -9,11 +9,10 @@ use std::marker::Model;
 use tce_candidates::Candidate;
 use tce_tree::{Operand, Tree};
 
-/// The candidates of the first nodes of a tree, by the node's number: states that cost less than the limit of the node, and what stands for all others. No limit is above the ceiling.
+/// The candidates of the first nodes of a tree, by the node's number: states, and what stands for others, which costs at least so much.
 #[derive(Drop)]
 pub(crate) struct Found {
-    ceiling: u128,
-    limits: Vec<u128>,
+    least: u128,
     lists: Vec<Vec<Candidate>>,
 }
 
@@ -23,35 +22,33 @@ impl Model for Found {
 
     ghost Value = { Searched };
 
-    ghost view = { λ f. record { ceiling = f.ceiling; limits = f.limits.items; lists = map (λ candidates. candidates.items) f.lists.items } };
+    ghost view = { λ f. record { least = f.least; lists = map (λ candidates. candidates.items) f.lists.items } };
 }
 
 impl Found {
     /// No candidates.
-    pub(crate) fn new(alloc: Global, ceiling: u128) -> Found
-        ensures { result ≡ record { ceiling = ceiling; limits = []; lists = [] } }
+    pub(crate) fn new(alloc: Global, least: u128) -> Found
+        ensures { result ≡ record { least = least; lists = [] } }
     {
         Found {
-            ceiling,
-            limits: Vec::new(alloc),
+            least,
             lists: Vec::new(alloc),
         }
     }
 
-    /// Appends the candidates of the next node, and their limit.
-    pub(crate) fn push(&mut self, candidates: Vec<Candidate>, limit: u128) -> Result<(), AllocError>
-        ensures { OnOk result (self.new ≡ list.with_next self.old candidates.items limit) }
+    /// Appends the candidates of the next node.
+    pub(crate) fn push(&mut self, candidates: Vec<Candidate>) -> Result<(), AllocError>
+        ensures { OnOk result (self.new ≡ list.with_next self.old candidates.items) }
     {
-        self.limits.push(limit)?;
         self.lists.push(candidates)?;
         Ok(())
     }
 
-    /// The ceiling.
-    pub(crate) fn ceiling(&self) -> u128
-        ensures { result ≡ self.now.ceiling }
+    /// What each candidate costs at least that is no state.
+    pub(crate) fn least(&self) -> u128
+        ensures { result ≡ self.now.least }
     {
-        self.ceiling
+        self.least
     }
 
     /// The candidates of node `v`.
@@ -104,38 +101,6 @@ impl Found {
             Operand::Node(u) => self.candidates(*u),
             Operand::Leaf(_) => leaf,
             Operand::Constant(_) => leaf,
-        }
-    }
-
-    /// The limit of the left or only operand of a node; of a leaf the ceiling.
-    pub(crate) fn left_limit(&self, tree: &Tree, v: u8) -> u128
-        requires { v < operations tree.now }
-        ensures { result ≡ list.left_limit tree.now self.now v }
-    {
-        self.limit_of(tree.left(v))
-    }
-
-    /// The limit of the right operand of a node; of a leaf, and where it is a sum, the ceiling.
-    pub(crate) fn right_limit(&self, tree: &Tree, v: u8) -> u128
-        requires { v < operations tree.now }
-        ensures { result ≡ list.right_limit tree.now self.now v }
-    {
-        match tree.right(v) {
-            Some(operand) => self.limit_of(operand),
-            None => self.ceiling,
-        }
-    }
-
-    fn limit_of(&self, operand: &Operand) -> u128
-        ensures { result ≡ list.operand_limit self.now operand.now }
-    {
-        match operand {
-            Operand::Node(u) => match self.limits.get(*u as usize) {
-                Some(limit) => *limit,
-                None => 0,
-            },
-            Operand::Leaf(_) => self.ceiling,
-            Operand::Constant(_) => self.ceiling,
         }
     }
 }

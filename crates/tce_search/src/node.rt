@@ -1,61 +1,64 @@
 // The candidates of the nodes, from the leaves up.
-ghost use Rattle.std.specs.Prelude.{◌≡◌, ℕ, false, ◌+◌, ◌<◌, [], ◌∷◌, ◌++◌, length, IfOk};
+ghost use Rattle.std.specs.Prelude.{◌≡◌, ℕ, false, ◌+◌, ◌<◌, ◌≤◌, [], ◌∷◌, ◌++◌, length, IfOk};
 ghost use Rattle.tce_space.specs.Limits.{cost_limit};
 ghost use Rattle.tce_tree.specs.ContractionTree.{operations, node_loops, parent};
 ghost use Rattle.tce_tree.specs.Measure.{IsMeasured};
-ghost use Rattle.tce_search.specs.CandidateLists.{AreCandidates, AreStates, AreFound, IsLimitOf, AreFull};
+ghost use Rattle.tce_search.specs.CandidateLists.{AreCandidates, AreKept, AreFound, AreLow};
 
-use crate::bounds::Bounds;
+use crate::ahead::Aheads;
+use crate::bounds::{Bounds, least_cost};
 use crate::found::Found;
-use crate::limit::limit_of;
 use std::alloc::{AllocError, Global};
-use tce_candidates::{Candidate, NodeLoops, candidates_of};
+use tce_candidates::{Candidate, Limits, NodeLoops, candidates_of};
 use tce_nesting::choices;
 use tce_space::{IndexSet, Space};
 use tce_tree::Tree;
 
-/// The candidates of all nodes but the root: states that cost less than the node's limit, and what stands for all others.
+/// The candidates of all nodes but the root: states that are of use below the ceiling, and what stands for all others.
 pub(crate) fn find_candidates(
     alloc: Global,
     space: &Space,
     tree: &Tree,
     bounds: &mut Bounds,
+    aheads: &Aheads,
 ) -> Result<Found, AllocError>
     requires measured { IsMeasured space.now tree.now }
-    requires some { 0 < bounds.old.ceiling }
     requires small { bounds.old.ceiling < cost_limit }
     ensures count { IfOk result (λ found. length found.lists + 1 ≡ operations tree.now) }
     ensures found { IfOk result (AreFound space.now tree.now) }
-    ensures ceiling { IfOk result (λ found. found.ceiling ≡ bounds.old.ceiling) }
-    ensures plain { bounds.old.learns ≡ false → IfOk result AreFull }
+    ensures plain { bounds.old.learns ≡ false → IfOk result (λ found. found.least ≡ bounds.old.ceiling) }
     ensures same { bounds.new.ceiling ≡ bounds.old.ceiling }
     ensures learns { bounds.new.learns ≡ bounds.old.learns }
 {
-    let mut found = Found::new(alloc, bounds.ceiling);
+    let mut found = Found::new(alloc, bounds.least());
     for v in 0..tree.count() - 1 {
-        let limit = limit_of(space, tree, &found, v, bounds.target(tree, v));
-        let candidates = candidates_of_node(alloc, space, tree, &found, v, limit)?;
+        let limits = Limits {
+            ahead: aheads.of(tree, v),
+            target: bounds.target(tree, v),
+            least: found.least(),
+        };
+        let candidates = candidates_of_node(alloc, space, tree, &found, v, &limits)?;
         bounds.learn(v, candidates.as_slice());
-        found.push(candidates, limit)?;
+        found.push(candidates)?;
     }
     Ok(found)
 }
 
-/// The candidates of the node whose number is next.
+/// The candidates of the node whose number is next. What bounds states costs no less than the cheapest ones of both operands with one element.
 pub(crate) fn candidates_of_node(
     alloc: Global,
     space: &Space,
     tree: &Tree,
     found: &Found,
     v: u8,
-    limit: u128,
+    limits: &Limits,
 ) -> Result<Vec<Candidate>, AllocError>
     requires measured { IsMeasured space.now tree.now }
     requires inside { v < operations tree.now }
     requires next { length found.now.lists ≡ v }
-    requires states { AreStates space.now tree.now found.now }
-    requires limit { IsLimitOf tree.now found.now v limit }
-    ensures { IfOk result (λ candidates. AreCandidates space.now tree.now limit (found.now.lists ++ candidates.items ∷ []) v) }
+    requires kept { AreKept space.now tree.now found.now }
+    requires limits { AreLow found.now.least limits.now }
+    ensures { IfOk result (λ candidates. AreCandidates space.now tree.now found.now.least (found.now.lists ++ candidates.items ∷ []) v) }
 {
     let _count = tree.count();
     let leaf = [Candidate::default()];
@@ -68,7 +71,15 @@ pub(crate) fn candidates_of_node(
         own: tree.loops(v),
         outer: outer_loops(tree, v),
     };
-    candidates_of(alloc, lefts, rights, loops, choices.as_slice(), limit)
+    let cheapest = least_cost(lefts)
+        .saturating_add(least_cost(rights))
+        .saturating_add(1);
+    let tighter = Limits {
+        ahead: limits.ahead,
+        target: limits.target,
+        least: limits.least.max(cheapest.min(limits.target)),
+    };
+    candidates_of(alloc, lefts, rights, loops, choices.as_slice(), &tighter)
 }
 
 /// The loops of the node's parent, and none at the root.

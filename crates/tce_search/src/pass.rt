@@ -3,15 +3,15 @@ ghost use Rattle.std.specs.Prelude.{◌≡◌, ◌+◌, ◌<◌, length, IfOk};
 ghost use Rattle.tce_space.specs.Limits.{cost_limit};
 ghost use Rattle.tce_tree.specs.ContractionTree.{operations};
 ghost use Rattle.tce_tree.specs.Measure.{IsMeasured};
-ghost use Rattle.tce_search.specs.CandidateLists.{AreStates};
+ghost use Rattle.tce_search.specs.CandidateLists.{AreKept};
 
+use crate::ahead::Aheads;
 use crate::bounds::Bounds;
 use crate::found::Found;
-use crate::limit::limit_of;
 use crate::node::{candidates_of_node, outer_loops};
 use crate::root::least_fusion;
 use std::alloc::{AllocError, Global};
-use tce_candidates::{Candidate, cheapest_few};
+use tce_candidates::{Candidate, Limits, cheapest_few};
 use tce_space::Space;
 use tce_tree::Tree;
 
@@ -26,6 +26,7 @@ pub(crate) fn look_ahead(
     space: &Space,
     tree: &Tree,
     bounds: &mut Bounds,
+    aheads: &Aheads,
     end: u128,
 ) -> Result<(), AllocError>
     requires measured { IsMeasured space.now tree.now }
@@ -37,48 +38,52 @@ pub(crate) fn look_ahead(
     let Some(ahead) = bounds.ahead(end) else {
         return Ok(());
     };
-    let found = few_candidates(alloc, space, tree, &ahead)?;
-    if let Some(memory) = memory_at_root(space, tree, &found) {
+    let found = few_candidates(alloc, space, tree, &ahead, aheads)?;
+    if let Some(memory) = memory_at_root(space, tree, &found, ahead.ceiling) {
         bounds.expect(memory);
     }
     Ok(())
 }
 
-// A few candidates of all nodes but the root, of those that the few of its operands lead to: states that cost less than the node's limit, and what stands for others.
+// A few candidates of all nodes but the root, of those that the few of its operands lead to: states, and what stands for others.
 fn few_candidates(
     alloc: Global,
     space: &Space,
     tree: &Tree,
     bounds: &Bounds,
+    aheads: &Aheads,
 ) -> Result<Found, AllocError>
     requires measured { IsMeasured space.now tree.now }
-    requires some { 0 < bounds.now.ceiling }
     requires small { bounds.now.ceiling < cost_limit }
     ensures count { IfOk result (λ found. length found.lists + 1 ≡ operations tree.now) }
-    ensures states { IfOk result (AreStates space.now tree.now) }
+    ensures kept { IfOk result (AreKept space.now tree.now) }
 {
-    let mut found = Found::new(alloc, bounds.ceiling);
+    let mut found = Found::new(alloc, 0);
     for v in 0..tree.count() - 1 {
-        let limit = limit_of(space, tree, &found, v, bounds.target(tree, v));
-        let candidates = candidates_of_node(alloc, space, tree, &found, v, limit)?;
+        let limits = Limits {
+            ahead: aheads.of(tree, v),
+            target: bounds.target(tree, v),
+            least: 0,
+        };
+        let candidates = candidates_of_node(alloc, space, tree, &found, v, &limits)?;
         let few = cheapest_few(alloc, candidates, outer_loops(tree, v), KEPT)?;
-        found.push(few, limit)?;
+        found.push(few)?;
     }
     Ok(found)
 }
 
-// The memory of the least fusion that the candidates make, where it takes less than the limit of the root.
-fn memory_at_root(space: &Space, tree: &Tree, found: &Found) -> Option<u128>
+// The memory of the least fusion that the candidates make, where it takes less than the ceiling and they are states.
+fn memory_at_root(space: &Space, tree: &Tree, found: &Found, ceiling: u128) -> Option<u128>
     requires count { length found.now.lists + 1 ≡ operations tree.now }
-    requires states { AreStates space.now tree.now found.now }
+    requires kept { AreKept space.now tree.now found.now }
 {
     let root = tree.count() - 1;
-    let limit = limit_of(space, tree, found, root, found.ceiling());
+    let _indexes = space.index_count();
     let leaf = [Candidate::default()];
     let lefts = found.of_left(tree, root, &leaf);
     let rights = found.of_right(tree, root, &leaf);
     match least_fusion(lefts, rights, tree.loops(root)) {
-        Some(whole) if whole.memory < limit => Some(whole.memory),
+        Some(whole) if whole.is_below(tree, ceiling) => Some(whole.memory),
         _ => None,
     }
 }

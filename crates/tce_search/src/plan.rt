@@ -9,12 +9,12 @@ ghost use Rattle.tce_fusion.specs.Scope.{IsLegal};
 ghost use Rattle.tce_states.specs.Row.{rows_at};
 ghost use Rattle.tce_candidates.specs.Laws.{rows_of};
 ghost use Rattle.tce_search.specs.CandidateLists as list;
-ghost use Rattle.tce_search.specs.CandidateLists.{AreFound, AreFull};
+ghost use Rattle.tce_search.specs.CandidateLists.{AreFound};
 ghost use Rattle.tce_search.specs.LeastPlan.{IsAnswer, IsPlainAnswer, IsLeastPlan, IsPlanOf, IsBelowFusions, IsExceeded};
 
+use crate::ahead::Aheads;
 use crate::bounds::Bounds;
 use crate::found::Found;
-use crate::limit::limit_of;
 use crate::node::find_candidates;
 use crate::pass::look_ahead;
 use crate::root::least_fusion;
@@ -86,15 +86,16 @@ fn search_below(
     ensures below { IfOk result (λ found. IfSome found (λ plan. plan.memory < end)) }
     ensures none { IfOk result (λ found. IfNone found (IsBelowFusions space.now tree.now end)) }
 {
+    let aheads = Aheads::new(alloc, space, tree)?;
     let mut bounds = Bounds::new(near);
     let mut least = 0;
     while least < end {
         bounds.raise(end);
-        match search_round(alloc, space, tree, &mut bounds)? {
+        match search_round(alloc, space, tree, &mut bounds, &aheads)? {
             Answer::Least(plan) => return Ok(Some(plan)),
             Answer::AtLeast(memory) => least = memory,
         }
-        look_ahead(alloc, space, tree, &mut bounds, end)?;
+        look_ahead(alloc, space, tree, &mut bounds, &aheads, end)?;
     }
     Ok(None)
 }
@@ -105,39 +106,39 @@ fn search_round(
     space: &Space,
     tree: &Tree,
     bounds: &mut Bounds,
+    aheads: &Aheads,
 ) -> Result<Answer, AllocError>
     requires measured { IsMeasured space.now tree.now }
-    requires some { 0 < bounds.old.ceiling }
     requires small { bounds.old.ceiling < cost_limit }
     ensures answer { IfOk result (IsAnswer space.now tree.now bounds.old.ceiling) }
     ensures plain { bounds.old.learns ≡ false → IfOk result (IsPlainAnswer bounds.old.ceiling) }
     ensures same { bounds.new.ceiling ≡ bounds.old.ceiling }
     ensures learns { bounds.new.learns ≡ bounds.old.learns }
 {
-    let found = find_candidates(alloc, space, tree, bounds)?;
-    plan_below(alloc, space, tree, &found)
+    let found = find_candidates(alloc, space, tree, bounds, aheads)?;
+    plan_below(alloc, space, tree, &found, bounds.ceiling)
 }
 
-// The plan of the least fusion that the candidates of all nodes but the root make, where it takes less memory than the limit of the root; else that memory, which no legal fusion is below.
+// The plan of the least fusion that the candidates of all nodes but the root make, where it takes less memory than the ceiling and they are states; else that memory, which no legal fusion is below.
 fn plan_below(
     alloc: Global,
     space: &Space,
     tree: &Tree,
     found: &Found,
+    ceiling: u128,
 ) -> Result<Answer, AllocError>
     requires measured { IsMeasured space.now tree.now }
     requires count { length found.now.lists + 1 ≡ operations tree.now }
     requires found { AreFound space.now tree.now found.now }
-    ensures answer { IfOk result (IsAnswer space.now tree.now found.now.ceiling) }
-    ensures plain { AreFull found.now → IfOk result (IsPlainAnswer found.now.ceiling) }
+    ensures answer { IfOk result (IsAnswer space.now tree.now ceiling) }
+    ensures plain { found.now.least ≡ ceiling → IfOk result (IsPlainAnswer ceiling) }
 {
     let root = tree.count() - 1;
-    let limit = limit_of(space, tree, found, root, found.ceiling());
     let leaf = [Candidate::default()];
     let lefts = found.of_left(tree, root, &leaf);
     let rights = found.of_right(tree, root, &leaf);
     let whole = least_fusion(lefts, rights, tree.loops(root)).unwrap();
-    if limit <= whole.memory {
+    if !whole.is_below(tree, ceiling) {
         return Ok(Answer::AtLeast(whole.memory));
     }
     let plan = plan_of(alloc, space, tree, Fusion(whole.sets), found)?;

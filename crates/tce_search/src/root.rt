@@ -1,13 +1,15 @@
 // The fusion of least memory that candidates of the root's operands make.
-ghost use Rattle.std.specs.Prelude.{◌≡◌, ◌⊎◌, ℕ, ◌+◌, ◌<◌, ◌≤◌, length, IfSome, All};
+ghost use Rattle.std.specs.Prelude.{◌≡◌, ◌⊎◌, ◌↔◌, IsTrue, ℕ, ◌+◌, ◌<◌, ◌≤◌, length, IfSome};
 ghost use Rattle.tce_space.specs.Limits.{max_loops, max_nodes};
 ghost use Rattle.tce_space.specs.IndexSet.{count};
-ghost use Rattle.tce_candidates.specs.Candidates.{IsLimited, HaveRoom};
+ghost use Rattle.tce_tree.specs.ContractionTree.{operations};
+ghost use Rattle.tce_candidates.specs.Candidates.{IsLimited, AreOperands};
 ghost use Rattle.tce_search.specs.Root.{IsMadeOf, IsMadeOfSome, IsAtMost, IsBound, IsBoundOfAll};
 
 use arrayvec::ArrayVec;
 use tce_candidates::{Candidate, join_rows, joined_sets};
 use tce_space::{IndexSet, MAX_NODES};
+use tce_tree::Tree;
 
 /// A fusion of a whole tree, as the sets of its nodes, and its memory.
 #[derive(Drop)]
@@ -16,16 +18,22 @@ pub(crate) struct WholeFusion {
     pub(crate) memory: u128,
 }
 
+impl WholeFusion {
+    /// Whether it takes less memory than the ceiling, and has a set for each node of the tree. What is made of a row that only bounds states has fewer.
+    pub(crate) fn is_below(&self, tree: &Tree, ceiling: u128) -> bool
+        ensures { IsTrue result ↔ ((self.now.memory < ceiling) × (length self.now.sets.items ≡ operations tree.now)) }
+    {
+        self.memory < ceiling && self.sets.len() == tree.count() as usize
+    }
+}
+
 /// The fusion of least memory that two candidates of the root's operands make, the first of these; `None` exactly where each two have a conflict.
 pub(crate) fn least_fusion(
     lefts: &[Candidate],
     rights: &[Candidate],
     loops: IndexSet,
 ) -> Option<WholeFusion>
-    requires loops { count loops ≤ max_loops }
-    requires lefts { All IsLimited lefts.now }
-    requires rights { All IsLimited rights.now }
-    requires room { HaveRoom lefts.now rights.now }
+    requires { AreOperands loops lefts.now rights.now }
     ensures bound { IsBoundOfAll loops result lefts.now rights.now }
     ensures made { IfSome result (IsMadeOfSome loops lefts.now rights.now) }
 {

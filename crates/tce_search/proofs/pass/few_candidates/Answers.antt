@@ -1,6 +1,6 @@
 use Rattle.std.proofs.Common.{◌+◌, ap, ◌∙◌}
 use Rattle.std.proofs.lemmas.List.{length_push}
-use Rattle.tce_search.proofs.Growing.{more_states, some_states}
+use Rattle.tce_search.proofs.Growing.{more_kept, some_kept}
 use Rattle.tce_search.proofs.pass.few_candidates.Goals as goal
 
 pub loop-v-preserved : goal.loop-v-preserved
@@ -10,10 +10,9 @@ loop-v-preserved c =
     let found = c.loop-v.found in
     let kept = c.loop-v.invariant in
     let few = c.in_ok-few.few.items in
-    let limit = c.limit_of-limit.result in
-    let here = some_states space tree limit c.loop-v.v found.lists c.in_ok-candidates.candidates.items few kept.count c.in_ok-candidates.ensures c.in_ok-few.ensures in
+    let here = some_kept space tree found.least c.loop-v.v found.lists c.in_ok-candidates.candidates.items few kept.count c.in_ok-candidates.ensures c.in_ok-few.ensures in
     rw c.in_ok-push.ensures (record {
       count = length_push found.lists few ∙ ap (λ n. n + 1) kept.count;
-      states = more_states space tree found few limit c.loop-v.v kept.count c.limit_of-limit.ensures.limit.low kept.states here;
-      ceiling = kept.ceiling;
+      kept = more_kept space tree found few c.loop-v.v kept.count kept.kept here;
+      least = kept.least;
     })
