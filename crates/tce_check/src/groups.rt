@@ -11,7 +11,7 @@ use tce_space::{IndexSet, MAX_LOOPS};
 pub(crate) const GROUPS: usize = 16_381;
 
 // How many rows have an entry. Those behind them are asked one by one.
-pub(crate) const ENTRIES: usize = 208_896;
+pub(crate) const ENTRIES: usize = 131_072;
 
 // An entry is the place of a row, below this, and above it the marks.
 const PLACES: u32 = 524_288;
