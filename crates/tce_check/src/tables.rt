@@ -8,7 +8,7 @@ ghost use Rattle.tce_check.specs.First.{IsFirst};
 ghost use Rattle.tce_check.specs.Verdict.{CoversAt, FailsAt};
 
 use crate::bound::bound_of;
-use crate::groups::{ENTRIES, GROUPS, Groups, HINTS};
+use crate::groups::{ENTRIES, GROUPS, Groups, HINTS, SINGLES};
 use crate::operands::{leaf_row, left_rows, right_rows};
 use crate::parts::{PARTS, PartCost};
 use crate::reach::fill_reaches;
@@ -94,6 +94,7 @@ pub(crate) fn first_uncovered_node(
         groups: Groups {
             ends: &mut [],
             entries: &mut [],
+            singles: &mut [],
             kept: 0,
         },
         reaches: &mut [],
@@ -103,7 +104,7 @@ pub(crate) fn first_uncovered_node(
 
 // The same, where the rows go by groups.
 //
-// The entries take 512 KiB of stack, ends and hints 64 KiB each, and the reaches 32 KiB, which are not to stand in the frame of what calls this.
+// The entries take 512 KiB of stack, ends and hints 64 KiB each, the reaches 32 KiB and the singles 4 KiB, which are not to stand in the frame of what calls this.
 #[inline(never)]
 fn first_uncovered_of_many(space: &Space, tree: &Tree, tables: &Tables) -> Option<(u8, Step)>
     requires measured { IsMeasured space.now tree.now }
@@ -116,11 +117,13 @@ fn first_uncovered_of_many(space: &Space, tree: &Tree, tables: &Tables) -> Optio
     let mut ends = [0; GROUPS];
     let mut entries = [0; ENTRIES];
     let mut hints = [0; HINTS];
+    let mut singles = [0; SINGLES];
     let mut reaches = [PartCost::none(); PARTS];
     let mut kept = Kept {
         groups: Groups {
             ends: &mut ends,
             entries: &mut entries,
+            singles: &mut singles,
             kept: 0,
         },
         reaches: &mut reaches,
