@@ -86,7 +86,7 @@ Contains-fused choices choice inn =
     (inn.0, rw length-map inn.1, get_or-map (λ (c : Choice). c.fused) choices inn.0 choice choice.fused inn.1 ∙ ap (λ (c : Choice). c.fused) inn.2)
 
 -- the choice of a set, by its place
-choice_at : (space : IndexSpace) (tree : ContractionTree) (v fused : ℕ) (choices : List Choice) (other : Choice) → AreChoices space tree v choices → IsWithin fused (node_dims tree v)
+pub choice_at : (space : IndexSpace) (tree : ContractionTree) (v fused : ℕ) (choices : List Choice) (other : Choice) → AreChoices space tree v choices → IsWithin fused (node_dims tree v)
     → (k : ℕ) × (k < length choices) × ((get_or choices k other).fused ≡ fused)
 choice_at space tree v fused choices other are within =
     let found = (are.sets.each fused).1 within in
@@ -107,7 +107,7 @@ comes_first choices other i j ascend low high less = elim (cases_lt i j) [
   ]
 ]
 
-no_choice : Choice
+pub no_choice : Choice
 no_choice = record { fused = 0; size = 0 }
 
 -- where all choices are covered, all steps are

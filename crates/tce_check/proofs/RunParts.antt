@@ -1,18 +1,14 @@
 -- Runs of rows with the same ends.
-use Rattle.std.proofs.Common.{◌≡◌, ℕ, ◌+◌, ◌<◌, ◌≤◌, List, length, get_or, set, inl, inr, arith, sym, subst}
-use Rattle.std.specs.List.{AllWithin, Any}
+use Rattle.std.proofs.Common.{◌≡◌, ℕ, ◌+◌, ◌^◌, ◌<◌, ◌≤◌, List, All, length, get_or, set, inl, inr, arith, sym, subst}
+use Rattle.std.specs.List.{AllWithin}
 use Rattle.std.proofs.lemmas.Bool.{cases_lt, cases_eq}
 use Rattle.std.proofs.lemmas.List.{get_or-set_same, get_or-set_other}
-use Rattle.tce_space.specs.Space.{IndexSpace}
 use Rattle.tce_tree.specs.ContractionTree.{ContractionTree, node_loops}
-use Rattle.tce_states.specs.Relation.{Relation}
-use Rattle.tce_states.specs.Row.{Row, StandsFor}
-use Rattle.tce_states.specs.Cover.{StepsCovered}
+use Rattle.tce_states.specs.Row.{Row}
 use Rattle.tce_nesting.specs.declared.ends.Ends.{Ends}
 use Rattle.tce_nesting.specs.declared.runs.Run.{Run}
 use Rattle.tce_nesting.specs.Ends.{AreEnds, IsRun, HaveConflict}
 use Rattle.tce_check.specs.Verdict.{WhereJoined}
-use Rattle.tce_check.proofs.Joints.{steps_of_bound}
 
 -- a run each of whose rows has a conflict with a row
 pub run_skipped : (tree : ContractionTree) (v place : ℕ) (P : Row → Row → Type 0) (rights : List Row) (left : Row) (own : Ends) (run : Run) → AreEnds (node_loops tree v) left own
@@ -36,11 +32,11 @@ runs_earlier loops k place rows runs run next low is later j r from inside = eli
   | inr other ↦ subst (IsRun loops rows j) (sym (get_or-set_other runs k j run r other)) (later j r (omega (arith, from, other, next)) inside)
 ]
 
--- a run whose rows cost so much with a row that some row stands for all states
-pub run_dear : (space : IndexSpace) (tree : ContractionTree) (outer v place bound : ℕ) (rows rights : List Row) (left : Row) (run : Run) → IsRun (node_loops tree v) rights place run
-    → bound ≤ left.cost + run.cost → ((relation : Relation) → Any (StandsFor outer relation bound) rows)
-    → AllWithin (WhereJoined tree v (StepsCovered space tree outer v rows) left) rights 0 place → AllWithin (WhereJoined tree v (StepsCovered space tree outer v rows) left) rights 0 run.until
-run_dear space tree outer v place bound rows rights left run is dear all before k d from low = elim (cases_lt k place) [
+-- a run whose rows cost so much with a row that rows stand for all steps
+pub run_dear : (tree : ContractionTree) (v place : ℕ) (P : Row → Row → Type 0) (rights : List Row) (left : Row) (run : Run) → IsRun (node_loops tree v) rights place run
+    → All (λ (row : Row). row.cost < 2 ^ 96) rights → ((right : Row) → right.cost < 2 ^ 96 → run.cost ≤ right.cost → P left right)
+    → AllWithin (WhereJoined tree v P left) rights 0 place → AllWithin (WhereJoined tree v P left) rights 0 run.until
+run_dear tree v place P rights left run is limit dear before k d from low = elim (cases_lt k place) [
   | inl earlier ↦ before k d from earlier
-  | inr later ↦ λ quiet. let least = is.cost k d later low in steps_of_bound space tree outer v bound rows left (get_or rights k d) (omega (arith, dear, least)) all
+  | inr later ↦ λ quiet. dear (get_or rights k d) (limit k d (omega (arith, low, is.inside))) (is.cost k d later low)
 ]

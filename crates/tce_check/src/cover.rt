@@ -29,7 +29,8 @@ impl<'a> Node<'a> {
         if !joint.classes.allowed(choice.fused) {
             return true;
         }
-        self.groups
+        self.kept
+            .groups
             .is_soon_stood_for(hints, self.rows, &state_of(joint, choice), self.outer)
     }
 
@@ -86,7 +87,7 @@ impl<'a> Node<'a> {
         self.covers_pair(left, right, hints)
     }
 
-    // The same of one left row and each of the right ones. Runs that have a conflict with it, or cost so much with it that some row stands for all states, are passed over.
+    // The same of one left row and each of the right ones. Runs that have a conflict with it, or cost so much with it that rows stand for all steps, are passed over.
     fn covers_with(&self, left: &Row, rights: &[Row], runs: &[Run], hints: &mut [u32]) -> bool
         requires ready { IsReady self.now }
         requires left { left.now.cost < cost_limit }
@@ -97,6 +98,7 @@ impl<'a> Node<'a> {
         let loops = self.tree.loops(self.number);
         let own = ends_of(left, loops);
         let tops = tops_of(left, loops);
+        let reach = self.reach_with(tops.as_slice());
         let mut place = 0;
         while place < rights.len() {
             let run = runs[place];
@@ -104,7 +106,7 @@ impl<'a> Node<'a> {
                 place = run.until;
                 continue;
             }
-            if self.stands_for_all(left.cost.saturating_add(run.cost)) {
+            if self.is_dear(left, reach, &run) {
                 place = run.until;
                 continue;
             }

@@ -11,7 +11,7 @@ use tce_space::{IndexSet, MAX_LOOPS};
 pub(crate) const GROUPS: usize = 16_381;
 
 // How many rows have an entry. Those behind them are asked one by one.
-pub(crate) const ENTRIES: usize = 208_896;
+pub(crate) const ENTRIES: usize = 131_072;
 
 // An entry is the place of a row, below this, and above it the marks.
 const PLACES: u32 = 524_288;
@@ -24,6 +24,9 @@ const FEW: usize = 48;
 
 // How many hints there are, a prime.
 pub(crate) const HINTS: usize = 16_381;
+
+// How many places of rows with one class are kept, a prime.
+pub(crate) const SINGLES: usize = 1021;
 
 // The three largest parts of the outer loops that are above the others, the largest first, without loops where there are fewer.
 #[derive(Clone, Copy, Default)]
@@ -43,6 +46,8 @@ pub(crate) struct Groups<'a> {
     // For each group the place behind its last entry. It begins where the group before it ends.
     pub(crate) ends: &'a mut [u32],
     pub(crate) entries: &'a mut [u32],
+    // The place of the last row with one class, by that class.
+    pub(crate) singles: &'a mut [u32],
     // How many rows of the node have an entry.
     pub(crate) kept: usize,
 }
@@ -110,6 +115,11 @@ fn hint_of(classes: &Nesting) -> usize {
     number
 }
 
+// The number under which a row with this class alone is noted.
+fn single_of(class: IndexSet) -> usize {
+    class.bits() as usize % SINGLES
+}
+
 impl<'a> Groups<'a> {
     // Takes the rows of a node in the place of those that it had.
     pub(crate) fn fill(&mut self, rows: &[Row], outer: IndexSet) {
@@ -123,6 +133,19 @@ impl<'a> Groups<'a> {
         self.begin();
         for (place, row) in kept.iter().enumerate() {
             self.add(place, row, outer);
+        }
+        self.fill_singles(kept);
+    }
+
+    // Notes the place of the last row with one class, for each class.
+    fn fill_singles(&mut self, rows: &[Row]) {
+        self.singles.fill(u32::MAX);
+        for (place, row) in rows.iter().enumerate() {
+            if row.classes.classes().len() == 1 && place < PLACES as usize {
+                if let Some(single) = self.singles.get_mut(single_of(row.classes.classes()[0])) {
+                    *single = place as u32;
+                }
+            }
         }
     }
 
@@ -256,6 +279,22 @@ impl<'a> Groups<'a> {
         self.place_with(&Parts::default(), &sought)
     }
 
+    // The place of a row with one class, which is a union of the state's first ones, that stands for it.
+    fn single_place(&self, rows: &[Row], state: &Row, outer: IndexSet) -> Option<u32>
+        ensures { IfSome result (λ place. Any (StandsFor outer (above state.now.classes)
+            state.now.cost) rows.now) }
+    {
+        let mut reached = IndexSet::empty();
+        for class in state.classes.classes() {
+            reached = reached.union(*class);
+            let place = self.singles.get(single_of(reached)).copied();
+            if stands_at(rows, place, state, outer) {
+                return place;
+            }
+        }
+        None
+    }
+
     // The place of a row without an entry that stands for the state.
     fn late_place(&self, rows: &[Row], state: &Row, outer: IndexSet) -> Option<u32>
         ensures { IfSome result (λ place. Any (StandsFor outer (above state.now.classes)
@@ -277,6 +316,9 @@ impl<'a> Groups<'a> {
             state.now.cost) rows.now) }
     {
         if 0 < self.kept {
+            if let Some(place) = self.single_place(rows, state, outer) {
+                return Some(place);
+            }
             if let Some(place) = self.likely_place(rows, state, outer) {
                 return Some(place);
             }

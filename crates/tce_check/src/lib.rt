@@ -3,9 +3,12 @@
 
 mod bound;
 mod cover;
+mod floors;
 mod groups;
 mod joint;
 mod operands;
+mod parts;
+mod reach;
 mod root;
 mod rules;
 mod runs;

@@ -11,12 +11,20 @@ ghost use Rattle.tce_check.specs.Node.{IsReady, PairCovered, IsFailing, AreBelow
 
 use crate::groups::Groups;
 use crate::joint::joint;
+use crate::parts::PartCost;
 use crate::verdict::Verdict;
 use tce_nesting::{Choice, Row, Stretch};
 use tce_space::{IndexSet, Space};
 use tce_tree::Tree;
 
-// A node but the root, the loops of its parent, the sets that may be fused above it, and the rows that are to stand for its steps, with their groups.
+// What is kept of one node at a time: the groups of its rows, and from which sums of costs on rows stand for all steps, by a top of the left row.
+#[derive(Drop)]
+pub(crate) struct Kept<'a> {
+    pub(crate) groups: Groups<'a>,
+    pub(crate) reaches: &'a mut [PartCost],
+}
+
+// A node but the root, the loops of its parent, the sets that may be fused above it, and the rows that are to stand for its steps, with what is kept of them.
 #[derive(Clone, Copy)]
 pub(crate) struct Node<'a> {
     pub(crate) space: &'a Space,
@@ -26,7 +34,7 @@ pub(crate) struct Node<'a> {
     pub(crate) choices: &'a [Choice],
     pub(crate) stretches: &'a [Stretch],
     pub(crate) rows: &'a [Row],
-    pub(crate) groups: &'a Groups<'a>,
+    pub(crate) kept: &'a Kept<'a>,
     // Some row stands for every state that costs no less.
     pub(crate) bound: Option<u128>,
 }
@@ -92,6 +100,7 @@ impl<'a> Node<'a> {
         }
         !joint.classes.allowed(choice.fused)
             || self
+                .kept
                 .groups
                 .is_stood_for(self.rows, &state_of(joint, choice), self.outer)
     }

@@ -8,9 +8,11 @@ ghost use Rattle.tce_check.specs.First.{IsFirst};
 ghost use Rattle.tce_check.specs.Verdict.{CoversAt, FailsAt};
 
 use crate::bound::bound_of;
-use crate::groups::{ENTRIES, GROUPS, Groups, HINTS};
+use crate::groups::{ENTRIES, GROUPS, Groups, HINTS, SINGLES};
 use crate::operands::{leaf_row, left_rows, right_rows};
-use crate::steps::{Node, Step};
+use crate::parts::{PARTS, PartCost};
+use crate::reach::fill_reaches;
+use crate::steps::{Kept, Node, Step};
 use tce_nesting::{Tables, choices, stretches_of};
 use tce_space::Space;
 use tce_tree::Tree;
@@ -20,7 +22,7 @@ fn first_uncovered_at(
     space: &Space,
     tree: &Tree,
     tables: &Tables,
-    groups: &mut Groups,
+    kept: &mut Kept,
     hints: &mut [u32],
     v: u8,
 ) -> Option<Step>
@@ -34,20 +36,23 @@ fn first_uncovered_at(
     let parent = tree.parent(v)?;
     let leaf = [leaf_row()];
     let outer = tree.loops(parent);
-    let choices = choices(space, tree, v);
+    let list = choices(space, tree, v);
+    let choices = list.as_slice();
     let rows = tables.rows(v);
-    let stretches = stretches_of(choices.as_slice());
-    groups.fill(rows, outer);
+    let stretches = stretches_of(choices);
+    let bound = bound_of(rows, outer);
+    kept.groups.fill(rows, outer);
+    fill_reaches(kept.reaches, rows, choices, tree.loops(v), outer, bound);
     let node = Node {
         space,
         tree,
         number: v,
         outer,
-        choices: choices.as_slice(),
+        choices,
         stretches: &stretches,
         rows,
-        groups,
-        bound: bound_of(rows, outer),
+        kept,
+        bound,
     };
     node.first_uncovered(
         left_rows(tree, tables, v, &leaf),
@@ -85,17 +90,21 @@ pub(crate) fn first_uncovered_node(
     if has_many_rows(tables) {
         return first_uncovered_of_many(space, tree, tables);
     }
-    let mut groups = Groups {
-        ends: &mut [],
-        entries: &mut [],
-        kept: 0,
+    let mut kept = Kept {
+        groups: Groups {
+            ends: &mut [],
+            entries: &mut [],
+            singles: &mut [],
+            kept: 0,
+        },
+        reaches: &mut [],
     };
-    first_uncovered_of(space, tree, tables, &mut groups, &mut [])
+    first_uncovered_of(space, tree, tables, &mut kept, &mut [])
 }
 
 // The same, where the rows go by groups.
 //
-// These take 944 KiB of stack, which are not to stand in the frame of what calls this.
+// The entries take 512 KiB of stack, ends and hints 64 KiB each, the reaches 32 KiB and the singles 4 KiB, which are not to stand in the frame of what calls this.
 #[inline(never)]
 fn first_uncovered_of_many(space: &Space, tree: &Tree, tables: &Tables) -> Option<(u8, Step)>
     requires measured { IsMeasured space.now tree.now }
@@ -108,20 +117,26 @@ fn first_uncovered_of_many(space: &Space, tree: &Tree, tables: &Tables) -> Optio
     let mut ends = [0; GROUPS];
     let mut entries = [0; ENTRIES];
     let mut hints = [0; HINTS];
-    let mut groups = Groups {
-        ends: &mut ends,
-        entries: &mut entries,
-        kept: 0,
+    let mut singles = [0; SINGLES];
+    let mut reaches = [PartCost::none(); PARTS];
+    let mut kept = Kept {
+        groups: Groups {
+            ends: &mut ends,
+            entries: &mut entries,
+            singles: &mut singles,
+            kept: 0,
+        },
+        reaches: &mut reaches,
     };
-    first_uncovered_of(space, tree, tables, &mut groups, &mut hints)
+    first_uncovered_of(space, tree, tables, &mut kept, &mut hints)
 }
 
-// The same, with the groups of rows and the hints that are kept from state to state.
+// The same, with what is kept of a node, and the hints that are kept from state to state.
 fn first_uncovered_of(
     space: &Space,
     tree: &Tree,
     tables: &Tables,
-    groups: &mut Groups,
+    kept: &mut Kept,
     hints: &mut [u32],
 ) -> Option<(u8, Step)>
     requires measured { IsMeasured space.now tree.now }
@@ -132,7 +147,7 @@ fn first_uncovered_of(
         (FailsAt space.now tree.now tables.now found.1.fused found.1.state) found.0) }
 {
     for v in 0..tree.count() - 1 {
-        if let Some(step) = first_uncovered_at(space, tree, tables, groups, hints, v) {
+        if let Some(step) = first_uncovered_at(space, tree, tables, kept, hints, v) {
             return Some((v, step));
         }
     }

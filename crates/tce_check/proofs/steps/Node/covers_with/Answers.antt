@@ -1,5 +1,4 @@
-use Rattle.std.proofs.Common.{arith, ap, sym, subst}
-use Rattle.tce_states.specs.Row.{Row}
+use Rattle.std.proofs.Common.{arith, sym, subst}
 use Rattle.tce_states.specs.Cover.{StepsCovered}
 use Rattle.tce_check.specs.Verdict.{WhereJoined}
 use Rattle.tce_nesting.specs.Ends.{AreEnds}
@@ -25,17 +24,16 @@ loop-place-smaller-then-have_conflict c =
     let is = run_at (node_loops node.tree.now node.number) c.loop-place.place c.args.rights.now c.args.runs.now c.index-runs-place.result c.requires.runs c.loop-place-test.true c.index-runs-place.is in
     omega (arith, is.later, is.inside)
 
-pub loop-place-preserved-then-stands_for_all : goal.loop-place-preserved-then-stands_for_all
-loop-place-preserved-then-stands_for_all c =
+pub loop-place-preserved-then-is_dear : goal.loop-place-preserved-then-is_dear
+loop-place-preserved-then-is_dear c =
     let node = c.args.self.now in
     let run = c.index-runs-place.result in
     let is = run_at (node_loops node.tree.now node.number) c.loop-place.place c.args.rights.now c.args.runs.now run c.requires.runs c.loop-place-test.true c.index-runs-place.is in
-    let own = ap (λ (l : Row). l.cost) c.left.view_is in
-    run_dear node.space.now node.tree.now node.outer node.number c.loop-place.place c.saturating_add.result node.rows.now c.args.rights.now c.args.left.now run is
-    (omega (arith, own, c.saturating_add.ensures)) (c.stands_for_all.ensures c.if-stands_for_all.true) c.loop-place.invariant
+    run_dear node.tree.now node.number c.loop-place.place (StepsCovered node.space.now node.tree.now node.outer node.number node.rows.now) c.args.rights.now c.args.left.now run is
+    c.requires.rights (c.is_dear.ensures c.if-is_dear.true) c.loop-place.invariant
 
-pub loop-place-smaller-then-stands_for_all : goal.loop-place-smaller-then-stands_for_all
-loop-place-smaller-then-stands_for_all c =
+pub loop-place-smaller-then-is_dear : goal.loop-place-smaller-then-is_dear
+loop-place-smaller-then-is_dear c =
     let node = c.args.self.now in
     let is = run_at (node_loops node.tree.now node.number) c.loop-place.place c.args.rights.now c.args.runs.now c.index-runs-place.result c.requires.runs c.loop-place-test.true c.index-runs-place.is in
     omega (arith, is.later, is.inside)
@@ -50,5 +48,13 @@ pub covers_next-requires-clause-tops : goal.covers_next-requires-clause-tops
 covers_next-requires-clause-tops c =
     let node = c.args.self.now in
     let left = c.args.left.now in
-    subst (AreTops (node_loops node.tree.now node.number) left) (sym c.as_slice.ensures.value)
+    subst (AreTops (node_loops node.tree.now node.number) left) (sym c.as_slice-in-loop-place.ensures.value)
     (subst (λ loops. AreTops loops left c.tops_of-tops.result.items) c.loops-loops.ensures.value c.tops_of-tops.ensures)
+
+pub is_dear-requires-clause-reach : goal.is_dear-requires-clause-reach
+is_dear-requires-clause-reach c =
+    let node = c.args.self.now in
+    let left = c.args.left.now in
+    c.reach_with-reach.ensures left
+    (subst (AreTops (node_loops node.tree.now node.number) left) (sym c.as_slice.ensures.value)
+    (subst (λ loops. AreTops loops left c.tops_of-tops.result.items) c.loops-loops.ensures.value c.tops_of-tops.ensures)) c.requires.left
