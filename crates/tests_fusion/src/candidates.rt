@@ -5,7 +5,7 @@ ghost use Rattle.tce_candidates.specs.Candidates.{HaveRoom, IsLimited, IsSmall, 
 use arrayvec::ArrayVec;
 use std::alloc::Global;
 use std::process::Abort;
-use tce_candidates::{Candidate, NodeLoops, candidates_of};
+use tce_candidates::{Ahead, Candidate, Limits, NodeLoops, candidates_of};
 use tce_nesting::{Choice, Nesting, Row, subsets};
 use tce_space::IndexSet;
 
@@ -69,9 +69,19 @@ fn have_room(lefts: &[Candidate], rights: &[Candidate]) -> bool
 struct Loops {
     all: u32,
     outer: u32,
+    // What is ahead at least of a state that puts i above the other outer loops.
+    ahead: u128,
 }
 
-// The candidates of a node below a limit of 100, for operands and choices that are tested.
+// What is ahead of a node whose parent has just i of its dims.
+fn ahead_of(rt: &impl Abort, alloc: Global, loops: Loops) -> Ahead {
+    let mut costs = Vec::new(alloc);
+    assert!(rt; costs.push(0).is_ok());
+    assert!(rt; costs.push(loops.ahead).is_ok());
+    Ahead::new(set(rt, loops.outer), set(rt, 0b01), costs, Vec::new(alloc))
+}
+
+// The candidates of a node that may cost 100 with what is ahead, for operands and choices that are tested.
 fn found(
     rt: &impl Abort,
     alloc: Global,
@@ -89,7 +99,13 @@ fn found(
     assert!(rt; are_limited(rights));
     assert!(rt; have_room(lefts, rights));
     assert!(rt; are_small(choices));
-    match candidates_of(alloc, lefts, rights, node, choices, 100) {
+    let ahead = ahead_of(rt, alloc, loops);
+    let limits = Limits {
+        ahead: &ahead,
+        target: 100,
+        least: 0,
+    };
+    match candidates_of(alloc, lefts, rights, node, choices, &limits) {
         Ok(candidates) => candidates,
         Err(_) => panic!(rt; "no memory"),
     }
@@ -108,14 +124,19 @@ fn of_leaves(rt: &impl Abort, alloc: Global, choices: &[Choice], loops: Loops) -
     found(rt, alloc, leaf.as_slice(), leaf.as_slice(), choices, loops)
 }
 
-// The first sum, with nothing fused or i.
-fn first_sum(rt: &impl Abort, alloc: Global) -> Vec<Candidate> {
+// The first sum, with nothing fused or i, where so much is ahead of what puts i above j.
+fn first_sum_with(rt: &impl Abort, alloc: Global, ahead: u128) -> Vec<Candidate> {
     let loops = Loops {
         all: 0b0101,
         outer: 0b11,
+        ahead,
     };
     let choices = [choice(rt, 0, 5), choice(rt, 0b01, 1)];
     of_leaves(rt, alloc, choices.as_slice(), loops)
+}
+
+fn first_sum(rt: &impl Abort, alloc: Global) -> Vec<Candidate> {
+    first_sum_with(rt, alloc, 0)
 }
 
 // The second sum, with nothing fused or j.
@@ -123,6 +144,7 @@ fn second_sum(rt: &impl Abort, alloc: Global) -> Vec<Candidate> {
     let loops = Loops {
         all: 0b1010,
         outer: 0b11,
+        ahead: 0,
     };
     let choices = [choice(rt, 0, 7), choice(rt, 0b10, 1)];
     of_leaves(rt, alloc, choices.as_slice(), loops)
@@ -149,6 +171,21 @@ fn candidates_of_two_sums(rt: HostRuntime) {
     expect_two(&rt, second.as_slice(), &candidate(&rt, 0, 7, &[0]), &fused);
 }
 
+// With 98 elements ahead the state that fuses i is of use at its one element; with 99 it is not, and what stands for it has no sets.
+#[test]
+fn states_of_no_use_are_bounded(rt: HostRuntime) {
+    let (unfused, fused) = (candidate(&rt, 0, 5, &[0]), candidate(&rt, 0b01, 1, &[0b01]));
+    let useful = first_sum_with(&rt, rt.alloc(), 98);
+    expect_two(&rt, useful.as_slice(), &unfused, &fused);
+    let bounded = first_sum_with(&rt, rt.alloc(), 99);
+    expect_two(
+        &rt,
+        bounded.as_slice(),
+        &unfused,
+        &candidate(&rt, 0b01, 1, &[]),
+    );
+}
+
 // i above j and j above i has no step; of the others the cheapest is as coarse as each
 #[test]
 fn candidates_of_a_product(rt: HostRuntime) {
@@ -156,6 +193,7 @@ fn candidates_of_a_product(rt: HostRuntime) {
     let loops = Loops {
         all: 0b11,
         outer: 0b11,
+        ahead: 0,
     };
     let unfused = [choice(&rt, 0, 35)];
     let (lefts, rights) = (first.as_slice(), second.as_slice());
@@ -190,6 +228,7 @@ fn one_class_of_all_loops_covers_all(rt: HostRuntime) {
     let loops = Loops {
         all: 0b111111,
         outer: 0b111111,
+        ahead: 0,
     };
     let product = of_leaves(&rt, rt.alloc(), all_choices(&rt).as_slice(), loops);
     expect_one(
