@@ -34,6 +34,14 @@ impl Aheads {
         Ok(aheads)
     }
 
+    /// As if nothing were kept above any node.
+    pub(crate) fn none(alloc: Global, tree: &Tree) -> Aheads {
+        Aheads {
+            nodes: Vec::new(alloc),
+            nothing: nothing(alloc, tree, tree.count() - 1),
+        }
+    }
+
     /// What is ahead of a node: what its parent keeps, and all above. Nothing is ahead of the root.
     pub(crate) fn of(&self, tree: &Tree, v: u8) -> &Ahead
         requires { v < operations tree.now }

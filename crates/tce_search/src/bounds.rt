@@ -10,6 +10,9 @@ use tce_tree::{Operand, Tree};
 // A round that keeps fewer candidates is so short that the next one may go twice as far.
 const FEW: usize = 8192;
 
+// After a round that keeps fewer candidates the next one does not look ahead.
+const SOME: usize = 2000;
+
 // After a round that keeps more candidates a pass tells how far the next one has to go.
 const MANY: usize = 20_000;
 
@@ -75,6 +78,11 @@ impl Bounds {
             }
         }
         target
+    }
+
+    /// Whether the round before kept so many candidates that it is worth its time to tell by what is ahead which states are of use. Else the tables stay shorter without the rows that stand for the others.
+    pub(crate) fn looks_ahead(&self) -> bool {
+        SOME <= self.earlier.kept
     }
 
     /// What each candidate costs at least that is no state: the ceiling where nothing that is known is used.

@@ -20,7 +20,6 @@ pub(crate) fn find_candidates(
     space: &Space,
     tree: &Tree,
     bounds: &mut Bounds,
-    aheads: &Aheads,
 ) -> Result<Found, AllocError>
     requires measured { IsMeasured space.now tree.now }
     requires small { bounds.old.ceiling < cost_limit }
@@ -30,6 +29,7 @@ pub(crate) fn find_candidates(
     ensures same { bounds.new.ceiling ≡ bounds.old.ceiling }
     ensures learns { bounds.new.learns ≡ bounds.old.learns }
 {
+    let aheads = aheads_of_round(alloc, space, tree, bounds)?;
     let mut found = Found::new(alloc, bounds.least());
     for v in 0..tree.count() - 1 {
         let limits = Limits {
@@ -42,6 +42,22 @@ pub(crate) fn find_candidates(
         found.push(candidates)?;
     }
     Ok(found)
+}
+
+// What is ahead of the nodes, where the round looks that far.
+fn aheads_of_round(
+    alloc: Global,
+    space: &Space,
+    tree: &Tree,
+    bounds: &Bounds,
+) -> Result<Aheads, AllocError>
+    requires { IsMeasured space.now tree.now }
+{
+    if bounds.looks_ahead() {
+        Aheads::new(alloc, space, tree)
+    } else {
+        Ok(Aheads::none(alloc, tree))
+    }
 }
 
 /// The candidates of the node whose number is next. What bounds states costs no less than the cheapest ones of both operands with one element.

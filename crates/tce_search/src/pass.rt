@@ -26,7 +26,6 @@ pub(crate) fn look_ahead(
     space: &Space,
     tree: &Tree,
     bounds: &mut Bounds,
-    aheads: &Aheads,
     end: u128,
 ) -> Result<(), AllocError>
     requires measured { IsMeasured space.now tree.now }
@@ -38,7 +37,7 @@ pub(crate) fn look_ahead(
     let Some(ahead) = bounds.ahead(end) else {
         return Ok(());
     };
-    let found = few_candidates(alloc, space, tree, &ahead, aheads)?;
+    let found = few_candidates(alloc, space, tree, &ahead)?;
     if let Some(memory) = memory_at_root(space, tree, &found, ahead.ceiling) {
         bounds.expect(memory);
     }
@@ -51,13 +50,13 @@ fn few_candidates(
     space: &Space,
     tree: &Tree,
     bounds: &Bounds,
-    aheads: &Aheads,
 ) -> Result<Found, AllocError>
     requires measured { IsMeasured space.now tree.now }
     requires small { bounds.now.ceiling < cost_limit }
     ensures count { IfOk result (λ found. length found.lists + 1 ≡ operations tree.now) }
     ensures kept { IfOk result (AreKept space.now tree.now) }
 {
+    let aheads = Aheads::new(alloc, space, tree)?;
     let mut found = Found::new(alloc, 0);
     for v in 0..tree.count() - 1 {
         let limits = Limits {

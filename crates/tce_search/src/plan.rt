@@ -12,7 +12,6 @@ ghost use Rattle.tce_search.specs.CandidateLists as list;
 ghost use Rattle.tce_search.specs.CandidateLists.{AreFound};
 ghost use Rattle.tce_search.specs.LeastPlan.{IsAnswer, IsPlainAnswer, IsLeastPlan, IsPlanOf, IsBelowFusions, IsExceeded};
 
-use crate::ahead::Aheads;
 use crate::bounds::Bounds;
 use crate::found::Found;
 use crate::node::find_candidates;
@@ -86,16 +85,15 @@ fn search_below(
     ensures below { IfOk result (λ found. IfSome found (λ plan. plan.memory < end)) }
     ensures none { IfOk result (λ found. IfNone found (IsBelowFusions space.now tree.now end)) }
 {
-    let aheads = Aheads::new(alloc, space, tree)?;
     let mut bounds = Bounds::new(near);
     let mut least = 0;
     while least < end {
         bounds.raise(end);
-        match search_round(alloc, space, tree, &mut bounds, &aheads)? {
+        match search_round(alloc, space, tree, &mut bounds)? {
             Answer::Least(plan) => return Ok(Some(plan)),
             Answer::AtLeast(memory) => least = memory,
         }
-        look_ahead(alloc, space, tree, &mut bounds, &aheads, end)?;
+        look_ahead(alloc, space, tree, &mut bounds, end)?;
     }
     Ok(None)
 }
@@ -106,7 +104,6 @@ fn search_round(
     space: &Space,
     tree: &Tree,
     bounds: &mut Bounds,
-    aheads: &Aheads,
 ) -> Result<Answer, AllocError>
     requires measured { IsMeasured space.now tree.now }
     requires small { bounds.old.ceiling < cost_limit }
@@ -115,7 +112,7 @@ fn search_round(
     ensures same { bounds.new.ceiling ≡ bounds.old.ceiling }
     ensures learns { bounds.new.learns ≡ bounds.old.learns }
 {
-    let found = find_candidates(alloc, space, tree, bounds, aheads)?;
+    let found = find_candidates(alloc, space, tree, bounds)?;
     plan_below(alloc, space, tree, &found, bounds.ceiling)
 }
 
