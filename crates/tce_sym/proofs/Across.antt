@@ -26,7 +26,7 @@ pairs_apart p a b s t h l far e =
       ]
     ]
 
-word_within : (g : Grid) (room pair outer : ℕ) → IsAcross g room → pair < g.pairs → outer < g.others → pair * g.pitch + outer < room
+pub word_within : (g : Grid) (room pair outer : ℕ) → IsAcross g room → pair < g.pairs → outer < g.others → pair * g.pitch + outer < room
 word_within g room pair outer a l h =
     let row : g.pitch * (pair + 1) ≤ g.pitch * g.pairs = mul-le-mul_left g.pitch (omega arith) in
     omega (arith, row, a.apart, a.fits)

@@ -4,6 +4,7 @@ pub mod StoredPlaces
 pub mod OneAnswer
 pub mod Sizes
 pub mod HeldLines
+pub mod StoredReads
 pub mod Grids
 pub mod FullCells
 pub mod Moved

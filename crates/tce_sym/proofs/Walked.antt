@@ -11,7 +11,7 @@ use Rattle.tce_sym.specs.Storage.{IsPair, pairs, stored_word, turned}
 use Rattle.tce_sym.specs.Lines.{walk_place}
 use Rattle.tce_sym.specs.Cells.{AreTriangles, IsAmong, IsWalkOf, IsMirroredWalkOf, cell_by, cell_of, mirror, moved_pair, pair_place}
 use Rattle.tce_sym.proofs.Triangles.{pairs_more}
-use Rattle.tce_sym.proofs.FullCells.{pair_of_less, cell_above, cell_below, cell_between, cell_diagonal, pair_placed}
+use Rattle.tce_sym.proofs.FullCells.{IsPlacedPair, pair_of_less, cell_above, cell_below, cell_between, cell_diagonal, pair_placed}
 
 -- one word more
 pub more : (f : ℕ → ℕ) (words : List ℕ) (k word : ℕ) → k < length words → word ≡ f k → ((j : ℕ) → j < k → slice_index words j ≡ f j)
@@ -84,9 +84,8 @@ mirrored_walk_is t row walk k w =
     ∙ ap (λ b. pair_place t (mirror row.pair) + (if row.is_second then 1 else t.pairs) * k + (if b then pairs true k else 0)) w.grows
     ∙ along_mirrored row.is_second t row.pair k
 
-pub mirrored_within : (t : Triangles) (p : Pair) → AreTriangles t → IsAmong t p → p.second < p.first → pair_place t (mirror p) < t.count
-mirrored_within t p a i h =
-    (pair_placed t (mirror p) a (record { outer = i.outer; first = i.second; second = i.first }) (pair_of_less t.negated p.second p.first h)).within
+pub mirrored_placed : (t : Triangles) (p : Pair) → AreTriangles t → IsAmong t p → p.second < p.first → IsPlacedPair t (mirror p)
+mirrored_placed t p a i h = pair_placed t (mirror p) a (record { outer = i.outer; first = i.second; second = i.first }) (pair_of_less t.negated p.second p.first h)
 
 -- a stored word is the element
 pub stored_cell : (negated : Bool) (a b word mirrored : ℕ) → IsPair negated a b → word ≡ cell_by negated a b word mirrored

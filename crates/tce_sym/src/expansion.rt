@@ -53,11 +53,13 @@ fn hold_words<D: Disk>(
     ensures told { TellsFaults (D.faults disk.old) (D.faults disk.new) (IsErr result) }
 {
     match grid.layout {
-        Layout::Lines => clear(lines),
-        Layout::Whole => read_whole(disk, packed, grid, lines)?,
-        Layout::Across => read_across(disk, packed, grid, lines)?,
+        Layout::Lines => {
+            clear(lines);
+            Ok(())
+        }
+        Layout::Whole => read_whole(disk, packed, grid, lines),
+        Layout::Across => read_across(disk, packed, grid, lines),
     }
-    Ok(())
 }
 
 // A whole tensor, and the file of which it is.

@@ -1,6 +1,6 @@
 // Lines of stored words, held in memory: the words from one place on, each line in a slot of its own. Slots stand side by
 // side, and the words of a line below each other, so that words of neighbouring slots are neighbours.
-ghost use Rattle.std.specs.Prelude.{◌≡◌, ◌+◌, ◌<◌, ◌≤◌, length, IfOk, OnOk, IsErr};
+ghost use Rattle.std.specs.Prelude.{◌≡◌, ◌+◌, ◌*◌, ◌<◌, ◌≤◌, length, IfOk, OnOk, IsErr};
 ghost use Rattle.tce_space.specs.Limits.{max_array_words};
 ghost use Rattle.tce_outside.specs.Files.{file};
 ghost use Rattle.tce_outside.specs.Fault.{HasCause, TellsFaults};
@@ -113,6 +113,35 @@ fn put_lines(grid: &Grid, lines: &mut [u64], wanted: Wanted, start: u64, words: 
     }
 }
 
+// A stored word, and the lines of the words that are read for it, by way of a buffer.
+fn read_through<D: Disk>(
+    disk: &mut D,
+    packed: &str,
+    grid: &Grid,
+    lines: &mut [u64],
+    wanted: Wanted,
+    bytes: &mut [u8],
+    buffer: &mut [u64],
+) -> Result<u64, Failed>
+    requires grid { IsGrid grid.now (length lines.old) }
+    requires wanted { IsWanted grid.now wanted }
+    requires span { wanted.span ≤ length buffer.old }
+    requires bytes { 8 * wanted.span ≤ length bytes.old }
+    requires file { HasStoredWords (D.files disk.old) packed.now grid.now.count }
+    requires lines { AreLinesOf (D.files disk.old) packed.now grid.now lines.old }
+    ensures word { IfOk result (IsStoredWord (D.files disk.old) packed.now wanted.place) }
+    ensures lines { OnOk result (AreLinesOf (D.files disk.old) packed.now grid.now lines.new) }
+    ensures same { D.files disk.new ≡ D.files disk.old }
+    ensures cause { HasCause (D.faults disk.old) (D.faults disk.new) (IsErr result) }
+    ensures told { TellsFaults (D.faults disk.old) (D.faults disk.new) (IsErr result) }
+{
+    let len = (grid.count - wanted.start).min(wanted.span as u64) as usize;
+    let words = &mut buffer[..len];
+    read_words(disk, packed, Form::One, 32 + 8 * wanted.start, bytes, words)?;
+    put_lines(grid, lines, wanted, wanted.start, words);
+    Ok(words[(wanted.place - wanted.start) as usize])
+}
+
 // A stored word, and the lines of few words.
 fn read_few<D: Disk>(
     disk: &mut D,
@@ -132,20 +161,9 @@ fn read_few<D: Disk>(
     ensures cause { HasCause (D.faults disk.old) (D.faults disk.new) (IsErr result) }
     ensures told { TellsFaults (D.faults disk.old) (D.faults disk.new) (IsErr result) }
 {
-    let len = (grid.count - wanted.start).min(wanted.span as u64) as usize;
     let mut bytes = [0; 8 * LONGEST_LINE];
     let mut buffer = [0; LONGEST_LINE];
-    let words = &mut buffer[..len];
-    read_words(
-        disk,
-        packed,
-        Form::One,
-        32 + 8 * wanted.start,
-        &mut bytes,
-        words,
-    )?;
-    put_lines(grid, lines, wanted, wanted.start, words);
-    Ok(words[(wanted.place - wanted.start) as usize])
+    read_through(disk, packed, grid, lines, wanted, &mut bytes, &mut buffer)
 }
 
 // A stored word, and the lines of many words.
@@ -167,20 +185,9 @@ fn read_many<D: Disk>(
     ensures cause { HasCause (D.faults disk.old) (D.faults disk.new) (IsErr result) }
     ensures told { TellsFaults (D.faults disk.old) (D.faults disk.new) (IsErr result) }
 {
-    let len = (grid.count - wanted.start).min(wanted.span as u64) as usize;
     let mut bytes = [0; 8 * WINDOW];
     let mut buffer = [0; WINDOW];
-    let words = &mut buffer[..len];
-    read_words(
-        disk,
-        packed,
-        Form::One,
-        32 + 8 * wanted.start,
-        &mut bytes,
-        words,
-    )?;
-    put_lines(grid, lines, wanted, wanted.start, words);
-    Ok(words[(wanted.place - wanted.start) as usize])
+    read_through(disk, packed, grid, lines, wanted, &mut bytes, &mut buffer)
 }
 
 /// A stored word, and the lines that are read for it.
@@ -202,11 +209,10 @@ pub fn read_word<D: Disk>(
     ensures told { TellsFaults (D.faults disk.old) (D.faults disk.new) (IsErr result) }
 {
     if wanted.span <= LONGEST_LINE {
-        let word = read_few(disk, packed, grid, lines, wanted)?;
-        return Ok(word);
+        read_few(disk, packed, grid, lines, wanted)
+    } else {
+        read_many(disk, packed, grid, lines, wanted)
     }
-    let word = read_many(disk, packed, grid, lines, wanted)?;
-    Ok(word)
 }
 
 /// The word of a place, if the slot holds it.

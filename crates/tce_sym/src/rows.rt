@@ -217,8 +217,7 @@ fn read_stored<D: Disk>(
         return Ok(());
     }
     let walk = stored_walk(triangles, row);
-    read_walk(disk, packed, &triangles.slots.grid, lines, &walk, words)?;
-    Ok(())
+    read_walk(disk, packed, &triangles.slots.grid, lines, &walk, words)
 }
 
 // The elements of a row, all of which are mirrored.
@@ -285,8 +284,7 @@ fn read_others<D: Disk>(
     let behind = moved_row(row, zeros);
     let (diagonal, stored) = words.split_at_mut(zeros);
     clear(diagonal);
-    read_stored(disk, packed, triangles, lines, &behind, stored)?;
-    Ok(())
+    read_stored(disk, packed, triangles, lines, &behind, stored)
 }
 
 /// The elements of a row.
@@ -319,6 +317,5 @@ pub fn read_row<D: Disk>(
     let behind = moved_row(row, len);
     let (mirrored, rest) = words.split_at_mut(len);
     read_mirrored(disk, packed, triangles, lines, row, mirrored)?;
-    read_others(disk, packed, triangles, lines, &behind, rest)?;
-    Ok(())
+    read_others(disk, packed, triangles, lines, &behind, rest)
 }

@@ -1,4 +1,4 @@
-use Rattle.std.proofs.Common.{rules, refl, take, replicate, ◌≡◌, ◌∙◌, ◌+◌, ◌*◌, ◌≤◌, length, sym, ap, subst, arith, List, [], ℕ, Option, Some, unwrap_or}
+use Rattle.std.proofs.Common.{rules, refl, take, replicate, ◌≡◌, ◌∙◌, ◌+◌, ◌*◌, ◌≤◌, length, sym, ap, subst, arith, List, [], ℕ, Option, Some, unwrap_or, is_err}
 use Rattle.std.specs.Option.{IsSomeAnd}
 use Rattle.tce_space.specs.Tiling.{Tiling, padded_words}
 use Rattle.std.specs.List.{flat_map}
@@ -9,13 +9,13 @@ use Rattle.tce_array.specs.declared.form.Form.TheVariants.{One}
 use Rattle.tce_tools.specs.declared.storage.Storage.TheVariants.{Array}
 use Rattle.tce_tools.specs.Flat.{contents}
 use Rattle.tce_tools.specs.Storage.{bare_bytes, HasWords}
-use Rattle.tce_tools.proofs.NoHalf.{left_since, unmade_left, first_left, bare_left, shorter_before}
+use Rattle.tce_tools.proofs.NoHalf.{same_left, left_since, unmade_left, first_left, bare_left, shorter_before}
 use Rattle.tce_tools.proofs.PieceWrites.{bare_changed}
 use Rattle.tce_tools.proofs.Stored.{length-bare}
 use Rattle.tce_tools.proofs.Zeros.{zero_form}
-use Rattle.tce_tools.proofs.Told.{held, held_same, held_beside, held_written}
+use Rattle.tce_tools.proofs.Told.{held, held_same, held_beside, held_written, failed_from}
 use Rattle.tce_sym.specs.Storage.{IsStored, full_cell}
-use Rattle.tce_sym.specs.Lines.{AreHeld}
+use Rattle.tce_sym.specs.Lines.{AreHeld, HasRoom}
 use Rattle.tce_sym.specs.TileRows.{AreWords}
 use Rattle.tce_sym.proofs.Pieces.{first_words, no_words, all_words, piece_change}
 use Rattle.tce_sym.proofs.expansion.expand_elements.Goals as goal
@@ -113,3 +113,49 @@ returns-in_default-write_words-clause-no_half g c =
 pub returns-clause-no_half : goal.returns-clause-no_half
 returns-clause-no_half g c =
     bare_left (Array One) c.args.shape.now c.args.array.now (λ fs. full_cell c.args.shape.now.extents c.args.s.now (contents fs c.args.packed.now)) (g.D.Disk.files c.args.disk.now) _ _ (returns-clause-made g c) refl
+
+pub read_piece-requires-clause-inside : goal.read_piece-requires-clause-inside
+read_piece-requires-clause-inside g c =
+    let size : length (take c.min-len.result c.loop-done.buffer) ≡ c.min-len.result = search rules in
+    omega (arith, size, c.min-len.ensures, c.padded_words-padded.ensures.words, c.loop-done-test.true)
+
+pub read_piece-requires-clause-fits : goal.read_piece-requires-clause-fits
+read_piece-requires-clause-fits g c =
+    let size : length (take c.min-len.result c.loop-done.buffer) ≡ c.min-len.result = search rules in
+    omega (arith, size, c.min-len.ensures, c.padded_words-padded.ensures.words, c.padded_words-padded.ensures.limits.room, c.loop-done-test.true)
+
+pub read_piece-requires-clause-room : goal.read_piece-requires-clause-room
+read_piece-requires-clause-room g c =
+    subst (λ (n : ℕ). HasRoom c.triangles_of-triangles.result.slots.grid.layout c.triangles_of-triangles.result.slots.grid n) (sym (c.loop-done.auto.lines ∙ c.hold_words.auto.lines)) c.triangles_of-triangles.ensures.room
+
+pub returns-in_default-clause-no_half : goal.returns-in_default-clause-no_half
+returns-in_default-clause-no_half g c =
+    same_left c.args.array.now (head_len One c.args.shape.now) (λ fs. array_bytes c.args.shape.now (full_cell c.args.shape.now.extents c.args.s.now (contents fs c.args.packed.now))) _ _ c.hold_words.ensures.same
+
+pub returns-in_default-clause-others : goal.returns-in_default-clause-others
+returns-in_default-clause-others g c = ap (others c.args.array.now) c.hold_words.ensures.same
+
+pub returns-in_default-read_piece-clause-others : goal.returns-in_default-read_piece-clause-others
+returns-in_default-read_piece-clause-others g c = ap (others c.args.array.now) c.read_piece.ensures.same ∙ c.loop-done.invariant.others
+
+pub returns-in_default-write_words-clause-others : goal.returns-in_default-write_words-clause-others
+returns-in_default-write_words-clause-others g c = c.write_words.ensures.others ∙ ap (others c.args.array.now) c.in-Ok-read_piece.ensures.same ∙ c.loop-done.invariant.others
+
+pub returns-in_err-make-clause-others : goal.returns-in_err-make-clause-others
+returns-in_err-make-clause-others g c = c.make.ensures.others ∙ ap (others c.args.array.now) c.in-Ok.ensures.same
+
+pub returns-clause-others : goal.returns-clause-others
+returns-clause-others g c = c.loop-done.invariant.others
+
+pub returns-in_default-clause-cause : goal.returns-in_default-clause-cause
+returns-in_default-clause-cause g c = failed_from _ (g.D.Disk.faults c.args.disk.now) _ _ _ (omega arith) c.hold_words.ensures.cause (ap is_err c.in_default.is)
+
+pub returns-in_default-read_piece-clause-cause : goal.returns-in_default-read_piece-clause-cause
+returns-in_default-read_piece-clause-cause g c = failed_from _ (g.D.Disk.faults c.loop-done.disk) _ _ _ c.loop-done.invariant.later c.read_piece.ensures.cause (ap is_err c.in_default-read_piece.is)
+
+pub returns-in_default-write_words-clause-cause : goal.returns-in_default-write_words-clause-cause
+returns-in_default-write_words-clause-cause g c =
+    failed_from _ (g.D.Disk.faults c.read_piece.new.disk) _ _ _ (omega (arith, c.loop-done.invariant.later, c.in-Ok-read_piece.ensures.cause.later)) c.write_words.ensures.cause (ap is_err c.in_default-write_words.is)
+
+pub returns-clause-cause : goal.returns-clause-cause
+returns-clause-cause g c = record { later = c.loop-done.invariant.later; rose = λ e. absurd cc }

@@ -1,12 +1,15 @@
-use Rattle.std.proofs.Common.{rules, ◌≡◌, ◌∙◌, ◌+◌, ◌-◌, ◌<◌, ℕ, List, length, take, drop, refl, subst, arith}
+use Rattle.std.proofs.Common.{rules, ◌≡◌, ◌∙◌, ◌+◌, ◌-◌, ◌<◌, ℕ, List, length, take, drop, refl, sym, subst, arith}
 use Rattle.std.proofs.lemmas.List.{length-take-le, length-drop}
 use Rattle.tce_space.specs.Box.{IsInside}
 use Rattle.tce_space.specs.Tiling.{Tiling}
+use Rattle.tce_outside.specs.Files.{file}
 use Rattle.tce_tools.specs.Flat.{contents}
 use Rattle.tce_tools.specs.Runs.{moved}
 use Rattle.tce_sym.specs.Storage.{full_cell}
 use Rattle.tce_sym.specs.Cells.{moved_pair}
+use Rattle.tce_sym.specs.Lines.{HasRoom}
 use Rattle.tce_sym.specs.TileRows.{AreWords}
+use Rattle.tce_sym.proofs.StoredReads.{words_stored}
 use Rattle.tce_sym.proofs.FullCells.{among, cell_is}
 use Rattle.tce_sym.proofs.Moved.{moved_is}
 use Rattle.tce_sym.proofs.WordCoords.{moved_none}
@@ -81,3 +84,29 @@ returns-clause-read g c = λ x told.
 
 pub returns-clause-told : goal.returns-clause-told
 returns-clause-told g c = λ _. c.loop-filled.invariant.counted
+
+pub tile_row_at-tile_row-requires-clause-rank : goal.tile_row_at-tile_row-requires-clause-rank
+tile_row_at-tile_row-requires-clause-rank g c = omega (arith, c.requires.right.ordered, c.requires.right.inside)
+
+pub read_row-requires-clause-file : goal.read_row-requires-clause-file
+read_row-requires-clause-file g c = λ x told.
+    words_stored c.args.source.now.shape.now.extents c.args.source.now.s.now c.args.source.now.triangles.now.count (file x c.args.source.now.packed.now) c.requires.count (c.requires.file x (sym c.loop-filled.invariant.files ∙ told))
+
+pub read_row-requires-clause-room : goal.read_row-requires-clause-room
+read_row-requires-clause-room g c =
+    subst (λ (n : ℕ). HasRoom c.args.source.now.triangles.now.slots.grid.layout c.args.source.now.triangles.now.slots.grid n) (sym c.loop-filled.auto.lines) c.requires.room
+
+pub read_row-requires-clause-lines : goal.read_row-requires-clause-lines
+read_row-requires-clause-lines g c = λ x told. c.loop-filled.invariant.lines x (sym c.loop-filled.invariant.files ∙ told)
+
+pub returns-in_err-read_row-clause-same : goal.returns-in_err-read_row-clause-same
+returns-in_err-read_row-clause-same g c = c.read_row.ensures.same ∙ c.loop-filled.invariant.files
+
+pub returns-clause-lines : goal.returns-clause-lines
+returns-clause-lines g c = c.loop-filled.invariant.lines
+
+pub returns-clause-same : goal.returns-clause-same
+returns-clause-same g c = c.loop-filled.invariant.files
+
+pub returns-clause-cause : goal.returns-clause-cause
+returns-clause-cause g c = record { later = c.loop-filled.invariant.later; rose = λ e. absurd cc }

@@ -1,14 +1,17 @@
-use Rattle.std.proofs.Common.{◌∙◌, ◌<◌, length, ap, arith}
+use Rattle.std.proofs.Common.{◌≡◌, ◌∙◌, ◌+◌, ◌*◌, ◌<◌, List, ℕ, length, sym, ap, subst, rules, arith}
+use Rattle.std.specs.Option.{IsSomeAnd}
+use Rattle.tce_outside.specs.Files.{file}
 use Rattle.tce_tools.specs.Flat.{contents}
 use Rattle.tce_sym.specs.Storage.{stored_word, turned}
-use Rattle.tce_sym.specs.Cells.{moved_pair}
-use Rattle.tce_sym.proofs.Walked.{mirrored_walk_is, mirrored_within}
+use Rattle.tce_sym.specs.declared.cells.Pair.{Pair}
+use Rattle.tce_sym.specs.Cells.{IsAmong, IsMirrored, moved_pair}
+use Rattle.tce_sym.proofs.Walked.{mirrored_walk_is, mirrored_placed, moved_nowhere}
 use Rattle.tce_sym.proofs.rows.read_mirrored.Goals as goal
 
 pub read_walk-requires-clause-places : goal.read_walk-requires-clause-places
 read_walk-requires-clause-places g c k l =
     let at = mirrored_walk_is c.args.triangles.now c.args.row.now c.mirrored_walk-walk.result k c.mirrored_walk-walk.ensures in
-    let within = mirrored_within c.args.triangles.now (moved_pair c.args.row.now k) c.requires.triangles (c.requires.among k l) (c.requires.mirrored k l) in
+    let within = (mirrored_placed c.args.triangles.now (moved_pair c.args.row.now k) c.requires.triangles (c.requires.among k l) (c.requires.mirrored k l)).within in
     omega (arith, at, within, c.requires.triangles.grid)
 
 pub returns-clause-read : goal.returns-clause-read
@@ -18,3 +21,28 @@ returns-clause-read g c x told k l =
     ∙ ap (turned c.args.triangles.now.negated)
     (c.in_ok-read_walk.ensures.read x told k short
     ∙ ap (stored_word (contents x c.args.packed.now)) (mirrored_walk_is c.args.triangles.now c.args.row.now c.mirrored_walk-walk.result k c.mirrored_walk-walk.ensures))
+
+pub mirrored_walk-walk-requires-clause-among : goal.mirrored_walk-walk-requires-clause-among
+mirrored_walk-walk-requires-clause-among g c = subst (IsAmong c.args.triangles.now) (moved_nowhere c.args.row.now) (c.requires.among 0 (grind (arith, c.if-is_empty.false, c.is_empty.ensures)))
+
+pub mirrored_walk-walk-requires-clause-mirrored : goal.mirrored_walk-walk-requires-clause-mirrored
+mirrored_walk-walk-requires-clause-mirrored g c = subst (λ (p : Pair). IsMirrored p) (moved_nowhere c.args.row.now) (c.requires.mirrored 0 (grind (arith, c.if-is_empty.false, c.is_empty.ensures)))
+
+pub read_walk-requires-clause-count : goal.read_walk-requires-clause-count
+read_walk-requires-clause-count g c = omega (arith, c.requires.triangles.grid, c.requires.triangles.small)
+
+pub read_walk-requires-clause-file : goal.read_walk-requires-clause-file
+read_walk-requires-clause-file g c = λ x told.
+    subst (λ (n : ℕ). IsSomeAnd (file x c.args.packed.now) (λ (bytes : List ℕ). length bytes ≡ 32 + 8 * n)) (sym c.requires.triangles.grid) (c.requires.file x told)
+
+pub returns-clause-lines : goal.returns-clause-lines
+returns-clause-lines g c = c.in_ok-read_walk.ensures.lines
+
+pub returns-clause-same : goal.returns-clause-same
+returns-clause-same g c = c.in_ok-read_walk.ensures.same
+
+pub returns-clause-cause : goal.returns-clause-cause
+returns-clause-cause g c = record { later = c.in_ok-read_walk.ensures.cause.later; rose = λ e. absurd cc }
+
+pub returns-clause-told : goal.returns-clause-told
+returns-clause-told g c = λ _. c.in_ok-read_walk.ensures.told (search rules)

@@ -1,14 +1,41 @@
-use Rattle.std.proofs.Common.{◌≡◌, ◌∙◌, ℕ, ◌+◌, ◌<◌, List, length, slice_index, sym, ap, arith}
+use Rattle.std.proofs.Common.{◌≡◌, ◌∙◌, ◌+◌, ◌<◌, length, slice_index, sym, ap, subst, arith}
+use Rattle.tce_outside.proofs.Files.{on_ok}
 use Rattle.tce_tools.specs.Flat.{contents}
+use Rattle.tce_sym.specs.declared.cells.Pair.{Pair}
 use Rattle.tce_sym.specs.Storage.{stored_word}
-use Rattle.tce_sym.specs.Cells.{cell_of, moved_pair, pair_place}
+use Rattle.tce_sym.specs.Cells.{IsAmong, IsStoredPair, cell_of, moved_pair, pair_place}
 use Rattle.tce_sym.proofs.Pieces.{all_zeros}
-use Rattle.tce_sym.proofs.Walked.{joined_words, moved_on, stored_is, between_is}
+use Rattle.tce_sym.proofs.Walked.{joined_words, moved_on, moved_nowhere, stored_is, between_is}
 use Rattle.tce_sym.proofs.rows.read_others.Goals as goal
 
+pub moved_row-behind-requires-clause-outer : goal.moved_row-behind-requires-clause-outer
+moved_row-behind-requires-clause-outer g c =
+    let first = subst (IsAmong c.args.triangles.now) (moved_nowhere c.args.row.now) (c.requires.among 0 (grind (arith, c.if-is_empty.false, c.is_empty.ensures))) in
+    omega (arith, first.outer, c.requires.triangles.few, c.diagonal_len-zeros.ensures.within, c.requires.few)
+
+pub moved_row-behind-requires-clause-second : goal.moved_row-behind-requires-clause-second
+moved_row-behind-requires-clause-second g c =
+    let first = subst (IsAmong c.args.triangles.now) (moved_nowhere c.args.row.now) (c.requires.among 0 (grind (arith, c.if-is_empty.false, c.is_empty.ensures))) in
+    omega (arith, first.second, c.requires.triangles.extent, c.diagonal_len-zeros.ensures.within, c.requires.few)
+
+pub read_stored-requires-clause-among : goal.read_stored-requires-clause-among
+read_stored-requires-clause-among g c = λ k l.
+    subst (IsAmong c.args.triangles.now) (sym (moved_on c.args.row.now c.moved_row-behind.result c.diagonal_len-zeros.result k c.moved_row-behind.ensures.pair c.moved_row-behind.ensures.kind))
+    (c.requires.among (c.diagonal_len-zeros.result + k) (omega (arith, l, c.split_at_mut-diagonal.ensures.back_len, c.diagonal_len-zeros.ensures.within)))
+
+pub read_stored-requires-clause-stored : goal.read_stored-requires-clause-stored
+read_stored-requires-clause-stored g c = λ k l.
+    subst (λ (p : Pair). IsStoredPair c.args.triangles.now.negated p)
+    (sym (moved_on c.args.row.now c.moved_row-behind.result c.diagonal_len-zeros.result k c.moved_row-behind.ensures.pair c.moved_row-behind.ensures.kind))
+    (c.diagonal_len-zeros.ensures.others (c.diagonal_len-zeros.result + k) (omega arith) (omega (arith, l, c.split_at_mut-diagonal.ensures.back_len, c.diagonal_len-zeros.ensures.within)))
+
+pub read_stored-requires-clause-few : goal.read_stored-requires-clause-few
+read_stored-requires-clause-few g c = omega (arith, c.split_at_mut-diagonal.ensures.back_len, c.requires.few)
+
 pub returns-clause-read : goal.returns-clause-read
-returns-clause-read g c x told =
-    let bytes : List ℕ = contents x c.args.packed.now in
+returns-clause-read g c =
+    on_ok c.read_stored.result
+    (λ read. λ x told.
     let len : length c.clear.new.words ≡ c.diagonal_len-zeros.result = omega (arith, c.clear.auto.words, c.split_at_mut-diagonal.ensures.front_len, c.diagonal_len-zeros.ensures.within) in
     joined_words (λ n. cell_of c.args.triangles.now (contents x c.args.packed.now) (moved_pair c.args.row.now n)) c.clear.new.words c.read_stored.new.words
     (λ k l.
@@ -22,7 +49,20 @@ returns-clause-read g c x told =
     let on : moved_pair c.moved_row-behind.result k ≡ moved_pair c.args.row.now (length c.clear.new.words + k) =
     moved_on c.args.row.now c.moved_row-behind.result c.diagonal_len-zeros.result k c.moved_row-behind.ensures.pair c.moved_row-behind.ensures.kind
     ∙ ap (λ n. moved_pair c.args.row.now (n + k)) (sym len) in
-    c.in_ok-read_stored.ensures.read x told k l
+    read x told k l
     ∙ ap (λ p. stored_word (contents x c.args.packed.now) (pair_place c.args.triangles.now p)) on
     ∙ stored_is c.args.triangles.now (contents x c.args.packed.now) (moved_pair c.args.row.now (length c.clear.new.words + k))
-    (c.diagonal_len-zeros.ensures.others (length c.clear.new.words + k) (omega (arith, len)) inside))
+    (c.diagonal_len-zeros.ensures.others (length c.clear.new.words + k) (omega (arith, len)) inside)))
+    c.read_stored.ensures.read
+
+pub returns-clause-lines : goal.returns-clause-lines
+returns-clause-lines g c = c.read_stored.ensures.lines
+
+pub returns-clause-same : goal.returns-clause-same
+returns-clause-same g c = c.read_stored.ensures.same
+
+pub returns-clause-cause : goal.returns-clause-cause
+returns-clause-cause g c = c.read_stored.ensures.cause
+
+pub returns-clause-told : goal.returns-clause-told
+returns-clause-told g c = c.read_stored.ensures.told

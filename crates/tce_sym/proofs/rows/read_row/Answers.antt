@@ -1,11 +1,58 @@
-use Rattle.std.proofs.Common.{◌≡◌, ◌∙◌, ◌+◌, length, sym, ap, arith}
+use Rattle.std.proofs.Common.{◌≡◌, ◌∙◌, ℕ, ◌+◌, length, sym, ap, subst, rules, arith}
+use Rattle.tce_outside.proofs.Files.{on_ok}
 use Rattle.tce_tools.specs.Flat.{contents}
-use Rattle.tce_sym.specs.Cells.{cell_of, moved_pair}
-use Rattle.tce_sym.proofs.Walked.{joined_words, moved_on, mirrored_is}
+use Rattle.tce_sym.specs.declared.cells.Pair.{Pair}
+use Rattle.tce_sym.specs.Lines.{HasRoom}
+use Rattle.tce_sym.specs.Cells.{IsAmong, IsUpper, cell_of, moved_pair}
+use Rattle.tce_sym.proofs.StoredReads.{caused_behind}
+use Rattle.tce_sym.proofs.Walked.{joined_words, moved_on, moved_nowhere, mirrored_is}
 use Rattle.tce_sym.proofs.rows.read_row.Goals as goal
 
+pub moved_row-behind-requires-clause-outer : goal.moved_row-behind-requires-clause-outer
+moved_row-behind-requires-clause-outer g c =
+    let first = subst (IsAmong c.args.triangles.now) (moved_nowhere c.args.row.now) (c.requires.among 0 (grind (arith, c.if-is_empty.false, c.is_empty.ensures))) in
+    omega (arith, first.outer, c.requires.triangles.few, c.mirrored_len-len.ensures.within, c.requires.few)
+
+pub moved_row-behind-requires-clause-second : goal.moved_row-behind-requires-clause-second
+moved_row-behind-requires-clause-second g c =
+    let first = subst (IsAmong c.args.triangles.now) (moved_nowhere c.args.row.now) (c.requires.among 0 (grind (arith, c.if-is_empty.false, c.is_empty.ensures))) in
+    omega (arith, first.second, c.requires.triangles.extent, c.mirrored_len-len.ensures.within, c.requires.few)
+
+pub read_mirrored-requires-clause-among : goal.read_mirrored-requires-clause-among
+read_mirrored-requires-clause-among g c = λ k l. c.requires.among k (omega (arith, l, c.split_at_mut-mirrored.ensures.front_len, c.mirrored_len-len.ensures.within))
+
+pub read_mirrored-requires-clause-mirrored : goal.read_mirrored-requires-clause-mirrored
+read_mirrored-requires-clause-mirrored g c = λ k l. c.mirrored_len-len.ensures.mirrored k (omega (arith, l, c.split_at_mut-mirrored.ensures.front_len))
+
+pub read_mirrored-requires-clause-few : goal.read_mirrored-requires-clause-few
+read_mirrored-requires-clause-few g c = omega (arith, c.split_at_mut-mirrored.ensures.front_len, c.mirrored_len-len.ensures.within, c.requires.few)
+
+pub read_others-requires-clause-among : goal.read_others-requires-clause-among
+read_others-requires-clause-among g c = λ k l.
+    subst (IsAmong c.args.triangles.now) (sym (moved_on c.args.row.now c.moved_row-behind.result c.mirrored_len-len.result k c.moved_row-behind.ensures.pair c.moved_row-behind.ensures.kind))
+    (c.requires.among (c.mirrored_len-len.result + k) (omega (arith, l, c.split_at_mut-mirrored.ensures.back_len, c.mirrored_len-len.ensures.within)))
+
+pub read_others-requires-clause-others : goal.read_others-requires-clause-others
+read_others-requires-clause-others g c = λ k l.
+    subst (λ (p : Pair). IsUpper p) (sym (moved_on c.args.row.now c.moved_row-behind.result c.mirrored_len-len.result k c.moved_row-behind.ensures.pair c.moved_row-behind.ensures.kind))
+    (c.mirrored_len-len.ensures.others (c.mirrored_len-len.result + k) (omega arith) (omega (arith, l, c.split_at_mut-mirrored.ensures.back_len, c.mirrored_len-len.ensures.within)))
+
+pub read_others-requires-clause-few : goal.read_others-requires-clause-few
+read_others-requires-clause-few g c = omega (arith, c.split_at_mut-mirrored.ensures.back_len, c.requires.few)
+
+pub read_others-requires-clause-file : goal.read_others-requires-clause-file
+read_others-requires-clause-file g c = λ x told. c.requires.file x (sym c.in_ok-read_mirrored.ensures.same ∙ told)
+
+pub read_others-requires-clause-room : goal.read_others-requires-clause-room
+read_others-requires-clause-room g c = subst (λ (n : ℕ). HasRoom c.args.triangles.now.slots.grid.layout c.args.triangles.now.slots.grid n) (sym c.read_mirrored.auto.lines) c.requires.room
+
+pub read_others-requires-clause-lines : goal.read_others-requires-clause-lines
+read_others-requires-clause-lines g c = λ x told. c.in_ok-read_mirrored.ensures.lines x (sym c.in_ok-read_mirrored.ensures.same ∙ told)
+
 pub returns-clause-read : goal.returns-clause-read
-returns-clause-read g c x told =
+returns-clause-read g c =
+    on_ok c.read_others.result
+    (λ read. λ x told.
     let len : length c.read_mirrored.new.words ≡ c.mirrored_len-len.result = omega (arith, c.read_mirrored.auto.words, c.split_at_mut-mirrored.ensures.front_len, c.mirrored_len-len.ensures.within) in
     joined_words (λ n. cell_of c.args.triangles.now (contents x c.args.packed.now) (moved_pair c.args.row.now n)) c.read_mirrored.new.words c.read_others.new.words
     (λ k l.
@@ -15,5 +62,18 @@ returns-clause-read g c x told =
     let on : moved_pair c.moved_row-behind.result k ≡ moved_pair c.args.row.now (length c.read_mirrored.new.words + k) =
     moved_on c.args.row.now c.moved_row-behind.result c.mirrored_len-len.result k c.moved_row-behind.ensures.pair c.moved_row-behind.ensures.kind
     ∙ ap (λ n. moved_pair c.args.row.now (n + k)) (sym len) in
-    c.in_ok-read_others.ensures.read x (c.in_ok-read_mirrored.ensures.same ∙ told) k l
-    ∙ ap (cell_of c.args.triangles.now (contents x c.args.packed.now)) on)
+    read x (c.in_ok-read_mirrored.ensures.same ∙ told) k l
+    ∙ ap (cell_of c.args.triangles.now (contents x c.args.packed.now)) on))
+    c.read_others.ensures.read
+
+pub returns-clause-lines : goal.returns-clause-lines
+returns-clause-lines g c = on_ok c.read_others.result (λ held. λ x told. held x (c.in_ok-read_mirrored.ensures.same ∙ told)) c.read_others.ensures.lines
+
+pub returns-clause-same : goal.returns-clause-same
+returns-clause-same g c = c.read_others.ensures.same ∙ c.in_ok-read_mirrored.ensures.same
+
+pub returns-clause-cause : goal.returns-clause-cause
+returns-clause-cause g c = caused_behind _ (g.D.Disk.faults c.read_mirrored.new.disk) _ _ c.in_ok-read_mirrored.ensures.cause.later c.read_others.ensures.cause
+
+pub returns-clause-told : goal.returns-clause-told
+returns-clause-told g c = λ ok. c.read_others.ensures.told ok ∙ c.in_ok-read_mirrored.ensures.told (search rules)

@@ -1,10 +1,28 @@
-use Rattle.std.proofs.Common.{◌∙◌, ap, arith}
+use Rattle.std.proofs.Common.{◌≡◌, ◌∙◌, ◌+◌, ◌*◌, List, ℕ, length, sym, ap, subst, arith}
+use Rattle.std.specs.Option.{IsSomeAnd}
+use Rattle.tce_outside.specs.Files.{file}
+use Rattle.tce_outside.proofs.Files.{on_ok}
 use Rattle.tce_tools.specs.Flat.{contents}
+use Rattle.tce_sym.specs.declared.cells.Pair.{Pair}
 use Rattle.tce_sym.specs.Storage.{stored_word}
-use Rattle.tce_sym.specs.Cells.{moved_pair}
+use Rattle.tce_sym.specs.Cells.{IsAmong, IsStoredPair, moved_pair}
 use Rattle.tce_sym.proofs.FullCells.{pair_placed}
-use Rattle.tce_sym.proofs.Walked.{walk_is}
+use Rattle.tce_sym.proofs.Walked.{walk_is, moved_nowhere}
 use Rattle.tce_sym.proofs.rows.read_stored.Goals as goal
+
+pub stored_walk-walk-requires-clause-among : goal.stored_walk-walk-requires-clause-among
+stored_walk-walk-requires-clause-among g c = subst (IsAmong c.args.triangles.now) (moved_nowhere c.args.row.now) (c.requires.among 0 (grind (arith, c.if-is_empty.false, c.is_empty.ensures)))
+
+pub stored_walk-walk-requires-clause-stored : goal.stored_walk-walk-requires-clause-stored
+stored_walk-walk-requires-clause-stored g c =
+    subst (λ (p : Pair). IsStoredPair c.args.triangles.now.negated p) (moved_nowhere c.args.row.now) (c.requires.stored 0 (grind (arith, c.if-is_empty.false, c.is_empty.ensures)))
+
+pub read_walk-requires-clause-count : goal.read_walk-requires-clause-count
+read_walk-requires-clause-count g c = omega (arith, c.requires.triangles.grid, c.requires.triangles.small)
+
+pub read_walk-requires-clause-file : goal.read_walk-requires-clause-file
+read_walk-requires-clause-file g c = λ x told.
+    subst (λ (n : ℕ). IsSomeAnd (file x c.args.packed.now) (λ (bytes : List ℕ). length bytes ≡ 32 + 8 * n)) (sym c.requires.triangles.grid) (c.requires.file x told)
 
 pub read_walk-requires-clause-places : goal.read_walk-requires-clause-places
 read_walk-requires-clause-places g c k l =
@@ -13,6 +31,21 @@ read_walk-requires-clause-places g c k l =
     omega (arith, at, within, c.requires.triangles.grid)
 
 pub returns-clause-read : goal.returns-clause-read
-returns-clause-read g c x told k l =
-    c.in_ok-read_walk.ensures.read x told k l
-    ∙ ap (stored_word (contents x c.args.packed.now)) (walk_is c.args.triangles.now c.args.row.now c.stored_walk-walk.result k c.stored_walk-walk.ensures)
+returns-clause-read g c =
+    on_ok c.read_walk.result
+    (λ read. λ x told k l.
+    read x told k l
+    ∙ ap (stored_word (contents x c.args.packed.now)) (walk_is c.args.triangles.now c.args.row.now c.stored_walk-walk.result k c.stored_walk-walk.ensures))
+    c.read_walk.ensures.read
+
+pub returns-clause-lines : goal.returns-clause-lines
+returns-clause-lines g c = c.read_walk.ensures.lines
+
+pub returns-clause-same : goal.returns-clause-same
+returns-clause-same g c = c.read_walk.ensures.same
+
+pub returns-clause-cause : goal.returns-clause-cause
+returns-clause-cause g c = c.read_walk.ensures.cause
+
+pub returns-clause-told : goal.returns-clause-told
+returns-clause-told g c = c.read_walk.ensures.told

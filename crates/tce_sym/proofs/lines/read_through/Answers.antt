@@ -1,0 +1,56 @@
+use Rattle.std.proofs.Common.{◌≡◌, ◌∙◌, ◌+◌, ◌-◌, ap, rules, arith}
+use Rattle.std.proofs.lemmas.List.{length-take-le}
+use Rattle.tce_outside.specs.Files.{file}
+use Rattle.tce_tools.specs.Flat.{contents}
+use Rattle.tce_sym.specs.Storage.{stored_word}
+use Rattle.tce_sym.proofs.HeldLines.{line_read}
+use Rattle.tce_sym.proofs.StoredReads.{words_there}
+use Rattle.tce_sym.proofs.lines.read_through.Goals as goal
+
+pub slice_bounds-words-end : goal.slice_bounds-words-end
+slice_bounds-words-end g c = omega (arith, c.min-len.ensures, c.requires.span)
+
+pub read_words-requires-clause-buffer : goal.read_words-requires-clause-buffer
+read_words-requires-clause-buffer g c =
+    let size = length-take-le c.min-len.result c.args.buffer.now (omega (arith, c.min-len.ensures, c.requires.span)) in
+    omega (arith, size, c.min-len.ensures, c.requires.bytes)
+
+pub read_words-requires-clause-file : goal.read_words-requires-clause-file
+read_words-requires-clause-file g c = λ x told.
+    let size = length-take-le c.min-len.result c.args.buffer.now (omega (arith, c.min-len.ensures, c.requires.span)) in
+    words_there c.args.wanted.start _ c.args.grid.now.count (file x c.args.packed.now) (omega (arith, size, c.min-len.ensures, c.requires.wanted.start, c.requires.wanted.place)) (c.requires.file x told)
+
+pub put_lines-requires-clause-start : goal.put_lines-requires-clause-start
+put_lines-requires-clause-start g c =
+    let size = length-take-le c.min-len.result c.args.buffer.now (omega (arith, c.min-len.ensures, c.requires.span)) in
+    omega (arith, size, c.read_words.auto.words, c.min-len.ensures, c.requires.wanted.start, c.requires.wanted.place)
+
+pub put_lines-requires-clause-whole : goal.put_lines-requires-clause-whole
+put_lines-requires-clause-whole g c = λ k l inside.
+    let size = length-take-le c.min-len.result c.args.buffer.now (omega (arith, c.min-len.ensures, c.requires.span)) in
+    omega (arith, size, l, inside, c.read_words.auto.words, c.min-len.ensures, c.requires.wanted.line)
+
+pub bounds-words-wanted : goal.bounds-words-wanted
+bounds-words-wanted g c =
+    let size = length-take-le c.min-len.result c.args.buffer.now (omega (arith, c.min-len.ensures, c.requires.span)) in
+    omega (arith, size, c.read_words.auto.words, c.min-len.ensures, c.requires.wanted.start, c.requires.wanted.near, c.requires.wanted.place)
+
+pub returns-clause-word : goal.returns-clause-word
+returns-clause-word g c x told =
+    let values = line_read (contents x c.args.packed.now) c.read_words.new.words c.args.wanted.start (c.in_ok-read_words.ensures.read x told) in
+    let size = length-take-le c.min-len.result c.args.buffer.now (omega (arith, c.min-len.ensures, c.requires.span)) in
+    let at : c.args.wanted.start + (c.args.wanted.place - c.args.wanted.start) ≡ c.args.wanted.place = omega (arith, c.requires.wanted.start) in
+    values (c.args.wanted.place - c.args.wanted.start) (omega (arith, size, c.read_words.auto.words, c.min-len.ensures, c.requires.wanted.start, c.requires.wanted.near, c.requires.wanted.place)) ∙ ap (stored_word (contents x c.args.packed.now)) at
+
+pub returns-clause-lines : goal.returns-clause-lines
+returns-clause-lines g c x told =
+    c.put_lines.ensures (contents x c.args.packed.now) (c.requires.lines x told) (line_read (contents x c.args.packed.now) c.read_words.new.words c.args.wanted.start (c.in_ok-read_words.ensures.read x told))
+
+pub returns-clause-same : goal.returns-clause-same
+returns-clause-same g c = c.in_ok-read_words.ensures.same
+
+pub returns-clause-cause : goal.returns-clause-cause
+returns-clause-cause g c = record { later = c.in_ok-read_words.ensures.cause.later; rose = λ e. absurd cc }
+
+pub returns-clause-told : goal.returns-clause-told
+returns-clause-told g c = λ _. c.in_ok-read_words.ensures.told (search rules)

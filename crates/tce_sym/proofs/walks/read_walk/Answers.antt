@@ -1,0 +1,56 @@
+use Rattle.std.proofs.Common.{◌∙◌, length, sym, subst, arith}
+use Rattle.std.specs.Option.{ForSome}
+use Rattle.std.specs.Result.{OnOk}
+use Rattle.tce_outside.specs.Files.{Files}
+use Rattle.tce_tools.specs.Flat.{contents}
+use Rattle.tce_sym.specs.declared.lines.Layout.{Layout}
+use Rattle.tce_sym.specs.Lines.{HasRoom, AreHeld, walk_place}
+use Rattle.tce_sym.proofs.Across.{across_held}
+use Rattle.tce_sym.proofs.walks.read_walk.Goals as goal
+
+pub read_lines-requires-clause-grid : goal.read_lines-requires-clause-grid
+read_lines-requires-clause-grid g c = subst (λ (l : Layout). HasRoom l c.args.grid.now (length c.args.lines.now)) c.in-Lines.is c.requires.room
+
+pub read_lines-requires-clause-lines : goal.read_lines-requires-clause-lines
+read_lines-requires-clause-lines g c = λ x told.
+    subst (λ (l : Layout). AreHeld l c.args.grid.now (contents x c.args.packed.now) c.args.lines.now) c.in-Lines.is (c.requires.lines x told)
+
+pub gather-requires-clause-room : goal.gather-requires-clause-room
+gather-requires-clause-room g c = subst (λ (l : Layout). HasRoom l c.args.grid.now (length c.args.lines.now)) c.in-Whole.is c.requires.room
+
+pub gather_across-requires-clause-room : goal.gather_across-requires-clause-room
+gather_across-requires-clause-room g c = subst (λ (l : Layout). HasRoom l c.args.grid.now (length c.args.lines.now)) c.in-Across.is c.requires.room
+
+pub returns-in-Lines-clause-read : goal.returns-in-Lines-clause-read
+returns-in-Lines-clause-read g c = c.read_lines.ensures.read
+
+pub returns-in-Lines-clause-lines : goal.returns-in-Lines-clause-lines
+returns-in-Lines-clause-lines g c =
+    subst (λ (l : Layout). OnOk c.read_lines.result (ForSome (g.D.Disk.files c.args.disk.now) (λ (x : Files). AreHeld l c.args.grid.now (contents x c.args.packed.now) c.read_lines.new.lines))) (sym c.in-Lines.is) c.read_lines.ensures.lines
+
+pub returns-in-Lines-clause-same : goal.returns-in-Lines-clause-same
+returns-in-Lines-clause-same g c = c.read_lines.ensures.same
+
+pub returns-in-Lines-clause-cause : goal.returns-in-Lines-clause-cause
+returns-in-Lines-clause-cause g c = c.read_lines.ensures.cause
+
+pub returns-in-Lines-clause-told : goal.returns-in-Lines-clause-told
+returns-in-Lines-clause-told g c = c.read_lines.ensures.told
+
+pub returns-in-Whole-clause-read : goal.returns-in-Whole-clause-read
+returns-in-Whole-clause-read g c = λ x told k l.
+    let held = subst (λ (l : Layout). AreHeld l c.args.grid.now (contents x c.args.packed.now) c.args.lines.now) c.in-Whole.is (c.requires.lines x told) in
+    c.gather.ensures k l ∙ held.held (walk_place c.args.walk.now k) (c.requires.places k (omega (arith, l, c.gather.auto.words)))
+
+pub returns-in-Whole-clause-lines : goal.returns-in-Whole-clause-lines
+returns-in-Whole-clause-lines g c = c.requires.lines
+
+pub returns-in-Across-clause-read : goal.returns-in-Across-clause-read
+returns-in-Across-clause-read g c = λ x told k l.
+    let held = subst (λ (l : Layout). AreHeld l c.args.grid.now (contents x c.args.packed.now) c.args.lines.now) c.in-Across.is (c.requires.lines x told) in
+    let room = subst (λ (l : Layout). HasRoom l c.args.grid.now (length c.args.lines.now)) c.in-Across.is c.requires.room in
+    c.gather_across.ensures k l
+    ∙ across_held c.args.grid.now (length c.args.lines.now) (walk_place c.args.walk.now k) (contents x c.args.packed.now) c.args.lines.now room (c.requires.places k (omega (arith, l, c.gather_across.auto.words))) held
+
+pub returns-in-Across-clause-lines : goal.returns-in-Across-clause-lines
+returns-in-Across-clause-lines g c = c.requires.lines
