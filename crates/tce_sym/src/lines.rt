@@ -67,6 +67,13 @@ pub struct Wanted {
     pub growth: u64,
 }
 
+// Buffers for the words of a read and for their bytes.
+#[derive(Drop)]
+struct Buffers<'a> {
+    bytes: &'a mut [u8],
+    words: &'a mut [u64],
+}
+
 // Puts a line into a slot, as far as there are words.
 fn put_line(grid: &Grid, lines: &mut [u64], slot: usize, start: u64, words: &[u64])
     requires grid { IsGrid grid.now (length lines.old) }
@@ -113,20 +120,19 @@ fn put_lines(grid: &Grid, lines: &mut [u64], wanted: Wanted, start: u64, words: 
     }
 }
 
-// A stored word, and the lines of the words that are read for it, by way of a buffer.
+// A stored word, and the lines of the words that are read for it, by way of buffers.
 fn read_through<D: Disk>(
     disk: &mut D,
     packed: &str,
     grid: &Grid,
     lines: &mut [u64],
     wanted: Wanted,
-    bytes: &mut [u8],
-    buffer: &mut [u64],
+    buffers: Buffers<'_>,
 ) -> Result<u64, Failed>
     requires grid { IsGrid grid.now (length lines.old) }
     requires wanted { IsWanted grid.now wanted }
-    requires span { wanted.span ≤ length buffer.old }
-    requires bytes { 8 * wanted.span ≤ length bytes.old }
+    requires span { wanted.span ≤ length buffers.words.now }
+    requires bytes { 8 * wanted.span ≤ length buffers.bytes.now }
     requires file { HasStoredWords (D.files disk.old) packed.now grid.now.count }
     requires lines { AreLinesOf (D.files disk.old) packed.now grid.now lines.old }
     ensures word { IfOk result (IsStoredWord (D.files disk.old) packed.now wanted.place) }
@@ -136,7 +142,8 @@ fn read_through<D: Disk>(
     ensures told { TellsFaults (D.faults disk.old) (D.faults disk.new) (IsErr result) }
 {
     let len = (grid.count - wanted.start).min(wanted.span as u64) as usize;
-    let words = &mut buffer[..len];
+    let Buffers { bytes, words } = buffers;
+    let words = &mut words[..len];
     read_words(disk, packed, Form::One, 32 + 8 * wanted.start, bytes, words)?;
     put_lines(grid, lines, wanted, wanted.start, words);
     Ok(words[(wanted.place - wanted.start) as usize])
@@ -162,8 +169,12 @@ fn read_few<D: Disk>(
     ensures told { TellsFaults (D.faults disk.old) (D.faults disk.new) (IsErr result) }
 {
     let mut bytes = [0; 8 * LONGEST_LINE];
-    let mut buffer = [0; LONGEST_LINE];
-    read_through(disk, packed, grid, lines, wanted, &mut bytes, &mut buffer)
+    let mut words = [0; LONGEST_LINE];
+    let buffers = Buffers {
+        bytes: &mut bytes,
+        words: &mut words,
+    };
+    read_through(disk, packed, grid, lines, wanted, buffers)
 }
 
 // A stored word, and the lines of many words.
@@ -186,8 +197,12 @@ fn read_many<D: Disk>(
     ensures told { TellsFaults (D.faults disk.old) (D.faults disk.new) (IsErr result) }
 {
     let mut bytes = [0; 8 * WINDOW];
-    let mut buffer = [0; WINDOW];
-    read_through(disk, packed, grid, lines, wanted, &mut bytes, &mut buffer)
+    let mut words = [0; WINDOW];
+    let buffers = Buffers {
+        bytes: &mut bytes,
+        words: &mut words,
+    };
+    read_through(disk, packed, grid, lines, wanted, buffers)
 }
 
 /// A stored word, and the lines that are read for it.

@@ -12,33 +12,33 @@ slice_bounds-words-end g c = omega (arith, c.min-len.ensures, c.requires.span)
 
 pub read_words-requires-clause-buffer : goal.read_words-requires-clause-buffer
 read_words-requires-clause-buffer g c =
-    let size = length-take-le c.min-len.result c.args.buffer.now (omega (arith, c.min-len.ensures, c.requires.span)) in
+    let size = length-take-le c.min-len.result c.args.buffers.words.now (omega (arith, c.min-len.ensures, c.requires.span)) in
     omega (arith, size, c.min-len.ensures, c.requires.bytes)
 
 pub read_words-requires-clause-file : goal.read_words-requires-clause-file
 read_words-requires-clause-file g c = λ x told.
-    let size = length-take-le c.min-len.result c.args.buffer.now (omega (arith, c.min-len.ensures, c.requires.span)) in
+    let size = length-take-le c.min-len.result c.args.buffers.words.now (omega (arith, c.min-len.ensures, c.requires.span)) in
     words_there c.args.wanted.start _ c.args.grid.now.count (file x c.args.packed.now) (omega (arith, size, c.min-len.ensures, c.requires.wanted.start, c.requires.wanted.place)) (c.requires.file x told)
 
 pub put_lines-requires-clause-start : goal.put_lines-requires-clause-start
 put_lines-requires-clause-start g c =
-    let size = length-take-le c.min-len.result c.args.buffer.now (omega (arith, c.min-len.ensures, c.requires.span)) in
+    let size = length-take-le c.min-len.result c.args.buffers.words.now (omega (arith, c.min-len.ensures, c.requires.span)) in
     omega (arith, size, c.read_words.auto.words, c.min-len.ensures, c.requires.wanted.start, c.requires.wanted.place)
 
 pub put_lines-requires-clause-whole : goal.put_lines-requires-clause-whole
 put_lines-requires-clause-whole g c = λ k l inside.
-    let size = length-take-le c.min-len.result c.args.buffer.now (omega (arith, c.min-len.ensures, c.requires.span)) in
+    let size = length-take-le c.min-len.result c.args.buffers.words.now (omega (arith, c.min-len.ensures, c.requires.span)) in
     omega (arith, size, l, inside, c.read_words.auto.words, c.min-len.ensures, c.requires.wanted.line)
 
 pub bounds-words-wanted : goal.bounds-words-wanted
 bounds-words-wanted g c =
-    let size = length-take-le c.min-len.result c.args.buffer.now (omega (arith, c.min-len.ensures, c.requires.span)) in
+    let size = length-take-le c.min-len.result c.args.buffers.words.now (omega (arith, c.min-len.ensures, c.requires.span)) in
     omega (arith, size, c.read_words.auto.words, c.min-len.ensures, c.requires.wanted.start, c.requires.wanted.near, c.requires.wanted.place)
 
 pub returns-clause-word : goal.returns-clause-word
 returns-clause-word g c x told =
     let values = line_read (contents x c.args.packed.now) c.read_words.new.words c.args.wanted.start (c.in_ok-read_words.ensures.read x told) in
-    let size = length-take-le c.min-len.result c.args.buffer.now (omega (arith, c.min-len.ensures, c.requires.span)) in
+    let size = length-take-le c.min-len.result c.args.buffers.words.now (omega (arith, c.min-len.ensures, c.requires.span)) in
     let at : c.args.wanted.start + (c.args.wanted.place - c.args.wanted.start) ≡ c.args.wanted.place = omega (arith, c.requires.wanted.start) in
     values (c.args.wanted.place - c.args.wanted.start) (omega (arith, size, c.read_words.auto.words, c.min-len.ensures, c.requires.wanted.start, c.requires.wanted.near, c.requires.wanted.place)) ∙ ap (stored_word (contents x c.args.packed.now)) at
 
