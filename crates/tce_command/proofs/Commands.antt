@@ -1,5 +1,5 @@
 -- Which words are those of a command.
-use Rattle.std.proofs.Common.{Bool, true, false, not, ◌≡◌, ◌≢◌, refl, sym, ap, subst, ◌∙◌, ℕ, ◌<◌, ◌≤◌, ◌^◌, List, [], ◌∷◌, map, length, get_or, arith, String, Global, codes}
+use Rattle.std.proofs.Common.{true, false, ◌≡◌, ◌≢◌, refl, sym, ap, ◌∙◌, ℕ, ◌<◌, ◌≤◌, ◌^◌, List, [], ◌∷◌, map, length, get_or, arith, String, Global, codes}
 use Rattle.std.specs.String.{string_bytes}
 use Rattle.std.specs.Fmt.{decimal}
 use Rattle.std.specs.Str.{bytes_eq}
@@ -8,32 +8,7 @@ use Rattle.std.proofs.lemmas.Fmt.{decimal_injective, decimal_digit}
 use Rattle.tce_array.specs.declared.form.Form.{Form}
 use Rattle.tce_array.specs.declared.form.Form.TheVariants.{One, Narrow, Wide}
 use Rattle.tce_array.specs.Forms.{width}
-use Rattle.tce_command.specs.Command.{Command, run, batch, spill, plan, cert, check, pack, unpack, convert, expand, einsum, demo, IsBetween, IsCommand, IsHeld, IsNoCommand, NamesSpec, NamesCertificate, NamesTensor, NamesFlat, verb_of, arguments_of}
-
--- the words of a list, where it has two, three or four
-pub two_words : (ws : List (String Global)) (a b : String Global) → 2 ≤ length ws → length ws < 3 → a ≡ get_or ws 0 a → b ≡ get_or ws 1 b
-    → map string_bytes ws ≡ string_bytes a ∷ string_bytes b ∷ []
-two_words [] a b l u ea eb = absurd (omega arith)
-two_words (x ∷ []) a b l u ea eb = absurd (omega arith)
-two_words (x ∷ y ∷ []) a b l u ea eb = rw (ea, eb) refl
-two_words (x ∷ y ∷ z ∷ ws) a b l u ea eb = absurd (omega arith)
-
-pub three_words : (ws : List (String Global)) (a b c : String Global) → 3 ≤ length ws → length ws < 4 → a ≡ get_or ws 0 a → b ≡ get_or ws 1 b → c ≡ get_or ws 2 c
-    → map string_bytes ws ≡ string_bytes a ∷ string_bytes b ∷ string_bytes c ∷ []
-three_words [] a b c l u ea eb ec = absurd (omega arith)
-three_words (x ∷ []) a b c l u ea eb ec = absurd (omega arith)
-three_words (x ∷ y ∷ []) a b c l u ea eb ec = absurd (omega arith)
-three_words (x ∷ y ∷ z ∷ []) a b c l u ea eb ec = rw (ea, eb, ec) refl
-three_words (x ∷ y ∷ z ∷ w ∷ ws) a b c l u ea eb ec = absurd (omega arith)
-
-pub four_words : (ws : List (String Global)) (a b c d : String Global) → 4 ≤ length ws → length ws < 5 → a ≡ get_or ws 0 a → b ≡ get_or ws 1 b → c ≡ get_or ws 2 c → d ≡ get_or ws 3 d
-    → map string_bytes ws ≡ string_bytes a ∷ string_bytes b ∷ string_bytes c ∷ string_bytes d ∷ []
-four_words [] a b c d l u ea eb ec ed = absurd (omega arith)
-four_words (x ∷ []) a b c d l u ea eb ec ed = absurd (omega arith)
-four_words (x ∷ y ∷ []) a b c d l u ea eb ec ed = absurd (omega arith)
-four_words (x ∷ y ∷ z ∷ []) a b c d l u ea eb ec ed = absurd (omega arith)
-four_words (x ∷ y ∷ z ∷ w ∷ []) a b c d l u ea eb ec ed = rw (ea, eb, ec, ed) refl
-four_words (x ∷ y ∷ z ∷ w ∷ v ∷ ws) a b c d l u ea eb ec ed = absurd (omega arith)
+use Rattle.tce_command.specs.Command.{Command, run, batch, spill, plan, cert, check, pack, unpack, convert, expand, einsum, demo, IsBetween, IsCommand, IsNoCommand, verb_of, arguments_of}
 
 -- a command has two to four words
 pub command_length : (words : List (List ℕ)) (command : Command) → IsCommand words command → (2 ≤ length words) × (length words ≤ 4)
@@ -68,127 +43,6 @@ too_many (a ∷ b ∷ c ∷ d ∷ e ∷ ws) l command is =
 -- the words of a list are equal in each place
 word_at : (k : ℕ) (xs ys : List (List ℕ)) → xs ≡ ys → get_or xs k [] ≡ get_or ys k []
 word_at k xs ys e = ap (λ ws. get_or ws k []) e
-
--- no command has these words, where that of their number and their verb does not
-pub none_of_two : (verb spec : List ℕ) → (verb ≡ codes "plan" → NamesSpec spec → ⊥) → IsNoCommand (verb ∷ spec ∷ [])
-none_of_two verb spec refused (run s b) h = let e : 2 ≡ 3 = ap length h.words_are in absurd (omega (arith, e))
-none_of_two verb spec refused (batch s b) h = let e : 2 ≡ 3 = ap length h.words_are in absurd (omega (arith, e))
-none_of_two verb spec refused (spill s b l) h = let e : 2 ≡ 4 = ap length h.words_are in absurd (omega (arith, e))
-none_of_two verb spec refused (plan s) h = refused (word_at 0 _ _ h.words_are) (subst NamesSpec (sym (word_at 1 _ _ h.words_are)) h.rules)
-none_of_two verb spec refused (cert s f) h = let e : 2 ≡ 3 = ap length h.words_are in absurd (omega (arith, e))
-none_of_two verb spec refused (check s f) h = let e : 2 ≡ 3 = ap length h.words_are in absurd (omega (arith, e))
-none_of_two verb spec refused (pack s t f) h = let e : 2 ≡ 4 = ap length h.words_are in absurd (omega (arith, e))
-none_of_two verb spec refused (unpack s t f) h = let e : 2 ≡ 4 = ap length h.words_are in absurd (omega (arith, e))
-none_of_two verb spec refused (convert s t f) h = let e : 2 ≡ 4 = ap length h.words_are in absurd (omega (arith, e))
-none_of_two verb spec refused (expand s t) h = let e : 2 ≡ 3 = ap length h.words_are in absurd (omega (arith, e))
-none_of_two verb spec refused (einsum t p s) h = let e : 2 ≡ 4 = ap length h.words_are in absurd (omega (arith, e))
-none_of_two verb spec refused (demo x v o) h = let e : 2 ≡ 4 = ap length h.words_are in absurd (omega (arith, e))
-
--- what the rules say of three words, by their verb
-pub record NoneOfThree (verb spec last : List ℕ) : Type 0 where
-  pub run : verb ≡ codes "run" → NamesSpec spec → (n : ℕ) → n ≤ 2 ^ 40 → last ≡ decimal n → ⊥
-  pub batch : verb ≡ codes "batch" → NamesSpec spec → (n : ℕ) → n ≤ 2 ^ 40 → last ≡ decimal n → ⊥
-  pub cert : verb ≡ codes "cert" → NamesSpec spec → NamesCertificate last → ⊥
-  pub check : verb ≡ codes "check" → NamesSpec spec → NamesCertificate last → ⊥
-  pub expand : verb ≡ codes "expand" → NamesSpec spec → NamesTensor last → ⊥
-
-pub none_of_three : (verb spec last : List ℕ) → NoneOfThree verb spec last → IsNoCommand (verb ∷ spec ∷ last ∷ [])
-none_of_three verb spec last refused (run s b) h =
-    refused.run (word_at 0 _ _ h.words_are) (subst NamesSpec (sym (word_at 1 _ _ h.words_are)) h.rules.0) b h.rules.1 (word_at 2 _ _ h.words_are)
-none_of_three verb spec last refused (batch s b) h =
-    refused.batch (word_at 0 _ _ h.words_are) (subst NamesSpec (sym (word_at 1 _ _ h.words_are)) h.rules.0) b h.rules.1 (word_at 2 _ _ h.words_are)
-none_of_three verb spec last refused (cert s f) h =
-    refused.cert (word_at 0 _ _ h.words_are) (subst NamesSpec (sym (word_at 1 _ _ h.words_are)) h.rules.0) (subst NamesCertificate (sym (word_at 2 _ _ h.words_are)) h.rules.1)
-none_of_three verb spec last refused (check s f) h =
-    refused.check (word_at 0 _ _ h.words_are) (subst NamesSpec (sym (word_at 1 _ _ h.words_are)) h.rules.0) (subst NamesCertificate (sym (word_at 2 _ _ h.words_are)) h.rules.1)
-none_of_three verb spec last refused (expand s t) h =
-    refused.expand (word_at 0 _ _ h.words_are) (subst NamesSpec (sym (word_at 1 _ _ h.words_are)) h.rules.0) (subst NamesTensor (sym (word_at 2 _ _ h.words_are)) h.rules.1)
-none_of_three verb spec last refused (plan s) h = let e : 3 ≡ 2 = ap length h.words_are in absurd (omega (arith, e))
-none_of_three verb spec last refused (spill s b l) h = let e : 3 ≡ 4 = ap length h.words_are in absurd (omega (arith, e))
-none_of_three verb spec last refused (pack s t f) h = let e : 3 ≡ 4 = ap length h.words_are in absurd (omega (arith, e))
-none_of_three verb spec last refused (unpack s t f) h = let e : 3 ≡ 4 = ap length h.words_are in absurd (omega (arith, e))
-none_of_three verb spec last refused (convert s t f) h = let e : 3 ≡ 4 = ap length h.words_are in absurd (omega (arith, e))
-none_of_three verb spec last refused (einsum t p s) h = let e : 3 ≡ 4 = ap length h.words_are in absurd (omega (arith, e))
-none_of_three verb spec last refused (demo x v o) h = let e : 3 ≡ 4 = ap length h.words_are in absurd (omega (arith, e))
-
--- what the rules say of four words, by their verb
-pub record NoneOfFour (verb spec tensor last : List ℕ) : Type 0 where
-  pub pack : verb ≡ codes "pack" → NamesSpec spec → NamesTensor tensor → NamesFlat last → ⊥
-  pub unpack : verb ≡ codes "unpack" → NamesSpec spec → NamesTensor tensor → NamesFlat last → ⊥
-  pub convert : verb ≡ codes "convert" → NamesSpec spec → NamesTensor tensor → (form : Form) → form ≢ One → last ≡ decimal (width form) → ⊥
-  pub einsum : verb ≡ codes "einsum" → IsHeld spec → IsHeld tensor → NamesSpec last → ⊥
-  pub spill : verb ≡ codes "spill" → NamesSpec spec → (n m : ℕ) → n ≤ 2 ^ 40 → m ≤ 2 ^ 40 → tensor ≡ decimal n → last ≡ decimal m → ⊥
-  pub demo : verb ≡ codes "demo" → (seed v o : ℕ) → IsBetween 1 2147483646 seed → IsBetween 1 32 v → IsBetween 1 32 o → spec ≡ decimal seed → tensor ≡ decimal v → last ≡ decimal o → ⊥
-
-pub none_of_four : (verb spec tensor last : List ℕ) → NoneOfFour verb spec tensor last → IsNoCommand (verb ∷ spec ∷ tensor ∷ last ∷ [])
-none_of_four verb spec tensor last refused (run s b) h = let e : 4 ≡ 3 = ap length h.words_are in absurd (omega (arith, e))
-none_of_four verb spec tensor last refused (batch s b) h = let e : 4 ≡ 3 = ap length h.words_are in absurd (omega (arith, e))
-none_of_four verb spec tensor last refused (cert s f) h = let e : 4 ≡ 3 = ap length h.words_are in absurd (omega (arith, e))
-none_of_four verb spec tensor last refused (check s f) h = let e : 4 ≡ 3 = ap length h.words_are in absurd (omega (arith, e))
-none_of_four verb spec tensor last refused (expand s t) h = let e : 4 ≡ 3 = ap length h.words_are in absurd (omega (arith, e))
-none_of_four verb spec tensor last refused (plan s) h = let e : 4 ≡ 2 = ap length h.words_are in absurd (omega (arith, e))
-none_of_four verb spec tensor last refused (pack s t f) h =
-    refused.pack (word_at 0 _ _ h.words_are) (subst NamesSpec (sym (word_at 1 _ _ h.words_are)) h.rules.0)
-    (subst NamesTensor (sym (word_at 2 _ _ h.words_are)) h.rules.1) (subst NamesFlat (sym (word_at 3 _ _ h.words_are)) h.rules.2)
-none_of_four verb spec tensor last refused (unpack s t f) h =
-    refused.unpack (word_at 0 _ _ h.words_are) (subst NamesSpec (sym (word_at 1 _ _ h.words_are)) h.rules.0)
-    (subst NamesTensor (sym (word_at 2 _ _ h.words_are)) h.rules.1) (subst NamesFlat (sym (word_at 3 _ _ h.words_are)) h.rules.2)
-none_of_four verb spec tensor last refused (convert s t f) h =
-    refused.convert (word_at 0 _ _ h.words_are) (subst NamesSpec (sym (word_at 1 _ _ h.words_are)) h.rules.0)
-    (subst NamesTensor (sym (word_at 2 _ _ h.words_are)) h.rules.1) f h.rules.2 (word_at 3 _ _ h.words_are)
-none_of_four verb spec tensor last refused (einsum t p s) h =
-    refused.einsum (word_at 0 _ _ h.words_are) (subst IsHeld (sym (word_at 1 _ _ h.words_are)) h.rules.0)
-    (subst IsHeld (sym (word_at 2 _ _ h.words_are)) h.rules.1) (subst NamesSpec (sym (word_at 3 _ _ h.words_are)) h.rules.2)
-none_of_four verb spec tensor last refused (spill s b l) h =
-    refused.spill (word_at 0 _ _ h.words_are) (subst NamesSpec (sym (word_at 1 _ _ h.words_are)) h.rules.0) b l h.rules.1 h.rules.2 (word_at 2 _ _ h.words_are) (word_at 3 _ _ h.words_are)
-none_of_four verb spec tensor last refused (demo seed v o) h =
-    refused.demo (word_at 0 _ _ h.words_are) seed v o h.rules.0 h.rules.1 h.rules.2 (word_at 1 _ _ h.words_are) (word_at 2 _ _ h.words_are) (word_at 3 _ _ h.words_are)
-
--- no demonstration has these numbers, where one of them is out of its bounds
-pub no_demo : (seed v o : List ℕ)
-    → ((x y z : ℕ) → IsBetween 1 2147483646 x → IsBetween 1 32 y → IsBetween 1 32 z → seed ≡ decimal x → v ≡ decimal y → o ≡ decimal z → ⊥)
-    → IsNoCommand (codes "demo" ∷ seed ∷ v ∷ o ∷ [])
-no_demo seed v o refused = none_of_four (codes "demo") seed v o (record {
-  pack = λ e. let k : 100 ≡ 112 = ap (λ w. get_or w 0 0) e in absurd (omega (arith, k));
-  unpack = λ e. let k : 100 ≡ 117 = ap (λ w. get_or w 0 0) e in absurd (omega (arith, k));
-  convert = λ e. let k : 100 ≡ 99 = ap (λ w. get_or w 0 0) e in absurd (omega (arith, k));
-  einsum = λ e. let k : 100 ≡ 101 = ap (λ w. get_or w 0 0) e in absurd (omega (arith, k));
-  spill = λ e. let k : 100 ≡ 115 = ap (λ w. get_or w 0 0) e in absurd (omega (arith, k));
-  demo = λ e. refused;
-})
-
--- the words of an einsum, where its specification has no name
-pub no_einsum : (text path spec : List ℕ) → (NamesSpec spec → ⊥) → IsNoCommand (codes "einsum" ∷ text ∷ path ∷ spec ∷ [])
-no_einsum text path spec refused = none_of_four (codes "einsum") text path spec (record {
-  pack = λ e. let k : 101 ≡ 112 = ap (λ w. get_or w 0 0) e in absurd (omega (arith, k));
-  unpack = λ e. let k : 101 ≡ 117 = ap (λ w. get_or w 0 0) e in absurd (omega (arith, k));
-  convert = λ e. let k : 101 ≡ 99 = ap (λ w. get_or w 0 0) e in absurd (omega (arith, k));
-  einsum = λ e held path. refused;
-  spill = λ e. let k : 101 ≡ 115 = ap (λ w. get_or w 0 0) e in absurd (omega (arith, k));
-  demo = λ e. let k : 101 ≡ 100 = ap (λ w. get_or w 0 0) e in absurd (omega (arith, k));
-})
-
--- the words of a run in pieces, where its specification has no name or one of its numbers is out of bounds
-pub no_spill : (spec budget limit : List ℕ) → (NamesSpec spec → (n m : ℕ) → n ≤ 2 ^ 40 → m ≤ 2 ^ 40 → budget ≡ decimal n → limit ≡ decimal m → ⊥)
-    → IsNoCommand (codes "spill" ∷ spec ∷ budget ∷ limit ∷ [])
-no_spill spec budget limit refused = none_of_four (codes "spill") spec budget limit (record {
-  pack = λ e. let k : 115 ≡ 112 = ap (λ w. get_or w 0 0) e in absurd (omega (arith, k));
-  unpack = λ e. let k : 115 ≡ 117 = ap (λ w. get_or w 0 0) e in absurd (omega (arith, k));
-  convert = λ e. let k : 115 ≡ 99 = ap (λ w. get_or w 0 0) e in absurd (omega (arith, k));
-  einsum = λ e. let k : 115 ≡ 101 = ap (λ w. get_or w 0 0) e in absurd (omega (arith, k));
-  spill = λ e. refused;
-  demo = λ e. let k : 115 ≡ 100 = ap (λ w. get_or w 0 0) e in absurd (omega (arith, k));
-})
-
--- the words of an expansion, where its tensor has no name
-pub no_expand : (spec tensor : List ℕ) → (NamesTensor tensor → ⊥) → IsNoCommand (codes "expand" ∷ spec ∷ tensor ∷ [])
-no_expand spec tensor refused = none_of_three (codes "expand") spec tensor (record {
-  run = λ e. let k : 101 ≡ 114 = ap (λ w. get_or w 0 0) e in absurd (omega (arith, k));
-  batch = λ e. let k : 101 ≡ 98 = ap (λ w. get_or w 0 0) e in absurd (omega (arith, k));
-  cert = λ e. let k : 101 ≡ 99 = ap (λ w. get_or w 0 0) e in absurd (omega (arith, k));
-  check = λ e. let k : 101 ≡ 99 = ap (λ w. get_or w 0 0) e in absurd (omega (arith, k));
-  expand = λ e names. refused;
-})
 
 -- Words are those of one command.
 
@@ -326,11 +180,6 @@ one_command words (spill s b l) (demo x v o) h k = let e : 115 ≡ 100 = verb_by
 one_command words (demo x v o) (spill s b l) h k = let e : 100 ≡ 115 = verb_byte 0 _ _ (sym h.words_are ∙ k.words_are) in absurd (omega (arith, e))
 one_command words a b h k =
     let e : length (verb_of a ∷ arguments_of a) ≡ length (verb_of b ∷ arguments_of b) = ap length (sym h.words_are ∙ k.words_are) in absurd (omega (arith, e))
-
--- a condition that was tested and does not hold is not
-pub is_true : (b : Bool) → false ≡ not b → b ≡ true
-is_true true e = refl
-is_true false e = e
 
 -- the words of the forms
 four_word : codes "4" ≡ decimal 4
