@@ -26,7 +26,7 @@ pub(crate) fn refusal_line(refusal: &Refusal) -> Line
 {
     match refusal {
         Refusal::Specification(fault) if wants_memory(fault) => memory_line(),
-        Refusal::Specification(fault) => spec_line(fault),
+        Refusal::Specification(fault) => joined("error 2: ", spec_text(fault).as_str(), "\n"),
         Refusal::Missing(name) => joined("error 3: no file ", name.as_str(), "\n"),
         Refusal::Array(tensor, trouble) => array_line(tensor, *trouble),
         Refusal::Budget(least) => numbered("error 5: budget needs ", *least as u128, "\n"),
@@ -35,8 +35,8 @@ pub(crate) fn refusal_line(refusal: &Refusal) -> Line
         Refusal::Tensor(name) => joined("error 12: no tensor ", name.as_str(), "\n"),
         Refusal::Misfit(place) => numbered("error 13: element ", *place as u128, " does not fit\n"),
         Refusal::Einsum(EinsumTrouble::Spec(fault)) if wants_memory(fault) => memory_line(),
-        Refusal::Einsum(trouble) => einsum_line(trouble),
-        Refusal::Spill(trouble) => spill_line(*trouble),
+        Refusal::Einsum(trouble) => joined("error 14: ", einsum_text(trouble).as_str(), "\n"),
+        Refusal::Spill(trouble) => joined("error 15: ", spill_text(*trouble).as_str(), "\n"),
         Refusal::Symmetry(tensor, trouble) => symmetry_line(tensor, *trouble),
         Refusal::Disk => fixed("error 8: disk fault\n"),
         Refusal::Memory => memory_line(),
@@ -79,15 +79,14 @@ pub(crate) fn numbered(before: &str, number: u128, after: &str) -> Line
     joined(before, digits.as_str(), after)
 }
 
-// The line of a text that is no specification.
-fn spec_line(fault: &SpecFault) -> Line
+// Where a text is no specification, and what is wrong there.
+fn spec_text(fault: &SpecFault) -> Line
     requires { reports.IsOfText fault.now }
-    ensures { result.bytes ≡ reports.error_text (Status.SpecRefused fault.now) }
+    ensures text { result.bytes ≡ reports.place_text fault.now ++ reports.fault_text fault.now }
+    ensures len { length result.bytes ≤ 150 }
 {
-    let mut line = fixed("error 2: ");
-    line.push_str(place_text(fault).as_str());
+    let mut line = place_text(fault);
     line.push_str(fault_text(fault).as_str());
-    line.push_str("\n");
     line
 }
 
@@ -189,17 +188,6 @@ fn array_line(tensor: &Name, trouble: ArrayTrouble) -> Line
     line
 }
 
-// The line of a refused einsum.
-fn einsum_line(trouble: &EinsumTrouble) -> Line
-    requires { reports.IsOfEinsum trouble.now }
-    ensures { result.bytes ≡ reports.error_text (Status.EinsumRefused trouble.now) }
-{
-    let mut line = fixed("error 14: ");
-    line.push_str(einsum_text(trouble).as_str());
-    line.push_str("\n");
-    line
-}
-
 fn einsum_text(trouble: &EinsumTrouble) -> Line
     requires { reports.IsOfEinsum trouble.now }
     ensures text { result.bytes ≡ reports.einsum_text trouble.now }
@@ -209,11 +197,7 @@ fn einsum_text(trouble: &EinsumTrouble) -> Line
         EinsumTrouble::BadText => fixed("bad text"),
         EinsumTrouble::BadSize(label) => label_text(*label),
         EinsumTrouble::BadPath(item) => numbered("path item ", *item as u128, ""),
-        EinsumTrouble::Spec(fault) => {
-            let mut line = place_text(fault);
-            line.push_str(fault_text(fault).as_str());
-            line
-        }
+        EinsumTrouble::Spec(fault) => spec_text(fault),
     }
 }
 
@@ -226,16 +210,6 @@ fn label_text(label: u8) -> Line
     if label < 128 {
         line.push(label as char);
     }
-    line
-}
-
-// The line of a tree that is not cut for a limit.
-fn spill_line(trouble: SpillTrouble) -> Line
-    ensures { result.bytes ≡ reports.error_text (Status.SpillRefused trouble) }
-{
-    let mut line = fixed("error 15: ");
-    line.push_str(spill_text(trouble).as_str());
-    line.push_str("\n");
     line
 }
 
