@@ -51,11 +51,9 @@ fn put_line<K: Sink>(status: Status, line: &str, out: &mut K) -> Status
     ensures cause { HasCause (K.faults out.old) (K.faults out.new) ⊥ }
 {
     match out.put(line.as_bytes()) {
-        Ok(()) | Err(OutFault::Failed) => status,
-        Err(OutFault::Memory) => match status {
-            Status::DiskFault => Status::DiskFault,
-            _ => Status::WantOfMemory,
-        },
+        // A failing disk is always told.
+        Err(OutFault::Memory) if !matches!(status, Status::DiskFault) => Status::WantOfMemory,
+        _ => status,
     }
 }
 
