@@ -7,13 +7,15 @@ use Rattle.std.proofs.lemmas.List.Elements.{All-contains}
 use Rattle.tce_space.specs.IndexSet.{IsWithin, has}
 use Rattle.tce_space.specs.Space.{IndexSpace}
 use Rattle.tce_tree.specs.ContractionTree.{ContractionTree, operations, node_loops}
-use Rattle.tce_states.specs.Relation.{Relation, above, none, joined, cut, Allows}
+use Rattle.tce_states.specs.Relation.{Relation, above, none, cut, Allows}
 use Rattle.tce_states.specs.Row.{Row, StandsFor, rows_joined}
 use Rattle.tce_nesting.specs.Ends.{IsTopOf, DoCross}
 use Rattle.tce_nesting.specs.Choices.{AreChoices, LeavesSize}
 use Rattle.tce_nesting.specs.declared.choice.Choice.{Choice}
 use Rattle.tce_nesting.proofs.SubsetLists.{dims_within}
 use Rattle.tce_check.specs.declared.parts.PartCost.{PartCost}
+use Rattle.tce_check.specs.Joint.{IsJointOf}
+use Rattle.tce_check.specs.Tops.{AreTops}
 use Rattle.tce_check.specs.Reach.{IsCostOf, IsLowered, IsFloor, AreFloors, ReachesChoice, ReachesAll, IsReach, IsReached, IsNoCost}
 use Rattle.tce_check.specs.Verdict.{StepCovered}
 use Rattle.tce_check.proofs.Joints.{choice_at, no_choice}
@@ -44,30 +46,48 @@ held_above : (fi fj r : Bool) → fi ≡ true → (fj ≡ true → r ≡ true) �
 held_above fi true r p f = let e = f refl in grind arith
 held_above fi false r p f = grind arith
 
-in_left : (x y : Bool) → x ≡ true → (x || y) ≡ true
-in_left x y h = grind arith
-
 -- the set's own nesting is coarser than what is left
 set_is_coarser : (fused : ℕ) (r : Relation) (i j : ℕ) → IsTrue (above (fused ∷ []) i j) → IsTrue (cut fused r i j)
 set_is_coarser fused r i j h = one_above (has fused i) (has fused j) (r i j) h
 
 -- and so is that of a top which is within the set
-top_is_coarser : (loops fused part : ℕ) (r s : Relation) → IsTopOf loops r part → IsWithin fused loops → IsWithin part fused → (i j : ℕ)
-    → IsTrue (above (part ∷ []) i j) → IsTrue (cut fused (joined r s) i j)
-top_is_coarser loops fused part r s top inner around i j h =
+top_is_coarser : (loops fused part : ℕ) (r : Relation) → IsTopOf loops r part → IsWithin fused loops → IsWithin part fused → (i j : ℕ)
+    → IsTrue (above (part ∷ []) i j) → IsTrue (cut fused r i j)
+top_is_coarser loops fused part r top inner around i j h =
     let parts = upper_of_one (has part i) (has part j) h in
-    held_above (has fused i) (has fused j) (joined r s i j) (around i parts.0)
-    (λ in_fused. in_left (r i j) (s i j) (top.upper i j parts.0 (inner j in_fused) parts.1))
+    held_above (has fused i) (has fused j) (r i j) (around i parts.0) (λ in_fused. top.upper i j parts.0 (inner j in_fused) parts.1)
 
 -- a set that is allowed is within a top, or the top is within it
-allowed_no_cross : (loops fused part : ℕ) (r s : Relation) → IsTopOf loops r part → IsWithin fused loops → Allows loops (joined r s) fused → DoCross fused part → ⊥
-allowed_no_cross loops fused part r s top inner allows cross = cross.0 (λ j in_fused. elim (cases_Bool (has part j)) [
+allowed_no_cross : (loops fused part : ℕ) (r : Relation) → IsTopOf loops r part → IsWithin fused loops → Allows loops r fused → DoCross fused part → ⊥
+allowed_no_cross loops fused part r top inner allows cross = cross.0 (λ j in_fused. elim (cases_Bool (has part j)) [
   | inl held ↦ held
   | inr lacks ↦ absurd (cross.1 (λ i in_part. elim (cases_Bool (has fused i)) [
     | inl also ↦ also
-    | inr out ↦ absurd (allows i j (top.within i in_part) out in_fused (in_left (r i j) (s i j) (top.upper i j in_part (inner j in_fused) lacks)))
+    | inr out ↦ absurd (allows i j (top.within i in_part) out in_fused (top.upper i j in_part (inner j in_fused) lacks))
   ]))
 ])
+
+-- ---- tops of two rows together
+
+in_left : (x y : Bool) → x ≡ true → (x || y) ≡ true
+in_left x y h = grind arith
+
+-- those of the left row
+pub tops_of_left : (loops : ℕ) (left right : Row) (tops : List ℕ) → AreTops loops left tops → All (IsTopOf loops (rows_joined left right)) tops
+tops_of_left loops left right tops are k d low =
+    let top = are k d low in record {
+      within = top.within;
+      upper = λ i j in_top in_loops out. in_left (above left.classes i j) (above right.classes i j) (top.upper i j in_top in_loops out);
+    }
+
+-- and those of their join
+pub tops_of_joint : (loops : ℕ) (left right joint : Row) (tops : List ℕ) → IsJointOf loops left right joint → AreTops loops joint tops
+    → All (IsTopOf loops (rows_joined left right)) tops
+tops_of_joint loops left right joint tops join are k d low =
+    let top = are k d low in record {
+      within = top.within;
+      upper = λ i j in_top in_loops out. subst IsTrue (join.classes.relation i j (top.within i in_top) in_loops) (top.upper i j in_top in_loops out);
+    }
 
 -- ---- steps
 
@@ -88,7 +108,7 @@ step_by_floor outer part reach fused size rows left right coarse small low floor
 -- the step of a choice
 step_of_reach : (space : IndexSpace) (tree : ContractionTree) (outer v : ℕ) (rows : List Row) (left right : Row) (reach : PartCost) (choice : Choice) → v < operations tree
     → LeavesSize space tree v choice → choice.size ≤ 2 ^ 90 → left.cost < 2 ^ 96 → right.cost < 2 ^ 96 → reach.cost ≤ left.cost + right.cost
-    → IsTopOf (node_loops tree v) (above left.classes) reach.part → ReachesChoice outer rows reach choice → StepCovered space tree outer v rows left right choice.fused
+    → IsTopOf (node_loops tree v) (rows_joined left right) reach.part → ReachesChoice outer rows reach choice → StepCovered space tree outer v rows left right choice.fused
 step_of_reach space tree outer v rows left right reach choice inside size small ll rl low top tells within allows =
     let loops = node_loops tree v in
     let inner : IsWithin choice.fused loops = λ i h. dims_within tree v inside i (within i h) in
@@ -99,8 +119,8 @@ step_of_reach space tree outer v rows left right reach choice inside size small 
           step_by_floor outer choice.fused reach.cost choice.fused choice.size rows left right (set_is_coarser choice.fused (rows_joined left right)) below low floor
       | inr (inl (around, floor)) ↦
           step_by_floor outer reach.part reach.cost choice.fused choice.size rows left right
-          (top_is_coarser loops choice.fused reach.part (above left.classes) (above right.classes) top inner around) below low floor
-      | inr (inr cross) ↦ absurd (allowed_no_cross loops choice.fused reach.part (above left.classes) (above right.classes) top inner allows cross)
+          (top_is_coarser loops choice.fused reach.part (rows_joined left right) top inner around) below low floor
+      | inr (inr cross) ↦ absurd (allowed_no_cross loops choice.fused reach.part (rows_joined left right) top inner allows cross)
     ])
 
 -- what reaches all choices is a reach

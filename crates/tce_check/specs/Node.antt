@@ -3,14 +3,14 @@ use Rattle.std.specs.Prelude.{ℕ, ◌+◌, ◌<◌, ◌≤◌, List}
 use Rattle.std.specs.List.{All}
 use Rattle.tce_space.specs.Limits.{cost_limit, max_volume}
 use Rattle.tce_tree.specs.ContractionTree.{operations, node_loops}
-use Rattle.tce_states.specs.Row.{Row}
+use Rattle.tce_states.specs.Row.{Row, rows_joined}
 use Rattle.tce_states.specs.Cover.{StepsCovered}
 use Rattle.tce_nesting.specs.Choices.{AreChoices}
+use Rattle.tce_nesting.specs.Ends.{IsTopOf}
 use Rattle.tce_nesting.specs.Stretches.{AreStretches}
 use Rattle.tce_nesting.specs.declared.runs.Run.{Run}
-use Rattle.tce_check.specs.Joint.{IsBound}
+use Rattle.tce_check.specs.Joint.{IsBound, IsJointOf}
 use Rattle.tce_check.specs.Reach.{IsReach}
-use Rattle.tce_check.specs.Tops.{AreTops}
 use Rattle.tce_check.specs.Verdict.{WhereJoined, IsLeastUncovered}
 use Rattle.tce_check.specs.declared.steps.Node.{Node}
 
@@ -32,10 +32,17 @@ abbrev pub IsReachOf : Node → Row → ℕ → Type 0
 IsReachOf node left reach =
     (right : Row) → right.cost < cost_limit → reach ≤ left.cost + right.cost → StepsCovered node.space.now node.tree.now node.outer node.number node.rows.now left right
 
--- so it is from each left row with these tops
+-- so it is from each two rows that have these tops where they are joined
 abbrev pub IsReachWith : Node → List ℕ → ℕ → Type 0
 IsReachWith node tops reach =
-    (left : Row) → AreTops (node_loops node.tree.now node.number) left tops → left.cost < cost_limit → IsReachOf node left reach
+    (left right : Row) → All (IsTopOf (node_loops node.tree.now node.number) (rows_joined left right)) tops → left.cost < cost_limit → right.cost < cost_limit
+    → reach ≤ left.cost + right.cost → StepsCovered node.space.now node.tree.now node.outer node.number node.rows.now left right
+
+-- some row of the node stands for each step from two rows with this join
+abbrev pub JointCovered : Node → Row → Type 0
+JointCovered node joint =
+    (left right : Row) → IsJointOf (node_loops node.tree.now node.number) left right joint → left.cost < cost_limit → right.cost < cost_limit
+    → StepsCovered node.space.now node.tree.now node.outer node.number node.rows.now left right
 
 -- some row of the node stands for each step from the left row and one that costs no less than the run
 abbrev pub IsDear : Node → Row → Run → Type 0

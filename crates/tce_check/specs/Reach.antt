@@ -1,4 +1,4 @@
--- From which costs on rows with one class stand for all steps from rows of which the left one puts a part of the loops above the others.
+-- From which costs on rows with one class stand for all steps from rows that together put a part of the loops above the others.
 use Rattle.std.specs.Prelude.{◌≡◌, ◌⊎◌, ℕ, ◌+◌, ◌-◌, ◌^◌, ◌<◌, ◌≤◌, List, [], ◌∷◌, Contains, Option}
 use Rattle.std.specs.List.{All, Any}
 use Rattle.tce_space.specs.IndexSet.{IsWithin}
@@ -6,7 +6,7 @@ use Rattle.tce_space.specs.Limits.{cost_limit}
 use Rattle.tce_space.specs.Space.{IndexSpace}
 use Rattle.tce_tree.specs.ContractionTree.{ContractionTree, node_loops}
 use Rattle.tce_states.specs.Relation.{above, IsCoarser}
-use Rattle.tce_states.specs.Row.{Row, StandsFor}
+use Rattle.tce_states.specs.Row.{Row, StandsFor, rows_joined}
 use Rattle.tce_states.specs.Cover.{StepsCovered}
 use Rattle.tce_nesting.specs.Ends.{IsTopOf, DoCross}
 use Rattle.tce_nesting.specs.declared.choice.Choice.{Choice}
@@ -52,8 +52,8 @@ ReachesAll floors choices reach = (outer : ℕ) (rows : List Row) → AreFloors 
 abbrev pub IsReached : ℕ → List Row → List Choice → PartCost → Type 0
 IsReached outer rows choices reach = IsNoCost reach ⊎ All (ReachesChoice outer rows reach) choices
 
--- from this sum of costs on, a row of the node stands for each step from rows of which the left one has the part as a top
+-- from this sum of costs on, a row of the node stands for each step from rows that have the part as a top where they are joined
 abbrev pub IsReach : IndexSpace → ContractionTree → ℕ → ℕ → List Row → PartCost → Type 0
 IsReach space tree outer v rows reach =
-    (left right : Row) → IsTopOf (node_loops tree v) (above left.classes) reach.part → left.cost < cost_limit → right.cost < cost_limit
+    (left right : Row) → IsTopOf (node_loops tree v) (rows_joined left right) reach.part → left.cost < cost_limit → right.cost < cost_limit
     → reach.cost ≤ left.cost + right.cost → StepsCovered space tree outer v rows left right

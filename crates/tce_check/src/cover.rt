@@ -4,7 +4,7 @@ ghost use Rattle.tce_space.specs.Limits.{cost_limit, max_volume};
 ghost use Rattle.tce_tree.specs.ContractionTree.{node_loops};
 ghost use Rattle.tce_nesting.specs.Ends.{AreRuns};
 ghost use Rattle.tce_check.specs.Joint.{ChoiceCovered};
-ghost use Rattle.tce_check.specs.Node.{IsReady, PairCovered, AreBelowLimit};
+ghost use Rattle.tce_check.specs.Node.{IsReady, PairCovered, JointCovered, AreBelowLimit};
 ghost use Rattle.tce_check.specs.Tops.{AreTops};
 
 use crate::joint::joint;
@@ -57,6 +57,19 @@ impl<'a> Node<'a> {
         true
     }
 
+    // Whether some row stands for each step from rows with this join. Rows with one class may stand for all, by what the join puts above all else.
+    fn covers_joint(&self, joint: &Row, hints: &mut [u32]) -> bool
+        requires ready { IsReady self.now }
+        requires small { joint.now.cost < 2 ^ 97 }
+        ensures { IsTrue result → JointCovered self.now joint.now }
+    {
+        let tops = tops_of(joint, self.tree.loops(self.number));
+        if self.reach_with(tops.as_slice()) <= joint.cost {
+            return true;
+        }
+        self.covers_choices(joint, hints)
+    }
+
     // Whether some row stands for each step from two rows.
     fn covers_pair(&self, left: &Row, right: &Row, hints: &mut [u32]) -> bool
         requires ready { IsReady self.now }
@@ -68,7 +81,7 @@ impl<'a> Node<'a> {
             return true;
         }
         match joint(left, right, self.tree.loops(self.number)) {
-            Some(joint) => self.covers_choices(&joint, hints),
+            Some(joint) => self.covers_joint(&joint, hints),
             None => true,
         }
     }

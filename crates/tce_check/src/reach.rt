@@ -1,4 +1,4 @@
-// From which sum of costs on rows of a node stand for all steps from rows of which the left one puts a part of the loops above the others.
+// From which sum of costs on rows of a node stand for all steps from rows that together put a part of the loops above the others.
 ghost use Rattle.std.specs.Prelude.{◌≤◌, ◌⊎◌, IsTrue, All};
 ghost use Rattle.tce_space.specs.IndexSet.{count};
 ghost use Rattle.tce_space.specs.Limits.{max_loops};
@@ -102,7 +102,7 @@ impl<'a> Kept<'a> {
 }
 
 impl<'a> Node<'a> {
-    // The least reach of a row with these tops.
+    // The least reach of rows that have these tops where they are joined.
     pub(crate) fn reach_with(&self, tops: &[IndexSet]) -> u128
         requires { IsReady self.now }
         ensures { IsReachWith self.now tops.now result }

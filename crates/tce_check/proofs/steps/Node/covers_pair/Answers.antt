@@ -3,7 +3,7 @@ use Rattle.std.specs.List.{Any}
 use Rattle.tce_states.specs.Relation.{Relation}
 use Rattle.tce_states.specs.Row.{Row, StandsFor}
 use Rattle.tce_check.specs.Joint.{IsJointOf}
-use Rattle.tce_check.proofs.Joints.{steps_of_bound, steps_of_choices}
+use Rattle.tce_check.proofs.Joints.{steps_of_bound}
 use Rattle.tce_check.proofs.steps.Node.covers_pair.Goals as goal
 
 pub returns-then-stands_for_all : goal.returns-then-stands_for_all
@@ -16,7 +16,5 @@ returns-then-stands_for_all c _ =
 
 pub returns-in-Some : goal.returns-in-Some
 returns-in-Some c h _ =
-    let node = c.args.self.now in
     let join = subst (λ s. IsJointOf s c.args.left.now c.args.right.now c.in-Some.joint) c.loops.ensures.value c.in-Some.ensures.joins in
-    steps_of_choices node.space.now node.tree.now node.outer node.number node.rows.now c.args.left.now c.args.right.now c.in-Some.joint
-    node.choices.now c.requires.ready.inside join c.requires.ready.choices (c.covers_choices.ensures h)
+    c.covers_joint.ensures h c.args.left.now c.args.right.now join c.requires.left c.requires.right

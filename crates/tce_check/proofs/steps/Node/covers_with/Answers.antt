@@ -6,6 +6,7 @@ use Rattle.tce_tree.specs.ContractionTree.{node_loops}
 use Rattle.tce_check.specs.Tops.{AreTops}
 use Rattle.tce_check.proofs.Firsts.{one_more}
 use Rattle.tce_nesting.proofs.RunParts.{run_at}
+use Rattle.tce_check.proofs.Reaches.{tops_of_left}
 use Rattle.tce_check.proofs.RunParts.{run_skipped, run_dear}
 use Rattle.tce_check.proofs.steps.Node.covers_with.Goals as goal
 
@@ -52,9 +53,11 @@ covers_next-requires-clause-tops c =
     (subst (λ loops. AreTops loops left c.tops_of-tops.result.items) c.loops-loops.ensures.value c.tops_of-tops.ensures)
 
 pub is_dear-requires-clause-reach : goal.is_dear-requires-clause-reach
-is_dear-requires-clause-reach c =
+is_dear-requires-clause-reach c right rl =
     let node = c.args.self.now in
+    let loops = node_loops node.tree.now node.number in
     let left = c.args.left.now in
-    c.reach_with-reach.ensures left
-    (subst (AreTops (node_loops node.tree.now node.number) left) (sym c.as_slice.ensures.value)
-    (subst (λ loops. AreTops loops left c.tops_of-tops.result.items) c.loops-loops.ensures.value c.tops_of-tops.ensures)) c.requires.left
+    c.reach_with-reach.ensures left right
+    (tops_of_left loops left right c.as_slice.result.now
+    (subst (AreTops loops left) (sym c.as_slice.ensures.value)
+    (subst (λ all. AreTops all left c.tops_of-tops.result.items) c.loops-loops.ensures.value c.tops_of-tops.ensures))) c.requires.left rl
