@@ -84,11 +84,6 @@ pub full_is_state : (space : IndexSpace) (tree : ContractionTree) (least : ℕ) 
     → IsStateOf space tree candidate
 full_is_state space tree least candidate kept full = elim kept.kind [ inl is ↦ is | inr none ↦ absurd (omega (arith, none.fewer, full)) ]
 
--- where it has fewer, it costs at least so much
-pub short_is_high : (space : IndexSpace) (tree : ContractionTree) (least : ℕ) (candidate : Candidate) → IsKept space tree least candidate → length candidate.sets.items < operations tree
-    → least ≤ candidate.row.cost
-short_is_high space tree least candidate kept short = elim kept.kind [ inl is ↦ absurd (omega (arith, is.count, short)) | inr none ↦ none.high ]
-
 module _ (space : IndexSpace) (tree : ContractionTree) (found : Searched) (all : AreKept space tree found) where
   leaf_kept : (subtree : ContractionTree) → is_leaf subtree ≡ true → All (IsKept space subtree found.least) (leaf_candidate ∷ [])
   leaf_kept subtree leaf_tree =
