@@ -66,8 +66,7 @@ impl Bounds {
     /// How far the subtree of a node is searched: the ceiling less what is known of the operands beside the way to the root.
     pub(crate) fn target(&self, tree: &Tree, v: u8) -> u128
         requires { v < operations tree.now }
-        ensures small { result ≤ self.now.ceiling }
-        ensures plain { self.now.learns ≡ false → result ≡ self.now.ceiling }
+        ensures { result ≤ self.now.ceiling }
     {
         let mut target = self.ceiling;
         let mut below = v;
@@ -96,7 +95,6 @@ impl Bounds {
     // What is known of the other operand of a node.
     fn beside(&self, tree: &Tree, p: u8, below: u8) -> u128
         requires { p < operations tree.now }
-        ensures { self.now.learns ≡ false → result ≡ 0 }
     {
         let left = self.of_operand(tree.left(p), below);
         match tree.right(p) {
@@ -106,18 +104,14 @@ impl Bounds {
     }
 
     // What is known of an operand, where it is not the node `below`.
-    fn of_operand(&self, operand: &Operand, below: u8) -> u128
-        ensures { self.now.learns ≡ false → result ≡ 0 }
-    {
+    fn of_operand(&self, operand: &Operand, below: u8) -> u128 {
         match operand {
             Operand::Node(u) if *u != below => self.of_node(*u),
             _ => 0,
         }
     }
 
-    fn of_node(&self, u: u8) -> u128
-        ensures { self.now.learns ≡ false → result ≡ 0 }
-    {
+    fn of_node(&self, u: u8) -> u128 {
         if !self.learns {
             return 0;
         }
@@ -152,6 +146,19 @@ impl Bounds {
         let mut ahead = *self;
         ahead.ceiling = end.min(self.ceiling * FARTHER);
         Some(ahead)
+    }
+
+    /// The bounds of one more round after one that found a fusion with this memory: it ends right above, where the one before went farther and kept few candidates.
+    pub(crate) fn right_above(&self, memory: u128) -> Option<Bounds>
+        ensures { IfSome result (λ closer. closer.ceiling < self.now.ceiling) }
+    {
+        let ceiling = memory.saturating_add(1);
+        if FEW <= self.kept || self.ceiling <= ceiling {
+            return None;
+        }
+        let mut closer = *self;
+        closer.ceiling = ceiling;
+        Some(closer)
     }
 
     /// Takes note of a fusion that takes this much memory: the next round ends where that is below its ceiling.

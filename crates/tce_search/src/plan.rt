@@ -39,7 +39,7 @@ enum Answer {
 
 /// A plan of a legal fusion of the tree such that no legal fusion takes less memory, with its standard orders, the sizes of its nodes, its memory in elements, and tables of states that show it to be least.
 ///
-/// It is sought below a limit that grows until there is one, so that states which cost more need not be told apart (a search in rounds, after Korf 1985).
+/// It is sought below a limit that grows until there is one, so that states which cost more need not be told apart (a search in rounds, after Korf 1985). Where that is short, one more round right above its memory makes the tables shorter.
 ///
 /// The tables have for each step from rows of a node's operands a row that is coarser on the loops of the node's parent and costs no more, and no row that is so for another row of its node. Only want of memory is refused.
 pub fn search(alloc: Global, space: &Space, tree: &Tree) -> Result<Plan, AllocError>
@@ -90,12 +90,36 @@ fn search_below(
     while least < end {
         bounds.raise(end);
         match search_round(alloc, space, tree, &mut bounds)? {
-            Answer::Least(plan) => return Ok(Some(plan)),
+            Answer::Least(plan) => return Ok(Some(shortened(alloc, space, tree, &bounds, plan)?)),
             Answer::AtLeast(memory) => least = memory,
         }
         look_ahead(alloc, space, tree, &mut bounds, end)?;
     }
     Ok(None)
+}
+
+// The plan of a round, or where one more round right above its memory is short the plan of that: its tables have no states that cost more.
+fn shortened(
+    alloc: Global,
+    space: &Space,
+    tree: &Tree,
+    bounds: &Bounds,
+    plan: Plan,
+) -> Result<Plan, AllocError>
+    requires measured { IsMeasured space.now tree.now }
+    requires small { bounds.now.ceiling < cost_limit }
+    requires least { IsLeastPlan space.now tree.now plan }
+    requires below { plan.memory < bounds.now.ceiling }
+    ensures least { IfOk result (IsLeastPlan space.now tree.now) }
+    ensures below { IfOk result (λ found. found.memory < bounds.now.ceiling) }
+{
+    let Some(mut closer) = bounds.right_above(plan.memory) else {
+        return Ok(plan);
+    };
+    match search_round(alloc, space, tree, &mut closer)? {
+        Answer::Least(shorter) => Ok(shorter),
+        Answer::AtLeast(_) => Ok(plan),
+    }
 }
 
 // A plan of a least fusion, where one takes less memory than the ceiling and what is known of subtrees does not hide it.

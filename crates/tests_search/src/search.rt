@@ -56,6 +56,15 @@ fn expect_sizes(rt: &impl Abort, plan: &Plan, sizes: &[u128]) {
     assert!(rt; plan.sizes.as_slice() == sizes);
 }
 
+// No row costs more than this.
+fn expect_costs(rt: &impl Abort, plan: &Plan, most: u128) {
+    for v in 0..plan.tables.lists() {
+        for row in plan.tables.rows(v) {
+            assert!(rt; row.cost <= most);
+        }
+    }
+}
+
 #[test]
 fn two_sums_fuse_one_index(rt: HostRuntime) {
     let plan = plan_for(&rt, rt.alloc(), TWO_SUMS);
@@ -72,6 +81,8 @@ fn three_sums_keep_few_elements(rt: HostRuntime) {
     expect_fused(&rt, &plan, wanted.as_slice());
     // all dims of the first product in one class
     expect_first_row(&rt, &plan, 5, 0b1000111110, 1);
+    // what costs more than one element above the memory is not told apart
+    expect_costs(&rt, &plan, 10005);
 }
 
 // Lines of a tree by its name, a guess of its least memory, a limit, and the memory and the sets of the plan within the
