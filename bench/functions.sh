@@ -1,6 +1,6 @@
 #!/bin/sh
 # Checks a crate, one function after the other, and prints the processor seconds that each function and each file of lemmas
-# took, dearest first.
+# took, dearest first, and behind them those of its goals, which shrink where a dear goal gets a written answer.
 # usage: bench/functions.sh NAME [WORD ..]     What stands behind the name goes to rt check, as --test or --only FUNCTION.
 # A check keeps what it has proved, each part as it is done: a part took what the check took since the part before. What an
 # earlier check kept is not proved again and has no row. Reading what lies below is among the rest.
@@ -67,13 +67,15 @@ heads = {head.replace("::", ".") for head in heads}
 for top in ("proofs", "specs"):
     for folder, _, names in os.walk(top):
         heads |= {f"{folder}/{it}"[len(top) + 1 : -6].replace("/", ".") for it in names if it[0].isupper()}
-seconds = collections.Counter()
+seconds, of_goals = collections.Counter(), collections.Counter()
 for part, took in parts:
     words = part.split(".")
     ends = (".".join(words[:end]) for end in range(len(words), 0, -1))
     functions = [it for it in ends if it in heads and not re.search(r"\.(Answers|Invariants|Proof)$", it)]
-    seconds[functions[0] if functions else "the rest"] += took
+    head = functions[0] if functions else "the rest"
+    seconds[head] += took
+    of_goals[head] += took if re.search(r"\.(Proof|Answers)(\.decls)?$", part) else 0
 for head, took in seconds.most_common():
-    print(f"{took:8.2f} {head}")
+    print(f"{took:8.2f} {of_goals[head]:8.2f} {head}")
 sys.exit(check.returncode)
 END_OF_PYTHON
