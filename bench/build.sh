@@ -35,14 +35,9 @@ copy_crates() {
     done
 }
 
-# copy_disk LIBRARY..: begins a program crates/tce over these libraries, with the disk of the repository's program
-copy_disk() {
-    mkdir -p crates/tce/src crates/tce/specs crates/tce/proofs
-    for part in src/disk.rt src/kept.rt specs/Kept.antt proofs/Counted.antt proofs/Tables.antt proofs/disk proofs/kept; do
-        cp -r "$top/crates/tce/$part" "crates/tce/$part"
-    done
-    echo 'pub mod Kept' > crates/tce/specs/Lib.antt
-    printf 'pub mod Counted\npub mod Tables\n' > crates/tce/proofs/Lib.antt
+# begin_program LIBRARY..: begins a program crates/tce over these libraries
+begin_program() {
+    mkdir -p crates/tce/src
     echo "tce: $*" >> crates.txt
     cp "$top/HANDLES" .
     git init -q .

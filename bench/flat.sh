@@ -3,14 +3,14 @@
 # unpack flush the file before its first bytes are written, so they are held against a cp that is followed by `sync FILE`.
 # To be run by hand, at the top of the repository: sh bench/flat.sh
 #
-# The disk is copied from crates/tce into a throw-away program that packs or unpacks once. Each side is timed from its
+# A throw-away program packs or unpacks once over the disk of the repository's program. Each side is timed from its
 # start to its end; the rounds alternate, and the least time of each side counts. Work that earlier checks kept in out/
 # is used, so `rt check` in crates/tce_tools makes this quick.
 set -eu
 rounds=5
 . "$(dirname "$0")/build.sh"
-copy_crates tce_base tce_outside tce_space tce_array tce_tools
-copy_disk arrayvec tce_outside tce_space tce_tools
+copy_crates tce_base tce_outside tce_system tce_space tce_array tce_tools
+begin_program arrayvec tce_outside tce_system tce_space tce_tools
 
 cat > crates/tce/src/main.rt <<'RATTLE'
 //! Packs or unpacks one file: the words are 0 or 1, and then an extent and an edge for each dimension.
@@ -19,15 +19,12 @@ cat > crates/tce/src/main.rt <<'RATTLE'
 ghost use Rattle.std.specs.Prelude.{◌<◌, ◌≤◌, IsTrue};
 ghost use Rattle.tce_space.specs.Name.{is_name};
 
-mod disk;
-mod kept;
-
 use arrayvec::ArrayVec;
-use disk::FileDisk;
 use std::process::ExitCode;
 use std::{env, io};
 use tce_outside::Disk;
 use tce_space::{Name, Shape, Space, is_name};
+use tce_system::FileDisk;
 use tce_tools::{pack, unpack};
 
 const LETTERS: [&str; 8] = ["a", "b", "c", "d", "e", "f", "g", "h"];

@@ -13,8 +13,8 @@
 set -eu
 rounds=${ROUNDS:-3}
 . "$(dirname "$0")/build.sh"
-copy_crates tce_base tce_kernel tce_space tce_words tce_outside tce_frames tce_array tce_cache
-copy_disk arrayvec tce_space tce_outside tce_array tce_words tce_cache
+copy_crates tce_base tce_kernel tce_space tce_words tce_outside tce_system tce_frames tce_array tce_cache
+begin_program arrayvec tce_space tce_outside tce_system tce_array tce_words tce_cache
 
 cat > crates/tce/src/main.rt <<'RATTLE'
 //! Touches tiles: `held`, `read` or `written` in the words.
@@ -22,8 +22,6 @@ cat > crates/tce/src/main.rt <<'RATTLE'
 //! It prints the nanoseconds of the processor that the touches took, and how many tiles were not held.
 #![tactic(auto)]
 
-mod disk;
-mod kept;
 mod trial;
 
 use std::fs::File;
@@ -101,7 +99,6 @@ ghost use Rattle.std.specs.Prelude.{◌≡◌, ◌+◌, ◌*◌, ◌^◌, [], �
 ghost use Rattle.tce_space.specs.Tiling.{tile_words, tiles};
 ghost use Rattle.tce_cache.specs.Cache.{HasRoom};
 
-use crate::disk::FileDisk;
 use arrayvec::ArrayVec;
 use std::alloc::Global;
 use std::fs::File;
@@ -109,6 +106,7 @@ use std::rt::Files;
 use tce_array::Form;
 use tce_cache::{ArrayRef, Cache};
 use tce_space::{FileName, Name, Shape, Space, is_name};
+use tce_system::FileDisk;
 use tce_words::{HeapRoom, Room, Words};
 
 /// How many tiles the array has.

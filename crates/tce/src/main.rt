@@ -8,14 +8,9 @@ ghost use Rattle.std.specs.Prelude.{◌≡◌};
 ghost use Rattle.std.specs.Process.{exit_status};
 ghost use Rattle.tce_command.specs.Report.{code_of};
 
-mod disk;
-mod kept;
-mod sink;
 #[cfg(test)]
 mod tests;
 
-use disk::FileDisk;
-use sink::OutSink;
 use std::alloc::{AllocError, Global};
 use std::env;
 use std::fs::File;
@@ -24,6 +19,7 @@ use std::process::ExitCode;
 use std::rt::{Env, Files};
 use tce_holes::SparseDisk;
 use tce_outside::Sink;
+use tce_system::{FileDisk, OutSink};
 use tce_top::{Status, tce};
 use tce_words::HeapRoom;
 

@@ -1,5 +1,5 @@
-//! Tests of sets of indexes and shapes, fields of lines, kernels, words, frames, the outside and the disk that does not read
-//! holes.
+//! Tests of sets of indexes and shapes, fields of lines, kernels, words, frames, the outside, the disk that does not read
+//! holes, and the files and the standard output of the system.
 #![tactic(auto)]
 
 #[cfg(test)]
@@ -16,5 +16,7 @@ mod outside;
 mod space;
 #[cfg(test)]
 mod sparse_disk;
+#[cfg(test)]
+mod system;
 #[cfg(test)]
 mod words;

@@ -79,12 +79,12 @@ impl<'a, R: Files<File = File>> FileDisk<'a, R> {
         ensures { self.new.faults ≡ self.old.faults }
     {
         if let Some(file) = self.reading.get(name) {
-            return is_filled(file, at, out);
+            return read_fully(file, at, out);
         }
         let Ok(file) = OpenOptions::new().read(true).open(self.files, name) else {
             return false;
         };
-        let filled = is_filled(&file, at, out);
+        let filled = read_fully(&file, at, out);
         self.reading.keep(name, file);
         filled
     }
@@ -94,30 +94,30 @@ impl<'a, R: Files<File = File>> FileDisk<'a, R> {
         ensures { self.new.faults ≡ self.old.faults }
     {
         if let Some(file) = self.writing.get(name) {
-            return is_written_in_order(file, at, bytes);
+            return write_in_order(file, at, bytes);
         }
         let Ok(file) = OpenOptions::new().write(true).open(self.files, name) else {
             return false;
         };
-        let wrote = is_written_in_order(&file, at, bytes);
+        let wrote = write_in_order(&file, at, bytes);
         self.writing.keep(name, file);
         wrote
     }
 }
 
-// Reads until `out` is full, however few bytes one call of the system gives.
-pub(crate) fn is_filled<F: FileExt>(file: &F, at: u64, out: &mut [u8]) -> bool {
+/// Reads until `out` is full, however few bytes one call of the system gives, and answers whether that went well.
+pub fn read_fully<F: FileExt>(file: &F, at: u64, out: &mut [u8]) -> bool {
     file.read_exact_at(out, at).is_ok()
 }
 
 // Writes all of the bytes. Before those that begin a file the rest of it is flushed, so that a system which is interrupted, or
 // tells a failed write only then, has no head of an array on its disk without the elements.
-fn is_written_in_order(file: &File, at: u64, bytes: &[u8]) -> bool {
-    (at > 0 || file.sync_data().is_ok()) && is_written(file, at, bytes)
+fn write_in_order(file: &File, at: u64, bytes: &[u8]) -> bool {
+    (at > 0 || file.sync_data().is_ok()) && write_fully(file, at, bytes)
 }
 
-// Writes all of the bytes, however few one call of the system takes.
-pub(crate) fn is_written<F: FileExt>(file: &F, at: u64, bytes: &[u8]) -> bool {
+/// Writes all of the bytes, however few one call of the system takes, and answers whether that went well.
+pub fn write_fully<F: FileExt>(file: &F, at: u64, bytes: &[u8]) -> bool {
     file.write_all_at(bytes, at).is_ok()
 }
 

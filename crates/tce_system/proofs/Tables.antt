@@ -6,7 +6,7 @@ use Rattle.std.specs.HashMap.{HashMap, UpdatesBy, get_by_text}
 use Rattle.std.specs.Str.{bytes_eq}
 use Rattle.std.specs.String.{string_bytes, string_eq}
 use Rattle.std.specs.declared.string.String.{String}
-use Rattle.tce.specs.Kept.{KeepsOthers}
+use Rattle.tce_system.specs.Kept.{KeepsOthers}
 
 pub others_kept : {X Y S : Type 0} (name : List ℕ) (old new : HashMap (String Y) X S) (value : Option X) → UpdatesBy string_eq (λ k. bytes_eq name (string_bytes k)) old new value → KeepsOthers old new name
 others_kept name old new value updates other differs =

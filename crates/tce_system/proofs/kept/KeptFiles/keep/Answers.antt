@@ -3,9 +3,9 @@ use Rattle.std.specs.HashMap.{get_by}
 use Rattle.std.specs.Map.{lookup}
 use Rattle.std.specs.Str.{bytes_eq}
 use Rattle.std.specs.String.{string_bytes}
-use Rattle.tce.specs.Kept.{KeepsOthers}
-use Rattle.tce.proofs.Tables.{others_kept, either_way}
-use Rattle.tce.proofs.kept.KeptFiles.keep.Goals as goal
+use Rattle.tce_system.specs.Kept.{KeepsOthers}
+use Rattle.tce_system.proofs.Tables.{others_kept, either_way}
+use Rattle.tce_system.proofs.kept.KeptFiles.keep.Goals as goal
 
 pub returns-in-Ok-clause-kept : goal.returns-in-Ok-clause-kept
 returns-in-Ok-clause-kept c =

@@ -1,7 +1,7 @@
 use Rattle.std.proofs.Common.{rules, refl}
 use Rattle.std.proofs.lemmas.Option.{none-some}
-use Rattle.tce.proofs.Counted.{untold, untold_read, still_untold, counted_cause, counted_cause_of, counted_told, counted_told_of}
-use Rattle.tce.proofs.disk.FileDiskDisk.TheImpl.Goals as goal
+use Rattle.tce_system.proofs.Counted.{untold, untold_read, still_untold, counted_cause, counted_cause_of, counted_told, counted_told_of}
+use Rattle.tce_system.proofs.disk.FileDiskDisk.TheImpl.Goals as goal
 
 pub size-tells : goal.size-tells
 size-tells g c = record { length = untold c.result _; same = search rules; cause = counted_cause c.result _ _ c.ensures.counted; told = counted_told c.result _ _ c.ensures.counted }

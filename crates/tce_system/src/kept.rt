@@ -2,7 +2,7 @@
 ghost use Rattle.std.specs.Prelude.{◌≡◌, ◌⊎◌, None, Some};
 ghost use Rattle.std.specs.Option.{option_copied};
 ghost use Rattle.std.specs.HashMap.{get_by_text, IsEmpty, IsUnchanged};
-ghost use Rattle.tce.specs.Kept.{KeepsOthers};
+ghost use Rattle.tce_system.specs.Kept.{KeepsOthers};
 
 use std::alloc::Global;
 use std::collections::HashMap;
