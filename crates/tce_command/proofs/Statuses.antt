@@ -1,5 +1,5 @@
 -- Statuses of refusals, and their lines.
-use Rattle.std.proofs.Common.{◌≡◌, refl, sym, ap, ◌∙◌, ◌⊎◌, inl, inr, ◌++◌, Bool, true, false, if◌then◌else◌, codes, arith}
+use Rattle.std.proofs.Common.{◌≡◌, refl, sym, ap, ◌∙◌, ◌⊎◌, inl, inr, ℕ, nat_eq, List, ◌++◌, Bool, true, false, if◌then◌else◌, codes}
 use Rattle.tce_command.specs.Outcome.{HasLine}
 use Rattle.tce_command.specs.Refusals.{IsFree, SameRefusal}
 use Rattle.tce_command.specs.CommandRefusals.{EndsAlike, HasNames, MayReplace}
@@ -12,7 +12,6 @@ use Rattle.tce_command.specs.declared.trouble.CertFlaw.{CertFlaw}
 use Rattle.tce_command.specs.declared.trouble.CertFlaw.TheVariants as flaws
 use Rattle.tce_command.specs.declared.trouble.EinsumTrouble.{EinsumTrouble}
 use Rattle.tce_command.specs.declared.trouble.EinsumTrouble.TheVariants as einsums
-use Rattle.tce_command.specs.declared.trouble.SymTrouble.{SymTrouble}
 use Rattle.tce_command.specs.declared.refusal.Refusal.{Refusal}
 use Rattle.tce_command.specs.declared.refusal.Refusal.TheVariants as refusals
 use Rattle.tce_command.specs.declared.command_refusal.CommandRefusal.{CommandRefusal}
@@ -107,60 +106,36 @@ over names (EinsumRefused trouble) plain = refl
 over names (SpillRefused trouble) plain = refl
 over names (SymRefused trouble) plain = absurd plain
 
--- what the line of a status names beside it: nothing, an index, or a tensor that is stored in pairs
-kind_of : (status : Status) → NamesNoIndex status → NamesNothing status ⊎ ((trouble : SymTrouble) × (status ≡ SymRefused trouble))
-kind_of Done plain = inl tt
-kind_of BadWords plain = inl tt
-kind_of (SpecRefused fault) plain = inl tt
-kind_of (NoFile name) plain = inl tt
-kind_of (ArrayRefused tensor fault) plain = inl tt
-kind_of (BudgetTooSmall least) plain = inl tt
-kind_of (IntermediatesTooLarge memory) plain = inl tt
-kind_of (CertRefused trouble) plain = absurd plain
-kind_of DiskFault plain = inl tt
-kind_of SinkFault plain = inl tt
-kind_of WantOfMemory plain = inl tt
-kind_of (FlatRefused len) plain = inl tt
-kind_of (UnknownTensor name) plain = inl tt
-kind_of (DoesNotFit place) plain = inl tt
-kind_of (EinsumRefused trouble) plain = inl tt
-kind_of (SpillRefused trouble) plain = inl tt
-kind_of (SymRefused trouble) plain = inr (trouble, refl)
+-- a line that names no index is told by the exit status and what the status says
+abbrev line_of : LineNames → ℕ → List ℕ → List ℕ
+line_of names code text = if nat_eq code 16 then codes "error 16: " ++ names.tensor ++ codes ".sym: " ++ text ++ codes "\n" else text
 
--- another exit status than that of stored pairs
-other_code : (status : Status) → NamesNothing status → code_of status ≡ 16 → ⊥
-other_code Done nothing e = let n : 0 ≡ 16 = e in absurd (omega (arith, n))
-other_code BadWords nothing e = let n : 1 ≡ 16 = e in absurd (omega (arith, n))
-other_code (SpecRefused fault) nothing e = let n : 2 ≡ 16 = e in absurd (omega (arith, n))
-other_code (NoFile name) nothing e = let n : 3 ≡ 16 = e in absurd (omega (arith, n))
-other_code (ArrayRefused tensor fault) nothing e = let n : 4 ≡ 16 = e in absurd (omega (arith, n))
-other_code (BudgetTooSmall least) nothing e = let n : 5 ≡ 16 = e in absurd (omega (arith, n))
-other_code (IntermediatesTooLarge memory) nothing e = let n : 6 ≡ 16 = e in absurd (omega (arith, n))
-other_code (CertRefused trouble) nothing e = nothing
-other_code DiskFault nothing e = let n : 8 ≡ 16 = e in absurd (omega (arith, n))
-other_code SinkFault nothing e = let n : 9 ≡ 16 = e in absurd (omega (arith, n))
-other_code WantOfMemory nothing e = let n : 10 ≡ 16 = e in absurd (omega (arith, n))
-other_code (FlatRefused len) nothing e = let n : 11 ≡ 16 = e in absurd (omega (arith, n))
-other_code (UnknownTensor name) nothing e = let n : 12 ≡ 16 = e in absurd (omega (arith, n))
-other_code (DoesNotFit place) nothing e = let n : 13 ≡ 16 = e in absurd (omega (arith, n))
-other_code (EinsumRefused trouble) nothing e = let n : 14 ≡ 16 = e in absurd (omega (arith, n))
-other_code (SpillRefused trouble) nothing e = let n : 15 ≡ 16 = e in absurd (omega (arith, n))
-other_code (SymRefused trouble) nothing e = nothing
-
-with_trouble : (names : LineNames) (s t : Status) (x y : SymTrouble) → s ≡ SymRefused x → t ≡ SymRefused y → error_text s ≡ error_text t → line_over names s ≡ line_over names t
-with_trouble names s t x y a b text =
-    ap (line_over names) a ∙ ap (λ told. codes "error 16: " ++ names.tensor ++ codes ".sym: " ++ told ++ codes "\n") (sym (ap error_text a) ∙ text ∙ ap error_text b) ∙ sym (ap (line_over names) b)
+told_by_code : (names : LineNames) (status : Status) → NamesNoIndex status → line_over names status ≡ line_of names (code_of status) (error_text status)
+told_by_code names (CertRefused trouble) plain = absurd plain
+told_by_code names (SymRefused trouble) plain = refl
+told_by_code names Done plain = refl
+told_by_code names BadWords plain = refl
+told_by_code names (SpecRefused fault) plain = refl
+told_by_code names (NoFile name) plain = refl
+told_by_code names (ArrayRefused tensor fault) plain = refl
+told_by_code names (BudgetTooSmall least) plain = refl
+told_by_code names (IntermediatesTooLarge memory) plain = refl
+told_by_code names DiskFault plain = refl
+told_by_code names SinkFault plain = refl
+told_by_code names WantOfMemory plain = refl
+told_by_code names (FlatRefused len) plain = refl
+told_by_code names (UnknownTensor name) plain = refl
+told_by_code names (DoesNotFit place) plain = refl
+told_by_code names (EinsumRefused trouble) plain = refl
+told_by_code names (SpillRefused trouble) plain = refl
 
 -- statuses that say the same and have one exit status have one line
 over_alike : (names : LineNames) (s t : Status) → NamesNoIndex s → NamesNoIndex t → code_of s ≡ code_of t → error_text s ≡ error_text t → line_over names s ≡ line_over names t
 over_alike names s t plain other code text =
-    by_kinds (kind_of s plain) (kind_of t other)
-  where
-    by_kinds : NamesNothing s ⊎ ((trouble : SymTrouble) × (s ≡ SymRefused trouble)) → NamesNothing t ⊎ ((trouble : SymTrouble) × (t ≡ SymRefused trouble)) → line_over names s ≡ line_over names t
-    by_kinds (inl a) (inl b) = sym (over names s a) ∙ text ∙ over names t b
-    by_kinds (inl a) (inr y) = absurd (other_code s a (code ∙ ap code_of y.1))
-    by_kinds (inr x) (inl b) = absurd (other_code t b (sym code ∙ ap code_of x.1))
-    by_kinds (inr x) (inr y) = with_trouble names s t x.0 y.0 x.1 y.1 text
+    told_by_code names s plain
+    ∙ ap (λ n. line_of names n (error_text s)) code
+    ∙ ap (line_of names (code_of t)) text
+    ∙ sym (told_by_code names t other)
 
 -- refusals that users cannot tell apart end alike
 alike : (a b : Refusal) → SameRefusal a b → EndsAlike (Common a) (Common b)

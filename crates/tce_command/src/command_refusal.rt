@@ -8,7 +8,7 @@ use crate::trouble_line::{TroubleLine, trouble_line};
 use tce_space::Space;
 
 /// Why a command is refused.
-#[derive(Debug, Drop)]
+#[derive(Drop)]
 pub enum CommandRefusal {
     /// For a reason that other commands have too.
     Common(Refusal),

@@ -1,17 +1,16 @@
 // Why a command is refused.
 ghost use Rattle.std.specs.Prelude.{◌≡◌, ◌≤◌, length};
 ghost use Rattle.tce_command.specs.Refusals.{NamesFile};
-ghost use Rattle.tce_command.specs.Report.{IsWellFormed, einsum_status, refusal_line, status_of, wants_memory};
+ghost use Rattle.tce_command.specs.Report.{IsWellFormed, einsum_status, status_of, wants_memory};
 
 use crate::Status;
-use crate::line::{Line, refusal_line};
 use crate::trouble::{ArrayTrouble, EinsumTrouble, SpillTrouble, SymTrouble};
 use tce_declarations::SpecFault;
 use tce_space::{FileName, Name};
 use tce_tree::TreeFault;
 
 /// Why a command is refused.
-#[derive(Clone, Copy, Debug)]
+#[derive(Clone, Copy)]
 pub enum Refusal {
     /// The text is no specification.
     Specification(SpecFault),
@@ -93,12 +92,5 @@ impl Refusal {
             Refusal::Disk => Status::DiskFault,
             Refusal::Memory => Status::WantOfMemory,
         }
-    }
-
-    // The line of a command that is refused so.
-    pub(crate) fn line(&self) -> Line
-        ensures { result.bytes ≡ refusal_line self.now }
-    {
-        refusal_line(self)
     }
 }

@@ -5,7 +5,7 @@ ghost use Rattle.tce_command.specs.Outcome.{Grew, GrewWithin, HasLine, IsKept, I
 ghost use Rattle.tce_command.specs.CommandRefusals.{PutsRefusal};
 ghost use Rattle.tce_command.specs.Report.{IsWellFormed, ending_of};
 
-use crate::line::words_line;
+use crate::line::{refusal_line, words_line};
 use crate::{CommandRefusal, Status};
 use tce_outside::{OutFault, Sink};
 
@@ -20,7 +20,7 @@ pub fn refuse<K: Sink>(refusal: CommandRefusal, out: &mut K) -> Status
 {
     match refusal {
         CommandRefusal::Common(refusal) => {
-            let line = refusal.line();
+            let line = refusal_line(&refusal);
             put_line(refusal.status(), line.as_str(), out)
         }
         CommandRefusal::Certificate(flaw, line) => {

@@ -8,7 +8,7 @@ use tce_declarations::SpecFault;
 use tce_space::{FileName, Name};
 
 /// What a command ends with.
-#[derive(Debug, Drop)]
+#[derive(Drop)]
 pub enum Status {
     /// The command is done and reported.
     Done,

@@ -10,7 +10,7 @@ use tce_nesting::Nesting;
 use tce_space::IndexSet;
 
 /// Why a file that is there is no array of a tensor's shape.
-#[derive(Clone, Copy, Debug, PartialEq, Eq)]
+#[derive(Clone, Copy)]
 pub enum ArrayTrouble {
     /// The file has this length in bytes, which is not that of an array of the shape.
     BadLength(u64),
@@ -31,7 +31,7 @@ impl ArrayTrouble {
 }
 
 /// Why a certificate is refused.
-#[derive(Debug, Drop)]
+#[derive(Drop)]
 pub enum CertTrouble {
     /// The text is no certificate of a plan that fits the tree.
     Text(CertFault),
@@ -40,7 +40,7 @@ pub enum CertTrouble {
 }
 
 /// What is wrong with a certificate: what [`CertTrouble`] says of it, without want of memory and an accepted plan.
-#[derive(Debug, Drop)]
+#[derive(Drop)]
 pub enum CertFlaw {
     /// This line, counted from 1, has none of the forms of lines, has no line feed, or is missing.
     BadText(u64),
@@ -109,7 +109,7 @@ impl CertFlaw {
 }
 
 /// Why an einsum text that is contracted along a path is refused.
-#[derive(Clone, Copy, Debug, PartialEq, Eq)]
+#[derive(Clone, Copy)]
 pub enum EinsumTrouble {
     /// The text has not the form of operands, an output and sizes.
     BadText,
@@ -123,7 +123,7 @@ pub enum EinsumTrouble {
 }
 
 /// Why a tree is not cut for a limit.
-#[derive(Clone, Copy, Debug, PartialEq, Eq)]
+#[derive(Clone, Copy)]
 pub enum SpillTrouble {
     /// Thirty-two tensors are declared, so that a piece may need more than there may be.
     TooManyTensors,
@@ -132,7 +132,7 @@ pub enum SpillTrouble {
 }
 
 /// Why a file of elements that are stored once for each pair is refused.
-#[derive(Clone, Copy, Debug, PartialEq, Eq)]
+#[derive(Clone, Copy)]
 pub enum SymTrouble {
     /// The file has this length in bytes, which is not that of its positions and its sign.
     BadLength(u64),

@@ -15,7 +15,7 @@ use tce_report::push_names;
 use tce_space::{IndexSet, Space};
 
 /// The line of a refused certificate: a set and at most ten classes of at most 24 names each, and less than 100 bytes beside them.
-#[derive(Debug, Drop)]
+#[derive(Drop)]
 pub struct TroubleLine {
     pub text: LongText,
 }
