@@ -16,3 +16,4 @@ pub mod Worked
 pub mod PieceWrites
 pub mod Zeros
 pub mod NoHalf
+pub mod Faults

@@ -1,5 +1,5 @@
 -- What the calls answer, and why they refuse.
-use Rattle.std.specs.Prelude.{◌≡◌, ◌≢◌, ⊤, ℕ, ◌<◌, List, length, slice_index, Option, None, Result, Ok, Err}
+use Rattle.std.specs.Prelude.{◌≡◌, ◌≢◌, ⊤, ◌⊎◌, ℕ, ◌<◌, List, length, slice_index, Option, None, Result, Ok, Err, IfErr}
 use Rattle.std.specs.Option.{IsSomeAnd}
 use Rattle.tce_space.specs.Box.{place, IsInside}
 use Rattle.tce_space.specs.Tiling.{Tiling, elements}
@@ -75,6 +75,10 @@ IsConvertAnswer form s found (Err (Array fault)) = IsRefused s found fault
 IsConvertAnswer form s found (Err (DoesNotFit k)) = (form ≡ Narrow) × IsSomeAnd found (λ bytes. IsArray s bytes × IsFirstMisfit form s (array_element s bytes) k)
 IsConvertAnswer form s found (Err Disk) = ⊤
 IsConvertAnswer form s found (Err Memory) = HasFitting form s found
+
+-- copying fails only for the disk, or for want of memory
+abbrev pub IsOfCopy : Result (Unit {0}) ToolFault → Type 0
+IsOfCopy result = IfErr result (λ fault. (fault ≡ Disk) ⊎ (fault ≡ Memory))
 
 -- what the calls never answer, whatever the disk tells
 abbrev pub IsOfPack : Result (Unit {0}) ToolFault → Type 0

@@ -3,6 +3,7 @@ pub mod Storage
 pub mod NoHalf
 pub mod Runs
 pub mod Bands
+pub mod Faults
 pub mod Answers
 pub mod Demo
 pub mod Told

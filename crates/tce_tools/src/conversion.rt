@@ -11,8 +11,8 @@ use crate::banding::read_band;
 use crate::copying::copy;
 use crate::fault::ToolFault;
 use crate::storage::{ElementFile, Storage};
-use tce_array::{ArrayFault, Form, open};
-use tce_outside::{Disk, Failed, OutFault};
+use tce_array::{Form, open};
+use tce_outside::{Disk, Failed};
 use tce_space::Shape;
 
 // Whether a word can be stored in four bytes: as a signed number it is from -2^31 to 2^31 - 1.
@@ -92,9 +92,8 @@ fn misfit_for<D: Disk>(
     ensures told { TellsFaults (D.faults disk.old) (D.faults disk.new) (IsErr result) }
 {
     match wanted {
-        Form::One => Ok(None),
-        Form::Wide => Ok(None),
         Form::Narrow => find_misfit(disk, shape, name, form),
+        _ => Ok(None),
     }
 }
 
@@ -124,26 +123,16 @@ pub fn convert<D: Disk>(
     ensures cause { HasCause (D.faults disk.old) (D.faults disk.new) (IsDiskFault result) }
     ensures told { TellsFaults (D.faults disk.old) (D.faults disk.new) (IsDiskFault result) }
 {
-    let found = match open(disk, array, shape) {
-        Ok(found) => found,
-        Err(ArrayFault::Disk) => return Err(ToolFault::Disk),
-        Err(fault) => return Err(ToolFault::Array(fault)),
-    };
-    match misfit_for(disk, shape, array, found, form) {
-        Ok(None) => {}
-        Ok(Some(place)) => return Err(ToolFault::DoesNotFit(place)),
-        Err(Failed) => return Err(ToolFault::Disk),
+    let found = open(disk, array, shape)?;
+    if let Some(place) = misfit_for(disk, shape, array, found, form)? {
+        return Err(ToolFault::DoesNotFit(place));
     }
-    match copy(
+    copy(
         disk,
         shape,
         array,
         Storage::Array(found),
         to,
         Storage::Array(form),
-    ) {
-        Ok(()) => Ok(()),
-        Err(OutFault::Failed) => Err(ToolFault::Disk),
-        Err(OutFault::Memory) => Err(ToolFault::Memory),
-    }
+    )
 }

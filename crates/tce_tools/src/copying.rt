@@ -2,10 +2,12 @@
 ghost use Rattle.std.specs.Prelude.{◌≡◌, ◌≢◌, OnOk, IsErrOf};
 ghost use Rattle.tce_outside.specs.Files.{others};
 ghost use Rattle.tce_outside.specs.Fault.{HasCause, HasFailed, TellsFaults};
-ghost use Rattle.tce_tools.specs.Told.{HasStoredIn, Copies, CopiesBare, MayCopy};
+ghost use Rattle.tce_tools.specs.Answers.{IsOfCopy};
+ghost use Rattle.tce_tools.specs.Told.{HasStoredIn, Copies, CopiesBare, MayCopy, KeepsFiles, IsDiskFault};
 
 use crate::band::{LONGEST_BAND, band_at};
 use crate::banding::{read_band, write_band};
+use crate::fault::ToolFault;
 use crate::storage::{ElementFile, Storage, make, write_start};
 use tce_outside::{Disk, Failed, OutFault};
 use tce_space::Shape;
@@ -80,22 +82,23 @@ pub fn copy<D: Disk>(
     from: Storage,
     target: &str,
     to: Storage,
-) -> Result<(), OutFault>
+) -> Result<(), ToolFault>
     requires names { source.now ≢ target.now }
     requires source { HasStoredIn (D.files disk.old) source.now from shape.now }
     ensures copied { OnOk result
         (Copies source.now from target.now to shape.now (D.files disk.old) (D.files disk.new)) }
-    ensures memory { IsErrOf result OutFault.Memory → D.files disk.new ≡ D.files disk.old }
+    ensures own { IsOfCopy result }
+    ensures refused { KeepsFiles result (D.files disk.old) (D.files disk.new) }
     ensures no_half { MayCopy source.now from target.now to shape.now
         (D.files disk.old) (D.files disk.new) }
     ensures others { others target.now (D.files disk.new) ≡ others target.now (D.files disk.old) }
-    ensures cause { HasCause (D.faults disk.old) (D.faults disk.new) (HasFailed result) }
-    ensures told { TellsFaults (D.faults disk.old) (D.faults disk.new) (HasFailed result) }
+    ensures cause { HasCause (D.faults disk.old) (D.faults disk.new) (IsDiskFault result) }
+    ensures told { TellsFaults (D.faults disk.old) (D.faults disk.new) (IsDiskFault result) }
 {
     let _limits = shape.elements();
     copy_elements(disk, shape, source, from, target, to)?;
     match write_start(disk, target, to, shape) {
         Ok(()) => Ok(()),
-        Err(Failed) => Err(OutFault::Failed),
+        Err(Failed) => Err(ToolFault::Disk),
     }
 }

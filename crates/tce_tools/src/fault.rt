@@ -1,5 +1,6 @@
 // Why a call is refused.
 use tce_array::ArrayFault;
+use tce_outside::{Failed, OutFault};
 use thiserror::Error;
 
 /// Why a file is not packed, unpacked or converted.
@@ -23,4 +24,43 @@ pub enum ToolFault {
     /// The disk found no memory for the file: no file was changed.
     #[error("want of memory")]
     Memory,
+}
+
+impl From<Failed> for ToolFault {
+    ghost use Rattle.std.specs.Prelude.{◌≡◌};
+    ghost use Rattle.tce_tools.specs.declared.fault.ToolFault.TheVariants.{Disk};
+
+    ghost from_gives = { λ _ fault. fault ≡ Disk };
+
+    fn from(_failed: Failed) -> ToolFault {
+        ToolFault::Disk
+    }
+}
+
+impl From<OutFault> for ToolFault {
+    ghost use Rattle.std.specs.Prelude.{◌≡◌};
+    ghost use Rattle.tce_tools.specs.Faults.{of_making};
+
+    ghost from_gives = { λ fault made. made ≡ of_making fault };
+
+    fn from(fault: OutFault) -> ToolFault {
+        match fault {
+            OutFault::Failed => ToolFault::Disk,
+            OutFault::Memory => ToolFault::Memory,
+        }
+    }
+}
+
+impl From<ArrayFault> for ToolFault {
+    ghost use Rattle.std.specs.Prelude.{◌≡◌};
+    ghost use Rattle.tce_tools.specs.Faults.{of_opening};
+
+    ghost from_gives = { λ fault made. made ≡ of_opening fault };
+
+    fn from(fault: ArrayFault) -> ToolFault {
+        match fault {
+            ArrayFault::Disk => ToolFault::Disk,
+            fault => ToolFault::Array(fault),
+        }
+    }
 }

@@ -8,8 +8,8 @@ ghost use Rattle.tce_tools.specs.Told.{IsPackAnswerTo, IsUnpackAnswerTo, Packs, 
 use crate::copying::copy;
 use crate::fault::ToolFault;
 use crate::storage::Storage;
-use tce_array::{ArrayFault, Form, open};
-use tce_outside::{Disk, OutFault};
+use tce_array::{Form, open};
+use tce_outside::Disk;
 use tce_space::Shape;
 
 /// Makes an array file, in the first form, of the elements of a flat file.
@@ -30,27 +30,20 @@ pub fn pack<D: Disk>(disk: &mut D, shape: &Shape, flat: &str, array: &str) -> Re
     ensures cause { HasCause (D.faults disk.old) (D.faults disk.new) (IsDiskFault result) }
     ensures told { TellsFaults (D.faults disk.old) (D.faults disk.new) (IsDiskFault result) }
 {
-    let Ok(size) = disk.size(flat) else {
-        return Err(ToolFault::Disk);
-    };
-    let Some(len) = size else {
+    let Some(len) = disk.size(flat)? else {
         return Err(ToolFault::NoFlat);
     };
     if len != 8 * shape.elements() {
         return Err(ToolFault::FlatLength(len));
     }
-    match copy(
+    copy(
         disk,
         shape,
         flat,
         Storage::Flat,
         array,
         Storage::Array(Form::One),
-    ) {
-        Ok(()) => Ok(()),
-        Err(OutFault::Failed) => Err(ToolFault::Disk),
-        Err(OutFault::Memory) => Err(ToolFault::Memory),
-    }
+    )
 }
 
 /// Makes a flat file of the elements of an array file, whatever its form.
@@ -76,21 +69,13 @@ pub fn unpack<D: Disk>(
     ensures cause { HasCause (D.faults disk.old) (D.faults disk.new) (IsDiskFault result) }
     ensures told { TellsFaults (D.faults disk.old) (D.faults disk.new) (IsDiskFault result) }
 {
-    let form = match open(disk, array, shape) {
-        Ok(form) => form,
-        Err(ArrayFault::Disk) => return Err(ToolFault::Disk),
-        Err(fault) => return Err(ToolFault::Array(fault)),
-    };
-    match copy(
+    let form = open(disk, array, shape)?;
+    copy(
         disk,
         shape,
         array,
         Storage::Array(form),
         flat,
         Storage::Flat,
-    ) {
-        Ok(()) => Ok(()),
-        Err(OutFault::Failed) => Err(ToolFault::Disk),
-        Err(OutFault::Memory) => Err(ToolFault::Memory),
-    }
+    )
 }

@@ -1,65 +1,80 @@
-use Rattle.std.proofs.Common.{◌∙◌, ap, List, ℕ, Ok, Err, is_err, arith}
+use Rattle.std.proofs.Common.{◌∙◌, ap, refl, subst, List, ℕ, Option, Result, Ok, Err, rules, arith}
 use Rattle.tce_space.specs.Tiling.{Tiling}
+use Rattle.tce_outside.specs.Fault.{HasCause, TellsFaults}
 use Rattle.tce_outside.specs.Files.{Files, file, others}
+use Rattle.tce_array.specs.Forms.{form_bytes}
+use Rattle.tce_tools.specs.declared.fault.ToolFault.{ToolFault}
 use Rattle.tce_tools.specs.declared.storage.Storage.TheVariants.{Array}
+use Rattle.tce_tools.specs.Answers.{HasFitting, IsConvertAnswer, IsOfConvert}
 use Rattle.tce_tools.specs.Flat.{contents, array_element}
-use Rattle.tce_tools.specs.Storage.{stored_bytes, element_in, holding_by}
+use Rattle.tce_tools.specs.Storage.{stored_bytes, element_in, holding_by, last_written}
+use Rattle.tce_tools.specs.Told.{Copies, Converts, KeepsFiles, IsDiskFault}
+use Rattle.tce_tools.proofs.Faults.{not_opened, copied_or_not, on_ok, cause_behind}
 use Rattle.tce_tools.proofs.Forms.{opened_form, opened_fits, array_elements}
-use Rattle.tce_tools.proofs.NoHalf.{moved_left}
-use Rattle.tce_tools.proofs.Told.{held_told, failed_from}
+use Rattle.tce_tools.proofs.NoHalf.{same_left, moved_left}
+use Rattle.tce_tools.proofs.Told.{held_told}
 use Rattle.tce_tools.proofs.conversion.convert.Goals as goal
 
-pub returns-in-Ok-copy-clause-converted : goal.returns-in-Ok-copy-clause-converted
-returns-in-Ok-copy-clause-converted g c =
+pub returns-clause-converted : goal.returns-clause-converted
+returns-clause-converted g c =
     let s : Tiling = c.args.shape.now in
-    let old : Files → List ℕ = λ fs. stored_bytes (Array c.args.form) s (element_in (Array c.in-Ok.found) s (contents fs c.args.array.now)) in
-    held_told (g.D.Disk.files c.args.disk.now) _ c.args.to.now old (λ fs. stored_bytes (Array c.args.form) s (array_element s (contents fs c.args.array.now)))
-    (c.in-Ok-copy.ensures.copied ∙ ap (holding_by c.args.to.now old) (c.in-Ok-None.ensures.same ∙ c.in-Ok.ensures.same))
-    (λ fs was. ap (stored_bytes (Array c.args.form) s) (array_elements s c.in-Ok.found (contents fs c.args.array.now) (opened_form s c.in-Ok.found (file fs c.args.array.now) (c.in-Ok.ensures.form fs was))))
+    let before : Option Files = g.D.Disk.files c.args.disk.now in
+    let after : Option Files = g.D.Disk.files c.copy.new.disk in
+    let old : Files → List ℕ = λ fs. stored_bytes (Array c.args.form) s (element_in (Array c.in_ok-found.found) s (contents fs c.args.array.now)) in
+    on_ok c.copy.result (Copies c.args.array.now (Array c.in_ok-found.found) c.args.to.now (Array c.args.form) s (g.D.Disk.files c.misfit_for.new.disk) after) (Converts c.args.array.now c.args.form c.args.to.now s before after)
+    (λ copied. held_told before after c.args.to.now old (λ fs. stored_bytes (Array c.args.form) s (array_element s (contents fs c.args.array.now)))
+    (copied ∙ ap (holding_by c.args.to.now old) (c.misfit_for.ensures.same ∙ c.open.ensures.same))
+    (λ fs was. ap (stored_bytes (Array c.args.form) s) (array_elements s c.in_ok-found.found (contents fs c.args.array.now) (opened_form s c.in_ok-found.found (file fs c.args.array.now) (c.in_ok-found.ensures.form fs was)))))
+    c.copy.ensures.copied
 
-pub returns-in-Ok-copy-clause-answer : goal.returns-in-Ok-copy-clause-answer
-returns-in-Ok-copy-clause-answer g c x told =
-    opened_fits c.in-Ok.found c.args.form c.args.shape.now (file x c.args.array.now) (c.in-Ok.ensures.form x told)
-    (λ narrow. c.in-Ok-None.ensures.none (ap Ok c.in-Ok-None.field-0-is) narrow x (c.in-Ok.ensures.same ∙ told))
+pub returns-clause-answer : goal.returns-clause-answer
+returns-clause-answer g c x told =
+    let fitting : HasFitting c.args.form c.args.shape.now (file x c.args.array.now) =
+    opened_fits c.in_ok-found.found c.args.form c.args.shape.now (file x c.args.array.now) (c.in_ok-found.ensures.form x told)
+    (λ narrow. c.misfit_for.ensures.none (search rules) narrow x (c.open.ensures.same ∙ told)) in
+    copied_or_not (λ (r : Result (Unit {0}) ToolFault). IsConvertAnswer c.args.form c.args.shape.now (file x c.args.array.now) r) c.copy.result c.copy.ensures.own (λ done. fitting) tt fitting
 
-pub returns-in-Err-Memory-clause-answer : goal.returns-in-Err-Memory-clause-answer
-returns-in-Err-Memory-clause-answer g c x told =
-    opened_fits c.in-Ok.found c.args.form c.args.shape.now (file x c.args.array.now) (c.in-Ok.ensures.form x told)
-    (λ narrow. c.in-Ok-None.ensures.none (ap Ok c.in-Ok-None.field-0-is) narrow x (c.in-Ok.ensures.same ∙ told))
+pub returns-clause-own : goal.returns-clause-own
+returns-clause-own g c = copied_or_not (λ (r : Result (Unit {0}) ToolFault). IsOfConvert c.args.form r) c.copy.result c.copy.ensures.own (λ done. tt) tt tt
 
-pub returns-in-Ok-copy-clause-no_half : goal.returns-in-Ok-copy-clause-no_half
-returns-in-Ok-copy-clause-no_half g c =
-    moved_left (Array c.args.form) c.args.shape.now c.in-Ok.found c.args.array.now c.args.to.now (g.D.Disk.files c.args.disk.now) _ _ (c.in-Ok-None.ensures.same ∙ c.in-Ok.ensures.same) c.in-Ok.ensures.form c.copy.ensures.no_half
+pub returns-clause-refused : goal.returns-clause-refused
+returns-clause-refused g c = subst (λ (o : Option Files). KeepsFiles c.copy.result o (g.D.Disk.files c.copy.new.disk)) (c.misfit_for.ensures.same ∙ c.open.ensures.same) c.copy.ensures.refused
 
-pub returns-in-Err-Failed-clause-no_half : goal.returns-in-Err-Failed-clause-no_half
-returns-in-Err-Failed-clause-no_half g c =
-    moved_left (Array c.args.form) c.args.shape.now c.in-Ok.found c.args.array.now c.args.to.now (g.D.Disk.files c.args.disk.now) _ _ (c.in-Ok-None.ensures.same ∙ c.in-Ok.ensures.same) c.in-Ok.ensures.form c.copy.ensures.no_half
+pub returns-clause-no_half : goal.returns-clause-no_half
+returns-clause-no_half g c =
+    moved_left (Array c.args.form) c.args.shape.now c.in_ok-found.found c.args.array.now c.args.to.now (g.D.Disk.files c.args.disk.now) _ _ (c.misfit_for.ensures.same ∙ c.open.ensures.same) c.in_ok-found.ensures.form c.copy.ensures.no_half
 
-pub returns-in-Err-Memory-clause-no_half : goal.returns-in-Err-Memory-clause-no_half
-returns-in-Err-Memory-clause-no_half g c =
-    moved_left (Array c.args.form) c.args.shape.now c.in-Ok.found c.args.array.now c.args.to.now (g.D.Disk.files c.args.disk.now) _ _ (c.in-Ok-None.ensures.same ∙ c.in-Ok.ensures.same) c.in-Ok.ensures.form c.copy.ensures.no_half
+pub returns-clause-others : goal.returns-clause-others
+returns-clause-others g c = c.copy.ensures.others ∙ ap (others c.args.to.now) (c.misfit_for.ensures.same ∙ c.open.ensures.same)
 
-pub returns-in-Ok-copy-clause-others : goal.returns-in-Ok-copy-clause-others
-returns-in-Ok-copy-clause-others g c = c.copy.ensures.others ∙ ap (others c.args.to.now) (c.in-Ok-None.ensures.same ∙ c.in-Ok.ensures.same)
+pub returns-clause-cause : goal.returns-clause-cause
+returns-clause-cause g c = cause_behind _ (g.D.Disk.faults c.misfit_for.new.disk) _ _ (omega (arith, c.open.ensures.cause.later, c.misfit_for.ensures.cause.later)) c.copy.ensures.cause
 
-pub returns-in-Err-Failed-clause-others : goal.returns-in-Err-Failed-clause-others
-returns-in-Err-Failed-clause-others g c = c.copy.ensures.others ∙ ap (others c.args.to.now) (c.in-Ok-None.ensures.same ∙ c.in-Ok.ensures.same)
+pub returns-clause-told : goal.returns-clause-told
+returns-clause-told g c = λ fine. c.copy.ensures.told fine ∙ c.misfit_for.ensures.told (search rules) ∙ c.open.ensures.told (search rules)
 
-pub returns-in-Err-Memory-clause-others : goal.returns-in-Err-Memory-clause-others
-returns-in-Err-Memory-clause-others g c = c.copy.ensures.others ∙ ap (others c.args.to.now) (c.in-Ok-None.ensures.same ∙ c.in-Ok.ensures.same)
+pub returns-in_err-found-clause-answer : goal.returns-in_err-found-clause-answer
+returns-in_err-found-clause-answer g c x told = not_opened (λ (r : Result (Unit {0}) ToolFault). IsConvertAnswer c.args.form c.args.shape.now (file x c.args.array.now) r) c.from_residual.result c.in_err-found.field-0.0 c.from_residual.ensures.1 (λ other. (c.in_err-found.ensures.fault x told, other)) (λ disk. tt)
 
-pub returns-in-Ok-copy-clause-cause : goal.returns-in-Ok-copy-clause-cause
-returns-in-Ok-copy-clause-cause g c = record { later = omega (arith, c.in-Ok.ensures.cause.later, c.in-Ok-None.ensures.cause.later, c.copy.ensures.cause.later); rose = λ e. absurd cc }
+pub returns-in_err-found-clause-own : goal.returns-in_err-found-clause-own
+returns-in_err-found-clause-own g c = not_opened (λ (r : Result (Unit {0}) ToolFault). IsOfConvert c.args.form r) c.from_residual.result c.in_err-found.field-0.0 c.from_residual.ensures.1 (λ other. other) (λ disk. tt)
 
-pub returns-in-Err-Memory-clause-cause : goal.returns-in-Err-Memory-clause-cause
-returns-in-Err-Memory-clause-cause g c = record { later = omega (arith, c.in-Ok.ensures.cause.later, c.in-Ok-None.ensures.cause.later, c.copy.ensures.cause.later); rose = λ e. absurd cc }
+pub returns-in_err-found-clause-refused : goal.returns-in_err-found-clause-refused
+returns-in_err-found-clause-refused g c = not_opened (λ (r : Result (Unit {0}) ToolFault). KeepsFiles r (g.D.Disk.files c.args.disk.now) (g.D.Disk.files c.open.new.disk)) c.from_residual.result c.in_err-found.field-0.0 c.from_residual.ensures.1 (λ other no. c.open.ensures.same) (λ disk no. c.open.ensures.same)
 
-pub returns-in-Err-Failed-clause-cause : goal.returns-in-Err-Failed-clause-cause
-returns-in-Err-Failed-clause-cause g c =
-    failed_from _ (g.D.Disk.faults c.misfit_for.new.disk) _ _ _ (omega (arith, c.in-Ok.ensures.cause.later, c.in-Ok-None.ensures.cause.later)) c.copy.ensures.cause (c.in-Err-Failed.is ∙ ap Err c.in-Err-Failed.field-0-is)
+pub returns-in_err-found-clause-no_half : goal.returns-in_err-found-clause-no_half
+returns-in_err-found-clause-no_half g c = same_left c.args.to.now (last_written (Array c.args.form) c.args.shape.now) (λ fs. form_bytes c.args.form c.args.shape.now (array_element c.args.shape.now (contents fs c.args.array.now))) _ _ c.open.ensures.same
 
-pub returns-in-Ok-Some-clause-cause : goal.returns-in-Ok-Some-clause-cause
-returns-in-Ok-Some-clause-cause g c = record { later = omega (arith, c.in-Ok.ensures.cause.later, c.misfit_for.ensures.cause.later); rose = λ e. absurd cc }
+pub returns-in_err-found-clause-others : goal.returns-in_err-found-clause-others
+returns-in_err-found-clause-others g c = ap (others c.args.to.now) c.open.ensures.same
 
-pub returns-in-Err-misfit_for-clause-cause : goal.returns-in-Err-misfit_for-clause-cause
-returns-in-Err-misfit_for-clause-cause g c = failed_from _ (g.D.Disk.faults c.open.new.disk) _ _ _ c.in-Ok.ensures.cause.later c.misfit_for.ensures.cause (ap is_err c.in-Err-misfit_for.is)
+pub returns-in_err-found-clause-cause : goal.returns-in_err-found-clause-cause
+returns-in_err-found-clause-cause g c =
+    not_opened (λ (r : Result (Unit {0}) ToolFault). HasCause (g.D.Disk.faults c.args.disk.now) (g.D.Disk.faults c.open.new.disk) (IsDiskFault r)) c.from_residual.result c.in_err-found.field-0.0 c.from_residual.ensures.1
+    (λ other. record { later = c.open.ensures.cause.later; rose = λ failed. absurd cc })
+    (λ disk. record { later = c.open.ensures.cause.later; rose = λ failed. c.open.ensures.cause.rose (c.in_err-found.was ∙ ap Err disk) })
+
+pub returns-in_err-found-clause-told : goal.returns-in_err-found-clause-told
+returns-in_err-found-clause-told g c =
+    not_opened (λ (r : Result (Unit {0}) ToolFault). TellsFaults (g.D.Disk.faults c.args.disk.now) (g.D.Disk.faults c.open.new.disk) (IsDiskFault r)) c.from_residual.result c.in_err-found.field-0.0 c.from_residual.ensures.1
+    (λ other fine. c.open.ensures.told (λ failed. other (let was = c.in_err-found.was in cc))) (λ disk fine. absurd (fine refl))

@@ -1,6 +1,11 @@
-use Rattle.std.proofs.Common.{◌∙◌, ap, is_err, arith}
+use Rattle.std.proofs.Common.{◌∙◌, ap, refl, is_err, arith, inl, inr, Err, Option, Result}
+use Rattle.tce_outside.specs.Fault.{HasCause, TellsFaults}
+use Rattle.tce_tools.specs.declared.fault.ToolFault.{ToolFault}
+use Rattle.tce_tools.specs.Answers.{IsOfCopy}
 use Rattle.tce_tools.specs.Flat.{contents}
 use Rattle.tce_tools.specs.Storage.{element_in}
+use Rattle.tce_tools.specs.Told.{KeepsFiles, IsDiskFault}
+use Rattle.tce_tools.proofs.Faults.{not_made}
 use Rattle.tce_tools.proofs.NoHalf.{bare_left, bare_stored}
 use Rattle.tce_tools.proofs.Told.{failed_from}
 use Rattle.tce_tools.proofs.copying.copy.Goals as goal
@@ -31,3 +36,22 @@ returns-in-Ok-clause-cause g c = record { later = omega (arith, c.copy_elements.
 
 pub returns-in-Err-clause-cause : goal.returns-in-Err-clause-cause
 returns-in-Err-clause-cause g c = failed_from _ (g.D.Disk.faults c.copy_elements.new.disk) _ _ _ c.copy_elements.ensures.cause.later c.write_start.ensures.cause (ap is_err c.in-Err.is)
+
+pub returns-in_err-copy_elements-clause-own : goal.returns-in_err-copy_elements-clause-own
+returns-in_err-copy_elements-clause-own g c = not_made (λ (r : Result (Unit {0}) ToolFault). IsOfCopy r) c.from_residual.result c.in_err-copy_elements.field-0.0 c.from_residual.ensures.1 (λ disk. inl refl) (λ memory. inr refl)
+
+pub returns-in_err-copy_elements-clause-refused : goal.returns-in_err-copy_elements-clause-refused
+returns-in_err-copy_elements-clause-refused g c =
+    not_made (λ (r : Result (Unit {0}) ToolFault). KeepsFiles r (g.D.Disk.files c.args.disk.now) (g.D.Disk.files c.copy_elements.new.disk)) c.from_residual.result c.in_err-copy_elements.field-0.0 c.from_residual.ensures.1
+    (λ disk other. absurd (other refl)) (λ memory other. c.copy_elements.ensures.memory (c.in_err-copy_elements.was ∙ ap Err memory))
+
+pub returns-in_err-copy_elements-clause-cause : goal.returns-in_err-copy_elements-clause-cause
+returns-in_err-copy_elements-clause-cause g c =
+    not_made (λ (r : Result (Unit {0}) ToolFault). HasCause (g.D.Disk.faults c.args.disk.now) (g.D.Disk.faults c.copy_elements.new.disk) (IsDiskFault r)) c.from_residual.result c.in_err-copy_elements.field-0.0 c.from_residual.ensures.1
+    (λ disk. record { later = c.copy_elements.ensures.cause.later; rose = λ failed. c.copy_elements.ensures.cause.rose (c.in_err-copy_elements.was ∙ ap Err disk) })
+    (λ memory. record { later = c.copy_elements.ensures.cause.later; rose = λ failed. absurd cc })
+
+pub returns-in_err-copy_elements-clause-told : goal.returns-in_err-copy_elements-clause-told
+returns-in_err-copy_elements-clause-told g c =
+    not_made (λ (r : Result (Unit {0}) ToolFault). TellsFaults (g.D.Disk.faults c.args.disk.now) (g.D.Disk.faults c.copy_elements.new.disk) (IsDiskFault r)) c.from_residual.result c.in_err-copy_elements.field-0.0 c.from_residual.ensures.1
+    (λ disk fine. absurd (fine refl)) (λ memory fine. c.copy_elements.ensures.told (λ failed. absurd (let was = c.in_err-copy_elements.was in cc)))

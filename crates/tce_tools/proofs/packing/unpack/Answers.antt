@@ -1,51 +1,77 @@
-use Rattle.std.proofs.Common.{◌∙◌, ap, List, ℕ, Err, arith}
+use Rattle.std.proofs.Common.{◌∙◌, ap, refl, subst, List, ℕ, Option, Result, Err, rules, arith}
 use Rattle.tce_space.specs.Tiling.{Tiling}
+use Rattle.tce_outside.specs.Fault.{HasCause, TellsFaults}
 use Rattle.tce_outside.specs.Files.{Files, file, others}
+use Rattle.tce_tools.specs.declared.fault.ToolFault.{ToolFault}
 use Rattle.tce_tools.specs.declared.storage.Storage.TheVariants.{Flat, Array}
+use Rattle.tce_tools.specs.Answers.{HasArray, IsUnpackAnswer, IsOfUnpack}
 use Rattle.tce_tools.specs.Flat.{contents, array_element, flat_bytes}
 use Rattle.tce_tools.specs.Storage.{stored_bytes, element_in, holding_by}
+use Rattle.tce_tools.specs.Told.{Copies, Unpacks, KeepsFiles, IsDiskFault}
+use Rattle.tce_tools.proofs.Faults.{not_opened, copied_or_not, on_ok, cause_behind}
 use Rattle.tce_tools.proofs.Forms.{opened_form, array_elements}
 use Rattle.tce_tools.proofs.NoHalf.{same_left, moved_left}
-use Rattle.tce_tools.proofs.Told.{held_told, failed_from}
+use Rattle.tce_tools.proofs.Told.{held_told}
 use Rattle.tce_tools.proofs.packing.unpack.Goals as goal
 
-pub returns-in-Ok-copy-clause-unpacked : goal.returns-in-Ok-copy-clause-unpacked
-returns-in-Ok-copy-clause-unpacked g c =
+pub returns-clause-unpacked : goal.returns-clause-unpacked
+returns-clause-unpacked g c =
     let s : Tiling = c.args.shape.now in
-    let old : Files → List ℕ = λ fs. stored_bytes Flat s (element_in (Array c.in-Ok.form) s (contents fs c.args.array.now)) in
-    held_told (g.D.Disk.files c.args.disk.now) _ c.args.flat.now old (λ fs. stored_bytes Flat s (array_element s (contents fs c.args.array.now)))
-    (c.in-Ok-copy.ensures.copied ∙ ap (holding_by c.args.flat.now old) c.in-Ok.ensures.same)
-    (λ fs was. ap (stored_bytes Flat s) (array_elements s c.in-Ok.form (contents fs c.args.array.now) (opened_form s c.in-Ok.form (file fs c.args.array.now) (c.in-Ok.ensures.form fs was))))
+    let before : Option Files = g.D.Disk.files c.args.disk.now in
+    let after : Option Files = g.D.Disk.files c.copy.new.disk in
+    let old : Files → List ℕ = λ fs. stored_bytes Flat s (element_in (Array c.in_ok-form.form) s (contents fs c.args.array.now)) in
+    on_ok c.copy.result (Copies c.args.array.now (Array c.in_ok-form.form) c.args.flat.now Flat s (g.D.Disk.files c.open.new.disk) after) (Unpacks c.args.array.now c.args.flat.now s before after)
+    (λ copied. held_told before after c.args.flat.now old (λ fs. stored_bytes Flat s (array_element s (contents fs c.args.array.now)))
+    (copied ∙ ap (holding_by c.args.flat.now old) c.open.ensures.same)
+    (λ fs was. ap (stored_bytes Flat s) (array_elements s c.in_ok-form.form (contents fs c.args.array.now) (opened_form s c.in_ok-form.form (file fs c.args.array.now) (c.in_ok-form.ensures.form fs was)))))
+    c.copy.ensures.copied
 
-pub returns-in-Ok-copy-clause-no_half : goal.returns-in-Ok-copy-clause-no_half
-returns-in-Ok-copy-clause-no_half g c =
-    moved_left Flat c.args.shape.now c.in-Ok.form c.args.array.now c.args.flat.now (g.D.Disk.files c.args.disk.now) _ _ c.in-Ok.ensures.same c.in-Ok.ensures.form c.copy.ensures.no_half
+pub returns-clause-answer : goal.returns-clause-answer
+returns-clause-answer g c x told =
+    let array : HasArray c.args.shape.now (file x c.args.array.now) = search rules in
+    copied_or_not (λ (r : Result (Unit {0}) ToolFault). IsUnpackAnswer c.args.shape.now (file x c.args.array.now) r) c.copy.result c.copy.ensures.own (λ done. array) tt array
 
-pub returns-in-Err-Failed-clause-no_half : goal.returns-in-Err-Failed-clause-no_half
-returns-in-Err-Failed-clause-no_half g c =
-    moved_left Flat c.args.shape.now c.in-Ok.form c.args.array.now c.args.flat.now (g.D.Disk.files c.args.disk.now) _ _ c.in-Ok.ensures.same c.in-Ok.ensures.form c.copy.ensures.no_half
+pub returns-clause-own : goal.returns-clause-own
+returns-clause-own g c = copied_or_not (λ (r : Result (Unit {0}) ToolFault). IsOfUnpack r) c.copy.result c.copy.ensures.own (λ done. tt) tt tt
 
-pub returns-in-Err-Memory-clause-no_half : goal.returns-in-Err-Memory-clause-no_half
-returns-in-Err-Memory-clause-no_half g c =
-    moved_left Flat c.args.shape.now c.in-Ok.form c.args.array.now c.args.flat.now (g.D.Disk.files c.args.disk.now) _ _ c.in-Ok.ensures.same c.in-Ok.ensures.form c.copy.ensures.no_half
+pub returns-clause-refused : goal.returns-clause-refused
+returns-clause-refused g c = subst (λ (o : Option Files). KeepsFiles c.copy.result o (g.D.Disk.files c.copy.new.disk)) c.open.ensures.same c.copy.ensures.refused
 
-pub returns-in-Err-Disk-clause-no_half : goal.returns-in-Err-Disk-clause-no_half
-returns-in-Err-Disk-clause-no_half g c = same_left c.args.flat.now 262144 (λ fs. flat_bytes c.args.shape.now (array_element c.args.shape.now (contents fs c.args.array.now))) _ _ c.open.ensures.same
+pub returns-clause-no_half : goal.returns-clause-no_half
+returns-clause-no_half g c =
+    moved_left Flat c.args.shape.now c.in_ok-form.form c.args.array.now c.args.flat.now (g.D.Disk.files c.args.disk.now) _ _ c.open.ensures.same c.in_ok-form.ensures.form c.copy.ensures.no_half
 
-pub returns-in-Ok-copy-clause-others : goal.returns-in-Ok-copy-clause-others
-returns-in-Ok-copy-clause-others g c = c.copy.ensures.others ∙ ap (others c.args.flat.now) c.in-Ok.ensures.same
+pub returns-clause-others : goal.returns-clause-others
+returns-clause-others g c = c.copy.ensures.others ∙ ap (others c.args.flat.now) c.open.ensures.same
 
-pub returns-in-Err-Failed-clause-others : goal.returns-in-Err-Failed-clause-others
-returns-in-Err-Failed-clause-others g c = c.copy.ensures.others ∙ ap (others c.args.flat.now) c.in-Ok.ensures.same
+pub returns-clause-cause : goal.returns-clause-cause
+returns-clause-cause g c = cause_behind _ (g.D.Disk.faults c.open.new.disk) _ _ c.open.ensures.cause.later c.copy.ensures.cause
 
-pub returns-in-Err-Memory-clause-others : goal.returns-in-Err-Memory-clause-others
-returns-in-Err-Memory-clause-others g c = c.copy.ensures.others ∙ ap (others c.args.flat.now) c.in-Ok.ensures.same
+pub returns-clause-told : goal.returns-clause-told
+returns-clause-told g c = λ fine. c.copy.ensures.told fine ∙ c.open.ensures.told (search rules)
 
-pub returns-in-Ok-copy-clause-cause : goal.returns-in-Ok-copy-clause-cause
-returns-in-Ok-copy-clause-cause g c = record { later = omega (arith, c.in-Ok.ensures.cause.later, c.copy.ensures.cause.later); rose = λ e. absurd cc }
+pub returns-in_err-form-clause-answer : goal.returns-in_err-form-clause-answer
+returns-in_err-form-clause-answer g c x told = not_opened (λ (r : Result (Unit {0}) ToolFault). IsUnpackAnswer c.args.shape.now (file x c.args.array.now) r) c.from_residual.result c.in_err-form.field-0.0 c.from_residual.ensures.1 (λ other. (c.in_err-form.ensures.fault x told, other)) (λ disk. tt)
 
-pub returns-in-Err-Memory-clause-cause : goal.returns-in-Err-Memory-clause-cause
-returns-in-Err-Memory-clause-cause g c = record { later = omega (arith, c.in-Ok.ensures.cause.later, c.copy.ensures.cause.later); rose = λ e. absurd cc }
+pub returns-in_err-form-clause-own : goal.returns-in_err-form-clause-own
+returns-in_err-form-clause-own g c = not_opened (λ (r : Result (Unit {0}) ToolFault). IsOfUnpack r) c.from_residual.result c.in_err-form.field-0.0 c.from_residual.ensures.1 (λ other. other) (λ disk. tt)
 
-pub returns-in-Err-Failed-clause-cause : goal.returns-in-Err-Failed-clause-cause
-returns-in-Err-Failed-clause-cause g c = failed_from _ (g.D.Disk.faults c.open.new.disk) _ _ _ c.in-Ok.ensures.cause.later c.copy.ensures.cause (c.in-Err-Failed.is ∙ ap Err c.in-Err-Failed.field-0-is)
+pub returns-in_err-form-clause-refused : goal.returns-in_err-form-clause-refused
+returns-in_err-form-clause-refused g c = not_opened (λ (r : Result (Unit {0}) ToolFault). KeepsFiles r (g.D.Disk.files c.args.disk.now) (g.D.Disk.files c.open.new.disk)) c.from_residual.result c.in_err-form.field-0.0 c.from_residual.ensures.1 (λ other no. c.open.ensures.same) (λ disk no. c.open.ensures.same)
+
+pub returns-in_err-form-clause-no_half : goal.returns-in_err-form-clause-no_half
+returns-in_err-form-clause-no_half g c = same_left c.args.flat.now 262144 (λ fs. flat_bytes c.args.shape.now (array_element c.args.shape.now (contents fs c.args.array.now))) _ _ c.open.ensures.same
+
+pub returns-in_err-form-clause-others : goal.returns-in_err-form-clause-others
+returns-in_err-form-clause-others g c = ap (others c.args.flat.now) c.open.ensures.same
+
+pub returns-in_err-form-clause-cause : goal.returns-in_err-form-clause-cause
+returns-in_err-form-clause-cause g c =
+    not_opened (λ (r : Result (Unit {0}) ToolFault). HasCause (g.D.Disk.faults c.args.disk.now) (g.D.Disk.faults c.open.new.disk) (IsDiskFault r)) c.from_residual.result c.in_err-form.field-0.0 c.from_residual.ensures.1
+    (λ other. record { later = c.open.ensures.cause.later; rose = λ failed. absurd cc })
+    (λ disk. record { later = c.open.ensures.cause.later; rose = λ failed. c.open.ensures.cause.rose (c.in_err-form.was ∙ ap Err disk) })
+
+pub returns-in_err-form-clause-told : goal.returns-in_err-form-clause-told
+returns-in_err-form-clause-told g c =
+    not_opened (λ (r : Result (Unit {0}) ToolFault). TellsFaults (g.D.Disk.faults c.args.disk.now) (g.D.Disk.faults c.open.new.disk) (IsDiskFault r)) c.from_residual.result c.in_err-form.field-0.0 c.from_residual.ensures.1
+    (λ other fine. c.open.ensures.told (λ failed. other (let was = c.in_err-form.was in cc))) (λ disk fine. absurd (fine refl))
