@@ -158,12 +158,11 @@ pub fn write_band<D: Disk>(
     ensures told { TellsFaults (D.faults disk.old) (D.faults disk.new) (IsErr result) }
 {
     match file.storage {
-        Storage::Flat => write_words(disk, file.name, Form::One, 8 * band.start, bytes, words)?,
+        Storage::Flat => write_words(disk, file.name, Form::One, 8 * band.start, bytes, words),
         Storage::Array(form) => {
             let pieces = &mut tiled[..(band.pieces * band.piece_len) as usize];
             tile(file.shape, band, words, pieces);
-            write_pieces(disk, file, form, band, bytes, pieces)?;
+            write_pieces(disk, file, form, band, bytes, pieces)
         }
     }
-    Ok(())
 }

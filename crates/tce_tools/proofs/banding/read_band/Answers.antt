@@ -41,3 +41,21 @@ pub returns-in_ok-read_pieces-in-Array-clause-read : goal.returns-in_ok-read_pie
 returns-in_ok-read_pieces-in-Array-clause-read g c = λ x told.
     subst (λ (t : Storage). AreElements c.args.file.now.shape.now (element_in t c.args.file.now.shape.now (contents x c.args.file.now.name.now)) c.args.band.start c.flatten.new.words) (sym c.in-Array.is)
     (c.flatten.ensures (element_in (Array c.in-Array.form) c.args.file.now.shape.now (contents x c.args.file.now.name.now)) (c.in_ok-read_pieces-in-Array.ensures.read x told))
+
+pub returns-in_err-read_words-in-Flat-clause-same : goal.returns-in_err-read_words-in-Flat-clause-same
+returns-in_err-read_words-in-Flat-clause-same g c = c.read_words.ensures.same
+
+pub returns-in_ok-read_words-in-Flat-clause-same : goal.returns-in_ok-read_words-in-Flat-clause-same
+returns-in_ok-read_words-in-Flat-clause-same g c = c.read_words.ensures.same
+
+pub returns-in_err-read_pieces-in-Array-clause-same : goal.returns-in_err-read_pieces-in-Array-clause-same
+returns-in_err-read_pieces-in-Array-clause-same g c = c.read_pieces.ensures.same
+
+pub returns-in_ok-read_pieces-in-Array-clause-same : goal.returns-in_ok-read_pieces-in-Array-clause-same
+returns-in_ok-read_pieces-in-Array-clause-same g c = c.read_pieces.ensures.same
+
+pub read_pieces-requires-clause-band : goal.read_pieces-requires-clause-band
+read_pieces-requires-clause-band g c = c.requires.band
+
+pub flatten-requires-clause-band : goal.flatten-requires-clause-band
+flatten-requires-clause-band g c = c.requires.band

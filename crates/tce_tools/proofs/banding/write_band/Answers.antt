@@ -1,12 +1,13 @@
 use Rattle.std.proofs.Common.{◌≡◌, ◌+◌, ◌*◌, ◌≤◌, ℕ, length, sym, subst, arith}
 use Rattle.tce_space.specs.Tiling.{Tiling}
-use Rattle.tce_outside.specs.Files.{file}
+use Rattle.tce_outside.specs.Files.{file, KeepsBefore, KeepsFrom}
 use Rattle.tce_array.specs.declared.form.Form.TheVariants.{One}
 use Rattle.std.specs.List.{flat_map}
 use Rattle.tce_base.specs.Word.{word_bytes}
 use Rattle.tce_tools.specs.declared.storage.Storage.{Storage}
-use Rattle.tce_tools.specs.Storage.{bare_bytes, holding_by, stored_len}
+use Rattle.tce_tools.specs.Storage.{bare_bytes, bytes_ahead, holding_by, stored_len}
 use Rattle.tce_tools.specs.Told.{HasStoredIn}
+use Rattle.tce_tools.proofs.Faults.{on_ok}
 use Rattle.tce_tools.proofs.Told.{held_written}
 use Rattle.tce_tools.proofs.PieceWrites.{flat_bare, words_there, buffer_fits}
 use Rattle.tce_tools.proofs.banding.write_band.Goals as goal
@@ -33,14 +34,60 @@ slice_bounds-pieces-end g c = omega (arith, c.requires.band.small, c.requires.ti
 pub write_pieces-requires-clause-file : goal.write_pieces-requires-clause-file
 write_pieces-requires-clause-file g c = subst (λ (t : Storage). HasStoredIn (g.D.Disk.files c.args.disk.now) c.args.file.now.name.now t c.args.file.now.shape.now) c.in-Array.is c.requires.file
 
-pub returns-in_ok-write_words-in-Flat-clause-written : goal.returns-in_ok-write_words-in-Flat-clause-written
-returns-in_ok-write_words-in-Flat-clause-written g c = λ before old new is values keeps.
+pub returns-in-Flat-clause-written : goal.returns-in-Flat-clause-written
+returns-in-Flat-clause-written g c =
+    on_ok c.write_words.result _ _ (λ made. λ before old new is values keeps.
     held_written before _ _ c.args.file.now.name.now (λ fs. bare_bytes c.args.file.now.storage c.args.file.now.shape.now (old fs)) (λ fs. bare_bytes c.args.file.now.storage c.args.file.now.shape.now (new fs))
-    (8 * c.args.band.start) (flat_map (word_bytes 8) c.args.words.now) is c.in_ok-write_words-in-Flat.ensures.written
-    (λ fs was. flat_bare c.args.file.now.storage c.args.file.now.shape.now c.args.band (old fs) (new fs) c.args.words.now c.in-Flat.is c.requires.band c.requires.words (values fs was) (keeps fs was))
+    (8 * c.args.band.start) (flat_map (word_bytes 8) c.args.words.now) is made
+    (λ fs was. flat_bare c.args.file.now.storage c.args.file.now.shape.now c.args.band (old fs) (new fs) c.args.words.now c.in-Flat.is c.requires.band c.requires.words (values fs was) (keeps fs was)))
+    c.write_words.ensures.written
 
-pub returns-in_ok-write_pieces-in-Array-clause-written : goal.returns-in_ok-write_pieces-in-Array-clause-written
-returns-in_ok-write_pieces-in-Array-clause-written g c = λ before old new is values keeps.
+pub returns-in-Array-clause-written : goal.returns-in-Array-clause-written
+returns-in-Array-clause-written g c =
+    on_ok c.write_pieces.result _ _ (λ made. λ before old new is values keeps.
     subst (λ (t : Storage). g.D.Disk.files c.args.disk.now ≡ holding_by c.args.file.now.name.now (λ fs. bare_bytes t c.args.file.now.shape.now (old fs)) before
     → g.D.Disk.files c.write_pieces.new.disk ≡ holding_by c.args.file.now.name.now (λ fs. bare_bytes t c.args.file.now.shape.now (new fs)) before) (sym c.in-Array.is)
-    (λ was. c.in_ok-write_pieces-in-Array.ensures.written before old new was (λ fs told. c.tile.ensures.elements (new fs) (values fs told)) keeps) is
+    (λ was. made before old new was (λ fs told. c.tile.ensures.elements (new fs) (values fs told)) keeps) is)
+    c.write_pieces.ensures.written
+
+pub returns-in-Flat-clause-ahead : goal.returns-in-Flat-clause-ahead
+returns-in-Flat-clause-ahead g c = subst (λ (t : Storage). KeepsBefore c.args.file.now.name.now (bytes_ahead t c.args.file.now.shape.now c.args.band.start) (g.D.Disk.files c.args.disk.now) (g.D.Disk.files c.write_words.new.disk)) (sym c.in-Flat.is) c.write_words.ensures.before
+
+pub returns-in-Flat-clause-behind : goal.returns-in-Flat-clause-behind
+returns-in-Flat-clause-behind g c = λ flat. subst (λ n. KeepsFrom c.args.file.now.name.now (8 * c.args.band.start + 8 * n) (g.D.Disk.files c.args.disk.now) (g.D.Disk.files c.write_words.new.disk)) c.requires.words c.write_words.ensures.behind
+
+pub returns-in-Flat-clause-others : goal.returns-in-Flat-clause-others
+returns-in-Flat-clause-others g c = c.write_words.ensures.others
+
+pub returns-in-Flat-clause-cause : goal.returns-in-Flat-clause-cause
+returns-in-Flat-clause-cause g c = c.write_words.ensures.cause
+
+pub returns-in-Flat-clause-told : goal.returns-in-Flat-clause-told
+returns-in-Flat-clause-told g c = c.write_words.ensures.told
+
+pub returns-in-Array-clause-ahead : goal.returns-in-Array-clause-ahead
+returns-in-Array-clause-ahead g c = subst (λ (t : Storage). KeepsBefore c.args.file.now.name.now (bytes_ahead t c.args.file.now.shape.now c.args.band.start) (g.D.Disk.files c.args.disk.now) (g.D.Disk.files c.write_pieces.new.disk)) (sym c.in-Array.is) c.write_pieces.ensures.ahead
+
+pub returns-in-Array-clause-behind : goal.returns-in-Array-clause-behind
+returns-in-Array-clause-behind g c = λ flat. absurd (let is = c.in-Array.is in cc)
+
+pub returns-in-Array-clause-others : goal.returns-in-Array-clause-others
+returns-in-Array-clause-others g c = c.write_pieces.ensures.others
+
+pub returns-in-Array-clause-cause : goal.returns-in-Array-clause-cause
+returns-in-Array-clause-cause g c = c.write_pieces.ensures.cause
+
+pub returns-in-Array-clause-told : goal.returns-in-Array-clause-told
+returns-in-Array-clause-told g c = c.write_pieces.ensures.told
+
+pub tile-requires-clause-band : goal.tile-requires-clause-band
+tile-requires-clause-band g c = c.requires.band
+
+pub tile-requires-clause-words : goal.tile-requires-clause-words
+tile-requires-clause-words g c = c.requires.words
+
+pub write_pieces-requires-clause-band : goal.write_pieces-requires-clause-band
+write_pieces-requires-clause-band g c = c.requires.band
+
+pub write_pieces-requires-clause-padding : goal.write_pieces-requires-clause-padding
+write_pieces-requires-clause-padding g c = c.tile.ensures.padding

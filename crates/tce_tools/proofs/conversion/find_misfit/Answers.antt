@@ -1,4 +1,4 @@
-use Rattle.std.proofs.Common.{◌≡◌, ◌∙◌, ◌+◌, sym, subst, arith, List, ℕ, rules}
+use Rattle.std.proofs.Common.{◌≡◌, ◌∙◌, ◌+◌, sym, ap, subst, is_err, arith, List, ℕ, rules}
 use Rattle.tce_space.specs.Tiling.{Tiling, elements}
 use Rattle.tce_array.specs.declared.form.Form.TheVariants.{Narrow}
 use Rattle.tce_tools.specs.declared.storage.Storage.TheVariants.{Array}
@@ -6,6 +6,7 @@ use Rattle.tce_tools.specs.Flat.{contents}
 use Rattle.tce_tools.specs.Storage.{element_in}
 use Rattle.tce_tools.specs.Runs.{AreElements}
 use Rattle.tce_tools.specs.Answers.{FitBefore, IsFirstMisfit}
+use Rattle.tce_tools.proofs.Told.{failed_from}
 use Rattle.tce_tools.proofs.Misfits.{fit_more, misfit_at}
 use Rattle.tce_tools.proofs.conversion.find_misfit.Goals as goal
 
@@ -51,3 +52,36 @@ loop-done-preserved g c =
 
 pub returns-clause-told : goal.returns-clause-told
 returns-clause-told g c = λ _. c.loop-done.invariant.counted
+
+pub returns-in_err-read_band-clause-same : goal.returns-in_err-read_band-clause-same
+returns-in_err-read_band-clause-same g c = c.read_band.ensures.same ∙ c.loop-done.invariant.files
+
+pub returns-in_err-read_band-clause-cause : goal.returns-in_err-read_band-clause-cause
+returns-in_err-read_band-clause-cause g c = failed_from _ (g.D.Disk.faults c.loop-done.disk) _ _ _ c.loop-done.invariant.later c.read_band.ensures.cause (ap is_err c.in_err-read_band.was)
+
+pub returns-in_err-read_band-clause-told : goal.returns-in_err-read_band-clause-told
+returns-in_err-read_band-clause-told g c = λ fine. absurd (fine c.from_residual.ensures.0)
+
+pub returns-clause-same : goal.returns-clause-same
+returns-clause-same g c = c.loop-done.invariant.files
+
+pub returns-clause-cause : goal.returns-clause-cause
+returns-clause-cause g c = record { later = c.loop-done.invariant.later; rose = λ e. absurd cc }
+
+pub read_band-requires-clause-band : goal.read_band-requires-clause-band
+read_band-requires-clause-band g c = c.band_at-band.ensures.band
+
+pub returns-in-Some-clause-none : goal.returns-in-Some-clause-none
+returns-in-Some-clause-none g c = λ none. absurd cc
+
+pub returns-in-Some-clause-same : goal.returns-in-Some-clause-same
+returns-in-Some-clause-same g c = c.in_ok-read_band.ensures.same ∙ c.loop-done.invariant.files
+
+pub returns-in-Some-clause-cause : goal.returns-in-Some-clause-cause
+returns-in-Some-clause-cause g c = record { later = omega (arith, c.loop-done.invariant.later, c.in_ok-read_band.ensures.cause.later); rose = λ e. absurd cc }
+
+pub returns-in-Some-clause-told : goal.returns-in-Some-clause-told
+returns-in-Some-clause-told g c = λ fine. c.in_ok-read_band.ensures.told (search rules) ∙ c.loop-done.invariant.counted
+
+pub returns-clause-some : goal.returns-clause-some
+returns-clause-some g c = λ k some. absurd cc

@@ -143,3 +143,48 @@ returns-in_default-write_band-2-clause-cause g c =
 
 pub returns-clause-cause : goal.returns-clause-cause
 returns-clause-cause g c = record { later = omega (arith, c.loop-done.invariant.later, c.in-Ok-read_band.ensures.cause.later, c.in-Ok-write_band-2.ensures.cause.later); rose = λ e. absurd cc }
+
+pub read_band-requires-clause-band : goal.read_band-requires-clause-band
+read_band-requires-clause-band g c = c.band_at-band.ensures.band
+
+pub read_band-requires-2-clause-band : goal.read_band-requires-2-clause-band
+read_band-requires-2-clause-band g c = c.band_at-first.ensures.band
+
+pub write_band-requires-clause-band : goal.write_band-requires-clause-band
+write_band-requires-clause-band g c = c.band_at-band.ensures.band
+
+pub write_band-requires-2-clause-band : goal.write_band-requires-2-clause-band
+write_band-requires-2-clause-band g c = c.band_at-first.ensures.band
+
+pub returns-in_default-clause-memory : goal.returns-in_default-clause-memory
+returns-in_default-clause-memory g c = λ memory. absurd cc
+
+pub returns-in_default-clause-told : goal.returns-in_default-clause-told
+returns-in_default-clause-told g c = λ fine. absurd (fine refl)
+
+pub returns-in_default-write_band-clause-memory : goal.returns-in_default-write_band-clause-memory
+returns-in_default-write_band-clause-memory g c = λ memory. absurd cc
+
+pub returns-in_default-write_band-clause-told : goal.returns-in_default-write_band-clause-told
+returns-in_default-write_band-clause-told g c = λ fine. absurd (fine refl)
+
+pub returns-in_default-read_band-clause-memory : goal.returns-in_default-read_band-clause-memory
+returns-in_default-read_band-clause-memory g c = λ memory. absurd cc
+
+pub returns-in_default-read_band-clause-told : goal.returns-in_default-read_band-clause-told
+returns-in_default-read_band-clause-told g c = λ fine. absurd (fine refl)
+
+pub returns-in_default-write_band-2-clause-memory : goal.returns-in_default-write_band-2-clause-memory
+returns-in_default-write_band-2-clause-memory g c = λ memory. absurd cc
+
+pub returns-in_default-write_band-2-clause-told : goal.returns-in_default-write_band-2-clause-told
+returns-in_default-write_band-2-clause-told g c = λ fine. absurd (fine refl)
+
+pub returns-in_err-make-clause-others : goal.returns-in_err-make-clause-others
+returns-in_err-make-clause-others g c = c.make.ensures.others
+
+pub returns-clause-memory : goal.returns-clause-memory
+returns-clause-memory g c = λ memory. absurd cc
+
+pub returns-clause-told : goal.returns-clause-told
+returns-clause-told g c = λ fine. c.in-Ok-write_band-2.ensures.told (search rules) ∙ c.in-Ok-read_band.ensures.told (search rules) ∙ c.loop-done.invariant.counted

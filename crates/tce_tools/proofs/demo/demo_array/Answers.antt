@@ -1,4 +1,4 @@
-use Rattle.std.proofs.Common.{◌∙◌, ap, is_err, arith}
+use Rattle.std.proofs.Common.{◌∙◌, ap, refl, is_err, arith}
 use Rattle.tce_array.specs.declared.form.Form.TheVariants.{One}
 use Rattle.tce_tools.specs.declared.storage.Storage.TheVariants.{Array}
 use Rattle.tce_tools.specs.Demo.{demo_element}
@@ -31,3 +31,24 @@ returns-in-Ok-clause-cause g c = record { later = omega (arith, c.demo_elements.
 
 pub returns-in-Err-clause-cause : goal.returns-in-Err-clause-cause
 returns-in-Err-clause-cause g c = failed_from _ (g.D.Disk.faults c.demo_elements.new.disk) _ _ _ c.demo_elements.ensures.cause.later c.write_start.ensures.cause (ap is_err c.in-Err.is)
+
+pub demo_elements-requires-clause-low : goal.demo_elements-requires-clause-low
+demo_elements-requires-clause-low g c = c.requires.low
+
+pub demo_elements-requires-clause-high : goal.demo_elements-requires-clause-high
+demo_elements-requires-clause-high g c = c.requires.high
+
+pub returns-in_err-number-clause-others : goal.returns-in_err-number-clause-others
+returns-in_err-number-clause-others g c = c.demo_elements.ensures.others
+
+pub returns-in_err-number-clause-no_half : goal.returns-in_err-number-clause-no_half
+returns-in_err-number-clause-no_half g c = c.demo_elements.ensures.no_half
+
+pub returns-in-Ok-clause-memory : goal.returns-in-Ok-clause-memory
+returns-in-Ok-clause-memory g c = λ memory. absurd cc
+
+pub returns-in-Err-clause-memory : goal.returns-in-Err-clause-memory
+returns-in-Err-clause-memory g c = λ memory. absurd cc
+
+pub returns-in-Err-clause-told : goal.returns-in-Err-clause-told
+returns-in-Err-clause-told g c = λ fine. absurd (fine refl)

@@ -79,3 +79,21 @@ returns-in_default-clause-cause g c = failed_from _ (g.D.Disk.faults c.loop-done
 
 pub returns-clause-cause : goal.returns-clause-cause
 returns-clause-cause g c = record { later = c.loop-done.invariant.later; rose = λ e. absurd cc }
+
+pub returns-in_err-make-clause-others : goal.returns-in_err-make-clause-others
+returns-in_err-make-clause-others g c = c.make.ensures.others
+
+pub returns-in_default-clause-memory : goal.returns-in_default-clause-memory
+returns-in_default-clause-memory g c = λ memory. absurd cc
+
+pub returns-in_default-clause-told : goal.returns-in_default-clause-told
+returns-in_default-clause-told g c = λ fine. absurd (fine refl)
+
+pub returns-clause-memory : goal.returns-clause-memory
+returns-clause-memory g c = λ memory. absurd cc
+
+pub returns-clause-others : goal.returns-clause-others
+returns-clause-others g c = c.loop-done.invariant.others
+
+pub write_band-requires-clause-band : goal.write_band-requires-clause-band
+write_band-requires-clause-band g c = c.band_at-band.ensures.band

@@ -16,3 +16,33 @@ returns-in-Array-clause-made g c =
     let is : replicate c.form_len.result 0 ≡ bare_bytes c.args.storage c.args.shape.now (λ _. 0) =
     ap (λ n. replicate n 0) c.form_len.ensures.bytes ∙ zero_form c.in-Array.form c.args.shape.now ∙ ap (λ (t : Storage). bare_bytes t c.args.shape.now (λ _. 0)) (sym c.in-Array.is) in
     subst (λ (bytes : List ℕ). OnOk c.make-in-Array.result (g.D.Disk.files c.make-in-Array.new.self ≡ holding c.args.name.now bytes (g.D.Disk.files c.args.disk.now))) is c.make-in-Array.ensures.made
+
+pub returns-in-Flat-clause-memory : goal.returns-in-Flat-clause-memory
+returns-in-Flat-clause-memory g c = c.make.ensures.memory
+
+pub returns-in-Flat-clause-zeros : goal.returns-in-Flat-clause-zeros
+returns-in-Flat-clause-zeros g c = c.make.ensures.zeros
+
+pub returns-in-Flat-clause-others : goal.returns-in-Flat-clause-others
+returns-in-Flat-clause-others g c = c.make.ensures.others
+
+pub returns-in-Flat-clause-cause : goal.returns-in-Flat-clause-cause
+returns-in-Flat-clause-cause g c = c.make.ensures.cause
+
+pub returns-in-Flat-clause-told : goal.returns-in-Flat-clause-told
+returns-in-Flat-clause-told g c = c.make.ensures.told
+
+pub returns-in-Array-clause-memory : goal.returns-in-Array-clause-memory
+returns-in-Array-clause-memory g c = c.make-in-Array.ensures.memory
+
+pub returns-in-Array-clause-zeros : goal.returns-in-Array-clause-zeros
+returns-in-Array-clause-zeros g c = c.make-in-Array.ensures.zeros
+
+pub returns-in-Array-clause-others : goal.returns-in-Array-clause-others
+returns-in-Array-clause-others g c = c.make-in-Array.ensures.others
+
+pub returns-in-Array-clause-cause : goal.returns-in-Array-clause-cause
+returns-in-Array-clause-cause g c = c.make-in-Array.ensures.cause
+
+pub returns-in-Array-clause-told : goal.returns-in-Array-clause-told
+returns-in-Array-clause-told g c = c.make-in-Array.ensures.told

@@ -1,7 +1,8 @@
-use Rattle.std.proofs.Common.{◌∙◌, refl, subst, arith, List, ℕ, rules}
+use Rattle.std.proofs.Common.{◌∙◌, refl, ap, subst, is_err, arith, List, ℕ, rules}
 use Rattle.tce_array.specs.Forms.{cell}
 use Rattle.tce_tools.specs.Flat.{contents}
 use Rattle.tce_tools.specs.Runs.{AreElements}
+use Rattle.tce_tools.proofs.Told.{failed_from}
 use Rattle.tce_tools.proofs.Sums.{sum_none, sum_of_run, sum_of_all}
 use Rattle.tce_tools.proofs.sum.cell_sum.Goals as goal
 
@@ -27,3 +28,21 @@ returns-clause-sum g c = λ x told.
 
 pub returns-clause-told : goal.returns-clause-told
 returns-clause-told g c = λ _. c.loop-done.invariant.counted
+
+pub returns-in_err-read_band-clause-same : goal.returns-in_err-read_band-clause-same
+returns-in_err-read_band-clause-same g c = c.read_band.ensures.same ∙ c.loop-done.invariant.files
+
+pub returns-in_err-read_band-clause-cause : goal.returns-in_err-read_band-clause-cause
+returns-in_err-read_band-clause-cause g c = failed_from _ (g.D.Disk.faults c.loop-done.disk) _ _ _ c.loop-done.invariant.later c.read_band.ensures.cause (ap is_err c.in_err-read_band.was)
+
+pub returns-in_err-read_band-clause-told : goal.returns-in_err-read_band-clause-told
+returns-in_err-read_band-clause-told g c = λ fine. absurd (fine c.from_residual.ensures.0)
+
+pub returns-clause-same : goal.returns-clause-same
+returns-clause-same g c = c.loop-done.invariant.files
+
+pub returns-clause-cause : goal.returns-clause-cause
+returns-clause-cause g c = record { later = c.loop-done.invariant.later; rose = λ e. absurd cc }
+
+pub read_band-requires-clause-band : goal.read_band-requires-clause-band
+read_band-requires-clause-band g c = c.band_at-band.ensures.band
