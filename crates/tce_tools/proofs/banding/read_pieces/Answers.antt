@@ -1,9 +1,10 @@
-use Rattle.std.proofs.Common.{◌∙◌, ℕ, sym, arith, rules}
+use Rattle.std.proofs.Common.{◌∙◌, ℕ, sym, arith, rules, ap, is_err}
 use Rattle.tce_outside.specs.Files.{file}
 use Rattle.tce_tools.specs.declared.storage.Storage.TheVariants.{Array}
 use Rattle.tce_tools.specs.Flat.{contents}
 use Rattle.tce_tools.proofs.PieceReads.{piece_read}
 use Rattle.tce_tools.proofs.PieceWrites.{piece_room, piece_copy, piece_fits, words_there, buffer_fits, index_below}
+use Rattle.tce_tools.proofs.Told.{failed_from}
 use Rattle.tce_tools.proofs.banding.read_pieces.Goals as goal
 
 pub overflow_mul-from : goal.overflow_mul-from
@@ -46,3 +47,24 @@ returns-clause-read g c = λ x told xs h index at. c.loop-piece.invariant.read x
 
 pub returns-clause-told : goal.returns-clause-told
 returns-clause-told g c = λ _. c.loop-piece.invariant.counted
+
+pub returns-clause-same : goal.returns-clause-same
+returns-clause-same g c = c.loop-piece.invariant.files
+
+pub returns-clause-cause : goal.returns-clause-cause
+returns-clause-cause g c = record { later = c.loop-piece.invariant.later; rose = λ e. absurd cc }
+
+pub piece_place-requires-clause-band : goal.piece_place-requires-clause-band
+piece_place-requires-clause-band g c = c.requires.band
+
+pub piece_place-requires-clause-among : goal.piece_place-requires-clause-among
+piece_place-requires-clause-among g c = c.loop-piece-test.true
+
+pub returns-in_err-read_words-clause-same : goal.returns-in_err-read_words-clause-same
+returns-in_err-read_words-clause-same g c = c.read_words.ensures.same ∙ c.loop-piece.invariant.files
+
+pub returns-in_err-read_words-clause-cause : goal.returns-in_err-read_words-clause-cause
+returns-in_err-read_words-clause-cause g c = failed_from _ (g.D.Disk.faults c.loop-piece.disk) _ _ _ c.loop-piece.invariant.later c.read_words.ensures.cause (ap is_err c.in_err-read_words.was)
+
+pub returns-in_err-read_words-clause-told : goal.returns-in_err-read_words-clause-told
+returns-in_err-read_words-clause-told g c = λ fine. absurd (fine c.from_residual.ensures.0)

@@ -1,4 +1,4 @@
-use Rattle.std.proofs.Common.{◌∙◌, ◌+◌, ◌-◌, ◌*◌, List, ℕ, take, drop, refl, arith, rules}
+use Rattle.std.proofs.Common.{◌∙◌, ◌+◌, ◌-◌, ◌*◌, List, ℕ, take, drop, refl, arith, rules, ap, is_err}
 use Rattle.std.specs.List.{flat_map}
 use Rattle.tce_base.specs.Word.{word_bytes}
 use Rattle.tce_space.specs.Tiling.{Tiling}
@@ -6,7 +6,7 @@ use Rattle.tce_outside.specs.Files.{file}
 use Rattle.tce_array.specs.Forms.{width, head_len}
 use Rattle.tce_tools.specs.declared.storage.Storage.TheVariants.{Array}
 use Rattle.tce_tools.specs.Storage.{bare_bytes}
-use Rattle.tce_tools.proofs.Told.{held_told, held_written}
+use Rattle.tce_tools.proofs.Told.{failed_from, held_told, held_written}
 use Rattle.tce_tools.proofs.PieceWrites.{after_pieces, piece_bare, piece_room, piece_copy, piece_fits, piece_bytes_fit, words_there, buffer_fits, no_pieces, all_pieces, still_stored}
 use Rattle.tce_tools.proofs.NoHalf.{shorter_before}
 use Rattle.tce_tools.proofs.banding.write_pieces.Goals as goal
@@ -73,3 +73,27 @@ returns-clause-written g c = λ before old new is values keeps.
 
 pub returns-clause-told : goal.returns-clause-told
 returns-clause-told g c = λ _. c.loop-piece.invariant.counted
+
+pub returns-clause-others : goal.returns-clause-others
+returns-clause-others g c = c.loop-piece.invariant.others
+
+pub returns-clause-ahead : goal.returns-clause-ahead
+returns-clause-ahead g c = c.loop-piece.invariant.ahead
+
+pub returns-clause-cause : goal.returns-clause-cause
+returns-clause-cause g c = record { later = c.loop-piece.invariant.later; rose = λ e. absurd cc }
+
+pub piece_place-requires-clause-band : goal.piece_place-requires-clause-band
+piece_place-requires-clause-band g c = c.requires.band
+
+pub piece_place-requires-clause-among : goal.piece_place-requires-clause-among
+piece_place-requires-clause-among g c = c.loop-piece-test.true
+
+pub returns-in_err-write_words-clause-others : goal.returns-in_err-write_words-clause-others
+returns-in_err-write_words-clause-others g c = c.write_words.ensures.others ∙ c.loop-piece.invariant.others
+
+pub returns-in_err-write_words-clause-cause : goal.returns-in_err-write_words-clause-cause
+returns-in_err-write_words-clause-cause g c = failed_from _ (g.D.Disk.faults c.loop-piece.disk) _ _ _ c.loop-piece.invariant.later c.write_words.ensures.cause (ap is_err c.in_err-write_words.was)
+
+pub returns-in_err-write_words-clause-told : goal.returns-in_err-write_words-clause-told
+returns-in_err-write_words-clause-told g c = λ fine. absurd (fine c.from_residual.ensures.0)

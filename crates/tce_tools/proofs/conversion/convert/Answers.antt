@@ -1,4 +1,4 @@
-use Rattle.std.proofs.Common.{◌∙◌, ap, refl, subst, List, ℕ, Option, Result, Ok, Err, rules, arith}
+use Rattle.std.proofs.Common.{◌∙◌, ap, refl, subst, List, ℕ, Option, Result, Err, rules, arith}
 use Rattle.tce_space.specs.Tiling.{Tiling}
 use Rattle.tce_outside.specs.Fault.{HasCause, TellsFaults}
 use Rattle.tce_outside.specs.Files.{Files, file, others}

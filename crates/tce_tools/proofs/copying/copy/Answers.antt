@@ -1,4 +1,4 @@
-use Rattle.std.proofs.Common.{◌∙◌, ap, refl, is_err, arith, inl, inr, Err, Option, Result}
+use Rattle.std.proofs.Common.{◌∙◌, ap, refl, is_err, arith, inl, inr, Err, Result}
 use Rattle.tce_outside.specs.Fault.{HasCause, TellsFaults}
 use Rattle.tce_tools.specs.declared.fault.ToolFault.{ToolFault}
 use Rattle.tce_tools.specs.Answers.{IsOfCopy}

@@ -1,4 +1,4 @@
-use Rattle.std.proofs.Common.{◌∙◌, ap, subst, List, ℕ, Option, Result, rules, arith}
+use Rattle.std.proofs.Common.{◌∙◌, ap, subst, List, ℕ, Option, Result, rules}
 use Rattle.tce_space.specs.Tiling.{Tiling}
 use Rattle.tce_outside.specs.Files.{Files, file, others}
 use Rattle.tce_array.specs.declared.form.Form.TheVariants.{One}

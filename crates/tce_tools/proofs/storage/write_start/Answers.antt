@@ -9,3 +9,12 @@ pub returns-in-Array-clause-written : goal.returns-in-Array-clause-written
 returns-in-Array-clause-written g c =
     start_written c.write_head.result c.args.storage c.args.shape.now c.args.name.now _ _
     (subst (λ (t : Storage). OnOk c.write_head.result (g.D.Disk.files c.write_head.new.disk ≡ written c.args.name.now 0 (start_of t c.args.shape.now) (g.D.Disk.files c.args.disk.now))) (sym c.in-Array.is) c.write_head.ensures.written)
+
+pub returns-in-Array-clause-others : goal.returns-in-Array-clause-others
+returns-in-Array-clause-others g c = c.write_head.ensures.others
+
+pub returns-in-Array-clause-cause : goal.returns-in-Array-clause-cause
+returns-in-Array-clause-cause g c = c.write_head.ensures.cause
+
+pub returns-in-Array-clause-told : goal.returns-in-Array-clause-told
+returns-in-Array-clause-told g c = c.write_head.ensures.told

@@ -1,4 +1,4 @@
-use Rattle.std.proofs.Common.{◌≡◌, ◌∙◌, ◌*◌, ◌≤◌, ap, refl, length, List, ℕ, arith}
+use Rattle.std.proofs.Common.{◌≡◌, ◌∙◌, ◌*◌, ◌≤◌, ap, refl, length, List, ℕ, arith, is_err, rules}
 use Rattle.std.proofs.lemmas.List.{length-take-le}
 use Rattle.tce_array.specs.Forms.{width}
 use Rattle.tce_tools.specs.Flat.{contents}
@@ -21,3 +21,21 @@ returns-clause-read g c x told k lt =
     c.decode.ensures k lt
     ∙ word_of_piece c.args.form bs c.read_at.new.out c.args.at n k (omega (arith, c.decode.auto.words))
     (piece_is bs c.read_at.new.out _ c.args.at (w * n) c.args.at (c.in_ok-read_at.ensures.read x told) (length-take-le (c.width.result * n) c.args.bytes.now room ∙ same) refl)
+
+pub returns-in_err-read_at-clause-same : goal.returns-in_err-read_at-clause-same
+returns-in_err-read_at-clause-same g c = c.read_at.ensures.same
+
+pub returns-in_err-read_at-clause-cause : goal.returns-in_err-read_at-clause-cause
+returns-in_err-read_at-clause-cause g c = record { later = c.read_at.ensures.cause.later; rose = λ e. c.read_at.ensures.cause.rose (ap is_err c.in_err-read_at.was) }
+
+pub returns-in_err-read_at-clause-told : goal.returns-in_err-read_at-clause-told
+returns-in_err-read_at-clause-told g c = λ fine. absurd (fine c.from_residual.ensures.0)
+
+pub returns-clause-same : goal.returns-clause-same
+returns-clause-same g c = c.read_at.ensures.same
+
+pub returns-clause-cause : goal.returns-clause-cause
+returns-clause-cause g c = record { later = c.read_at.ensures.cause.later; rose = λ e. absurd cc }
+
+pub returns-clause-told : goal.returns-clause-told
+returns-clause-told g c = λ fine. c.read_at.ensures.told (search rules)
