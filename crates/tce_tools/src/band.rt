@@ -2,9 +2,9 @@
 ghost use Rattle.std.specs.Prelude.{◌≡◌, ◌*◌, ◌%◌, ◌<◌, false, IsTrue, length, drop};
 ghost use Rattle.tce_space.specs.Box.{place, product, IsInside};
 ghost use Rattle.tce_space.specs.Tiling.{elements, padded_words, tile_words, tile_counts, word_number};
-ghost use Rattle.tce_tools.specs.Bands.{IsBand, IsBehind, StaysInArray, StaysInTile};
+ghost use Rattle.tce_tools.specs.Bands.{IsBand, IsBehind};
 
-use crate::run::{coords_at, is_row_major, word_number};
+use crate::run::{coords_at, is_row_major, steps_left, word_number};
 use tce_space::Shape;
 
 /// The most elements of a band, and the most words of its pieces.
@@ -75,20 +75,6 @@ fn first_short(shape: &Shape) -> Behind
         }
     }
     last_dimension(shape)
-}
-
-// How many steps along a dimension are left in the tile and in the array.
-fn steps_left(shape: &Shape, coords: &[u64], dimension: usize) -> u64
-    requires coords { IsInside shape.now.extents coords.now }
-    requires dimension { dimension < length shape.now.extents }
-    ensures some { 0 < result }
-    ensures in_array { StaysInArray shape.now coords.now dimension result }
-    ensures in_tile { StaysInTile shape.now coords.now dimension result }
-{
-    let extent = shape.extents()[dimension];
-    let edge = shape.edges()[dimension];
-    let x = coords[dimension];
-    (extent - x).min(edge - x % edge)
 }
 
 // The rest of the tile, or of the array, along a dimension, from the first element of a step on.

@@ -3,6 +3,7 @@ ghost use Rattle.std.specs.Prelude.{◌≡◌, ◌<◌, ◌≤◌, false, IsTrue
 ghost use Rattle.tce_space.specs.Box.{place, IsInside};
 ghost use Rattle.tce_space.specs.Tiling.{IsTiling, elements, padded_words, word_number};
 ghost use Rattle.tce_tools.specs.Runs.{IsRun, IsRowMajor};
+ghost use Rattle.tce_tools.specs.Bands.{StaysInArray, StaysInTile};
 
 use arrayvec::ArrayVec;
 use tce_array::{Form, address};
@@ -62,27 +63,21 @@ pub fn is_row_major(shape: &Shape) -> bool
     shape.tile_words() == 1 || shape.edges() == shape.extents()
 }
 
-// The rest of the tile's row that an element begins, or that it stands in.
-fn row_run(shape: &Shape, start: u64) -> Run
-    requires element { start < elements shape.now }
-    requires rank { 1 < length shape.now.extents }
-    ensures run { IsRun shape.now result }
-    ensures start { result.start ≡ start }
+/// How many steps along a dimension are left in the tile and in the array.
+pub fn steps_left(shape: &Shape, coords: &[u64], dimension: usize) -> u64
+    requires coords { IsInside shape.now.extents coords.now }
+    requires dimension { dimension < length shape.now.extents }
+    ensures some { 0 < result }
+    ensures in_array { StaysInArray shape.now coords.now dimension result }
+    ensures in_tile { StaysInTile shape.now coords.now dimension result }
 {
-    let coords = coords_at(shape, start);
-    let last = shape.extents().len() - 1;
-    let x = coords[last];
-    let edge = shape.edges()[last];
-    let in_row = shape.extents()[last] - x;
-    let in_tile = edge - x % edge;
-    Run {
-        start,
-        word: word_number(shape, coords.as_slice()),
-        len: in_row.min(in_tile).min(LONGEST_RUN as u64),
-    }
+    let extent = shape.extents()[dimension];
+    let edge = shape.edges()[dimension];
+    let x = coords[dimension];
+    (extent - x).min(edge - x % edge)
 }
 
-/// The run from this element on, in row-major order.
+/// The run from this element on, in row-major order: in tiles the rest of a tile's row.
 pub fn run_at(shape: &Shape, start: u64) -> Run
     requires { start < elements shape.now }
     ensures run { IsRun shape.now result }
@@ -96,5 +91,12 @@ pub fn run_at(shape: &Shape, start: u64) -> Run
             len,
         };
     }
-    row_run(shape, start)
+    let coords = coords_at(shape, start);
+    let last = shape.extents().len() - 1;
+    let row = steps_left(shape, coords.as_slice(), last);
+    Run {
+        start,
+        word: word_number(shape, coords.as_slice()),
+        len: row.min(LONGEST_RUN as u64),
+    }
 }

@@ -5,7 +5,7 @@ use Rattle.tce_space.specs.Tiling.{Tiling, IsTiling}
 use Rattle.tce_space.proofs.Boxes.{length_inside}
 use Rattle.tce_space.proofs.Counts.{positive_at}
 use Rattle.tce_tools.proofs.Coords.{coordinate_below}
-use Rattle.tce_tools.proofs.band.steps_left.Goals as goal
+use Rattle.tce_tools.proofs.run.steps_left.Goals as goal
 
 -- a coordinate, by the lists in which the code finds it
 record IsCoordinate (s : Tiling) (coords edges extents : List ℕ) (d : ℕ) : Type 0 where
