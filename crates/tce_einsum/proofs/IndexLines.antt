@@ -52,18 +52,6 @@ groups_left ss numbers first end range p q e some within same ends of_range prin
     (group_at (indexes ss) first end some (omega (arith, long, within)) (λ k le lt. sym (index_range ss numbers k e) ∙ same k le lt ∙ here)
     (λ lt other. ends (omega (arith, long, lt)) (index_range ss numbers end e ∙ other ∙ sym here))))
 
--- none are left
-pub groups_done : (ss : List text.Size) (numbers : List ℕ) (first : ℕ) (p : Printing) → numbers ≡ range_numbers ss → length numbers ≤ first
-    → with_lines p (map index_statement (groups (drop first (indexes ss)))) ≡ p
-groups_done ss numbers first p e past =
-    ap (λ (is : List Index). with_lines p (map index_statement (groups is))) (none (indexes ss) first (omega (arith, indexes_long ss numbers e, past)))
-  where
-    none : (is : List Index) (n : ℕ) → length is ≤ n → drop n is ≡ []
-    none [] zero h = refl
-    none [] (suc n) h = refl
-    none (i ∷ is) zero h = absurd (omega (arith, h))
-    none (i ∷ is) (suc n) h = none is n (omega (arith, h))
-
 -- a number of a list, whatever stands past its end
 pub same_at : (ns : List ℕ) (k : ℕ) → k < length ns → get_or ns k 0 ≡ get_or ns k 16
 same_at [] k inside = absurd (omega (arith, inside))

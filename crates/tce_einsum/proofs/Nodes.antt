@@ -59,12 +59,6 @@ keeps_pushed nodes after n behind e = record {
   ordered = λ ordered. subst AreOrdered (sym e) (ordered_pushed nodes n ordered behind);
 }
 
-pub keeps_same : (nodes after : List Node) → after ≡ nodes → Keeps nodes after
-keeps_same nodes after e = record {
-  entries = λ entry is. subst (λ ns. IsEntry ns entry × (tree_in ns entry ≡ tree_in nodes entry)) (sym e) (is, refl);
-  ordered = subst AreOrdered (sym e);
-}
-
 -- the entry of a new node
 tree_pushed : (nodes after : List Node) (n : Node) (entry : Entry) → after ≡ nodes ++ n ∷ [] → entry.node ≡ length nodes → tree_in after entry ≡ tree_of_node (trees_of nodes) n
 tree_pushed nodes after n entry e at = ap (λ ns. entry_at (trees_of ns) entry.node) e ∙ ap (entry_at (trees_of (nodes ++ n ∷ []))) at ∙ newest nodes n
@@ -115,10 +109,6 @@ summed_some : (labels : List ℕ) (t : ContractionTree) → 0 < length labels �
 summed_some [] t some = absurd (omega arith)
 summed_some (i ∷ is) t some = refl
 
-pub summed_none : (labels : List ℕ) (t : ContractionTree) → length labels ≡ 0 → list.summed labels t ≡ t
-summed_none [] t none = refl
-summed_none (i ∷ is) t none = absurd (omega arith)
-
 -- an entry in a sum over labels; `items` are those of the node
 pub summed_made : (nodes after : List Node) (made entry : Entry) (node : Node) (labels : List ℕ) → IsEntry nodes made → 0 < length labels
     → tree_of_node (trees_of nodes) node ≡ sum labels (tree_in nodes made) → IsBehind (length nodes) node → after ≡ nodes ++ node ∷ [] → entry.node ≡ length nodes
@@ -133,9 +123,6 @@ summed_made nodes after made entry node labels is some of_node behind e at free 
 -- what an item takes out
 pub entry_read : (nodes : List Node) (es : List Entry) (p : ℕ) (e : Entry) → p < length es → e ≡ get_or es p e → tree_in nodes e ≡ entry_at (map (tree_in nodes) es) p
 entry_read nodes es p e inside is = ap (tree_in nodes) is ∙ sym (get_or-map (tree_in nodes) es p e (constant 0) inside)
-
-pub entry_taken : (nodes : List Node) (es : List Entry) (p : ℕ) (e : Entry) → p < length es → e ≡ get_or es p e → All (IsEntry nodes) es → IsEntry nodes e
-entry_taken nodes es p e inside is are = subst (IsEntry nodes) (sym is) (are p e inside)
 
 pub one_left : (nodes : List Node) (es left : List Entry) (p : ℕ) → left ≡ remove es p → All (IsEntry nodes) es
     → (map (tree_in nodes) left ≡ remove (map (tree_in nodes) es) p) × All (IsEntry nodes) left

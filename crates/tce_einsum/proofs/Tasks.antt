@@ -2,7 +2,7 @@
 use Rattle.std.proofs.Common.{◌≡◌, ℕ, zero, suc, ◌+◌, ◌<◌, ◌≤◌, true, false, nat_lt, nat_le, List, [], ◌∷◌, ◌++◌, codes, length, get_or, take, drop, Result, Ok, Err, refl, sym, ap, subst, ◌∙◌, arith, append_assoc}
 use Rattle.std.specs.Result.{OnOk}
 use Rattle.std.proofs.lemmas.Bool.Decides.{nat_tests}
-use Rattle.std.proofs.lemmas.List.{length-append, length-take-le, take-append-drop, append-nil, get_or_append_left}
+use Rattle.std.proofs.lemmas.List.{length-append, length-take-le, take-append-drop, append-nil}
 use Rattle.std.proofs.lemmas.List.Sums.{fold-append}
 use Rattle.std.proofs.lemmas.List.Elements.{All-push}
 use Rattle.tce_tree.specs.ContractionTree.{ContractionTree, leaf, binary, sum, multiply, operations}
@@ -19,7 +19,6 @@ use Rattle.tce_einsum.specs.declared.entries.Node.{Node}
 use Rattle.tce_einsum.specs.declared.entries.Node.TheVariants.{Operand, Product, Sum}
 use Rattle.tce_einsum.specs.declared.formula.Task.{Task}
 use Rattle.tce_einsum.specs.declared.formula.Task.TheVariants.{Whole, RightOperand, Symbol}
-use Rattle.std.proofs.Math.Seq.{get_or-append_seam}
 use Rattle.tce_einsum.proofs.Nodes.{stays, newest}
 
 -- the trees of the nodes in front of others
@@ -190,55 +189,4 @@ sum_done ss nodes stack after p p1 k o n d labels ordered inside e bound is task
           ∙ ap (λ t. with_tokens p (spelling (written_of (formula_of ss t)) ++ rest)) (sym tree);
       tasks = subst (AreTasks nodes) (sym pushed) (All-push (IsTask nodes) one (Whole o) (All-push (IsTask nodes) stack (Symbol 41) tasks tt) in_o);
       less = omega (arith, w, w2, w1, w0);
-    }
-
-pub plain_done : (ss : List text.Size) (nodes : List Node) (stack after : List Task) (p : Printing) (k : ℕ) → k < length nodes → nat_le (level (written_at ss nodes k)) 2 ≡ false
-    → AreTasks nodes stack → after ≡ stack ++ Whole k ∷ []
-    → IsDone ss nodes stack after p p (task_tokens ss nodes (RightOperand k)) (weight nodes (RightOperand k))
-plain_done ss nodes stack after p k inside loose tasks pushed =
-    let w1 = weight_pushed nodes stack (Whole k) in
-    let w : stack_weight nodes after ≡ stack_weight nodes (stack ++ Whole k ∷ []) = ap (stack_weight nodes) pushed in
-    record {
-      printed = ap (λ (ts : List Task). with_tokens p (pending ss nodes ts)) pushed ∙ ap (with_tokens p) (pending_pushed ss nodes stack (Whole k))
-          ∙ ap (λ b. with_tokens p (spelling (grouped_if b (written_at ss nodes k)) ++ pending ss nodes stack)) (sym loose);
-      tasks = subst (AreTasks nodes) (sym pushed) (All-push (IsTask nodes) stack (Whole k) tasks inside);
-      less = omega (arith, w, w1);
-    }
-
-pub grouped_done : (ss : List text.Size) (nodes : List Node) (stack after : List Task) (p p1 : Printing) (k : ℕ) → k < length nodes → nat_le (level (written_at ss nodes k)) 2 ≡ true
-    → AreTasks nodes stack → p1 ≡ with_token p (symbol 40) → after ≡ (stack ++ Symbol 41 ∷ []) ++ Whole k ∷ []
-    → IsDone ss nodes stack after p p1 (task_tokens ss nodes (RightOperand k)) (weight nodes (RightOperand k))
-grouped_done ss nodes stack after p p1 k inside tight tasks e1 pushed =
-    let so : List Token = spelling (written_at ss nodes k) in
-    let rest : List Token = pending ss nodes stack in
-    let one : List Task = stack ++ Symbol 41 ∷ [] in
-    let w2 = weight_pushed nodes one (Whole k) in
-    let w1 = weight_pushed nodes stack (Symbol 41) in
-    let w : stack_weight nodes after ≡ stack_weight nodes (one ++ Whole k ∷ []) = ap (stack_weight nodes) pushed in
-    record {
-      printed = ap (λ (ts : List Task). with_tokens p1 (pending ss nodes ts)) pushed
-          ∙ ap (with_tokens p1) (pending_pushed ss nodes one (Whole k) ∙ ap (λ (ts : List Token). so ++ ts) (pending_pushed ss nodes stack (Symbol 41)))
-          ∙ ap (λ q. with_tokens q (so ++ (symbol 41 ∷ rest))) e1
-          ∙ ap (λ (ts : List Token). with_tokens p (symbol 40 ∷ ts)) (sym (append_assoc so (symbol 41 ∷ []) rest))
-          ∙ ap (λ b. with_tokens p (spelling (grouped_if b (written_at ss nodes k)) ++ rest)) (sym tight);
-      tasks = subst (AreTasks nodes) (sym pushed) (All-push (IsTask nodes) one (Whole k) (All-push (IsTask nodes) stack (Symbol 41) tasks tt) inside);
-      less = omega (arith, w, w2, w1);
-    }
-
--- the next task of a stack
-pub record IsNext (ss : List text.Size) (nodes : List Node) (stack left : List Task) (task : Task) : Type 0 where
-  pub printed : pending ss nodes stack ≡ task_tokens ss nodes task ++ pending ss nodes left
-  pub there : IsTask nodes task
-  pub tasks : AreTasks nodes left
-  pub weights : stack_weight nodes stack ≡ stack_weight nodes left + weight nodes task
-
-pub next_task : (ss : List text.Size) (nodes : List Node) (stack left : List Task) (task : Task) → stack ≡ left ++ task ∷ [] → AreTasks nodes stack → IsNext ss nodes stack left task
-next_task ss nodes stack left task e tasks =
-    let all : AreTasks nodes (left ++ task ∷ []) = subst (AreTasks nodes) e tasks in
-    record {
-      printed = ap (pending ss nodes) e ∙ pending_pushed ss nodes left task;
-      there = subst (IsTask nodes) (get_or-append_seam left task [] task)
-          (all (length left) task (omega (arith, length-append left (task ∷ []))));
-      tasks = λ k d inside. subst (IsTask nodes) (get_or_append_left left (task ∷ []) d k inside) (all k d (omega (arith, inside, length-append left (task ∷ []))));
-      weights = ap (stack_weight nodes) e ∙ weight_pushed nodes left task;
     }
