@@ -1,5 +1,5 @@
 -- What the values of the code stand for.
-use Rattle.std.specs.Prelude.{◌≡◌, ℕ, List, map, Option, Result, option_map}
+use Rattle.std.specs.Prelude.{◌≡◌, ⊤, ℕ, List, map, Option, Result, option_map}
 use Rattle.std.specs.declared.option.Option.TheVariants.{Some, None}
 use Rattle.std.specs.declared.result.Result.TheVariants.{Ok, Err}
 use Rattle.std.specs.Borrow.{Bor}
@@ -8,11 +8,9 @@ use Rattle.tce_einsum.specs.Text as text
 use Rattle.tce_einsum.specs.Path as path
 use Rattle.tce_einsum.specs.declared.path.Item.{Item}
 use Rattle.tce_einsum.specs.declared.path.Item.TheVariants.{One, Two}
-use Rattle.tce_einsum.specs.declared.path.PathError.{PathError}
-use Rattle.tce_einsum.specs.declared.path.PathError.TheVariants as path_errors
 use Rattle.tce_einsum.specs.Path.{AreItems, IsBadItem}
-use Rattle.tce_einsum.specs.declared.read_error.ReadError.{ReadError}
-use Rattle.tce_einsum.specs.declared.read_error.ReadError.TheVariants as errors
+use Rattle.tce_einsum.specs.declared.fault.EinsumFault.{EinsumFault}
+use Rattle.tce_einsum.specs.declared.fault.EinsumFault.TheVariants as faults
 use Rattle.tce_einsum.specs.declared.size.Size.{Size}
 use Rattle.tce_einsum.specs.declared.text.Einsum.{Einsum}
 
@@ -26,10 +24,11 @@ abbrev pub einsum : Einsum → text.Einsum
 einsum e = record { operands = texts e.operands.items; output = e.output.now; sizes = sizes e.sizes.items }
 
 -- what a function returned, seen by `view`, is what reading gives, unless memory ran out
-abbrev pub Gives : {X Y : Type 0} → (X → Y) → Result X ReadError → Option Y → Type 0
+abbrev pub Gives : {X Y : Type 0} → (X → Y) → Result X EinsumFault → Option Y → Type 0
 Gives view (Ok x) read = read ≡ Some (view x)
-Gives view (Err errors.Memory) read = Unit {0}
-Gives view (Err errors.Form) read = read ≡ None
+Gives view (Err faults.BadText) read = read ≡ None
+Gives view (Err faults.Memory) read = ⊤
+Gives view (Err fault) read = ⊥
 
 abbrev pub item : Item → path.Item
 item (One p) = path.one p
@@ -39,7 +38,8 @@ abbrev pub items : List Item → List path.Item
 items is = map item is
 
 -- the items of these texts, seen by `view`, or the number of the first that is wrong, unless memory ran out
-abbrev pub AnswersItems : {X : Type 0} → (X → List path.Item) → ℕ → List (List ℕ) → Result X PathError → Type 0
+abbrev pub AnswersItems : {X : Type 0} → (X → List path.Item) → ℕ → List (List ℕ) → Result X EinsumFault → Type 0
 AnswersItems view n texts (Ok x) = AreItems n texts (view x) 1
-AnswersItems view n texts (Err path_errors.Memory) = Unit {0}
-AnswersItems view n texts (Err (path_errors.Item k)) = IsBadItem n texts k
+AnswersItems view n texts (Err (faults.BadPath k)) = IsBadItem n texts k
+AnswersItems view n texts (Err faults.Memory) = ⊤
+AnswersItems view n texts (Err fault) = ⊥

@@ -1,5 +1,5 @@
 -- What is read of a text and a path.
-use Rattle.std.specs.Prelude.{◌≡◌, ⊤, ℕ, List, length, Result}
+use Rattle.std.specs.Prelude.{⊤, ℕ, List, length, Result}
 use Rattle.std.specs.declared.result.Result.TheVariants.{Ok, Err}
 use Rattle.tce_einsum.specs.Text.{Einsum, IsText}
 use Rattle.tce_einsum.specs.Sizes.{IsBadSize, AreSized}
@@ -40,12 +40,3 @@ AnswersInput text path (Err (BadSize label)) = HasBadSize text label
 AnswersInput text path (Err (BadPath k)) = HasBadItem text path k
 AnswersInput text path (Err (Spec fault)) = ⊥
 AnswersInput text path (Err Memory) = ⊤
-
--- the same of an einsum whose labels have one size each
-abbrev pub AnswersPath : Einsum → List ℕ → Result Input EinsumFault → Type 0
-AnswersPath e path (Ok x) = (einsum x.einsum ≡ e) × IsPath (length e.operands) path (items x.items.items)
-AnswersPath e path (Err BadText) = ⊥
-AnswersPath e path (Err (BadSize label)) = ⊥
-AnswersPath e path (Err (BadPath k)) = IsBadItem (length e.operands) (item_texts path) k
-AnswersPath e path (Err (Spec fault)) = ⊥
-AnswersPath e path (Err Memory) = ⊤

@@ -1,10 +1,10 @@
 //! Why there is no specification.
 
-use std::alloc::AllocError;
+use std::alloc::{AllocError, AllocFailed};
 use tce_declarations::SpecFault;
 
 /// Why an einsum and a path give no specification. The first in this order decides.
-#[derive(Debug, Drop)]
+#[derive(Drop)]
 pub enum EinsumFault {
     /// The text has not the form.
     BadText,
@@ -27,6 +27,17 @@ impl From<AllocError> for EinsumFault {
     ghost from_gives = { λ _ fault. fault ≡ Memory };
 
     fn from(_error: AllocError) -> EinsumFault {
+        EinsumFault::Memory
+    }
+}
+
+impl<T: Drop> From<AllocFailed<T>> for EinsumFault {
+    ghost use Rattle.std.specs.Prelude.{◌≡◌};
+    ghost use Rattle.tce_einsum.specs.declared.fault.EinsumFault.TheVariants.{Memory};
+
+    ghost from_gives = { λ _ fault. fault ≡ Memory };
+
+    fn from(_error: AllocFailed<T>) -> EinsumFault {
         EinsumFault::Memory
     }
 }

@@ -17,7 +17,6 @@ mod parts;
 mod path;
 mod produced;
 mod ranges;
-mod read_error;
 mod size;
 mod specification;
 mod text;

@@ -4,44 +4,19 @@ ghost use Rattle.std.specs.Prelude.{◌≡◌, ◌<◌, ℕ, MatchOption};
 ghost use Rattle.std.specs.Fmt.{decimal};
 ghost use Rattle.tce_fields.specs.Reading.{texts};
 ghost use Rattle.tce_einsum.specs.Code.{item, items, AnswersItems};
-ghost use Rattle.tce_einsum.specs.declared.path.PathError.TheVariants.{Memory};
 ghost use Rattle.tce_einsum.specs.Path as model;
 ghost use Rattle.tce_einsum.specs.Path.{item_text, item_texts, Fits, left_by};
 
+use crate::fault::EinsumFault;
 use crate::parts::{cut, split};
-use std::alloc::{AllocError, AllocFailed, Global};
+use std::alloc::Global;
 use tce_fields::read_number;
 
 /// The positions of the entries that are taken out of the list, from 0. The first one named is written on the left.
-#[derive(Clone, Copy, Debug, PartialEq, Eq)]
+#[derive(Clone, Copy)]
 pub enum Item {
     One(u64),
     Two(u64, u64),
-}
-
-/// Why a path was not read.
-#[derive(Debug, Drop)]
-pub(crate) enum PathError {
-    Memory,
-    /// The item of this number, from 0, has not the form or does not fit the list; or there are so many items, and more
-    /// than one entry is left.
-    Item(u64),
-}
-
-impl From<AllocError> for PathError {
-    ghost from_gives = { λ _ e. e ≡ Memory };
-
-    fn from(_e: AllocError) -> PathError {
-        PathError::Memory
-    }
-}
-
-impl<T: Drop> From<AllocFailed<T>> for PathError {
-    ghost from_gives = { λ _ e. e ≡ Memory };
-
-    fn from(_e: AllocFailed<T>) -> PathError {
-        PathError::Memory
-    }
 }
 
 /// A position in a list of so many entries.
@@ -100,14 +75,14 @@ fn left_by(count: u64, read: Item) -> u64
     }
 }
 
-fn read_items(alloc: Global, parts: &[&[u8]], count: u64) -> Result<Vec<Item>, PathError>
+fn read_items(alloc: Global, parts: &[&[u8]], count: u64) -> Result<Vec<Item>, EinsumFault>
     ensures { AnswersItems (λ v. items v.items) count (texts parts.now) result }
 {
     let mut found = Vec::new(alloc);
     let mut left = count;
     for (number, part) in parts.iter().enumerate() {
         let Some(read) = read_item(*part, left) else {
-            return Err(PathError::Item(number as u64));
+            return Err(EinsumFault::BadPath(number as u64));
         };
         found.push(read)?;
         left = left_by(left, read);
@@ -115,13 +90,13 @@ fn read_items(alloc: Global, parts: &[&[u8]], count: u64) -> Result<Vec<Item>, P
     if left == 1 {
         Ok(found)
     } else {
-        Err(PathError::Item(parts.len() as u64))
+        Err(EinsumFault::BadPath(parts.len() as u64))
     }
 }
 
 /// Reads a path over a list of so many entries: items with `;` between them, each one position or two with `,` between
 /// them, as `0,1;0,1`.
-pub(crate) fn read_path(alloc: Global, path: &[u8], count: u64) -> Result<Vec<Item>, PathError>
+pub(crate) fn read_path(alloc: Global, path: &[u8], count: u64) -> Result<Vec<Item>, EinsumFault>
     ensures { AnswersItems (λ v. items v.items) count (item_texts path.now) result }
 {
     let parts = split(alloc, path, b';')?;

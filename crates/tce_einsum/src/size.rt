@@ -9,8 +9,8 @@ ghost use Rattle.tce_einsum.specs.Code.{Gives, size, sizes};
 ghost use Rattle.tce_einsum.specs.Text.{is_label, are_labels, is_number};
 ghost use Rattle.tce_einsum.specs.Reading.{cut, numbers_of, size_of, sizes_in, sizes_of};
 
+use crate::fault::EinsumFault;
 use crate::parts::{cut, split};
-use crate::read_error::ReadError;
 use std::alloc::Global;
 
 /// How many digits a number has at most.
@@ -93,14 +93,14 @@ fn read_size<'a>(text: &'a [u8]) -> Option<Size<'a>>
     }
 }
 
-fn read_all<'a>(alloc: Global, parts: &[&'a [u8]]) -> Result<Vec<Size<'a>>, ReadError>
+fn read_all<'a>(alloc: Global, parts: &[&'a [u8]]) -> Result<Vec<Size<'a>>, EinsumFault>
     ensures { Gives (λ v. sizes v.items) result (sizes_in (texts parts.now)) }
 {
     let mut found = Vec::new(alloc);
     let mut rest = parts;
     while let [first, behind @ ..] = rest {
         let Some(size) = read_size(*first) else {
-            return Err(ReadError::Form);
+            return Err(EinsumFault::BadText);
         };
         found.push(size)?;
         rest = behind;
@@ -110,7 +110,7 @@ fn read_all<'a>(alloc: Global, parts: &[&'a [u8]]) -> Result<Vec<Size<'a>>, Read
 
 /// The sizes of a text: none, or one or more with commas between them.
 #[tactic(auto, unfolding(crate::specs::Reading::sizes_of))]
-pub(crate) fn read_sizes<'a>(alloc: Global, text: &'a [u8]) -> Result<Vec<Size<'a>>, ReadError>
+pub(crate) fn read_sizes<'a>(alloc: Global, text: &'a [u8]) -> Result<Vec<Size<'a>>, EinsumFault>
     ensures { Gives (λ v. sizes v.items) result (sizes_of text.now) }
 {
     if text.is_empty() {

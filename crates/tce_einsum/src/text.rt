@@ -7,8 +7,8 @@ ghost use Rattle.tce_einsum.specs.Code.{Gives, einsum};
 ghost use Rattle.tce_einsum.specs.Text.{are_labels};
 ghost use Rattle.tce_einsum.specs.Reading.{operands_of, output_of, einsum_in, einsum_of};
 
+use crate::fault::EinsumFault;
 use crate::parts::{cut, split};
-use crate::read_error::ReadError;
 use crate::size::{Size, are_labels, read_sizes};
 use std::alloc::Global;
 
@@ -28,14 +28,14 @@ fn all_labels(operands: &[&[u8]]) -> bool
 
 /// The operands, with commas between them.
 #[tactic(auto, unfolding(crate::specs::Reading::operands_of))]
-fn read_operands<'a>(alloc: Global, text: &'a [u8]) -> Result<Vec<&'a [u8]>, ReadError>
+fn read_operands<'a>(alloc: Global, text: &'a [u8]) -> Result<Vec<&'a [u8]>, EinsumFault>
     ensures { Gives (λ v. texts v.items) result (operands_of text.now) }
 {
     let operands = split(alloc, text, b',')?;
     if all_labels(operands.as_slice()) {
         Ok(operands)
     } else {
-        Err(ReadError::Form)
+        Err(EinsumFault::BadText)
     }
 }
 
@@ -56,11 +56,13 @@ fn read_parts<'a>(
     operands: &'a [u8],
     output: &'a [u8],
     sizes: &'a [u8],
-) -> Result<Einsum<'a>, ReadError>
+) -> Result<Einsum<'a>, EinsumFault>
     ensures { Gives einsum result (einsum_in operands.now output.now sizes.now) }
 {
     let operands = read_operands(alloc, operands)?;
-    let output = read_output(output).ok_or(ReadError::Form)?;
+    let Some(output) = read_output(output) else {
+        return Err(EinsumFault::BadText);
+    };
     let sizes = read_sizes(alloc, sizes)?;
     Ok(Einsum {
         operands,
@@ -71,10 +73,14 @@ fn read_parts<'a>(
 
 /// Reads the text of an einsum, `operands->output@sizes` without blanks, as `ik,kj->ij@i=2,k=2,j=2`.
 #[tactic(auto, unfolding(crate::specs::Reading::einsum_of))]
-pub(crate) fn read_text<'a>(alloc: Global, text: &'a [u8]) -> Result<Einsum<'a>, ReadError>
+pub(crate) fn read_text<'a>(alloc: Global, text: &'a [u8]) -> Result<Einsum<'a>, EinsumFault>
     ensures { Gives einsum result (einsum_of text.now) }
 {
-    let (head, sizes) = cut(text, b'@').ok_or(ReadError::Form)?;
-    let (operands, output) = cut(head, b'-').ok_or(ReadError::Form)?;
+    let Some((head, sizes)) = cut(text, b'@') else {
+        return Err(EinsumFault::BadText);
+    };
+    let Some((operands, output)) = cut(head, b'-') else {
+        return Err(EinsumFault::BadText);
+    };
     read_parts(alloc, operands, output, sizes)
 }

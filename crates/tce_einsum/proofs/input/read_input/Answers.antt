@@ -1,12 +1,35 @@
-use Rattle.tce_einsum.specs.Code.{einsum}
-use Rattle.tce_einsum.proofs.Inputs.{no_text, bad_size_of, input_read}
+use Rattle.std.proofs.Common.{◌≡◌, ℕ, List, length, arith}
+use Rattle.std.specs.Vec.{vec_len}
+use Rattle.std.specs.Prelude.{Vec}
+use Rattle.std.specs.declared.alloc.Global.{Global}
+use Rattle.std.specs.Borrow.{Bor}
+use Rattle.std.proofs.lemmas.List.{length-map}
+use Rattle.std.proofs.lemmas.Result.{err_from_is_err_and}
+use Rattle.tce_fields.specs.Reading.{texts}
+use Rattle.tce_einsum.specs.Code.{einsum, items}
+use Rattle.tce_einsum.specs.declared.path.Item.{Item}
+use Rattle.tce_einsum.specs.declared.text.Einsum.{Einsum}
+use Rattle.tce_einsum.proofs.Inputs.{text_fault, bad_size_of, path_fault, input_read}
 use Rattle.tce_einsum.proofs.input.read_input.Goals as goal
 
-pub returns-in-Err-Form : goal.returns-in-Err-Form
-returns-in-Err-Form c = no_text c.args.text.now (rw c.in-Err-Form.field-0-is at c.in-Err-Form.ensures)
+all_operands : (whole : Einsum) (count : ℕ) → count ≡ vec_len whole.operands → count ≡ length (texts whole.operands.items)
+all_operands whole count all = omega (arith, all, length-map whole.operands.items (λ (b : Bor (List ℕ)). b.now))
+
+pub returns-in_err-whole : goal.returns-in_err-whole
+returns-in_err-whole c =
+    let p = err_from_is_err_and c.from_residual.result c.from_residual.ensures.1 in
+    rw (p.1, p.2) (text_fault c.args.text.now c.args.path.now einsum c.in_err-whole.field-0.0 c.in_err-whole.ensures)
 
 pub returns-in-Some : goal.returns-in-Some
-returns-in-Some c = bad_size_of c.args.text.now (einsum c.in-Ok.whole) c.in-Some.label c.in-Ok.ensures c.in-Some.ensures
+returns-in-Some c = bad_size_of c.args.text.now (einsum c.in_ok-whole.whole) c.in-Some.label c.in_ok-whole.ensures c.in-Some.ensures
+
+pub returns-in_err-items : goal.returns-in_err-items
+returns-in_err-items c =
+    let p = err_from_is_err_and c.from_residual-in_err-items.result c.from_residual-in_err-items.ensures.1 in
+    rw (p.1, p.2) (path_fault c.args.text.now c.args.path.now (einsum c.in_ok-whole.whole) c.len.result (λ (v : Vec Item Global). items v.items) c.in_err-items.field-0.0
+    c.in_ok-whole.ensures c.in_default.ensures (all_operands c.in_ok-whole.whole c.len.result c.len.ensures) c.in_err-items.ensures)
 
 pub returns : goal.returns
-returns c = input_read c.args.text.now c.args.path.now (einsum c.in-Ok.whole) c.with_path.result c.in-Ok.ensures c.in_default.ensures c.with_path.ensures
+returns c =
+    input_read c.args.text.now c.args.path.now (einsum c.in_ok-whole.whole) c.len.result (items c.in_ok-items.items.items)
+    c.in_ok-whole.ensures c.in_default.ensures (all_operands c.in_ok-whole.whole c.len.result c.len.ensures) c.in_ok-items.ensures
