@@ -36,12 +36,5 @@ pub(crate) fn split<'a>(
 ) -> Result<Vec<&'a [u8]>, AllocError>
     ensures { IfOk result (λ v. texts v.items ≡ slice_split (λ b. b == byte) text.now) }
 {
-    let mut parts = Vec::new(alloc);
-    let mut rest = text;
-    while let Some((part, behind)) = cut(rest, byte) {
-        parts.push(part)?;
-        rest = behind;
-    }
-    parts.push(rest)?;
-    Ok(parts)
+    text.split(|b| *b == byte).collect(alloc)
 }
