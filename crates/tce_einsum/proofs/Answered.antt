@@ -1,5 +1,5 @@
 -- What is answered of a produced text.
-use Rattle.std.proofs.Common.{◌≡◌, ◌⊎◌, inl, inr, ℕ, List, Option, Some, None, Result, Ok, Err, refl, sym, subst, ap}
+use Rattle.std.proofs.Common.{◌≡◌, ◌⊎◌, inl, inr, ℕ, List, Option, Some, Result, Ok, Err, refl, sym, subst, ap}
 use Rattle.std.proofs.lemmas.Option.{none-some, same_Some}
 use Rattle.tce_tree.specs.declared.fault.TreeFault.TheVariants as tree_faults
 use Rattle.tce_declarations.specs.Faults.{Fault}
@@ -30,25 +30,24 @@ specified_answer text path x items s is answered =
 
 -- a fault that is shown, but for want of memory, is there
 some_found : (o : Option Fault) (f : SpecFault) → (f ≡ Memory → ⊥) → Shows o f → (found : Fault) × (o ≡ Some found)
-some_found (Some found) f apart shown = (found, refl)
-some_found None TooLong apart shown = absurd (none-some _ shown)
-some_found None (BadText line) apart shown = absurd (none-some _ shown)
-some_found None (TooManyNodes line) apart shown = absurd (none-some _ shown)
-some_found None (NameTwice line name) apart shown = absurd (none-some _ shown)
-some_found None (UnknownName line name) apart shown = absurd (none-some _ shown)
-some_found None (BadNumber line) apart shown = absurd (none-some _ shown)
-some_found None (LimitPassed line l) apart shown = absurd (none-some _ shown)
-some_found None (RankDiffers line name) apart shown = absurd (none-some _ shown)
-some_found None (RangeDiffers line name) apart shown = absurd (none-some _ shown)
-some_found None (IndexTwice line name) apart shown = absurd (none-some _ shown)
-some_found None (ResultIsOperand line name) apart shown = absurd (none-some _ shown)
-some_found None (Tree line tree_faults.NoOperation) apart shown = absurd (none-some _ shown)
-some_found None (Tree line (tree_faults.SumOverAbsent name)) apart shown = absurd (none-some _ shown)
-some_found None (Tree line (tree_faults.TooManyLoops node)) apart shown = absurd (none-some _ shown)
-some_found None (Tree line (tree_faults.VolumeTooLarge node)) apart shown = absurd (none-some _ shown)
-some_found None (Tree line tree_faults.Memory) apart shown = absurd shown
-some_found None (ResultIndices line) apart shown = absurd (none-some _ shown)
-some_found None Memory apart shown = absurd (apart refl)
+some_found o TooLong apart shown = (_, shown)
+some_found o (BadText line) apart shown = (_, shown)
+some_found o (TooManyNodes line) apart shown = (_, shown)
+some_found o (NameTwice line name) apart shown = (_, shown)
+some_found o (UnknownName line name) apart shown = (_, shown)
+some_found o (BadNumber line) apart shown = (_, shown)
+some_found o (LimitPassed line l) apart shown = (_, shown)
+some_found o (RankDiffers line name) apart shown = (_, shown)
+some_found o (RangeDiffers line name) apart shown = (_, shown)
+some_found o (IndexTwice line name) apart shown = (_, shown)
+some_found o (ResultIsOperand line name) apart shown = (_, shown)
+some_found o (Tree line tree_faults.NoOperation) apart shown = (_, shown)
+some_found o (Tree line (tree_faults.SumOverAbsent name)) apart shown = (_, shown)
+some_found o (Tree line (tree_faults.TooManyLoops node)) apart shown = (_, shown)
+some_found o (Tree line (tree_faults.VolumeTooLarge node)) apart shown = (_, shown)
+some_found o (Tree line tree_faults.Memory) apart shown = absurd shown
+some_found o (ResultIndices line) apart shown = (_, shown)
+some_found o Memory apart shown = absurd (apart refl)
 
 result_found : (r : Result Specification Fault) (found : Fault) → fault_in r ≡ Some found → r ≡ Err found
 result_found (Ok s) found e = absurd (none-some found e)

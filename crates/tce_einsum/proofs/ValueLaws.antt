@@ -2,7 +2,7 @@
 use Rattle.std.proofs.Common.{◌≡◌, ◌≢◌, ℕ, zero, suc, ◌+◌, ◌*◌, ◌%◌, ◌^◌, ◌==◌, Bool, true, false, List, [], ◌∷◌, ◌++◌, refl, sym, ap, ap₂, ◌∙◌, arith, inl, inr, eqb, eqb-true}
 use Rattle.std.proofs.lemmas.Bool.{ne_eqb, cases_eq, cases_Bool, eq-eqb}
 use Rattle.std.proofs.lemmas.Nat.{mul-mod_first, mul-mod_second}
-use Rattle.std.proofs.Math.Nat.{mul_comm, mul_assoc, mul-add}
+use Rattle.std.proofs.Math.Nat.{mul_comm, mul_assoc, mul-add, add-mod-mod, mod-add-mod}
 use Rattle.tce_base.specs.Word.{wrapping_add, wrapping_mul}
 use Rattle.tce_space.specs.IndexSet.{has}
 use Rattle.tce_tree.specs.ContractionTree.{ContractionTree, dims}
@@ -25,18 +25,21 @@ mul_zero : (w : ℕ) → wrapping_mul 0 w ≡ 0
 unfolding wrapping_mul
 mul_zero w = omega arith
 
+-- remainders are added
+added : (x y : ℕ) → (x % 2 ^ 64 + y % 2 ^ 64) % 2 ^ 64 ≡ (x + y) % 2 ^ 64
+added x y = mod-add-mod x (2 ^ 64) (y % 2 ^ 64) ∙ add-mod-mod x y (2 ^ 64)
+
 mul_shared : (x y z : ℕ) → wrapping_mul (wrapping_add x y) z ≡ wrapping_add (wrapping_mul x z) (wrapping_mul y z)
 unfolding wrapping_mul wrapping_add
 mul_shared x y z =
     let parts : (x + y) * z ≡ x * z + y * z = mul_comm (x + y) z ∙ mul-add z x y ∙ ap₂ (λ a b. a + b) (mul_comm z x) (mul_comm z y) in
-    mul-mod_first (x + y) z (2 ^ 64) ∙ ap (λ n. n % 2 ^ 64) parts ∙ sums (x * z) (y * z)
-  where
-    sums : (a b : ℕ) → (a + b) % 2 ^ 64 ≡ (a % 2 ^ 64 + b % 2 ^ 64) % 2 ^ 64
-    sums a b = omega arith
+    mul-mod_first (x + y) z (2 ^ 64) ∙ ap (λ n. n % 2 ^ 64) parts ∙ sym (added (x * z) (y * z))
 
 add_crossed : (a b c d : ℕ) → wrapping_add (wrapping_add a b) (wrapping_add c d) ≡ wrapping_add (wrapping_add a c) (wrapping_add b d)
 unfolding wrapping_add
-add_crossed a b c d = omega arith
+add_crossed a b c d =
+    let crossed : (a + b) + (c + d) ≡ (a + c) + (b + d) = omega arith in
+    added (a + b) (c + d) ∙ ap (λ n. n % 2 ^ 64) crossed ∙ sym (added (a + c) (b + d))
 
 add_none : wrapping_add 0 0 ≡ 0
 unfolding wrapping_add
