@@ -36,8 +36,7 @@ fn print_declarations(
     print_ranges(alloc, printer, ranges.as_slice())?;
     print_indexes(alloc, printer, sizes, numbers)?;
     print_operands(alloc, printer, sizes, numbers, whole.operands.as_slice())?;
-    print_result(alloc, printer, sizes, numbers, whole.output)?;
-    Ok(())
+    print_result(alloc, printer, sizes, numbers, whole.output)
 }
 
 /// Prints the line of the formula, which gives the result by the one entry that is left.

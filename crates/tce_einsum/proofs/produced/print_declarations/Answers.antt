@@ -8,6 +8,7 @@ use Rattle.tce_einsum.specs.Produced.{range_statement, range_statements, index_s
 use Rattle.tce_grammar.specs.Grammar.{declaration}
 use Rattle.tce_einsum.specs.ProducedCode.{tileds}
 use Rattle.tce_einsum.proofs.ProducedLines.{declared_lines}
+use Rattle.tce_einsum.proofs.Tasks.{on_ok}
 use Rattle.tce_einsum.proofs.produced.print_declarations.Goals as goal
 
 pub returns : goal.returns
@@ -15,6 +16,8 @@ returns c =
     let x : text.Einsum = code.einsum c.args.whole.now in
     let ss : List text.Size = x.sizes in
     let sizes = c.as_slice-sizes.ensures.value in
+    on_ok c.print_result.result
+    (λ printed.
     declared_lines c.args.printer.now c.print_ranges.new.printer c.print_indexes.new.printer c.print_operands.new.printer c.print_result.new.printer
     (range_statements ss) (index_statements ss) (numbered (operand_statement ss) 0 x.operands) (result_statement x)
     (c.in_ok-print_ranges.ensures
@@ -24,4 +27,5 @@ returns c =
     (c.in_ok-print_indexes.ensures ∙ (λ i. with_lines c.print_ranges.new.printer (index_statements (code.sizes (sizes i)))))
     (c.in_ok-print_operands.ensures
     ∙ (λ i. with_lines c.print_indexes.new.printer (numbered (operand_statement (code.sizes (sizes i))) 0 (texts (c.as_slice-3.ensures.value i)))))
-    (c.in_ok-print_result.ensures ∙ (λ i. with_line c.print_operands.new.printer (declaration result_name (range_names (code.sizes (sizes i)) x.output))))
+    (printed ∙ (λ i. with_line c.print_operands.new.printer (declaration result_name (range_names (code.sizes (sizes i)) x.output)))))
+    c.print_result.ensures
