@@ -1,4 +1,5 @@
 pub mod Cuts
+pub mod Loops
 pub mod Sizes
 pub mod OneReading
 pub mod Items

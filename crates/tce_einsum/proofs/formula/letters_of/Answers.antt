@@ -1,0 +1,9 @@
+use Rattle.tce_einsum.specs.Code as code
+use Rattle.tce_einsum.specs.Produced as produced
+use Rattle.tce_einsum.proofs.Loops.{mapped_next}
+use Rattle.tce_einsum.proofs.formula.letters_of.Goals as goal
+
+pub loop-rest-preserved : goal.loop-rest-preserved
+loop-rest-preserved c =
+    mapped_next (produced.label_at (code.sizes c.args.sizes.now)) c.loop-rest.found.items c.push.new.self.items _ c.loop-rest.rest.now _ c.label_at.result
+    c.in-len1-up.len_at_least c.in_ok-push.ensures.items c.label_at.ensures c.loop-rest.invariant
