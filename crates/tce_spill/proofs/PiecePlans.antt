@@ -13,7 +13,7 @@ use Rattle.tce_search.specs.LeastPlan.{IsLeastPlan}
 use Rattle.tce_pieces.specs.Pieces.{Cuts, except, piece, is_root, IsRootOver}
 use Rattle.tce_spec.specs.Specification.{Specification}
 use Rattle.tce_spec.specs.Operands.{references, each_once}
-use Rattle.tce_spec.specs.PieceSpecification.{renumbered, place_in, piece_of}
+use Rattle.tce_spec.specs.PieceSpecification.{renumbered, place_in}
 use Rattle.tce_spill.specs.InTurn.{AreDecided}
 use Rattle.tce_spill.specs.Planned.{IsAbove, IsWithoutRows, IsLeastButRows, IsPlanOfPiece, IsPlanned, HasPlan, HavePlansBelow, HavePlans, ArePlanned}
 use Rattle.tce_spill.specs.Refusals.{HasLeastMemory}
@@ -25,22 +25,18 @@ use Rattle.tce_spill.proofs.Renumbered.{plan_is_least}
 
 -- ---- one plan
 
-pub bare_plan : (s p : Specification) (cut : Cuts) (v : ℕ) (space : IndexSpace) (tree : ContractionTree) (whole plan : Plan) → p ≡ piece_of s cut v
-    → space ≡ p.declarations.space → tree ≡ p.tree → IsLeastPlan space tree whole → IsWithoutRows whole plan → IsPlanOfPiece s cut v plan
-bare_plan s p cut v space tree whole plan is same_space same_tree least bare = record {
+pub bare_plan : (p : Specification) (space : IndexSpace) (tree : ContractionTree) (whole plan : Plan) → space ≡ p.declarations.space → tree ≡ p.tree
+    → IsLeastPlan space tree whole → IsWithoutRows whole plan → IsLeastButRows p.declarations.space p.tree plan
+bare_plan p space tree whole plan same_space same_tree least bare = record {
   whole = whole;
-  least =
-      subst (λ (q : Specification). IsLeastPlan q.declarations.space q.tree whole) is
-      (subst (λ (k : IndexSpace). IsLeastPlan k p.tree whole) same_space (subst (λ (t : ContractionTree). IsLeastPlan space t whole) same_tree least));
+  least = subst (λ (k : IndexSpace). IsLeastPlan k p.tree whole) same_space (subst (λ (t : ContractionTree). IsLeastPlan space t whole) same_tree least);
   bare = bare;
 }
 
 -- its memory is the least one of the piece
 pub plan_memory : (s : Specification) (cut : Cuts) (v : ℕ) (plan : Plan) → IsPlanOfPiece s cut v plan → HasLeastMemory s.declarations.space (piece s.tree cut v) plan.memory
 plan_memory s cut v plan h =
-    let p : Specification = piece_of s cut v in
-    subst (λ n. HasLeastMemory s.declarations.space (piece s.tree cut v) n) (sym h.bare.memory)
-    (plan_is_least s p cut v p.declarations.space p.tree h.whole refl refl refl h.least)
+    subst (λ n. HasLeastMemory s.declarations.space (piece s.tree cut v) n) (sym h.bare.memory) (plan_is_least s cut v h.whole h.least)
 
 -- ---- the plans one after the other
 

@@ -1,6 +1,6 @@
 -- Other numbers for the tensors of a tree change none of its fusions.
-use Rattle.std.proofs.Common.{◌≡◌, ℕ, zero, suc, ◌+◌, ◌-◌, ◌<◌, Bool, not, ◌||◌, ◌&&◌, leb, ltb, List, [], ◌∷◌, ◌++◌, map, get_or, refl, sym, ap, ap₂, ◌∙◌, subst, arith}
-use Rattle.std.specs.Prelude.{◌⊎◌, IsTrue}
+use Rattle.std.proofs.Common.{◌≡◌, ℕ, zero, suc, ◌+◌, ◌-◌, ◌<◌, Bool, not, ◌||◌, ◌&&◌, leb, ltb, List, [], ◌∷◌, ◌++◌, map, get_or, Option, Some, None, refl, sym, ap, ap₂, ◌∙◌, subst, arith}
+use Rattle.std.specs.Prelude.{◌⊎◌, IsTrue, IfNone}
 use Rattle.std.specs.List.{sum_by, list_all, range_with_len}
 use mathlib.Core.Path.{fun_ext}
 use Rattle.std.proofs.lemmas.List.{map-append}
@@ -142,24 +142,20 @@ least_too space a b n h least = record {
 }
 
 -- a least plan of the specification of a piece has the least memory of the piece
-pub plan_is_least : (s p : Specification) (cut : Cuts) (v : ℕ) (space : IndexSpace) (tree : ContractionTree) (plan : Plan) → p ≡ piece_of s cut v
-    → space ≡ p.declarations.space → tree ≡ p.tree → IsLeastPlan space tree plan → HasLeastMemory s.declarations.space (piece s.tree cut v) plan.memory
-plan_is_least s p cut v space tree plan is same_space same_tree least =
-    let here : HasLeastMemory space tree plan.memory = record { fusion = plan.fusion.0.items; is_least = least.least; memory_is = sym least.memory_is } in
-    let own : HasLeastMemory s.declarations.space tree plan.memory =
-    subst (λ (k : IndexSpace). HasLeastMemory k tree plan.memory) (same_space ∙ ap (λ (q : Specification). q.declarations.space) is) here in
+pub plan_is_least : (s : Specification) (cut : Cuts) (v : ℕ) (plan : Plan) → IsLeastPlan (piece_of s cut v).declarations.space (piece_of s cut v).tree plan
+    → HasLeastMemory s.declarations.space (piece s.tree cut v) plan.memory
+plan_is_least s cut v plan least =
     least_too s.declarations.space (renumbered (place_in (sources s cut v)) (piece s.tree cut v)) (piece s.tree cut v) plan.memory
     (renumbered_is_alike s.declarations.space (piece s.tree cut v) (place_in (sources s cut v)))
-    (subst (λ (t : ContractionTree). HasLeastMemory s.declarations.space t plan.memory) (same_tree ∙ ap (λ (q : Specification). q.tree) is) own)
+    (record { fusion = plan.fusion.0.items; is_least = least.least; memory_is = sym least.memory_is })
 
 -- where each fusion of that specification takes more than a limit, each of the piece does
-pub piece_is_above : (s p : Specification) (cut : Cuts) (v : ℕ) (space : IndexSpace) (tree : ContractionTree) (limit : ℕ) → p ≡ piece_of s cut v
-    → space ≡ p.declarations.space → tree ≡ p.tree → IsExceeded space tree limit → IsAbove s cut v limit
-piece_is_above s p cut v space tree limit is same_space same_tree more f =
+pub piece_is_above : (s p : Specification) (cut : Cuts) (v limit : ℕ) (found : Option Plan) → p ≡ piece_of s cut v → IfNone found (IsExceeded p.declarations.space p.tree limit)
+    → IfNone found (IsAbove s cut v limit)
+piece_is_above s p cut v limit (Some plan) is more = tt
+piece_is_above s p cut v limit None is more = λ f.
     let alike = renumbered_is_alike s.declarations.space (piece s.tree cut v) (place_in (sources s cut v)) in
-    let own : IsExceeded s.declarations.space tree limit =
-    subst (λ (k : IndexSpace). IsExceeded k tree limit) (same_space ∙ ap (λ (q : Specification). q.declarations.space) is) more in
     let high : IsExceeded s.declarations.space (renumbered (place_in (sources s cut v)) (piece s.tree cut v)) limit =
-    subst (λ (t : ContractionTree). IsExceeded s.declarations.space t limit) (same_tree ∙ ap (λ (q : Specification). q.tree) is) own in
+    subst (λ (q : Specification). IsExceeded q.declarations.space q.tree limit) is more in
     let above = high f.fusion ((alike.fits f.fusion).1 f.fits) ((alike.legal f.fusion).1 f.legal) in
     omega (arith, above, alike.memory_is f.fusion, f.cheap)

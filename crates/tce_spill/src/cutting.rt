@@ -15,11 +15,10 @@ ghost use Rattle.tce_spill.specs.declared.fault.SpillFault.{SpillFault as Fault}
 
 use crate::fault::SpillFault;
 use crate::node_set::{has_node, with_node, without_node};
-use crate::planned::{PlannedCuts, joined_guess, put_joined, without_rows};
+use crate::planned::{PlannedCuts, joined_guess, least_plan, least_plan_within, put_joined};
 use crate::storage::storable;
 use std::alloc::{AllocError, Global};
 use tce_nesting::Plan;
-use tce_search::{search, search_within};
 use tce_space::{MAX_TENSORS, Space};
 use tce_spec::{Spec, piece};
 use tce_tree::Tree;
@@ -195,8 +194,7 @@ fn plan_of_piece(alloc: Global, spec: &Spec, root: u8, cuts: u32) -> Result<Plan
     ensures { IfOk result (IsPlanOfPiece spec.now (has cuts) root) }
 {
     let piece = piece(alloc, spec, root, cuts)?;
-    let plan = search(alloc, piece.space(), piece.tree())?;
-    without_rows(alloc, plan)
+    least_plan(alloc, &piece)
 }
 
 // The same, where its memory is at most the limit; none where each fusion of the piece takes more.
@@ -216,10 +214,7 @@ fn plan_within(
     ensures none { IfOk result (λ found. IfNone found (IsAbove spec.now (has cuts) root limit)) }
 {
     let piece = piece(alloc, spec, root, cuts)?;
-    match search_within(alloc, piece.space(), piece.tree(), guess, limit)? {
-        Some(plan) => Ok(Some(without_rows(alloc, plan)?)),
-        None => Ok(None),
-    }
+    least_plan_within(alloc, &piece, guess, limit)
 }
 
 // Whether a node is the root of a piece.

@@ -1,9 +1,12 @@
 // Cuts with a plan of each piece.
-ghost use Rattle.std.specs.Prelude.{◌≡◌, ◌<◌, Some, None, IfOk, length, slice_index_or, slice_set};
-ghost use Rattle.tce_spill.specs.Planned.{IsWithoutRows};
+ghost use Rattle.std.specs.Prelude.{◌≡◌, ◌<◌, ◌≤◌, Some, None, IfOk, IfSome, IfNone, length, slice_index_or, slice_set};
+ghost use Rattle.tce_search.specs.LeastPlan.{IsExceeded};
+ghost use Rattle.tce_spill.specs.Planned.{IsWithoutRows, IsLeastButRows};
 
 use std::alloc::{AllocError, Global};
 use tce_nesting::{Plan, Tables};
+use tce_search::{search, search_within};
+use tce_spec::Spec;
 
 /// The nodes that are cut, with a plan of a least fusion for each piece.
 ///
@@ -17,8 +20,8 @@ pub struct PlannedCuts {
     pub plans: Vec<Option<Plan>>,
 }
 
-/// A plan without its rows.
-pub(crate) fn without_rows(alloc: Global, plan: Plan) -> Result<Plan, AllocError>
+// A plan without its rows.
+fn without_rows(alloc: Global, plan: Plan) -> Result<Plan, AllocError>
     ensures { IfOk result (IsWithoutRows plan) }
 {
     let tables = Tables::new(alloc, plan.tables.lists())?;
@@ -29,6 +32,33 @@ pub(crate) fn without_rows(alloc: Global, plan: Plan) -> Result<Plan, AllocError
         memory: plan.memory,
         tables,
     })
+}
+
+/// A plan of a least fusion of a specification's tree, without rows.
+pub(crate) fn least_plan(alloc: Global, spec: &Spec) -> Result<Plan, AllocError>
+    ensures { IfOk result (IsLeastButRows spec.now.declarations.space spec.now.tree) }
+{
+    let plan = search(alloc, spec.space(), spec.tree())?;
+    without_rows(alloc, plan)
+}
+
+/// The same, where its memory is at most the limit; none where each fusion of the tree takes more.
+pub(crate) fn least_plan_within(
+    alloc: Global,
+    spec: &Spec,
+    guess: u128,
+    limit: u64,
+) -> Result<Option<Plan>, AllocError>
+    ensures plan { IfOk result
+        (λ found. IfSome found (IsLeastButRows spec.now.declarations.space spec.now.tree)) }
+    ensures within { IfOk result (λ found. IfSome found (λ plan. plan.memory ≤ limit)) }
+    ensures none { IfOk result
+        (λ found. IfNone found (IsExceeded spec.now.declarations.space spec.now.tree limit)) }
+{
+    match search_within(alloc, spec.space(), spec.tree(), guess, limit)? {
+        Some(plan) => Ok(Some(without_rows(alloc, plan)?)),
+        None => Ok(None),
+    }
 }
 
 /// Puts the plan of a joined piece in the place of its root, and takes that of its lower part away.

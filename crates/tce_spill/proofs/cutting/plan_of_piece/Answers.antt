@@ -1,10 +1,8 @@
-use Rattle.std.proofs.lemmas.Result.{IfOk-weaker}
-use Rattle.tce_space.specs.IndexSet.{has}
-use Rattle.tce_spill.proofs.PiecePlans.{bare_plan}
+use Rattle.std.proofs.Common.{subst}
+use Rattle.std.specs.Prelude.{IfOk}
+use Rattle.tce_spec.specs.Specification.{Specification}
+use Rattle.tce_spill.specs.Planned.{IsLeastButRows}
 use Rattle.tce_spill.proofs.cutting.plan_of_piece.Goals as goal
 
 pub returns : goal.returns
-returns c =
-    IfOk-weaker c.without_rows.result _ _
-    (λ plan bare. bare_plan c.args.spec.now c.in_ok-piece.piece (has c.args.cuts) c.args.root c.space.result.now c.tree.result.now c.in_ok-plan.plan plan c.in_ok-piece.ensures
-    c.space.ensures.space c.tree.ensures.tree c.in_ok-plan.ensures bare) c.without_rows.ensures
+returns c = subst (λ (p : Specification). IfOk c.least_plan.result (IsLeastButRows p.declarations.space p.tree)) c.in_ok-piece.ensures c.least_plan.ensures
