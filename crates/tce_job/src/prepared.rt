@@ -1,4 +1,6 @@
 // What a run has before its result is made.
+ghost use Rattle.std.specs.Prelude.{◌≡◌};
+
 use crate::report::RunReport;
 use tce_cache::Cache;
 use tce_code::Code;
@@ -26,4 +28,13 @@ pub struct Prepared {
     pub words: Words,
     pub cache: Cache,
     pub report: RunReport,
+}
+
+impl Prepared {
+    /// The report, which is all that is left of a run that has ended.
+    pub(crate) fn into_report(self) -> RunReport
+        ensures { result ≡ self.report }
+    {
+        self.report
+    }
 }

@@ -88,10 +88,10 @@ fn take_memory<R: Room>(
 {
     let memory = plan.memory as u64;
     let code = generate(alloc, spec.tree(), &plan.fusion, &plan.orders)?;
-    let layout = lay_out(spec.space(), spec.tree(), &plan.fusion);
     let cache = empty_cache(alloc, spec, budget, forms, memory)?;
     let report = report_of(alloc, spec, budget, &plan)?;
     let words = room.take(memory, tile_take(spec, budget))?;
+    let layout = lay_out(spec.space(), spec.tree(), &plan.fusion);
     Ok(Prepared {
         plan,
         code,

@@ -100,7 +100,7 @@ pub fn run_by<D: Disk, R: Room>(
     let _space = spec.space();
     let mut prepared = begin(alloc, spec, budget, planned, disk, room)?;
     match run_prepared(spec, &mut prepared, disk) {
-        Ok(()) => Ok(prepared.report),
+        Ok(()) => Ok(prepared.into_report()),
         Err(Failed) => Err(JobFault::Disk),
     }
 }
