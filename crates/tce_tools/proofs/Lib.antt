@@ -16,4 +16,5 @@ pub mod Worked
 pub mod PieceWrites
 pub mod Zeros
 pub mod NoHalf
+pub mod Apart
 pub mod Faults

@@ -7,6 +7,7 @@ use Rattle.tce_base.specs.Word.{word_bytes}
 use Rattle.tce_tools.specs.declared.storage.Storage.{Storage}
 use Rattle.tce_tools.specs.Storage.{bare_bytes, bytes_ahead, holding_by, stored_len}
 use Rattle.tce_tools.specs.Told.{HasStoredIn}
+use Rattle.tce_tools.proofs.Apart.{flat_not_array}
 use Rattle.tce_tools.proofs.Faults.{on_ok}
 use Rattle.tce_tools.proofs.Told.{held_written}
 use Rattle.tce_tools.proofs.PieceWrites.{flat_bare, words_there, buffer_fits}
@@ -69,7 +70,7 @@ pub returns-in-Array-clause-ahead : goal.returns-in-Array-clause-ahead
 returns-in-Array-clause-ahead g c = subst (λ (t : Storage). KeepsBefore c.args.file.now.name.now (bytes_ahead t c.args.file.now.shape.now c.args.band.start) (g.D.Disk.files c.args.disk.now) (g.D.Disk.files c.write_pieces.new.disk)) (sym c.in-Array.is) c.write_pieces.ensures.ahead
 
 pub returns-in-Array-clause-behind : goal.returns-in-Array-clause-behind
-returns-in-Array-clause-behind g c = λ flat. absurd (let is = c.in-Array.is in cc)
+returns-in-Array-clause-behind g c = λ flat. absurd (flat_not_array _ _ flat c.in-Array.is)
 
 pub returns-in-Array-clause-others : goal.returns-in-Array-clause-others
 returns-in-Array-clause-others g c = c.write_pieces.ensures.others

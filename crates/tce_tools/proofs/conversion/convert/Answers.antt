@@ -9,6 +9,7 @@ use Rattle.tce_tools.specs.Answers.{HasFitting, IsConvertAnswer, IsOfConvert}
 use Rattle.tce_tools.specs.Flat.{contents, array_element}
 use Rattle.tce_tools.specs.Storage.{stored_bytes, element_in, holding_by, last_written}
 use Rattle.tce_tools.specs.Told.{Copies, Converts, KeepsFiles, IsDiskFault}
+use Rattle.tce_tools.proofs.Apart.{false_not_true, ok_not_err, array_not_disk, same_err}
 use Rattle.tce_tools.proofs.Faults.{not_opened, copied_or_not, on_ok, cause_behind}
 use Rattle.tce_tools.proofs.Forms.{opened_form, opened_fits, array_elements}
 use Rattle.tce_tools.proofs.NoHalf.{same_left, moved_left}
@@ -51,7 +52,7 @@ pub returns-clause-cause : goal.returns-clause-cause
 returns-clause-cause g c = cause_behind _ (g.D.Disk.faults c.misfit_for.new.disk) _ _ (omega (arith, c.open.ensures.cause.later, c.misfit_for.ensures.cause.later)) c.copy.ensures.cause
 
 pub returns-clause-told : goal.returns-clause-told
-returns-clause-told g c = λ fine. c.copy.ensures.told fine ∙ c.misfit_for.ensures.told (search rules) ∙ c.open.ensures.told (search rules)
+returns-clause-told g c = λ fine. c.copy.ensures.told fine ∙ c.in_ok-place.ensures.told false_not_true ∙ c.in_ok-found.ensures.told (λ e. ok_not_err e)
 
 pub returns-in_err-found-clause-answer : goal.returns-in_err-found-clause-answer
 returns-in_err-found-clause-answer g c x told = not_opened (λ (r : Result (Unit {0}) ToolFault). IsConvertAnswer c.args.form c.args.shape.now (file x c.args.array.now) r) c.from_residual.result c.in_err-found.field-0.0 c.from_residual.ensures.1 (λ other. (c.in_err-found.ensures.fault x told, other)) (λ disk. tt)
@@ -71,10 +72,10 @@ returns-in_err-found-clause-others g c = ap (others c.args.to.now) c.open.ensure
 pub returns-in_err-found-clause-cause : goal.returns-in_err-found-clause-cause
 returns-in_err-found-clause-cause g c =
     not_opened (λ (r : Result (Unit {0}) ToolFault). HasCause (g.D.Disk.faults c.args.disk.now) (g.D.Disk.faults c.open.new.disk) (IsDiskFault r)) c.from_residual.result c.in_err-found.field-0.0 c.from_residual.ensures.1
-    (λ other. record { later = c.open.ensures.cause.later; rose = λ failed. absurd cc })
+    (λ other. record { later = c.open.ensures.cause.later; rose = λ failed. absurd (array_not_disk _ _ refl failed) })
     (λ disk. record { later = c.open.ensures.cause.later; rose = λ failed. c.open.ensures.cause.rose (c.in_err-found.was ∙ ap Err disk) })
 
 pub returns-in_err-found-clause-told : goal.returns-in_err-found-clause-told
 returns-in_err-found-clause-told g c =
     not_opened (λ (r : Result (Unit {0}) ToolFault). TellsFaults (g.D.Disk.faults c.args.disk.now) (g.D.Disk.faults c.open.new.disk) (IsDiskFault r)) c.from_residual.result c.in_err-found.field-0.0 c.from_residual.ensures.1
-    (λ other fine. c.open.ensures.told (λ failed. other (let was = c.in_err-found.was in cc))) (λ disk fine. absurd (fine refl))
+    (λ other fine. c.open.ensures.told (λ failed. other (same_err _ _ _ c.in_err-found.was failed))) (λ disk fine. absurd (fine refl))

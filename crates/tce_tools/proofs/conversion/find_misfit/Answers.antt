@@ -1,4 +1,4 @@
-use Rattle.std.proofs.Common.{◌≡◌, ◌∙◌, ◌+◌, sym, ap, subst, is_err, arith, List, ℕ, rules}
+use Rattle.std.proofs.Common.{◌≡◌, ◌∙◌, ◌+◌, refl, sym, ap, subst, is_err, arith, List, ℕ}
 use Rattle.tce_space.specs.Tiling.{Tiling, elements}
 use Rattle.tce_array.specs.declared.form.Form.TheVariants.{Narrow}
 use Rattle.tce_tools.specs.declared.storage.Storage.TheVariants.{Array}
@@ -6,6 +6,7 @@ use Rattle.tce_tools.specs.Flat.{contents}
 use Rattle.tce_tools.specs.Storage.{element_in}
 use Rattle.tce_tools.specs.Runs.{AreElements}
 use Rattle.tce_tools.specs.Answers.{FitBefore, IsFirstMisfit}
+use Rattle.tce_tools.proofs.Apart.{false_not_true, none_not_some, same_some}
 use Rattle.tce_tools.proofs.Told.{failed_from}
 use Rattle.tce_tools.proofs.Misfits.{fit_more, misfit_at}
 use Rattle.tce_tools.proofs.conversion.find_misfit.Goals as goal
@@ -30,7 +31,7 @@ returns-in-Some-clause-some g c k e x told =
     let s : Tiling = c.args.shape.now in
     let f : List ℕ → ℕ = element_in (Array c.args.form) s (contents x c.args.name.now) in
     let values : AreElements s f c.loop-done.done c.read_band.new.words = subst (λ n. AreElements s f n c.read_band.new.words) c.band_at-band.ensures.start (c.in_ok-read_band.ensures.read x (c.loop-done.invariant.files ∙ told)) in
-    let same : c.loop-done.done + c.in-Some.place ≡ k = cc in
+    let same : c.loop-done.done + c.in-Some.place ≡ k = same_some _ _ _ refl e in
     let first = c.in-Some.ensures.some in
     subst (IsFirstMisfit Narrow s f) same
     (misfit_at Narrow s f c.loop-done.done c.in-Some.place c.read_band.new.words values (omega (arith, c.band_at-band.ensures.band.inside, c.band_at-band.ensures.start, c.in_ok-read_band.ensures.len)) (c.loop-done.invariant.fits x told) first.0 first.1 first.2)
@@ -47,7 +48,7 @@ loop-done-preserved g c =
           fit_more Narrow s f c.loop-done.done c.band_at-band.result.len c.read_band.new.words values (omega (arith, len)) (c.loop-done.invariant.fits x told) (λ k lt. c.in_default.ensures.none k (omega (arith, len)));
       files = c.in_ok-read_band.ensures.same ∙ c.loop-done.invariant.files;
       later = omega (arith, c.in_ok-read_band.ensures.cause.later, c.loop-done.invariant.later);
-      counted = c.in_ok-read_band.ensures.told (search rules) ∙ c.loop-done.invariant.counted;
+      counted = c.in_ok-read_band.ensures.told false_not_true ∙ c.loop-done.invariant.counted;
     }
 
 pub returns-clause-told : goal.returns-clause-told
@@ -66,22 +67,22 @@ pub returns-clause-same : goal.returns-clause-same
 returns-clause-same g c = c.loop-done.invariant.files
 
 pub returns-clause-cause : goal.returns-clause-cause
-returns-clause-cause g c = record { later = c.loop-done.invariant.later; rose = λ e. absurd cc }
+returns-clause-cause g c = record { later = c.loop-done.invariant.later; rose = λ e. absurd (false_not_true e) }
 
 pub read_band-requires-clause-band : goal.read_band-requires-clause-band
 read_band-requires-clause-band g c = c.band_at-band.ensures.band
 
 pub returns-in-Some-clause-none : goal.returns-in-Some-clause-none
-returns-in-Some-clause-none g c = λ none. absurd cc
+returns-in-Some-clause-none g c = λ none. absurd (none_not_some _ _ none refl)
 
 pub returns-in-Some-clause-same : goal.returns-in-Some-clause-same
 returns-in-Some-clause-same g c = c.in_ok-read_band.ensures.same ∙ c.loop-done.invariant.files
 
 pub returns-in-Some-clause-cause : goal.returns-in-Some-clause-cause
-returns-in-Some-clause-cause g c = record { later = omega (arith, c.loop-done.invariant.later, c.in_ok-read_band.ensures.cause.later); rose = λ e. absurd cc }
+returns-in-Some-clause-cause g c = record { later = omega (arith, c.loop-done.invariant.later, c.in_ok-read_band.ensures.cause.later); rose = λ e. absurd (false_not_true e) }
 
 pub returns-in-Some-clause-told : goal.returns-in-Some-clause-told
-returns-in-Some-clause-told g c = λ fine. c.in_ok-read_band.ensures.told (search rules) ∙ c.loop-done.invariant.counted
+returns-in-Some-clause-told g c = λ fine. c.in_ok-read_band.ensures.told false_not_true ∙ c.loop-done.invariant.counted
 
 pub returns-clause-some : goal.returns-clause-some
-returns-clause-some g c = λ k some. absurd cc
+returns-clause-some g c = λ k some. absurd (none_not_some _ _ refl some)

@@ -5,6 +5,7 @@ use Rattle.tce_tools.specs.Answers.{IsOfCopy}
 use Rattle.tce_tools.specs.Flat.{contents}
 use Rattle.tce_tools.specs.Storage.{element_in}
 use Rattle.tce_tools.specs.Told.{KeepsFiles, IsDiskFault}
+use Rattle.tce_tools.proofs.Apart.{ok_not_err, failed_not_memory, memory_not_disk}
 use Rattle.tce_tools.proofs.Faults.{not_made}
 use Rattle.tce_tools.proofs.NoHalf.{bare_left, bare_stored}
 use Rattle.tce_tools.proofs.Told.{failed_from}
@@ -32,7 +33,7 @@ pub returns-in-Err-clause-others : goal.returns-in-Err-clause-others
 returns-in-Err-clause-others g c = c.write_start.ensures.others ∙ c.copy_elements.ensures.others
 
 pub returns-in-Ok-clause-cause : goal.returns-in-Ok-clause-cause
-returns-in-Ok-clause-cause g c = record { later = omega (arith, c.copy_elements.ensures.cause.later, c.write_start.ensures.cause.later); rose = λ e. absurd cc }
+returns-in-Ok-clause-cause g c = record { later = omega (arith, c.copy_elements.ensures.cause.later, c.write_start.ensures.cause.later); rose = λ e. absurd (ok_not_err e) }
 
 pub returns-in-Err-clause-cause : goal.returns-in-Err-clause-cause
 returns-in-Err-clause-cause g c = failed_from _ (g.D.Disk.faults c.copy_elements.new.disk) _ _ _ c.copy_elements.ensures.cause.later c.write_start.ensures.cause (ap is_err c.in-Err.is)
@@ -49,9 +50,9 @@ pub returns-in_err-copy_elements-clause-cause : goal.returns-in_err-copy_element
 returns-in_err-copy_elements-clause-cause g c =
     not_made (λ (r : Result (Unit {0}) ToolFault). HasCause (g.D.Disk.faults c.args.disk.now) (g.D.Disk.faults c.copy_elements.new.disk) (IsDiskFault r)) c.from_residual.result c.in_err-copy_elements.field-0.0 c.from_residual.ensures.1
     (λ disk. record { later = c.copy_elements.ensures.cause.later; rose = λ failed. c.copy_elements.ensures.cause.rose (c.in_err-copy_elements.was ∙ ap Err disk) })
-    (λ memory. record { later = c.copy_elements.ensures.cause.later; rose = λ failed. absurd cc })
+    (λ memory. record { later = c.copy_elements.ensures.cause.later; rose = λ failed. absurd (memory_not_disk _ refl failed) })
 
 pub returns-in_err-copy_elements-clause-told : goal.returns-in_err-copy_elements-clause-told
 returns-in_err-copy_elements-clause-told g c =
     not_made (λ (r : Result (Unit {0}) ToolFault). TellsFaults (g.D.Disk.faults c.args.disk.now) (g.D.Disk.faults c.copy_elements.new.disk) (IsDiskFault r)) c.from_residual.result c.in_err-copy_elements.field-0.0 c.from_residual.ensures.1
-    (λ disk fine. absurd (fine refl)) (λ memory fine. c.copy_elements.ensures.told (λ failed. absurd (let was = c.in_err-copy_elements.was in cc)))
+    (λ disk fine. absurd (fine refl)) (λ memory fine. c.copy_elements.ensures.told (λ failed. failed_not_memory _ failed (c.in_err-copy_elements.was ∙ ap Err memory)))

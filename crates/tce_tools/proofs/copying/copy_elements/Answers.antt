@@ -1,10 +1,11 @@
-use Rattle.std.proofs.Common.{◌≡◌, ◌∙◌, ◌+◌, ◌*◌, refl, sym, ap, subst, arith, List, ℕ, Option, Some, is_err, rules}
+use Rattle.std.proofs.Common.{◌≡◌, ◌∙◌, ◌+◌, ◌*◌, refl, sym, ap, subst, arith, List, ℕ, Option, Some, is_err}
 use Rattle.tce_space.specs.Tiling.{Tiling}
 use Rattle.tce_outside.specs.Files.{Files, others, bytes_before, bytes_from}
 use Rattle.tce_tools.specs.declared.band.Band.{Band}
 use Rattle.tce_tools.specs.Flat.{contents}
 use Rattle.tce_tools.specs.Storage.{bare_bytes, stored_bytes, first_elements, later_elements, element_in, last_written, bytes_ahead, holding_by, HasStored}
 use Rattle.tce_tools.specs.Runs.{AreElements}
+use Rattle.tce_tools.proofs.Apart.{false_not_true, ok_not_err, failed_not_memory}
 use Rattle.tce_tools.proofs.NoHalf.{some_elements, unmade_left, later_left, last_left, bare_left, bare_stored}
 use Rattle.tce_tools.proofs.PieceWrites.{keeps_outside, keeps_last, first_values, later_values}
 use Rattle.tce_tools.proofs.Stored.{no_later_elements}
@@ -19,7 +20,7 @@ loop-done-init g c = record {
       (λ fs. no_later_elements c.args.to c.args.shape.now c.elements-elements.ensures.limits (element_in c.args.from c.args.shape.now (contents fs c.args.source.now)) c.band_at-first.result.len);
   others = c.in_ok-make.ensures.others;
   later = c.in_ok-make.ensures.cause.later;
-  counted = c.in_ok-make.ensures.told (search rules);
+  counted = c.in_ok-make.ensures.told (λ e. ok_not_err e);
 }
 
 pub read_band-requires-clause-file : goal.read_band-requires-clause-file
@@ -54,7 +55,7 @@ loop-done-preserved g c =
           (λ fs was. keeps_outside s band (later fs)));
       others = c.in-Ok-write_band.ensures.others ∙ ap (others c.args.target.now) c.in-Ok.ensures.same ∙ c.loop-done.invariant.others;
       later = omega (arith, c.in-Ok.ensures.cause.later, c.in-Ok-write_band.ensures.cause.later, c.loop-done.invariant.later);
-      counted = c.in-Ok-write_band.ensures.told (search rules) ∙ c.in-Ok.ensures.told (search rules) ∙ c.loop-done.invariant.counted;
+      counted = c.in-Ok-write_band.ensures.told false_not_true ∙ c.in-Ok.ensures.told false_not_true ∙ c.loop-done.invariant.counted;
     }
 
 pub returns-in_err-make-clause-no_half : goal.returns-in_err-make-clause-no_half
@@ -142,7 +143,7 @@ returns-in_default-write_band-2-clause-cause g c =
     failed_from _ (g.D.Disk.faults c.read_band-2.new.disk) _ _ _ (omega (arith, c.loop-done.invariant.later, c.in-Ok-read_band.ensures.cause.later)) c.write_band-2.ensures.cause (ap is_err c.in_default-write_band-2.is)
 
 pub returns-clause-cause : goal.returns-clause-cause
-returns-clause-cause g c = record { later = omega (arith, c.loop-done.invariant.later, c.in-Ok-read_band.ensures.cause.later, c.in-Ok-write_band-2.ensures.cause.later); rose = λ e. absurd cc }
+returns-clause-cause g c = record { later = omega (arith, c.loop-done.invariant.later, c.in-Ok-read_band.ensures.cause.later, c.in-Ok-write_band-2.ensures.cause.later); rose = λ e. absurd (ok_not_err e) }
 
 pub read_band-requires-clause-band : goal.read_band-requires-clause-band
 read_band-requires-clause-band g c = c.band_at-band.ensures.band
@@ -157,25 +158,25 @@ pub write_band-requires-2-clause-band : goal.write_band-requires-2-clause-band
 write_band-requires-2-clause-band g c = c.band_at-first.ensures.band
 
 pub returns-in_default-clause-memory : goal.returns-in_default-clause-memory
-returns-in_default-clause-memory g c = λ memory. absurd cc
+returns-in_default-clause-memory g c = λ memory. absurd (failed_not_memory _ refl memory)
 
 pub returns-in_default-clause-told : goal.returns-in_default-clause-told
 returns-in_default-clause-told g c = λ fine. absurd (fine refl)
 
 pub returns-in_default-write_band-clause-memory : goal.returns-in_default-write_band-clause-memory
-returns-in_default-write_band-clause-memory g c = λ memory. absurd cc
+returns-in_default-write_band-clause-memory g c = λ memory. absurd (failed_not_memory _ refl memory)
 
 pub returns-in_default-write_band-clause-told : goal.returns-in_default-write_band-clause-told
 returns-in_default-write_band-clause-told g c = λ fine. absurd (fine refl)
 
 pub returns-in_default-read_band-clause-memory : goal.returns-in_default-read_band-clause-memory
-returns-in_default-read_band-clause-memory g c = λ memory. absurd cc
+returns-in_default-read_band-clause-memory g c = λ memory. absurd (failed_not_memory _ refl memory)
 
 pub returns-in_default-read_band-clause-told : goal.returns-in_default-read_band-clause-told
 returns-in_default-read_band-clause-told g c = λ fine. absurd (fine refl)
 
 pub returns-in_default-write_band-2-clause-memory : goal.returns-in_default-write_band-2-clause-memory
-returns-in_default-write_band-2-clause-memory g c = λ memory. absurd cc
+returns-in_default-write_band-2-clause-memory g c = λ memory. absurd (failed_not_memory _ refl memory)
 
 pub returns-in_default-write_band-2-clause-told : goal.returns-in_default-write_band-2-clause-told
 returns-in_default-write_band-2-clause-told g c = λ fine. absurd (fine refl)
@@ -184,7 +185,7 @@ pub returns-in_err-make-clause-others : goal.returns-in_err-make-clause-others
 returns-in_err-make-clause-others g c = c.make.ensures.others
 
 pub returns-clause-memory : goal.returns-clause-memory
-returns-clause-memory g c = λ memory. absurd cc
+returns-clause-memory g c = λ memory. absurd (ok_not_err memory)
 
 pub returns-clause-told : goal.returns-clause-told
-returns-clause-told g c = λ fine. c.in-Ok-write_band-2.ensures.told (search rules) ∙ c.in-Ok-read_band.ensures.told (search rules) ∙ c.loop-done.invariant.counted
+returns-clause-told g c = λ fine. c.in-Ok-write_band-2.ensures.told false_not_true ∙ c.in-Ok-read_band.ensures.told false_not_true ∙ c.loop-done.invariant.counted

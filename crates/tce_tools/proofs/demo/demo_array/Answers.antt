@@ -2,6 +2,7 @@ use Rattle.std.proofs.Common.{◌∙◌, ap, refl, is_err, arith}
 use Rattle.tce_array.specs.declared.form.Form.TheVariants.{One}
 use Rattle.tce_tools.specs.declared.storage.Storage.TheVariants.{Array}
 use Rattle.tce_tools.specs.Demo.{demo_element}
+use Rattle.tce_tools.proofs.Apart.{ok_not_err, failed_not_memory}
 use Rattle.tce_tools.proofs.NoHalf.{bare_left, bare_stored}
 use Rattle.tce_tools.proofs.Told.{failed_from}
 use Rattle.tce_tools.proofs.demo.demo_array.Goals as goal
@@ -27,7 +28,7 @@ pub returns-in-Err-clause-others : goal.returns-in-Err-clause-others
 returns-in-Err-clause-others g c = c.write_start.ensures.others ∙ c.demo_elements.ensures.others
 
 pub returns-in-Ok-clause-cause : goal.returns-in-Ok-clause-cause
-returns-in-Ok-clause-cause g c = record { later = omega (arith, c.demo_elements.ensures.cause.later, c.write_start.ensures.cause.later); rose = λ e. absurd cc }
+returns-in-Ok-clause-cause g c = record { later = omega (arith, c.demo_elements.ensures.cause.later, c.write_start.ensures.cause.later); rose = λ e. absurd (ok_not_err e) }
 
 pub returns-in-Err-clause-cause : goal.returns-in-Err-clause-cause
 returns-in-Err-clause-cause g c = failed_from _ (g.D.Disk.faults c.demo_elements.new.disk) _ _ _ c.demo_elements.ensures.cause.later c.write_start.ensures.cause (ap is_err c.in-Err.is)
@@ -45,10 +46,10 @@ pub returns-in_err-number-clause-no_half : goal.returns-in_err-number-clause-no_
 returns-in_err-number-clause-no_half g c = c.demo_elements.ensures.no_half
 
 pub returns-in-Ok-clause-memory : goal.returns-in-Ok-clause-memory
-returns-in-Ok-clause-memory g c = λ memory. absurd cc
+returns-in-Ok-clause-memory g c = λ memory. absurd (ok_not_err memory)
 
 pub returns-in-Err-clause-memory : goal.returns-in-Err-clause-memory
-returns-in-Err-clause-memory g c = λ memory. absurd cc
+returns-in-Err-clause-memory g c = λ memory. absurd (failed_not_memory _ refl memory)
 
 pub returns-in-Err-clause-told : goal.returns-in-Err-clause-told
 returns-in-Err-clause-told g c = λ fine. absurd (fine refl)

@@ -1,4 +1,4 @@
-use Rattle.std.proofs.Common.{◌≡◌, ◌∙◌, ◌+◌, refl, sym, ap, subst, arith, length, List, ℕ, Option, is_err, rules}
+use Rattle.std.proofs.Common.{◌≡◌, ◌∙◌, ◌+◌, refl, sym, ap, subst, arith, length, List, ℕ, Option, is_err}
 use Rattle.std.proofs.lemmas.List.{length-take-le}
 use Rattle.tce_space.specs.Tiling.{Tiling}
 use Rattle.tce_outside.specs.Files.{Files}
@@ -9,6 +9,7 @@ use Rattle.tce_tools.specs.declared.storage.Storage.TheVariants.{Array}
 use Rattle.tce_tools.specs.Storage.{bare_bytes, first_elements, holding_by}
 use Rattle.tce_tools.specs.Runs.{AreElements}
 use Rattle.tce_tools.specs.Demo.{drawn, demo_element}
+use Rattle.tce_tools.proofs.Apart.{false_not_true, ok_not_err, failed_not_memory}
 use Rattle.tce_tools.proofs.Draws.{drawn_none, drawn_more, digits_are_elements}
 use Rattle.tce_tools.proofs.NoHalf.{first_left, bare_left, bare_stored}
 use Rattle.tce_tools.proofs.PieceWrites.{keeps_outside, first_values}
@@ -25,7 +26,7 @@ loop-done-init g c = record {
       (λ fs. no_elements (Array One) c.args.shape.now c.elements-elements.ensures.limits (demo_element c.args.shape.now c.args.x));
   others = c.in_ok-make.ensures.others;
   later = c.in_ok-make.ensures.cause.later;
-  counted = c.in_ok-make.ensures.told (search rules);
+  counted = c.in_ok-make.ensures.told (λ e. ok_not_err e);
 }
 
 pub write_band-requires-clause-file : goal.write_band-requires-clause-file
@@ -52,7 +53,7 @@ loop-done-preserved g c =
           (λ fs was. first_values s element band.start (band.start + band.len) c.draw-number.new.digits (omega (arith, len)) values) (λ fs was. keeps_outside s band element));
       others = c.in-Ok.ensures.others ∙ c.loop-done.invariant.others;
       later = omega (arith, c.in-Ok.ensures.cause.later, c.loop-done.invariant.later);
-      counted = c.in-Ok.ensures.told (search rules) ∙ c.loop-done.invariant.counted;
+      counted = c.in-Ok.ensures.told false_not_true ∙ c.loop-done.invariant.counted;
     }
 
 pub returns-clause-made : goal.returns-clause-made
@@ -78,19 +79,19 @@ pub returns-in_default-clause-cause : goal.returns-in_default-clause-cause
 returns-in_default-clause-cause g c = failed_from _ (g.D.Disk.faults c.loop-done.disk) _ _ _ c.loop-done.invariant.later c.write_band.ensures.cause (ap is_err c.in_default.is)
 
 pub returns-clause-cause : goal.returns-clause-cause
-returns-clause-cause g c = record { later = c.loop-done.invariant.later; rose = λ e. absurd cc }
+returns-clause-cause g c = record { later = c.loop-done.invariant.later; rose = λ e. absurd (ok_not_err e) }
 
 pub returns-in_err-make-clause-others : goal.returns-in_err-make-clause-others
 returns-in_err-make-clause-others g c = c.make.ensures.others
 
 pub returns-in_default-clause-memory : goal.returns-in_default-clause-memory
-returns-in_default-clause-memory g c = λ memory. absurd cc
+returns-in_default-clause-memory g c = λ memory. absurd (failed_not_memory _ refl memory)
 
 pub returns-in_default-clause-told : goal.returns-in_default-clause-told
 returns-in_default-clause-told g c = λ fine. absurd (fine refl)
 
 pub returns-clause-memory : goal.returns-clause-memory
-returns-clause-memory g c = λ memory. absurd cc
+returns-clause-memory g c = λ memory. absurd (ok_not_err memory)
 
 pub returns-clause-others : goal.returns-clause-others
 returns-clause-others g c = c.loop-done.invariant.others

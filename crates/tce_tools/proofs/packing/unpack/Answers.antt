@@ -8,6 +8,7 @@ use Rattle.tce_tools.specs.Answers.{HasArray, IsUnpackAnswer, IsOfUnpack}
 use Rattle.tce_tools.specs.Flat.{contents, array_element, flat_bytes}
 use Rattle.tce_tools.specs.Storage.{stored_bytes, element_in, holding_by}
 use Rattle.tce_tools.specs.Told.{Copies, Unpacks, KeepsFiles, IsDiskFault}
+use Rattle.tce_tools.proofs.Apart.{ok_not_err, array_not_disk, same_err}
 use Rattle.tce_tools.proofs.Faults.{not_opened, copied_or_not, on_ok, cause_behind}
 use Rattle.tce_tools.proofs.Forms.{opened_form, array_elements}
 use Rattle.tce_tools.proofs.NoHalf.{same_left, moved_left}
@@ -48,7 +49,7 @@ pub returns-clause-cause : goal.returns-clause-cause
 returns-clause-cause g c = cause_behind _ (g.D.Disk.faults c.open.new.disk) _ _ c.open.ensures.cause.later c.copy.ensures.cause
 
 pub returns-clause-told : goal.returns-clause-told
-returns-clause-told g c = λ fine. c.copy.ensures.told fine ∙ c.open.ensures.told (search rules)
+returns-clause-told g c = λ fine. c.copy.ensures.told fine ∙ c.in_ok-form.ensures.told (λ e. ok_not_err e)
 
 pub returns-in_err-form-clause-answer : goal.returns-in_err-form-clause-answer
 returns-in_err-form-clause-answer g c x told = not_opened (λ (r : Result (Unit {0}) ToolFault). IsUnpackAnswer c.args.shape.now (file x c.args.array.now) r) c.from_residual.result c.in_err-form.field-0.0 c.from_residual.ensures.1 (λ other. (c.in_err-form.ensures.fault x told, other)) (λ disk. tt)
@@ -68,10 +69,10 @@ returns-in_err-form-clause-others g c = ap (others c.args.flat.now) c.open.ensur
 pub returns-in_err-form-clause-cause : goal.returns-in_err-form-clause-cause
 returns-in_err-form-clause-cause g c =
     not_opened (λ (r : Result (Unit {0}) ToolFault). HasCause (g.D.Disk.faults c.args.disk.now) (g.D.Disk.faults c.open.new.disk) (IsDiskFault r)) c.from_residual.result c.in_err-form.field-0.0 c.from_residual.ensures.1
-    (λ other. record { later = c.open.ensures.cause.later; rose = λ failed. absurd cc })
+    (λ other. record { later = c.open.ensures.cause.later; rose = λ failed. absurd (array_not_disk _ _ refl failed) })
     (λ disk. record { later = c.open.ensures.cause.later; rose = λ failed. c.open.ensures.cause.rose (c.in_err-form.was ∙ ap Err disk) })
 
 pub returns-in_err-form-clause-told : goal.returns-in_err-form-clause-told
 returns-in_err-form-clause-told g c =
     not_opened (λ (r : Result (Unit {0}) ToolFault). TellsFaults (g.D.Disk.faults c.args.disk.now) (g.D.Disk.faults c.open.new.disk) (IsDiskFault r)) c.from_residual.result c.in_err-form.field-0.0 c.from_residual.ensures.1
-    (λ other fine. c.open.ensures.told (λ failed. other (let was = c.in_err-form.was in cc))) (λ disk fine. absurd (fine refl))
+    (λ other fine. c.open.ensures.told (λ failed. other (same_err _ _ _ c.in_err-form.was failed))) (λ disk fine. absurd (fine refl))
