@@ -1,5 +1,5 @@
 -- The command on einsums has one answer.
-use Rattle.std.proofs.Common.{◌≡◌, refl, sym, ap, subst, ◌∙◌, ◌⊎◌, inl, inr, ℕ, ◌<◌, ◌^◌, List, ◌++◌, length, Some, Ok, Err, Result, codes}
+use Rattle.std.proofs.Common.{◌≡◌, refl, sym, ap, subst, ◌∙◌, ◌⊎◌, inl, inr, ℕ, List, ◌++◌, length, Some, Ok, Err, Result, codes}
 use Rattle.std.specs.Fmt.{decimal}
 use Rattle.tce_declarations.specs.Faults.{Fault}
 use Rattle.tce_declarations.specs.FaultCode.{Shows}
@@ -10,18 +10,20 @@ use Rattle.tce_einsum.specs.Text.{IsText}
 use Rattle.tce_einsum.specs.Text.{Einsum as Parts}
 use Rattle.tce_einsum.specs.Sizes.{IsBadSize, AreSized}
 use Rattle.tce_einsum.specs.Path.{Item, IsPath, IsBadItem, item_texts}
-use Rattle.tce_einsum.specs.Input.{IsInput, HasBadSize, HasBadItem}
+use Rattle.tce_einsum.specs.Input.{IsInput, HasBadItem}
 use Rattle.tce_einsum.specs.Produced.{produced_text}
 use Rattle.tce_einsum.specs.Answer.{Produces, ProducesFault}
 use Rattle.tce_einsum.proofs.OneReading.{texts_have_one_reading}
 use Rattle.tce_command.specs.Command.{IsHeld}
 use Rattle.tce_command.specs.Report.{label_text}
 use Rattle.tce_command.specs.Refusals.{IsFree, SameRefusal}
+use Rattle.tce_command.specs.declared.trouble.EinsumTrouble.{EinsumTrouble}
 use Rattle.tce_command.specs.declared.trouble.EinsumTrouble.TheVariants.{BadText, BadSize, BadPath, Spec}
 use Rattle.tce_command.specs.declared.refusal.Refusal.{Refusal}
-use Rattle.tce_command.specs.declared.refusal.Refusal.TheVariants.{Specification, Missing, Array, Budget, Intermediates, Flat, Tensor, Misfit, Einsum, Spill, Symmetry, Disk, Memory}
+use Rattle.tce_command.specs.declared.refusal.Refusal.TheVariants.{Einsum, Disk, Memory}
 use Rattle.tce_certify.specs.EinsumRefusals.{CanWriteEinsum, IsEinsumRefusal}
-use Rattle.tce_certify.proofs.EinsumFaults.{told}
+use Rattle.tce_source.proofs.Faults.{told}
+use Rattle.tce_certify.proofs.EinsumFaults.{told_alike}
 use Rattle.tce_certify.proofs.OnePath.{few_operands, sized_or_bad, one_label, same_items, one_bad_item, bad_or_read}
 
 -- Two readings of one text.
@@ -58,9 +60,7 @@ same_fault : (text path : List ℕ) (f g : SpecFault) → IsHeld text → IsEins
 same_fault text path f g held p q =
     let e : Err p.0.found ≡ Err q.0.found = one_outcome text path (Err p.0.found) (Err q.0.found) held p.0.produced q.0.produced in
     let same : Some p.0.found ≡ Some q.0.found = cc in
-    let a = told (Some q.0.found) f (subst (λ o. Shows o f) same p.0.shown) p.1 in
-    let b = told (Some q.0.found) g q.0.shown q.1 in
-    (a.code ∙ sym b.code, a.line ∙ sym b.line)
+    told_alike (Some q.0.found) f g (told (Some q.0.found) f (subst (λ o. Shows o f) same p.0.shown) p.1) (told (Some q.0.found) g q.0.shown q.1)
 
 -- Answers.
 
@@ -71,61 +71,38 @@ granted text path (Einsum (BadPath k)) held (s, can) p = absurd (read_not_bad te
 granted text path (Einsum (Spec f)) held (s, can) p = absurd (specified_not_faulty text path s f held can p.0)
 granted text path Disk held can p = tt
 granted text path Memory held can p = tt
-granted text path (Specification f) held can p = absurd p
-granted text path (Missing x) held can p = absurd p
-granted text path (Array x fault) held can p = absurd p
-granted text path (Budget n) held can p = absurd p
-granted text path (Intermediates n) held can p = absurd p
-granted text path (Flat n) held can p = absurd p
-granted text path (Tensor x) held can p = absurd p
-granted text path (Misfit n) held can p = absurd p
-granted text path (Spill x) held can p = absurd p
-granted text path (Symmetry x trouble) held can p = absurd p
+granted text path a held can p = absurd p
+
+-- one reason is told, whatever is wrong with an einsum
+alike : (text path : List ℕ) (t u : EinsumTrouble) → IsHeld text → IsEinsumRefusal text path (Einsum t) → IsEinsumRefusal text path (Einsum u) → SameRefusal (Einsum t) (Einsum u)
+alike text path BadText BadText held p q = (refl, refl)
+alike text path BadText (BadSize m) held p q = absurd (p q.einsum q.of_text)
+alike text path BadText (BadPath j) held p q = absurd (p q.einsum q.of_text)
+alike text path BadText (Spec g) held p q = absurd (p q.0.produced.einsum q.0.produced.input.of_text)
+alike text path (BadSize l) BadText held p q = absurd (q p.einsum p.of_text)
+alike text path (BadSize l) (BadSize m) held p q =
+    let e : l ≡ m = one_label p.einsum l m p.bad (same_size text p.einsum q.einsum m p.of_text q.of_text q.bad) in
+    (refl, ap (λ x. codes "error 14: " ++ label_text x ++ codes "\n") e)
+alike text path (BadSize l) (BadPath j) held p q = absurd (sized_not_bad text q.einsum p.einsum l q.of_text q.sized p.of_text p.bad)
+alike text path (BadSize l) (Spec g) held p q =
+    absurd (sized_not_bad text q.0.produced.einsum p.einsum l q.0.produced.input.of_text q.0.produced.input.sized p.of_text p.bad)
+alike text path (BadPath k) BadText held p q = absurd (q p.einsum p.of_text)
+alike text path (BadPath k) (BadSize m) held p q = absurd (sized_not_bad text p.einsum q.einsum m p.of_text p.sized q.of_text q.bad)
+alike text path (BadPath k) (BadPath j) held p q =
+    let e : k ≡ j = one_bad_item (length p.einsum.operands) (item_texts path) k j (few_operands text p.einsum held p.of_text) p.bad (same_path text path p.einsum q.einsum j p.of_text q.of_text q.bad) in
+    (refl, ap (λ x. codes "error 14: " ++ (codes "path item " ++ decimal x ++ codes "") ++ codes "\n") e)
+alike text path (BadPath k) (Spec g) held p q = absurd (read_not_bad text path q.0.produced.einsum q.0.produced.items k held q.0.produced.input p)
+alike text path (Spec f) BadText held p q = absurd (q p.0.produced.einsum p.0.produced.input.of_text)
+alike text path (Spec f) (BadSize m) held p q =
+    absurd (sized_not_bad text p.0.produced.einsum q.einsum m p.0.produced.input.of_text p.0.produced.input.sized q.of_text q.bad)
+alike text path (Spec f) (BadPath j) held p q = absurd (read_not_bad text path p.0.produced.einsum p.0.produced.items j held p.0.produced.input q)
+alike text path (Spec f) (Spec g) held p q = same_fault text path f g held p q
 
 pub alone : (text path : List ℕ) (a b : Refusal) → IsHeld text → IsEinsumRefusal text path a → IsEinsumRefusal text path b → (IsFree b → ⊥) → IsFree a ⊎ SameRefusal a b
+alone text path (Einsum t) (Einsum u) held p q free = inr (alike text path t u held p q)
+alone text path (Einsum t) Disk held p q free = absurd (free tt)
+alone text path (Einsum t) Memory held p q free = absurd (free tt)
+alone text path (Einsum t) b held p q free = absurd q
 alone text path Disk b held p q free = inl tt
 alone text path Memory b held p q free = inl tt
-alone text path (Specification x) b held p q free = absurd p
-alone text path (Missing x) b held p q free = absurd p
-alone text path (Array x u) b held p q free = absurd p
-alone text path (Budget x) b held p q free = absurd p
-alone text path (Intermediates x) b held p q free = absurd p
-alone text path (Flat x) b held p q free = absurd p
-alone text path (Tensor x) b held p q free = absurd p
-alone text path (Misfit x) b held p q free = absurd p
-alone text path (Spill x) b held p q free = absurd p
-alone text path (Symmetry x u) b held p q free = absurd p
-alone text path a Disk held p q free = absurd (free tt)
-alone text path a Memory held p q free = absurd (free tt)
-alone text path a (Specification y) held p q free = absurd q
-alone text path a (Missing y) held p q free = absurd q
-alone text path a (Array y v) held p q free = absurd q
-alone text path a (Budget y) held p q free = absurd q
-alone text path a (Intermediates y) held p q free = absurd q
-alone text path a (Flat y) held p q free = absurd q
-alone text path a (Tensor y) held p q free = absurd q
-alone text path a (Misfit y) held p q free = absurd q
-alone text path a (Spill y) held p q free = absurd q
-alone text path a (Symmetry y v) held p q free = absurd q
-alone text path (Einsum BadText) (Einsum BadText) held p q free = inr (refl, refl)
-alone text path (Einsum BadText) (Einsum (BadSize m)) held p q free = absurd (p q.einsum q.of_text)
-alone text path (Einsum BadText) (Einsum (BadPath j)) held p q free = absurd (p q.einsum q.of_text)
-alone text path (Einsum BadText) (Einsum (Spec g)) held p q free = absurd (p q.0.produced.einsum q.0.produced.input.of_text)
-alone text path (Einsum (BadSize l)) (Einsum BadText) held p q free = absurd (q p.einsum p.of_text)
-alone text path (Einsum (BadSize l)) (Einsum (BadSize m)) held p q free =
-    let e : l ≡ m = one_label p.einsum l m p.bad (same_size text p.einsum q.einsum m p.of_text q.of_text q.bad) in
-    inr (refl, ap (λ x. codes "error 14: " ++ label_text x ++ codes "\n") e)
-alone text path (Einsum (BadSize l)) (Einsum (BadPath j)) held p q free = absurd (sized_not_bad text q.einsum p.einsum l q.of_text q.sized p.of_text p.bad)
-alone text path (Einsum (BadSize l)) (Einsum (Spec g)) held p q free =
-    absurd (sized_not_bad text q.0.produced.einsum p.einsum l q.0.produced.input.of_text q.0.produced.input.sized p.of_text p.bad)
-alone text path (Einsum (BadPath k)) (Einsum BadText) held p q free = absurd (q p.einsum p.of_text)
-alone text path (Einsum (BadPath k)) (Einsum (BadSize m)) held p q free = absurd (sized_not_bad text p.einsum q.einsum m p.of_text p.sized q.of_text q.bad)
-alone text path (Einsum (BadPath k)) (Einsum (BadPath j)) held p q free =
-    let e : k ≡ j = one_bad_item (length p.einsum.operands) (item_texts path) k j (few_operands text p.einsum held p.of_text) p.bad (same_path text path p.einsum q.einsum j p.of_text q.of_text q.bad) in
-    inr (refl, ap (λ x. codes "error 14: " ++ (codes "path item " ++ decimal x ++ codes "") ++ codes "\n") e)
-alone text path (Einsum (BadPath k)) (Einsum (Spec g)) held p q free = absurd (read_not_bad text path q.0.produced.einsum q.0.produced.items k held q.0.produced.input p)
-alone text path (Einsum (Spec f)) (Einsum BadText) held p q free = absurd (q p.0.produced.einsum p.0.produced.input.of_text)
-alone text path (Einsum (Spec f)) (Einsum (BadSize m)) held p q free =
-    absurd (sized_not_bad text p.0.produced.einsum q.einsum m p.0.produced.input.of_text p.0.produced.input.sized q.of_text q.bad)
-alone text path (Einsum (Spec f)) (Einsum (BadPath j)) held p q free = absurd (read_not_bad text path p.0.produced.einsum p.0.produced.items j held p.0.produced.input q)
-alone text path (Einsum (Spec f)) (Einsum (Spec g)) held p q free = inr (same_fault text path f g held p q)
+alone text path a b held p q free = absurd p

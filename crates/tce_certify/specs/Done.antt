@@ -35,3 +35,9 @@ pub record IsCertified (before after : Option Files) (spec cert report : List �
   pub text : List ℕ
   pub certified : IsCertificate specification cert text report
   pub written : after ≡ holding cert text before
+
+-- a certificate of the specification is written
+pub record IsSaved (before after : Option Files) (s : Specification) (cert report : List ℕ) : Type 0 where
+  pub text : List ℕ
+  pub certified : IsCertificate s cert text report
+  pub written : after ≡ holding cert text before

@@ -22,3 +22,8 @@ pub record IsEinsumWritten (before after : Option Files) (text path file report 
   pub specified : Specifies (canonical_of specification) specification
   pub written : after ≡ holding file (canonical_of specification) before
   pub reported : report ≡ einsum_report (operations specification.tree) file (length (canonical_of specification))
+
+-- a specification is written as its canonical text
+pub record IsProducedWritten (before after : Option Files) (s : Specification) (file report : List ℕ) : Type 0 where
+  pub written : after ≡ holding file (canonical_of s) before
+  pub reported : report ≡ einsum_report (operations s.tree) file (length (canonical_of s))

@@ -15,6 +15,15 @@ pub struct Certificate {
     pub report: String,
 }
 
+impl Certificate {
+    /// The report, which is all that is left once the text is written.
+    pub fn into_report(self) -> String
+        ensures { result ≡ self.report }
+    {
+        self.report
+    }
+}
+
 /// The certificate of a plan of least memory for a specification, and the report where it stands in this file.
 pub fn certificate_of(alloc: Global, spec: &Spec, cert: &str) -> Result<Certificate, AllocError>
     ensures { IfOk result (λ made.

@@ -4,16 +4,17 @@ ghost use Rattle.std.specs.String.{string_bytes};
 ghost use Rattle.tce_outside.specs.Files.{others};
 ghost use Rattle.tce_outside.specs.Fault.{HasCause, TellsFaults};
 ghost use Rattle.tce_command.specs.Command.{NamesCertificate, NamesSpec};
-ghost use Rattle.tce_command.specs.Refusals.{SameUnlessDisk};
-ghost use Rattle.tce_certify.specs.Done.{IsCertified};
+ghost use Rattle.tce_command.specs.Refusals.{IsFree, SameUnlessDisk};
+ghost use Rattle.tce_certify.specs.Done.{IsCertified, IsSaved};
 ghost use Rattle.tce_certify.specs.Refusals.{IsCertifyRefusalIfTold};
 
 use crate::certificate::certificate_of;
+use crate::saving::save;
 use std::alloc::Global;
 use tce_command::Refusal;
-use tce_outside::{Disk, OutFault};
+use tce_outside::Disk;
 use tce_source::read_source;
-use tce_writing::write_file;
+use tce_spec::Spec;
 
 /// Writes the certificate of a plan of least memory for the specification in a file, and gives the report.
 ///
@@ -36,12 +37,29 @@ pub fn certify<D: Disk>(
     ensures told { TellsFaults (D.faults disk.old) (D.faults disk.new) (result ≡ Err Refusal.Disk) }
 {
     let source = read_source(alloc, disk, spec)?;
-    let Ok(made) = certificate_of(alloc, &source, cert) else {
+    let done = certify_source(alloc, &source, cert, disk);
+    drop(source);
+    done
+}
+
+// The same of a specification that was read: only the disk may fail, or memory be wanting.
+fn certify_source<D: Disk>(
+    alloc: Global,
+    source: &Spec,
+    cert: &str,
+    disk: &mut D,
+) -> Result<String, Refusal>
+    ensures done { IfOk result (λ report. IsSaved (D.files disk.old) (D.files disk.new)
+        source.now cert.now (string_bytes report)) }
+    ensures free { IfErr result IsFree }
+    ensures unchanged { IfErr result (SameUnlessDisk (D.files disk.old) (D.files disk.new)) }
+    ensures others { others cert.now (D.files disk.new) ≡ others cert.now (D.files disk.old) }
+    ensures cause { HasCause (D.faults disk.old) (D.faults disk.new) (result ≡ Err Refusal.Disk) }
+    ensures told { TellsFaults (D.faults disk.old) (D.faults disk.new) (result ≡ Err Refusal.Disk) }
+{
+    let Ok(made) = certificate_of(alloc, source, cert) else {
         return Err(Refusal::Memory);
     };
-    match write_file(disk, cert, &made.text) {
-        Ok(()) => Ok(made.report),
-        Err(OutFault::Failed) => Err(Refusal::Disk),
-        Err(OutFault::Memory) => Err(Refusal::Memory),
-    }
+    save(disk, cert, &made.text)?;
+    Ok(made.into_report())
 }

@@ -4,16 +4,16 @@ ghost use Rattle.std.specs.String.{string_bytes};
 ghost use Rattle.tce_outside.specs.Files.{others};
 ghost use Rattle.tce_outside.specs.Fault.{HasCause, TellsFaults};
 ghost use Rattle.tce_tree.specs.ContractionTree.{operations};
-ghost use Rattle.tce_certify.specs.EinsumDone.{IsEinsumWritten, einsum_report};
+ghost use Rattle.tce_certify.specs.EinsumDone.{IsEinsumWritten, IsProducedWritten, einsum_report};
 ghost use Rattle.tce_certify.specs.EinsumRefusals.{IsEinsumRefusal, TellsFault};
-ghost use Rattle.tce_command.specs.Refusals.{SameUnlessDisk};
+ghost use Rattle.tce_command.specs.Refusals.{IsFree, SameUnlessDisk};
 
+use crate::saving::save;
 use std::alloc::{AllocError, Global};
 use tce_command::{EinsumTrouble, Refusal};
 use tce_einsum::{EinsumFault, from_einsum};
-use tce_outside::{Disk, OutFault};
+use tce_outside::Disk;
 use tce_spec::{Spec, print_spec};
-use tce_writing::write_file;
 
 /// Writes the specification of an einsum text and a path to a file, as its canonical text, and gives the report.
 ///
@@ -38,17 +38,34 @@ pub fn write_einsum<D: Disk>(
         Ok(produced) => produced,
         Err(fault) => return Err(refusal_of(fault)),
     };
-    let Ok(written) = print_spec(alloc, &produced) else {
+    let done = write_produced(alloc, &produced, spec, disk);
+    drop(produced);
+    done
+}
+
+// Writes a specification as its canonical text, and gives the report. Only the disk may fail, or memory be wanting.
+fn write_produced<D: Disk>(
+    alloc: Global,
+    produced: &Spec,
+    spec: &str,
+    disk: &mut D,
+) -> Result<String, Refusal>
+    ensures done { IfOk result (λ report. IsProducedWritten (D.files disk.old) (D.files disk.new)
+        produced.now spec.now (string_bytes report)) }
+    ensures free { IfErr result IsFree }
+    ensures unchanged { IfErr result (SameUnlessDisk (D.files disk.old) (D.files disk.new)) }
+    ensures others { others spec.now (D.files disk.new) ≡ others spec.now (D.files disk.old) }
+    ensures cause { HasCause (D.faults disk.old) (D.faults disk.new) (result ≡ Err Refusal.Disk) }
+    ensures told { TellsFaults (D.faults disk.old) (D.faults disk.new) (result ≡ Err Refusal.Disk) }
+{
+    let Ok(written) = print_spec(alloc, produced) else {
         return Err(Refusal::Memory);
     };
-    let Ok(report) = report(alloc, &produced, spec, &written) else {
+    let Ok(report) = report(alloc, produced, spec, &written) else {
         return Err(Refusal::Memory);
     };
-    match write_file(disk, spec, &written) {
-        Ok(()) => Ok(report),
-        Err(OutFault::Failed) => Err(Refusal::Disk),
-        Err(OutFault::Memory) => Err(Refusal::Memory),
-    }
+    save(disk, spec, &written)?;
+    Ok(report)
 }
 
 // The refusal of a text and a path with this fault.

@@ -9,6 +9,7 @@ mod certificate;
 mod command;
 mod einsum;
 mod laws;
+mod saving;
 
 pub use command::certify;
 pub use einsum::write_einsum;

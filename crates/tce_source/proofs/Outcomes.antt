@@ -8,12 +8,12 @@ use Rattle.tce_declarations.specs.FaultCode.{Shows}
 use Rattle.tce_declarations.specs.declared.fault.SpecFault.{SpecFault}
 use Rattle.tce_command.specs.Refusals.{IsFree, SameRefusal}
 use Rattle.tce_command.specs.declared.refusal.Refusal.{Refusal}
-use Rattle.tce_command.specs.declared.refusal.Refusal.TheVariants.{Specification, Missing, Array, Budget, Intermediates, Flat, Tensor, Misfit, Einsum, Spill, Symmetry, Disk, Memory}
+use Rattle.tce_command.specs.declared.refusal.Refusal.TheVariants.{Specification, Missing, Disk, Memory}
 use Rattle.tce_batch.specs.Outcome.{IsBatchOutcome}
 use Rattle.tce_batch.proofs.Computed.{batch_only}
 use Rattle.tce_source.specs.Source.{Specifies, HasFault, HasSpecification, IsSourceRefusal, IsTextRefusal}
 use Rattle.tce_source.specs.BatchSource.{HasBatch, HasBatchFault, IsBatchSourceRefusal}
-use Rattle.tce_source.proofs.Faults.{told}
+use Rattle.tce_source.proofs.Faults.{told, told_alike}
 
 one_of : (found : Option (List ℕ)) (s t : Specified) → IsSomeAnd found (λ text. Specifies text s) → IsSomeAnd found (λ text. Specifies text t) → s ≡ t
 one_of None s t p q = absurd p
@@ -27,17 +27,13 @@ same_fault : (text : List ℕ) (f g : SpecFault) → HasFault text f → HasFaul
 same_fault text f g p q =
     let e : Err p.found ≡ Err q.found = computed_only text (Err p.found) p.outcome ∙ sym (computed_only text (Err q.found) q.outcome) in
     let same : Some p.found ≡ Some q.found = cc in
-    let a = told (Some q.found) f (subst (λ o. Shows o f) same p.shown) p.no_memory in
-    let b = told (Some q.found) g q.shown q.no_memory in
-    (a.code ∙ sym b.code, a.line ∙ sym b.line)
+    told_alike (Some q.found) f g (told (Some q.found) f (subst (λ o. Shows o f) same p.shown) p.no_memory) (told (Some q.found) g q.shown q.no_memory)
 
 same_batch_fault : (text : List ℕ) (f g : SpecFault) → HasBatchFault text f → HasBatchFault text g → SameRefusal (Specification f) (Specification g)
 same_batch_fault text f g p q =
     let e : Err p.found ≡ Err q.found = batch_only text (Err p.found) p.outcome ∙ sym (batch_only text (Err q.found) q.outcome) in
     let same : Some p.found ≡ Some q.found = cc in
-    let a = told (Some q.found) f (subst (λ o. Shows o f) same p.shown) p.no_memory in
-    let b = told (Some q.found) g q.shown q.no_memory in
-    (a.code ∙ sym b.code, a.line ∙ sym b.line)
+    told_alike (Some q.found) f g (told (Some q.found) f (subst (λ o. Shows o f) same p.shown) p.no_memory) (told (Some q.found) g q.shown q.no_memory)
 
 same_of : (Has : List ℕ → SpecFault → Type 0) (found : Option (List ℕ)) (f g : SpecFault) → ((text : List ℕ) → Has text f → Has text g → SameRefusal (Specification f) (Specification g))
     → IsSomeAnd found (λ text. Has text f) → IsSomeAnd found (λ text. Has text g) → SameRefusal (Specification f) (Specification g)
@@ -55,30 +51,17 @@ text_refusal : (Has : List ℕ → SpecFault → Type 0) (name : List ℕ) (foun
     → IsFree a ⊎ SameRefusal a b
 text_refusal Has name found Disk b alike p q free = inl tt
 text_refusal Has name found Memory b alike p q free = inl tt
-text_refusal Has name found (Array x u) b alike p q free = absurd p
-text_refusal Has name found (Budget x) b alike p q free = absurd p
-text_refusal Has name found (Intermediates x) b alike p q free = absurd p
-text_refusal Has name found (Flat x) b alike p q free = absurd p
-text_refusal Has name found (Tensor x) b alike p q free = absurd p
-text_refusal Has name found (Misfit x) b alike p q free = absurd p
-text_refusal Has name found (Einsum x) b alike p q free = absurd p
-text_refusal Has name found (Spill x) b alike p q free = absurd p
-text_refusal Has name found (Symmetry x u) b alike p q free = absurd p
-text_refusal Has name found a (Array y v) alike p q free = absurd q
-text_refusal Has name found a (Budget y) alike p q free = absurd q
-text_refusal Has name found a (Intermediates y) alike p q free = absurd q
-text_refusal Has name found a (Flat y) alike p q free = absurd q
-text_refusal Has name found a (Tensor y) alike p q free = absurd q
-text_refusal Has name found a (Misfit y) alike p q free = absurd q
-text_refusal Has name found a (Einsum y) alike p q free = absurd q
-text_refusal Has name found a (Spill y) alike p q free = absurd q
-text_refusal Has name found a (Symmetry y v) alike p q free = absurd q
-text_refusal Has name found a Disk alike p q free = absurd (free tt)
-text_refusal Has name found a Memory alike p q free = absurd (free tt)
 text_refusal Has name found (Missing x) (Missing y) alike p q free = inr (refl, ap (λ bytes. codes "error 3: no file " ++ bytes ++ codes "\n") (p.0 ∙ sym q.0))
 text_refusal Has name found (Missing x) (Specification g) alike p q free = absurd (not_absent _ found q p.1)
+text_refusal Has name found (Missing x) Disk alike p q free = absurd (free tt)
+text_refusal Has name found (Missing x) Memory alike p q free = absurd (free tt)
+text_refusal Has name found (Missing x) b alike p q free = absurd q
 text_refusal Has name found (Specification f) (Missing y) alike p q free = absurd (not_absent _ found p q.1)
 text_refusal Has name found (Specification f) (Specification g) alike p q free = inr (same_of Has found f g (λ text. alike text f g) p q)
+text_refusal Has name found (Specification f) Disk alike p q free = absurd (free tt)
+text_refusal Has name found (Specification f) Memory alike p q free = absurd (free tt)
+text_refusal Has name found (Specification f) b alike p q free = absurd q
+text_refusal Has name found a b alike p q free = absurd p
 
 pub one_refusal : (name : List ℕ) (found : Option (List ℕ)) (a b : Refusal) → IsSourceRefusal name found a → IsSourceRefusal name found b → (IsFree b → ⊥) → IsFree a ⊎ SameRefusal a b
 one_refusal name found a b p q free = text_refusal HasFault name found a b same_fault p q free
@@ -103,15 +86,7 @@ not_refused Has Is name found (Missing x) apart p q = absurd (not_absent Is foun
 not_refused Has Is name found (Specification f) apart p q = absurd (not_faulty Has Is found f (λ text. apart text f) p q)
 not_refused Has Is name found Disk apart p q = tt
 not_refused Has Is name found Memory apart p q = tt
-not_refused Has Is name found (Array x fault) apart p q = absurd q
-not_refused Has Is name found (Budget n) apart p q = absurd q
-not_refused Has Is name found (Intermediates n) apart p q = absurd q
-not_refused Has Is name found (Flat n) apart p q = absurd q
-not_refused Has Is name found (Tensor x) apart p q = absurd q
-not_refused Has Is name found (Misfit n) apart p q = absurd q
-not_refused Has Is name found (Einsum trouble) apart p q = absurd q
-not_refused Has Is name found (Spill trouble) apart p q = absurd q
-not_refused Has Is name found (Symmetry x trouble) apart p q = absurd q
+not_refused Has Is name found a apart p q = absurd q
 
 pub not_both : (files : Files) (spec : List ℕ) (s : Specified) (a : Refusal) → HasSpecification files spec s → IsSourceRefusal spec (file files spec) a → IsFree a
 not_both files spec s a p q = not_refused HasFault (λ text. Specifies text s) spec (file files spec) a (λ text. specified_not_faulty text s) p q

@@ -2,6 +2,7 @@
 use Rattle.std.proofs.Common.{◌≡◌, ◌≢◌, refl, sym, ap, subst, ℕ, ◌<◌, ◌^◌, List, length, Option, Some, None, Result, Ok, Err, if◌then◌else◌, nat_lt, true, false, Bool, IsTrue, arith}
 use Rattle.std.specs.Option.{IsSomeAnd, option_map}
 use Rattle.std.proofs.lemmas.Bool.Decides.{nat_tests}
+use Rattle.std.proofs.lemmas.Option.{none-some}
 use Rattle.tce_declarations.specs.Faults.{Fault, too_long}
 use Rattle.tce_declarations.specs.FaultCode.{Shows}
 use Rattle.tce_declarations.specs.TextCode.{fault_in}
@@ -88,28 +89,29 @@ pub specified : (found : Option (List ℕ)) (text : List ℕ) (s : Specification
 specified found text s e answers =
     subst (λ o. IsSomeAnd o (λ t. Specifies t s)) (sym e) (subst (IsOutcome text) (answers (computed text) (computed_is text)) (computed_is text))
 
-not_shown : (f : SpecFault) → Shows None f → f ≢ Memory → ⊥
-not_shown TooLong s n = absurd (cc)
-not_shown (BadText line) s n = absurd (cc)
-not_shown (TooManyNodes line) s n = absurd (cc)
-not_shown (NameTwice line name) s n = absurd (cc)
-not_shown (UnknownName line name) s n = absurd (cc)
-not_shown (BadNumber line) s n = absurd (cc)
-not_shown (LimitPassed line limit) s n = absurd (cc)
-not_shown (RankDiffers line name) s n = absurd (cc)
-not_shown (RangeDiffers line name) s n = absurd (cc)
-not_shown (IndexTwice line name) s n = absurd (cc)
-not_shown (ResultIsOperand line name) s n = absurd (cc)
-not_shown (Tree line trees.NoOperation) s n = absurd (cc)
-not_shown (Tree line (trees.SumOverAbsent name)) s n = absurd (cc)
-not_shown (Tree line (trees.TooManyLoops node)) s n = absurd (cc)
-not_shown (Tree line (trees.VolumeTooLarge node)) s n = absurd (cc)
-not_shown (Tree line trees.Memory) s n = s
-not_shown (ResultIndices line) s n = absurd (cc)
-not_shown Memory s n = n refl
+-- a fault that is shown, but for want of memory, is there
+shown_is : (o : Option Fault) (f : SpecFault) → Shows o f → f ≢ Memory → (found : Fault) × (o ≡ Some found)
+shown_is o TooLong s n = (_, s)
+shown_is o (BadText line) s n = (_, s)
+shown_is o (TooManyNodes line) s n = (_, s)
+shown_is o (NameTwice line name) s n = (_, s)
+shown_is o (UnknownName line name) s n = (_, s)
+shown_is o (BadNumber line) s n = (_, s)
+shown_is o (LimitPassed line limit) s n = (_, s)
+shown_is o (RankDiffers line name) s n = (_, s)
+shown_is o (RangeDiffers line name) s n = (_, s)
+shown_is o (IndexTwice line name) s n = (_, s)
+shown_is o (ResultIsOperand line name) s n = (_, s)
+shown_is o (Tree line trees.NoOperation) s n = (_, s)
+shown_is o (Tree line (trees.SumOverAbsent name)) s n = (_, s)
+shown_is o (Tree line (trees.TooManyLoops node)) s n = (_, s)
+shown_is o (Tree line (trees.VolumeTooLarge node)) s n = (_, s)
+shown_is o (Tree line trees.Memory) s n = absurd s
+shown_is o (ResultIndices line) s n = (_, s)
+shown_is o Memory s n = absurd (n refl)
 
 has_fault : (text : List ℕ) (outcome : Result Specification Fault) (f : SpecFault) → IsOutcome text outcome → Shows (fault_in outcome) f → f ≢ Memory → HasFault text f
-has_fault text (Ok s) f is shows n = absurd (not_shown f shows n)
+has_fault text (Ok s) f is shows n = absurd (none-some _ (shown_is None f shows n).1)
 has_fault text (Err found) f is shows n = record { found = found; outcome = is; shown = shows; no_memory = n }
 
 pub faulty : (found : Option (List ℕ)) (text : List ℕ) (f : SpecFault) → found ≡ Some text → f ≢ Memory
@@ -129,7 +131,7 @@ formulas_specified found text batch e answers =
     subst (λ o. IsSomeAnd o (λ t. IsBatchOutcome t (Ok batch))) (sym e) (subst (IsBatchOutcome text) (answers (batch_computed text) (batch_is text)) (batch_is text))
 
 has_batch_fault : (text : List ℕ) (outcome : Result (List Specification) Fault) (f : SpecFault) → IsBatchOutcome text outcome → Shows (fault_in outcome) f → f ≢ Memory → HasBatchFault text f
-has_batch_fault text (Ok batch) f is shows n = absurd (not_shown f shows n)
+has_batch_fault text (Ok batch) f is shows n = absurd (none-some _ (shown_is None f shows n).1)
 has_batch_fault text (Err found) f is shows n = record { found = found; outcome = is; shown = shows; no_memory = n }
 
 pub formulas_faulty : (found : Option (List ℕ)) (text : List ℕ) (f : SpecFault) → found ≡ Some text → f ≢ Memory
