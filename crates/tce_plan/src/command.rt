@@ -26,7 +26,9 @@ pub fn plan<D: Disk>(alloc: Global, spec: &str, disk: &mut D) -> Result<Vec<u8>,
     ensures told { TellsFaults (D.faults disk.old) (D.faults disk.new) (result ≡ Err Refusal.Disk) }
 {
     let source = read_source(alloc, disk, spec)?;
-    match least_report(alloc, &source) {
+    let made = least_report(alloc, &source);
+    drop(source);
+    match made {
         Ok(report) => Ok(report),
         Err(_) => Err(Refusal::Memory),
     }
@@ -39,5 +41,7 @@ fn least_report(alloc: Global, spec: &Spec) -> Result<Vec<u8>, AllocError>
     let space = spec.space();
     let tree = spec.tree();
     let least = search(alloc, space, tree)?;
-    plan_text(alloc, space, tree, &least)
+    let text = plan_text(alloc, space, tree, &least);
+    drop(least);
+    text
 }
