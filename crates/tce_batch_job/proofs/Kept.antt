@@ -7,7 +7,8 @@ use Rattle.std.proofs.Math.Seq.{get_or-append_seam}
 use Rattle.std.proofs.lemmas.Option.{slice_get_within, slice_get-get_or, get_or_from_slice_get, slice_get_read}
 use Rattle.tce_batch_job.specs.declared.plans.KeptPlan.{KeptPlan}
 use Rattle.tce_spec.specs.Specification.{Specification}
-use Rattle.tce_batch_job.specs.Plans.{IsKeptIn, IsOneMore, AreKept}
+use Rattle.tce_batch_job.specs.Plans.{IsKeptFor, IsKeptIn, IsKeptBehind, IsOneMore, AreKept}
+use Rattle.tce_batch_job.proofs.Afforded.{at_place}
 
 -- an element of a list and one more is in the list, or that one
 one_of_more : {X : Type 0} (xs : List X) (x y : X) (k : ℕ) → slice_get (xs ++ x ∷ []) k ≡ Some y → (slice_get xs k ≡ Some y) ⊎ ((k ≡ length xs) × (x ≡ y))
@@ -30,6 +31,16 @@ kept_more batch number before after front one = subst (AreKept batch (number + 1
     by_place k kept (inl first) = front.each k kept first
     by_place k kept (inr (last, same)) =
         subst (λ (x : KeptPlan). (x.number ≡ k) × IsKeptIn batch x) same (omega (arith, one.numbered, last, front.count_is), one.kept_in)
+
+pub one_more : (batch : List Specification) (number : ℕ) (s : Specification) (before after : List KeptPlan) → slice_get batch number ≡ Some s → IsKeptBehind s number before after
+    → IsOneMore batch number before after
+one_more batch number s before after at h = record {
+  kept = h.kept;
+  numbered = h.numbered;
+  kept_in = λ x there.
+      at_place (λ (y : Specification). IsKeptFor y h.kept) s x (slice_get batch number) at h.kept_for (subst (λ (n : ℕ). slice_get batch n ≡ Some x) h.numbered there);
+  added = h.added;
+}
 
 pub none_kept : (batch : List Specification) → AreKept batch 0 []
 none_kept batch = record { count_is = refl; each = λ k kept at. absurd (omega (arith, slice_get_within [] k kept at)) }

@@ -15,7 +15,7 @@ use Rattle.tce_job.specs.declared.fault.JobFault.TheVariants.{BudgetTooSmall, In
 use Rattle.tce_job.specs.Refusals.{IsFree}
 use Rattle.tce_batch.specs.BatchCode.{results_before}
 use Rattle.tce_batch_job.specs.Refusals.{AffordableBelow, IsNamed, IsCauseAt, IsSource, HasSources, SourcesBelow, IsOperandFault, IsSourceFault}
-use Rattle.tce_batch_job.proofs.Afforded.{told_of_first}
+use Rattle.tce_batch_job.proofs.Afforded.{some_at, told_of_first}
 
 -- one operand more
 pub sources_more : (files : Files) (s : Specification) (made : List ℕ) (k t : ℕ) → t ≡ operand s k → HasSources files s made k → (IsSource made t → HasArray files s t) → HasSources files s made (k + 1)
@@ -63,18 +63,22 @@ opening_cause told batch budget number formula Memory s at within able before wh
 opening_cause told batch budget number formula (BudgetTooSmall n) s at within able before why named = absurd why
 opening_cause told batch budget number formula (IntermediatesTooLarge n) s at within able before why named = absurd why
 
-pub opening_fault : (told : Option Files) (batch : List Specification) (budget number formula : ℕ) (f fault : JobFault) (s : Specification) → slice_get batch number ≡ Some s → number < length batch
-    → AffordableBelow batch budget (length batch) → ForSome told (λ files. SourcesBelow files batch number) → IsSourceFault told s (results_before batch number) f → fault ≡ f → IsNamed number f formula
-    → (IsFree fault → formula ≡ 1) × IsCauseAt told batch budget formula fault
-opening_fault told batch budget number formula f fault s at within able before why is named = (
-  (λ free. told_of_first number formula f named (subst IsFree is free)),
-  subst (IsCauseAt told batch budget formula) (sym is) (opening_cause told batch budget number formula f s at within able before why named),
-)
-
 -- want of memory
-pub memory_fault : (told : Option Files) (batch : List Specification) (budget formula : ℕ) (fault : JobFault) → 0 < length batch → fault ≡ Memory → formula ≡ 1
+memory_fault : (told : Option Files) (batch : List Specification) (budget formula : ℕ) (fault : JobFault) → 0 < length batch → fault ≡ Memory → formula ≡ 1
     → (IsFree fault → formula ≡ 1) × IsCauseAt told batch budget formula fault
 memory_fault told batch budget formula fault within is named = (
   (λ free. named),
   subst (IsCauseAt told batch budget formula) (sym is) (record { some = omega (arith, named); within = omega (arith, named, within) }),
 )
+
+-- a formula by its number is
+pub opening_fault : (told : Option Files) (batch : List Specification) (budget number formula : ℕ) (f fault : JobFault) → number < length batch → AffordableBelow batch budget (length batch)
+    → ForSome told (λ files. SourcesBelow files batch number) → (f ≡ Memory) ⊎ ((s : Specification) → slice_get batch number ≡ Some s → IsSourceFault told s (results_before batch number) f) → fault ≡ f
+    → IsNamed number f formula → (IsFree fault → formula ≡ 1) × IsCauseAt told batch budget formula fault
+opening_fault told batch budget number formula f fault within able before (inl wanting) is named =
+    memory_fault told batch budget formula fault (omega (arith, within)) (is ∙ wanting) (subst (λ (x : JobFault). IsNamed number x formula) wanting named)
+opening_fault told batch budget number formula f fault within able before (inr why) is named =
+    let (s, at) = some_at batch number within in (
+      (λ free. told_of_first number formula f named (subst IsFree is free)),
+      subst (IsCauseAt told batch budget formula) (sym is) (opening_cause told batch budget number formula f s at within able before (why s at) named),
+    )

@@ -1,7 +1,9 @@
 -- Runs by a plan that was kept.
-use Rattle.std.proofs.Common.{inl, inr, ◌≡◌, ℕ, ◌+◌, ◌≤◌, ◌^◌, List, [], ◌∷◌, ◌++◌, length, replicate, All, refl, sym, subst, ◌∙◌, ap, arith}
+use Rattle.std.proofs.Common.{inl, inr, ◌≡◌, ℕ, ◌+◌, ◌≤◌, ◌^◌, List, [], ◌∷◌, ◌++◌, length, replicate, Option, Result, Ok, Err, All, refl, sym, subst, ◌∙◌, ap, arith}
+use Rattle.std.specs.Prelude.{OnOk, IfOk, IfErr}
 use Rattle.std.proofs.lemmas.Bool.{cases_lt}
 use Rattle.std.proofs.lemmas.List.{length-replicate, get_or-replicate, get_or_past}
+use Rattle.tce_outside.specs.Files.{Files}
 use Rattle.tce_tree.specs.ContractionTree.{operations, node_dims}
 use Rattle.tce_states.specs.Row.{Row, rows_at}
 use Rattle.tce_nesting.specs.declared.plan.Plan.{Plan}
@@ -20,6 +22,7 @@ use Rattle.tce_job.specs.declared.report.RunReport.{RunReport}
 use Rattle.tce_job.specs.Refusals.{IsFree}
 use Rattle.tce_job.specs.Prepared.{IsCarriedPlan, IsReport, MayHaveTaken, IsRoomLeft, taking_of}
 use Rattle.tce_job.specs.Run.{IsReported}
+use Rattle.tce_job.specs.Told.{Takes, MayTake, Reports, LeavesRoom, IsRefusalOf}
 use Rattle.tce_batch_job.specs.declared.plans.KeptPlan.{KeptPlan}
 use Rattle.tce_batch_job.specs.Plans.{IsPlanOf, IsKeptFor}
 
@@ -84,7 +87,7 @@ module _ (s : Specification) (kept : KeptPlan) (plan : Plan) (h : IsKeptFor s ke
   taken_is : (budget : ℕ) (before after : List (ℕ × ℕ)) → after ≡ before ++ taking_of s budget plan ∷ [] → after ≡ before ++ taking_of s budget h.plan ∷ []
   taken_is budget before after taken = taken ∙ ap (λ (one : ℕ × ℕ). before ++ one ∷ []) (taking_is budget)
 
-  pub is_reported : (budget : ℕ) (before after : List (ℕ × ℕ)) (report : RunReport) → after ≡ before ++ taking_of s budget plan ∷ [] → IsReport s budget plan report → IsReported s budget before after report
+  is_reported : (budget : ℕ) (before after : List (ℕ × ℕ)) (report : RunReport) → after ≡ before ++ taking_of s budget plan ∷ [] → IsReport s budget plan report → IsReported s budget before after report
   is_reported budget before after report taken told = record {
     plan = h.plan;
     least = h.least;
@@ -97,7 +100,7 @@ module _ (s : Specification) (kept : KeptPlan) (plan : Plan) (h : IsKeptFor s ke
     };
   }
 
-  pub room_left : (budget : ℕ) (fault : JobFault) (before after : List (ℕ × ℕ)) → IsFree fault → MayHaveTaken s budget plan before after → IsRoomLeft fault s budget before after
+  room_left : (budget : ℕ) (fault : JobFault) (before after : List (ℕ × ℕ)) → IsFree fault → MayHaveTaken s budget plan before after → IsRoomLeft fault s budget before after
   room_left budget (BudgetTooSmall n) before after free left = absurd free
   room_left budget (IntermediatesTooLarge n) before after free left = absurd free
   room_left budget (Array t f) before after free left = absurd free
@@ -105,3 +108,26 @@ module _ (s : Specification) (kept : KeptPlan) (plan : Plan) (h : IsKeptFor s ke
   room_left budget Disk before after free (inr taken) = inr (record { plan = h.plan; least = h.least; taken = taken_is budget before after taken })
   room_left budget Memory before after free (inl same) = inl same
   room_left budget Memory before after free (inr taken) = inr (record { plan = h.plan; least = h.least; taken = taken_is budget before after taken })
+
+  -- the same of an answer
+  pub answer_reported : (budget : ℕ) (before after : List (ℕ × ℕ)) (result : Result RunReport JobFault) → OnOk result (Takes s budget plan before after) → IfOk result (IsReport s budget plan)
+      → Reports result s budget before after
+  answer_reported budget before after (Ok report) taken told = is_reported budget before after report taken told
+  answer_reported budget before after (Err fault) taken told = tt
+
+  pub answer_room_left : (budget : ℕ) (before after : List (ℕ × ℕ)) (result : Result RunReport JobFault) → IfErr result IsFree → MayTake result s budget plan before after
+      → LeavesRoom result s budget before after
+  answer_room_left budget before after (Ok report) free left = tt
+  answer_room_left budget before after (Err fault) free left = room_left budget fault before after free left
+
+-- want of memory and a failure of the disk need no other cause
+free_refusal : (told : Option Files) (s : Specification) (budget : ℕ) (fault : JobFault) → IsFree fault → IsRefusalOf told s budget fault
+free_refusal told s budget (BudgetTooSmall n) free = absurd free
+free_refusal told s budget (IntermediatesTooLarge n) free = absurd free
+free_refusal told s budget (Array t f) free = absurd free
+free_refusal told s budget Disk free = tt
+free_refusal told s budget Memory free = tt
+
+pub answer_refused : (told : Option Files) (s : Specification) (budget : ℕ) (result : Result RunReport JobFault) → IfErr result IsFree → IfErr result (IsRefusalOf told s budget)
+answer_refused told s budget (Ok report) free = tt
+answer_refused told s budget (Err fault) free = free_refusal told s budget fault free

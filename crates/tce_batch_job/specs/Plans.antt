@@ -29,6 +29,13 @@ pub record IsKeptFor (s : Specification) (kept : KeptPlan) : Type 0 where
 abbrev pub IsKeptIn : List Specification → KeptPlan → Type 0
 IsKeptIn batch kept = (s : Specification) → slice_get batch kept.number ≡ Some s → IsKeptFor s kept
 
+-- that of the specification is kept behind the others, with this number
+pub record IsKeptBehind (s : Specification) (number : ℕ) (before after : List KeptPlan) : Type 0 where
+  pub kept : KeptPlan
+  pub numbered : kept.number ≡ number
+  pub kept_for : IsKeptFor s kept
+  pub added : after ≡ before ++ kept ∷ []
+
 -- that of one formula more is kept behind the others
 pub record IsOneMore (batch : List Specification) (number : ℕ) (before after : List KeptPlan) : Type 0 where
   pub kept : KeptPlan

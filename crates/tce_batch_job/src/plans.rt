@@ -2,7 +2,7 @@
 ghost use Rattle.std.specs.Prelude.{◌≡◌, ◌≢◌, ◌<◌, ◌≤◌, IfOk, IfErr, OnOk, length};
 ghost use Rattle.tce_job.specs.Refusals.{IsAffordable, IsCause};
 ghost use Rattle.tce_job.specs.declared.fault.JobFault.{JobFault as Fault};
-ghost use Rattle.tce_batch_job.specs.Plans.{AreKept, IsKeptOf, IsOneMore, IsPlanOf};
+ghost use Rattle.tce_batch_job.specs.Plans.{AreKept, IsKeptBehind, IsKeptOf, IsOneMore, IsPlanOf};
 ghost use Rattle.tce_batch_job.specs.Refusals.{AffordableBelow, IsCostFault};
 ghost use Rattle.tce_batch_job.specs.Told.{HoldsOf};
 
@@ -13,6 +13,7 @@ use tce_batch::Batch;
 use tce_job::{JobFault, affordable_plan};
 use tce_nesting::{Plan, Tables};
 use tce_space::MAX_NODES;
+use tce_spec::Spec;
 use tce_tree::{Fusion, Orders};
 
 /// The plan of a formula until it is run, without the rows that show it to be least: they may take far more memory than
@@ -57,7 +58,27 @@ impl KeptPlan {
     }
 }
 
-// Finds the plan of a formula by its number, from 0, and puts it behind the others.
+// Finds the plan of a formula, and puts it behind the others with the formula's number, from 0.
+fn keep_plan(
+    alloc: Global,
+    spec: &Spec,
+    budget: u64,
+    number: usize,
+    plans: &mut Vec<KeptPlan>,
+) -> Result<(), JobFault>
+    ensures affordable { OnOk result (IsAffordable spec.now budget) }
+    ensures kept { OnOk result (IsKeptBehind spec.now number plans.old.items plans.new.items) }
+    ensures refused { IfErr result (IsCause (λ _. ⊥) spec.now budget) }
+    ensures failed { IfErr result (λ fault. fault ≢ Fault.Disk) }
+{
+    let plan = affordable_plan(alloc, spec, budget)?;
+    match plans.push(KeptPlan::of(number, plan)) {
+        Ok(()) => Ok(()),
+        Err(_) => Err(JobFault::Memory),
+    }
+}
+
+// The same by the formula's number.
 fn find_plan(
     alloc: Global,
     batch: &Batch,
@@ -75,11 +96,7 @@ fn find_plan(
     let Ok(spec) = batch.spec(alloc, number) else {
         return Err(JobFault::Memory);
     };
-    let plan = affordable_plan(alloc, &spec, budget)?;
-    match plans.push(KeptPlan::of(number, plan)) {
-        Ok(()) => Ok(()),
-        Err(_) => Err(JobFault::Memory),
-    }
+    keep_plan(alloc, &spec, budget, number, plans)
 }
 
 /// Finds the plans of all formulas, or refuses the first formula that costs too much.

@@ -57,8 +57,7 @@ fn run_kept<D: Disk, R: Room>(
     };
     let forms = opened_forms(spec, disk)?;
     let planned = PlannedRun { plan, forms };
-    let report = run_by(alloc, spec, budget, planned, disk, room)?;
-    Ok(report)
+    run_by(alloc, spec, budget, planned, disk, room)
 }
 
 // Runs a formula by the plan that was kept of it.

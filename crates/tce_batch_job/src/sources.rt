@@ -1,5 +1,5 @@
 // The files of the operands that are no earlier result.
-ghost use Rattle.std.specs.Prelude.{◌≡◌, ◌≢◌, ◌<◌, ◌≤◌, Err, IfOk, IfErr, OnOk, OnErr, Some, length, slice_get};
+ghost use Rattle.std.specs.Prelude.{◌≡◌, ◌≢◌, ◌⊎◌, ◌<◌, ◌≤◌, Err, IfOk, IfErr, OnOk, OnErr, Some, length, slice_get};
 ghost use Rattle.std.specs.Option.{ForSome};
 ghost use Rattle.tce_outside.specs.Fault.{HasCause, TellsFaults};
 ghost use Rattle.tce_job.specs.declared.fault.JobFault.{JobFault as Fault};
@@ -11,7 +11,7 @@ ghost use Rattle.tce_outside.specs.Files.{file};
 ghost use Rattle.tce_tensors.specs.TensorFiles.{file_of};
 ghost use Rattle.tce_batch.specs.BatchCode.{results_before};
 ghost use Rattle.tce_batch_job.specs.Refusals.{IsSource, IsOperandFault, IsOpeningFault};
-ghost use Rattle.tce_batch_job.specs.Told.{HasSourceFile, HasSourceFiles, HasAllSources, IsSourceFaultOf, HasDiskFault};
+ghost use Rattle.tce_batch_job.specs.Told.{HoldsOf, HasSourceFile, HasSourceFiles, HasAllSources, IsSourceFaultOf, HasDiskFault};
 
 use crate::fault::{BatchFault, before_runs};
 use std::alloc::Global;
@@ -85,6 +85,28 @@ fn open_formula<D: Disk>(
     Ok(())
 }
 
+// The same by the formula's number, from 0.
+fn open_numbered<D: Disk>(
+    alloc: Global,
+    batch: &Batch,
+    number: usize,
+    disk: &mut D,
+) -> Result<(), JobFault>
+    requires { number < length batch.now }
+    ensures opened { OnOk result (HoldsOf batch.now number
+        (λ s. HasSourceFiles (D.files disk.old) batch.now number s)) }
+    ensures refused { IfErr result (λ fault. (fault ≡ Fault.Memory) ⊎ HoldsOf batch.now number
+        (λ s. IsSourceFaultOf (D.files disk.old) batch.now number s fault)) }
+    ensures same { D.files disk.new ≡ D.files disk.old }
+    ensures cause { HasCause (D.faults disk.old) (D.faults disk.new) (result ≡ Err Fault.Disk) }
+    ensures quiet { TellsFaults (D.faults disk.old) (D.faults disk.new) (result ≡ Err Fault.Disk) }
+{
+    let Ok(spec) = batch.spec(alloc, number) else {
+        return Err(JobFault::Memory);
+    };
+    open_formula(batch, number, &spec, disk)
+}
+
 /// Opens the files of all operands that are no earlier result, formula by formula.
 pub(crate) fn open_sources<D: Disk>(
     alloc: Global,
@@ -99,10 +121,7 @@ pub(crate) fn open_sources<D: Disk>(
 {
     let count = batch.len();
     for number in 0..count {
-        let Ok(spec) = batch.spec(alloc, number) else {
-            return Err(before_runs(number, JobFault::Memory));
-        };
-        if let Err(fault) = open_formula(batch, number, &spec, disk) {
+        if let Err(fault) = open_numbered(alloc, batch, number, disk) {
             return Err(before_runs(number, fault));
         }
     }
