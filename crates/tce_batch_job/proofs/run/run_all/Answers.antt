@@ -1,11 +1,55 @@
-use Rattle.std.proofs.Common.{inl, inr, ℕ, ◌+◌, ◌++◌, List, refl, ap, ◌∙◌, arith, rules}
-use Rattle.tce_batch_job.specs.Reports.{section_of}
+use Rattle.std.proofs.Common.{inl, inr, ℕ, ◌+◌, ◌++◌, List, length, refl, subst, ap, ◌∙◌, arith, rules}
+use Rattle.std.specs.Option.{option_map}
+use Rattle.std.proofs.lemmas.List.{take_all}
+use Rattle.std.proofs.lemmas.Option.{slice_get_read}
+use Rattle.tce_spec.specs.Specification.{Specification}
+use Rattle.tce_job.specs.Several.{files_after}
+use Rattle.tce_batch_job.specs.Reports.{HasRun, section_of}
 use Rattle.tce_batch_job.proofs.Afforded.{some_at}
 use Rattle.tce_batch_job.proofs.Kept.{kept_place}
 use Rattle.tce_batch_job.proofs.Files.{none_after, told_more}
-use Rattle.tce_batch_job.proofs.Reports.{none_taken, run_taken, taken_more, run_more}
+use Rattle.tce_batch_job.proofs.Reports.{none_taken, none_run, run_taken, taken_more, run_more}
 use Rattle.tce_batch_job.proofs.Ended.{has_failed, failed_cause, failed_left, failed_takings}
 use Rattle.tce_batch_job.proofs.run.run_all.Goals as goal
+
+pub loop-number-init : goal.loop-number-init
+loop-number-init g c = record {
+  told = none_after (g.D.Disk.files c.args.disk.now) c.args.batch.now;
+  run = none_run c.args.batch.now c.args.budget (g.R.Room.takings c.args.room.now) c.in-Ok.text.items c.in-Ok.ensures;
+  counted = refl;
+}
+
+pub run_formula-requires-clause-number : goal.run_formula-requires-clause-number
+run_formula-requires-clause-number g c =
+    let within = c.loop-number-test.true in
+    let plans = c.args.plans.now in
+    let found = slice_get_read plans (length plans) c.loop-number.number c.index-plans-number.result refl (omega (arith, within, c.len-count.ensures.count, c.requires.kept.count_is)) c.index-plans-number.is in
+    let here = (c.requires.kept.each c.loop-number.number c.index-plans-number.result found).0 in
+    omega (arith, here, within, c.len-count.ensures.count)
+
+pub run_formula-requires-clause-kept : goal.run_formula-requires-clause-kept
+run_formula-requires-clause-kept g c =
+    let within = c.loop-number-test.true in
+    let plans = c.args.plans.now in
+    let found = slice_get_read plans (length plans) c.loop-number.number c.index-plans-number.result refl (omega (arith, within, c.len-count.ensures.count, c.requires.kept.count_is)) c.index-plans-number.is in
+    (c.requires.kept.each c.loop-number.number c.index-plans-number.result found).1
+
+pub run_formula-requires-clause-affordable : goal.run_formula-requires-clause-affordable
+run_formula-requires-clause-affordable g c = c.requires.affordable
+
+pub returns-in_default-push_section-clause-refused : goal.returns-in_default-push_section-clause-refused
+returns-in_default-push_section-clause-refused g c = record { some = omega arith; within = omega (arith, c.loop-number-test.true, c.len-count.ensures.count) }
+
+pub returns-clause-told : goal.returns-clause-told
+returns-clause-told g c =
+    c.loop-number.invariant.told
+    ∙ ap (λ (ss : List Specification). option_map (files_after ss) (g.D.Disk.files c.args.disk.now))
+    (take_all c.loop-number.number c.args.batch.now (omega (arith, c.loop-number-test.false, c.len-count.ensures.count)))
+
+pub returns-clause-reported : goal.returns-clause-reported
+returns-clause-reported g c =
+    subst (λ (ss : List Specification). HasRun ss c.args.budget (g.R.Room.takings c.args.room.now) (g.R.Room.takings c.loop-number.room) c.loop-number.text.items)
+    (take_all c.loop-number.number c.args.batch.now (omega (arith, c.loop-number-test.false, c.len-count.ensures.count))) c.loop-number.invariant.run
 
 pub returns-in_default-clause-left : goal.returns-in_default-clause-left
 returns-in_default-clause-left g c =
