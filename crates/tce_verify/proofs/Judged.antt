@@ -1,67 +1,113 @@
--- What is answered to two files.
-use Rattle.std.proofs.Common.{◌≡◌, sym, ap, subst, ◌∙◌, ◌≤◌, inl, inr, ℕ, List, Option, Some, Result, Ok, Err, arith}
+-- What is answered to a text, to its file, and to two files.
+use Rattle.std.proofs.Common.{◌≡◌, sym, ap, subst, ◌∙◌, ◌≤◌, inl, inr, ℕ, List, Option, Result, Ok, Err, arith}
+use Rattle.std.specs.Prelude.{IfOk, IfErr, OnOk}
 use Rattle.std.specs.Option.{ForSome}
 use Rattle.tce_outside.specs.Files.{Files, file}
 use Rattle.tce_outside.specs.Fault.{Rose, HasCause, TellsFaults}
+use Rattle.tce_nesting.specs.declared.plan.Plan.{Plan}
+use Rattle.tce_check.specs.Verdict.{IsAccepted}
 use Rattle.tce_spec.specs.Specification.{Specification}
-use Rattle.tce_source.specs.Source.{HasSpecification, IsSourceRefusal}
+use Rattle.tce_source.specs.Source.{HasSpecificationOn, HoldsOn}
+use Rattle.tce_command.specs.CommandRefusals.{IsWrittenOver}
+use Rattle.tce_command.specs.Report.{trouble_of}
+use Rattle.tce_command.specs.declared.trouble.CertTrouble.{CertTrouble}
+use Rattle.tce_command.specs.declared.trouble.CertTrouble.TheVariants as troubles
 use Rattle.tce_command.specs.declared.refusal.Refusal.{Refusal}
 use Rattle.tce_command.specs.declared.refusal.Refusal.TheVariants.{Disk}
 use Rattle.tce_command.specs.declared.command_refusal.CommandRefusal.{CommandRefusal}
 use Rattle.tce_command.specs.declared.command_refusal.CommandRefusal.TheVariants.{Common, Certificate}
+use Rattle.tce_verify.specs.Certificates.{IsCertificateOf, IsTrouble}
 use Rattle.tce_verify.specs.Done.{IsVerified, report_text}
-use Rattle.tce_verify.specs.Judging.{IsAcceptedText, IsJudgement}
-use Rattle.tce_verify.specs.Refusals.{IsVerifyRefusal, IsWrittenFor}
+use Rattle.tce_verify.specs.Judging.{IsAcceptedText, IsJudgement, IsOfPlan, IsOfLeast, IsPlanRefusal}
+use Rattle.tce_verify.specs.OfFile.{IsRefusedForOn, IsVerifiedFor, IsVerifiedText}
+use Rattle.tce_verify.specs.Refusals.{IsUnread, IsVerifyRefusalOn, IsWrittenFor}
 
--- the first file specifies this, and the second holds this text
-abbrev pub Specified : Option Files → List ℕ → Specification → Type 0
-Specified told spec s = ForSome told (λ files. HasSpecification files spec s)
+-- ---- a plan and its text
 
-abbrev pub Held : Option Files → List ℕ → List ℕ → Type 0
-Held told cert text = ForSome told (λ files. file files cert ≡ Some text)
+pub accepted_text : (r : Result ℕ CommandRefusal) (s : Specification) (plan : Plan) (text : List ℕ) → IsCertificateOf s plan text
+    → OnOk r (IsAccepted s.declarations.space s.tree plan) → OnOk r (IsOfLeast s plan) → IfOk r (λ memory. memory ≡ plan.memory) → IfOk r (IsAcceptedText s text)
+accepted_text (Ok memory) s plan text certifies accepted least same = record { plan = plan; certifies = certifies; accepted = accepted; least = least; memory_is = same }
+accepted_text (Err refusal) s plan text certifies accepted least same = tt
 
-pub judged : (told : Option Files) (spec cert : List ℕ) (s : Specification) (text : List ℕ) (a : CommandRefusal) → Specified told spec s → Held told cert text
-    → IsJudgement s text a → ForSome told (λ files. IsVerifyRefusal files spec cert a)
-judged told spec cert s text (Common a) specified held p = λ files is. inl (subst (IsSourceRefusal spec (file files spec)) (sym p) tt)
-judged told spec cert s text (Certificate t line) specified held p =
-    λ files is. record { specification = s; specified = specified files is; text = text; held = held files is; trouble_is = p.0 }
+trouble_of_plan : (s : Specification) (plan : Plan) (text : List ℕ) (t : CertTrouble) → IsCertificateOf s plan text → IsOfPlan s plan t → IsTrouble s text t
+trouble_of_plan s plan text (troubles.Text fault) certifies p = absurd p
+trouble_of_plan s plan text (troubles.Verdict verdict) certifies p = record { plan = plan; certifies = certifies; right = p.1; refused = p.0 }
 
-pub written_for : (told : Option Files) (spec : List ℕ) (s : Specification) (text : List ℕ) (a : CommandRefusal) → Specified told spec s → IsJudgement s text a → IsWrittenFor told spec a
-written_for told spec s text (Common a) specified p = tt
-written_for told spec s text (Certificate t line) specified p = (s, (specified, p.1))
+pub refused_text : (s : Specification) (plan : Plan) (text : List ℕ) (a : CommandRefusal) → IsCertificateOf s plan text → IsPlanRefusal s plan a → IsJudgement s text a
+refused_text s plan text (Common a) certifies p = absurd p
+refused_text s plan text (Certificate t line) certifies p = (trouble_of_plan s plan text (trouble_of t) certifies p.0, p.1)
 
-pub verified : (told : Option Files) (spec cert : List ℕ) (s : Specification) (text : List ℕ) (memory : ℕ) (report : List ℕ) → Specified told spec s → Held told cert text
-    → IsAcceptedText s text memory → report ≡ report_text memory → ForSome told (λ files. IsVerified files spec cert report)
-verified told spec cert s text memory report specified held a reported =
-    λ files is. record {
-      can = record { specification = s; specified = specified files is; text = text; held = held files is; plan = a.plan; certifies = a.certifies; accepted = a.accepted };
-      least = a.least;
-      reported = reported ∙ ap report_text a.memory_is;
-    }
+-- ---- a text and its file
+
+pub file_verified : (told : Option Files) (cert : List ℕ) (s : Specification) (text report : List ℕ) → HoldsOn told cert text → IsVerifiedText s text report
+    → ForSome told (λ files. IsVerifiedFor s (file files cert) report)
+file_verified told cert s text report held verified = λ files is. record { text = text; held = held files is; verified = verified }
+
+pub file_refused : (told : Option Files) (cert : List ℕ) (s : Specification) (text : List ℕ) (a : CommandRefusal) → HoldsOn told cert text → IsJudgement s text a
+    → IsRefusedForOn told s cert a
+file_refused told cert s text (Common a) held p = λ files is. subst (IsUnread cert (file files cert)) (sym p) tt
+file_refused told cert s text (Certificate t line) held p = λ files is. record { text = text; held = held files is; trouble_is = p.0 }
+
+pub written_over : (s : Specification) (text : List ℕ) (a : CommandRefusal) → IsJudgement s text a → IsWrittenOver s.declarations.space a
+written_over s text (Common a) p = tt
+written_over s text (Certificate t line) p = p.1
 
 -- a text is never the cause of a disk fault
-pub no_fault : (s : Specification) (text : List ℕ) (a : CommandRefusal) → IsJudgement s text a → a ≡ Common Disk → ⊥
-no_fault s text (Common a) p e = absurd (cc)
-no_fault s text (Certificate t line) p e = absurd (cc)
+pub no_fault : {T : Type 0} (r : Result T CommandRefusal) (s : Specification) (text : List ℕ) → IfErr r (IsJudgement s text) → r ≡ Err (Common Disk) → ⊥
+no_fault (Ok x) s text p e = absurd (cc)
+no_fault (Err (Common a)) s text p e = absurd (cc)
+no_fault (Err (Certificate t line)) s text p e = absurd (cc)
+
+-- ---- two files
+
+pub verified : (told : Option Files) (spec cert : List ℕ) (s : Specification) (report : List ℕ) → HasSpecificationOn told spec s
+    → ForSome told (λ files. IsVerifiedFor s (file files cert) report) → ForSome told (λ files. IsVerified files spec cert report)
+verified told spec cert s report specified found =
+    λ files is.
+    let here = found files is in
+    let a = here.verified.accepted in
+    record {
+      can = record { specification = s; specified = specified files is; text = here.text; held = here.held; plan = a.plan; certifies = a.certifies; accepted = a.accepted };
+      least = a.least;
+      reported = here.verified.reported ∙ ap report_text a.memory_is;
+    }
+
+pub refused : (told : Option Files) (spec cert : List ℕ) (s : Specification) (a : CommandRefusal) → HasSpecificationOn told spec s → IsRefusedForOn told s cert a
+    → IsVerifyRefusalOn told spec cert a
+refused told spec cert s (Common a) specified found = λ files is. inr ((s, specified files is), found files is)
+refused told spec cert s (Certificate t line) specified found =
+    λ files is.
+    let here = found files is in
+    record { specification = s; specified = specified files is; text = here.text; held = here.held; trouble_is = here.trouble_is }
+
+pub written_for : (told : Option Files) (spec : List ℕ) (s : Specification) (a : CommandRefusal) → HasSpecificationOn told spec s → IsWrittenOver s.declarations.space a → IsWrittenFor told spec a
+written_for told spec s (Common a) specified p = tt
+written_for told spec s (Certificate t line) specified p = (s, (specified, p))
+
+-- ---- faults of the disk
 
 pub is_disk : {T : Type 0} (r : Result T CommandRefusal) (y : CommandRefusal) (a : Refusal) → r ≡ Err y → y ≡ Common a → r ≡ Err (Common Disk) → a ≡ Disk
 is_disk r y a p q e = let same : Err y ≡ Err (Common Disk) = sym p ∙ e in cc
-
-pub is_given : {T : Type 0} (r : Result T CommandRefusal) (y : CommandRefusal) → r ≡ Err y → r ≡ Err (Common Disk) → y ≡ Common Disk
-is_given r y p e = let same : Err y ≡ Err (Common Disk) = sym p ∙ e in cc
 
 rose_since : (first middle last : ℕ) → first ≤ middle → Rose middle last → Rose first last
 rose_since first middle last before (inl rose) = inl (omega arith)
 rose_since first middle last before (inr end) = inr end
 
 -- a later call has the cause
-pub cause_since : (first middle last : ℕ) (A B : Type 0) → first ≤ middle → (B → A) → HasCause middle last A → HasCause first last B
-cause_since first middle last A B before from cause =
-    record { later = omega (arith, before, cause.later); rose = λ failed. rose_since first middle last before (cause.rose (from failed)) }
+pub cause_since : (first middle last : ℕ) (A : Type 0) → first ≤ middle → HasCause middle last A → HasCause first last A
+cause_since first middle last A before cause =
+    record { later = omega (arith, before, cause.later); rose = λ failed. rose_since first middle last before (cause.rose failed) }
 
 -- a later call tells its faults, and the first had none
-pub told_since : {A B : Type 0} (first middle last : ℕ) → middle ≡ first → TellsFaults middle last A → (A → B) → TellsFaults first last B
-told_since first middle last same told covers = λ none. told (λ a. none (covers a)) ∙ same
+pub told_since : {A : Type 0} (first middle last : ℕ) → middle ≡ first → TellsFaults middle last A → TellsFaults first last A
+told_since first middle last same told = λ none. told none ∙ same
+
+-- the same call with another answer
+pub cause_as : (first last : ℕ) (A B : Type 0) → (B → A) → HasCause first last A → HasCause first last B
+cause_as first last A B from cause = record { later = cause.later; rose = λ failed. cause.rose (from failed) }
+
+pub told_as : {A B : Type 0} (first last : ℕ) → (A → B) → TellsFaults first last A → TellsFaults first last B
+told_as first last covers told = λ none. told (λ a. none (covers a))
 
 pub as_disk : {T : Type 0} (r : Result T CommandRefusal) (y : CommandRefusal) (a : Refusal) → r ≡ Err y → y ≡ Common a → a ≡ Disk → r ≡ Err (Common Disk)
 as_disk r y a p q e = p ∙ ap Err (q ∙ ap Common e)

@@ -1,9 +1,13 @@
--- The file of a specification is not that of a certificate.
-use Rattle.std.proofs.Common.{◌≡◌, ◌≢◌, ◌∙◌, ℕ, ◌+◌, ◌-◌, List, length, drop, get_or, sym, ap, subst, arith, codes, IsTrue}
+-- The names of the command's files are short, and differ.
+use Rattle.std.proofs.Common.{◌≡◌, ◌≢◌, ◌∙◌, ℕ, ◌+◌, ◌-◌, ◌≤◌, List, length, drop, get_or, sym, ap, subst, arith, codes, IsTrue}
+use borrow.Author.Tests.{leb-true}
 use Rattle.std.proofs.lemmas.Bool.{and_parts}
 use Rattle.std.proofs.lemmas.List.{length-drop, get_or-drop}
 use Rattle.std.specs.Cmp.Lexicographic.{bytes_decides}
 use Rattle.tce_command.specs.Command.{is_file_word, NamesSpec, NamesCertificate}
+
+pub short : (suffix word : List ℕ) → IsTrue (is_file_word suffix word) → length word ≤ 200
+short suffix word named = leb-true _ _ (and_parts _ _ (and_parts _ _ (and_parts _ _ named).0).0).0
 
 -- how such a name ends
 ends_in : (suffix word : List ℕ) → IsTrue (is_file_word suffix word) → suffix ≡ drop (length word - length suffix) word

@@ -1,9 +1,12 @@
 // The command.
-ghost use Rattle.std.specs.Prelude.{◌≡◌, Err, IfOk, IfErr};
+ghost use Rattle.std.specs.Prelude.{◌≡◌, ◌≤◌, length, Err, IfOk, IfErr};
 ghost use Rattle.std.specs.String.{string_bytes};
 ghost use Rattle.tce_outside.specs.Fault.{HasCause, TellsFaults};
 ghost use Rattle.tce_command.specs.Command.{NamesCertificate, NamesSpec};
+ghost use Rattle.tce_command.specs.CommandRefusals.{IsWrittenOver};
 ghost use Rattle.tce_verify.specs.Done.{report_text, IsVerifiedOn};
+ghost use Rattle.tce_verify.specs.Judging.{IsJudgement};
+ghost use Rattle.tce_verify.specs.OfFile.{IsRefusedForOn, IsVerifiedForOn, IsVerifiedText};
 ghost use Rattle.tce_verify.specs.Refusals.{IsWrittenFor, IsVerifyRefusalOn, IsDiskFault};
 
 use crate::judging::judge;
@@ -12,6 +15,7 @@ use std::alloc::{AllocError, Global};
 use tce_command::{CommandRefusal, Refusal};
 use tce_outside::Disk;
 use tce_source::read_source;
+use tce_spec::Spec;
 
 /// Checks the certificate in a file for the specification in another, and gives the report. Nothing is written.
 ///
@@ -33,8 +37,34 @@ pub fn verify<D: Disk>(
     ensures told { TellsFaults (D.faults disk.old) (D.faults disk.new) (IsDiskFault result) }
 {
     let source = read_source(alloc, disk, spec)?;
+    verify_file(alloc, &source, cert, disk)
+}
+
+// Checks the certificate in a file for a specification, and gives the report.
+fn verify_file<D: Disk>(
+    alloc: Global,
+    spec: &Spec,
+    cert: &str,
+    disk: &mut D,
+) -> Result<String, CommandRefusal>
+    requires { length cert.now ≤ 200 }
+    ensures done { IfOk result (IsVerifiedForOn (D.files disk.old) spec.now cert.now) }
+    ensures refused { IfErr result (IsRefusedForOn (D.files disk.old) spec.now cert.now) }
+    ensures line { IfErr result (IsWrittenOver spec.now.declarations.space) }
+    ensures unchanged { D.files disk.new ≡ D.files disk.old }
+    ensures cause { HasCause (D.faults disk.old) (D.faults disk.new) (IsDiskFault result) }
+    ensures told { TellsFaults (D.faults disk.old) (D.faults disk.new) (IsDiskFault result) }
+{
     let text = read_file(alloc, disk, cert)?;
-    let memory = judge(alloc, &source, &text)?;
+    text_report(alloc, spec, &text)
+}
+
+// The report on a text that is the certificate of an accepted plan.
+fn text_report(alloc: Global, spec: &Spec, text: &[u8]) -> Result<String, CommandRefusal>
+    ensures done { IfOk result (λ report. IsVerifiedText spec.now text.now (string_bytes report)) }
+    ensures refused { IfErr result (IsJudgement spec.now text.now) }
+{
+    let memory = judge(alloc, spec, text)?;
     match report(alloc, memory) {
         Ok(report) => Ok(report),
         Err(_) => Err(CommandRefusal::Common(Refusal::Memory)),

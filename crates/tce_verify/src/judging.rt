@@ -1,5 +1,5 @@
 // Texts of certificates, judged.
-ghost use Rattle.std.specs.Prelude.{IfOk, IfErr, OnOk};
+ghost use Rattle.std.specs.Prelude.{◌≡◌, IfOk, IfErr, OnOk};
 ghost use Rattle.tce_nesting.specs.Plan.{PlanFits};
 ghost use Rattle.tce_check.specs.Verdict.{IsAccepted};
 ghost use Rattle.tce_verify.specs.Certificates.{IsCertificateOf};
@@ -19,8 +19,7 @@ pub fn judge(alloc: Global, spec: &Spec, text: &[u8]) -> Result<u128, CommandRef
     ensures refused { IfErr result (IsJudgement spec.now text.now) }
 {
     let plan = read_plan(alloc, spec, text)?;
-    judge_plan(spec, &plan)?;
-    Ok(plan.memory)
+    judge_plan(spec, &plan)
 }
 
 // The plan that a text is the certificate of.
@@ -48,11 +47,12 @@ fn text_refusal(space: &Space, fault: CertFault) -> CommandRefusal
     }
 }
 
-// Whether a plan is accepted.
-fn judge_plan(spec: &Spec, plan: &Plan) -> Result<(), CommandRefusal>
+// The memory of a plan, in elements, where the plan is accepted.
+fn judge_plan(spec: &Spec, plan: &Plan) -> Result<u128, CommandRefusal>
     requires { PlanFits spec.now.tree plan.now }
     ensures accepted { OnOk result (IsAccepted spec.now.declarations.space spec.now.tree plan.now) }
     ensures least { OnOk result (IsOfLeast spec.now plan.now) }
+    ensures memory { IfOk result (λ memory. memory ≡ plan.now.memory) }
     ensures refused { IfErr result (IsPlanRefusal spec.now plan.now) }
 {
     let space = spec.space();
@@ -61,6 +61,6 @@ fn judge_plan(spec: &Spec, plan: &Plan) -> Result<(), CommandRefusal>
     let verdict = check(space, tree, plan);
     match CertFlaw::of_plan(verdict) {
         Some(flaw) => Err(CommandRefusal::certificate(space, flaw)),
-        None => Ok(()),
+        None => Ok(plan.memory),
     }
 }
