@@ -9,6 +9,8 @@ use Rattle.tce_space.specs.Tiling.{Tiling}
 use Rattle.tce_array.specs.declared.form.Form.{Form}
 use Rattle.tce_array.specs.declared.fault.ArrayFault.{ArrayFault}
 use Rattle.tce_array.specs.declared.fault.ArrayFault.TheVariants as array_fault
+use Rattle.tce_spec.specs.Specification.{Specification as Specified}
+use Rattle.tce_source.specs.Source.{HasSpecification}
 use Rattle.tce_tools.specs.Answers.{IsPackAnswer, IsUnpackAnswer, IsConvertAnswer, IsRefused}
 use Rattle.tce_tools.specs.declared.fault.ToolFault.{ToolFault}
 use Rattle.tce_tools.specs.declared.fault.ToolFault.TheVariants as tool
@@ -16,8 +18,8 @@ use Rattle.tce_command.specs.declared.refusal.Refusal.{Refusal}
 use Rattle.tce_command.specs.declared.refusal.Refusal.TheVariants.{Specification, Missing, Array, Budget, Intermediates, Flat, Tensor, Misfit, Einsum, Spill, Symmetry, Disk, Memory}
 use Rattle.tce_command.specs.Report.{fault_of}
 use Rattle.tce_command.specs.Refusals.{IsFree, NamesFile}
-use Rattle.tce_flat.specs.Tensors.{HasTensor, array_file}
-use Rattle.tce_flat.specs.Refusals.{Refuses, IsFlatRefusal, IsArrayRefusal, IsFormRefusal, IsRefusedFor}
+use Rattle.tce_flat.specs.Tensors.{DeclaresTensor, HasTensor, array_file}
+use Rattle.tce_flat.specs.Refusals.{Refuses, IsUndeclared, IsTensorRefusal, IsFlatRefusal, IsArrayRefusal, IsFormRefusal, IsRefusedFor}
 use Rattle.tce_flat.specs.Tools.{Stands, KeepsFault}
 
 -- the file that a refusal names is missing
@@ -191,6 +193,22 @@ pub converted_from : {E : Type 0} (r : Result (String Global) E) (told before af
 converted_from r told before after spec tensor form shape same there p =
     if_ok r (λ report q. record { shape = shape; tensor_is = there; converting = subst (λ b. IsConverting b after shape tensor form (string_bytes report)) same q }) p
 
--- a tensor by the shape that was handed over
-pub shaped : (before : Option Files) (spec tensor : List ℕ) (shape handed : Tiling) → handed ≡ shape → ForSome before (λ files. HasTensor files spec tensor shape) → ForSome before (λ files. HasTensor files spec tensor handed)
-shaped before spec tensor shape handed e there files told = subst (HasTensor files spec tensor) (sym e) (there files told)
+-- a tensor of a specification is one of its file
+pub found_in : (files : Files) (spec tensor : List ℕ) (s : Specified) (shape : Tiling) → HasSpecification files spec s → DeclaresTensor s tensor shape → HasTensor files spec tensor shape
+found_in files spec tensor s shape has there = record { specification = s; number = there.number; specified = has; named = there.named; same = there.same }
+
+-- a tensor that the specification does not declare is refused as such
+pub undeclared_in : (files : Files) (spec tensor : List ℕ) (s : Specified) (a : Refusal) → HasSpecification files spec s → IsUndeclared s tensor a → IsTensorRefusal files spec tensor a
+undeclared_in files spec tensor s Memory has lacks = inl tt
+undeclared_in files spec tensor s (Tensor name) has lacks = inr (record { specification = s; specified = has; unnamed = lacks.0 }, lacks.1)
+undeclared_in files spec tensor s (Specification x) has lacks = absurd lacks.1
+undeclared_in files spec tensor s (Missing x) has lacks = absurd lacks.1
+undeclared_in files spec tensor s (Array x u) has lacks = absurd lacks.1
+undeclared_in files spec tensor s (Budget x) has lacks = absurd lacks.1
+undeclared_in files spec tensor s (Intermediates x) has lacks = absurd lacks.1
+undeclared_in files spec tensor s (Flat x) has lacks = absurd lacks.1
+undeclared_in files spec tensor s (Misfit x) has lacks = absurd lacks.1
+undeclared_in files spec tensor s (Einsum x) has lacks = absurd lacks.1
+undeclared_in files spec tensor s (Spill x) has lacks = absurd lacks.1
+undeclared_in files spec tensor s (Symmetry x u) has lacks = absurd lacks.1
+undeclared_in files spec tensor s Disk has lacks = absurd lacks.1

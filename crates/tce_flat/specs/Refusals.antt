@@ -1,5 +1,5 @@
 -- Why the commands on flat files are refused: the tensor is not found, or else its input is not what the command needs.
-use Rattle.std.specs.Prelude.{◌≡◌, ◌≢◌, ◌⊎◌, ℕ, List, length, Option, None}
+use Rattle.std.specs.Prelude.{◌≡◌, ◌≢◌, ◌⊎◌, ⊤, ℕ, List, length, Option, None}
 use Rattle.std.specs.Option.{IsSomeAnd}
 use Rattle.tce_outside.specs.Files.{Files, file}
 use Rattle.tce_space.specs.Tiling.{Tiling}
@@ -8,9 +8,11 @@ use Rattle.tce_array.specs.declared.form.Form.TheVariants.{Narrow}
 use Rattle.tce_array.specs.Forms.{IsArray}
 use Rattle.tce_tools.specs.Flat.{flat_len, array_element}
 use Rattle.tce_tools.specs.Answers.{IsFirstMisfit, IsRefused, HasFlat, HasArray, HasFitting}
+use Rattle.tce_declarations.specs.Declarations.{tensor_number}
+use Rattle.tce_spec.specs.Specification.{Specification}
 use Rattle.tce_command.specs.Report.{fault_of}
 use Rattle.tce_command.specs.declared.refusal.Refusal.{Refusal}
-use Rattle.tce_command.specs.declared.refusal.Refusal.TheVariants.{Missing, Array, Flat, Tensor, Misfit, Symmetry}
+use Rattle.tce_command.specs.declared.refusal.Refusal.TheVariants.{Missing, Array, Flat, Tensor, Misfit, Symmetry, Memory}
 use Rattle.tce_command.specs.declared.trouble.SymTrouble.TheVariants as trouble
 use Rattle.tce_sym.specs.declared.symmetry.Symmetry.{Symmetry as Exchange}
 use Rattle.tce_sym.specs.declared.fault.SymFault.TheVariants as sym
@@ -23,6 +25,11 @@ use Rattle.tce_flat.specs.Tensors.{HasTensor, LacksTensor, array_file, sym_file}
 abbrev pub NamesTensor : List ℕ → Refusal → Type 0
 NamesTensor tensor (Tensor name) = name.bytes ≡ tensor
 NamesTensor tensor refusal = ⊥
+
+-- why a specification gives no tensor of this name. Memory may be wanting at any place
+abbrev pub IsUndeclared : Specification → List ℕ → Refusal → Type 0
+IsUndeclared s tensor Memory = ⊤
+IsUndeclared s tensor refusal = (tensor_number s.declarations.tensors tensor ≡ None) × NamesTensor tensor refusal
 
 -- why a tensor is not found: the specification is refused, or declares no such tensor. The disk may fail, and memory be wanting, at any place
 abbrev pub IsTensorRefusal : Files → List ℕ → List ℕ → Refusal → Type 0

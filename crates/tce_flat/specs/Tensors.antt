@@ -7,6 +7,12 @@ use Rattle.tce_spec.specs.Specification.{Specification}
 use Rattle.tce_spec.specs.Operands.{shape_of}
 use Rattle.tce_source.specs.Source.{HasSpecification}
 
+-- a tensor of this name is declared in the specification, and this is its shape
+pub record DeclaresTensor (s : Specification) (tensor : List ℕ) (shape : Tiling) : Type 0 where
+  pub number : ℕ
+  pub named : tensor_number s.declarations.tensors tensor ≡ Some number
+  pub same : shape ≡ shape_of s number
+
 -- a tensor of this name is declared in the file, and this is its shape
 pub record HasTensor (files : Files) (spec tensor : List ℕ) (shape : Tiling) : Type 0 where
   pub specification : Specification

@@ -6,11 +6,9 @@ use Rattle.std.specs.String.{string_bytes}
 use Rattle.tce_outside.specs.Files.{Files, others}
 use Rattle.tce_space.specs.Tiling.{Tiling}
 use Rattle.tce_array.specs.declared.form.Form.{Form}
-use Rattle.tce_spec.specs.Operands.{shape_of}
 use Rattle.tce_command.specs.declared.refusal.Refusal.{Refusal}
 use Rattle.tce_command.specs.declared.refusal.Refusal.TheVariants.{Disk}
 use Rattle.tce_command.specs.Refusals.{IsFree}
-use Rattle.tce_spec.specs.Specification.{Specification}
 use Rattle.tce_flat.specs.NoHalf.{LeavesPacking, LeavesUnpacking, LeavesConverting, LeavesExpanding, LeavesFor}
 use Rattle.tce_flat.specs.Refusals.{IsTensorRefusal, IsFlatRefusal, IsArrayRefusal, IsFormRefusal, IsSymRefusal, IsPackRefusal, IsUnpackRefusal, IsConvertRefusal, IsExpandRefusal}
 use Rattle.tce_flat.specs.Tensors.{HasTensor, array_file, converted_file}
@@ -23,9 +21,9 @@ Reports result is_right = IfOk result (λ report. is_right (string_bytes report)
 abbrev pub KeepsFiles : {A : Type 0} → Result A Refusal → Option Files → Option Files → Type 0
 KeepsFiles result before after = IfErr result (λ refusal. refusal ≢ Disk → after ≡ before)
 
--- the tensor of this name is found in the specification of this name; it is not found for this reason
-abbrev pub FindsTensor : Option Files → List ℕ → List ℕ → Specification → ℕ → Type 0
-FindsTensor told spec tensor s number = ForSome told (λ files. HasTensor files spec tensor (shape_of s number))
+-- the tensor of this name is declared in the file of this name, and has this shape; it is not found for this reason
+abbrev pub FindsTensor : Option Files → List ℕ → List ℕ → Tiling → Type 0
+FindsTensor told spec tensor shape = ForSome told (λ files. HasTensor files spec tensor shape)
 
 abbrev pub RefusesTensor : Option Files → List ℕ → List ℕ → Refusal → Type 0
 RefusesTensor told spec tensor refusal = ForSome told (λ files. IsTensorRefusal files spec tensor refusal)

@@ -9,7 +9,7 @@ ghost use Rattle.tce_flat.specs.Told.{RefusesPack, RefusesUnpack, RefusesConvert
 
 use crate::expanding::expand_tensor;
 use crate::moving::{convert_tensor, pack_tensor, unpack_tensor};
-use crate::tensor::find_tensor;
+use crate::tensor::find_shape;
 use std::alloc::Global;
 use tce_array::Form;
 use tce_command::Refusal;
@@ -36,8 +36,8 @@ pub fn pack<D: Disk>(
     ensures cause { HasCause (D.faults disk.old) (D.faults disk.new) (result ≡ Err Refusal.Disk) }
     ensures told { TellsFaults (D.faults disk.old) (D.faults disk.new) (result ≡ Err Refusal.Disk) }
 {
-    let found = find_tensor(alloc, spec, tensor, disk)?;
-    let moved = pack_tensor(alloc, found.shape(), tensor, flat, disk);
+    let shape = find_shape(alloc, spec, tensor, disk)?;
+    let moved = pack_tensor(alloc, &shape, tensor, flat, disk);
     moved
 }
 
@@ -62,8 +62,8 @@ pub fn unpack<D: Disk>(
     ensures cause { HasCause (D.faults disk.old) (D.faults disk.new) (result ≡ Err Refusal.Disk) }
     ensures told { TellsFaults (D.faults disk.old) (D.faults disk.new) (result ≡ Err Refusal.Disk) }
 {
-    let found = find_tensor(alloc, spec, tensor, disk)?;
-    let moved = unpack_tensor(alloc, found.shape(), tensor, flat, disk);
+    let shape = find_shape(alloc, spec, tensor, disk)?;
+    let moved = unpack_tensor(alloc, &shape, tensor, flat, disk);
     moved
 }
 
@@ -88,8 +88,8 @@ pub fn convert<D: Disk>(
     ensures cause { HasCause (D.faults disk.old) (D.faults disk.new) (result ≡ Err Refusal.Disk) }
     ensures told { TellsFaults (D.faults disk.old) (D.faults disk.new) (result ≡ Err Refusal.Disk) }
 {
-    let found = find_tensor(alloc, spec, tensor, disk)?;
-    let moved = convert_tensor(alloc, found.shape(), tensor, form, disk);
+    let shape = find_shape(alloc, spec, tensor, disk)?;
+    let moved = convert_tensor(alloc, &shape, tensor, form, disk);
     moved
 }
 
@@ -113,7 +113,7 @@ pub fn expand<D: Disk>(
     ensures cause { HasCause (D.faults disk.old) (D.faults disk.new) (result ≡ Err Refusal.Disk) }
     ensures told { TellsFaults (D.faults disk.old) (D.faults disk.new) (result ≡ Err Refusal.Disk) }
 {
-    let found = find_tensor(alloc, spec, tensor, disk)?;
-    let moved = expand_tensor(alloc, found.shape(), tensor, disk);
+    let shape = find_shape(alloc, spec, tensor, disk)?;
+    let moved = expand_tensor(alloc, &shape, tensor, disk);
     moved
 }

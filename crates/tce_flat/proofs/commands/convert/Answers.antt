@@ -1,40 +1,40 @@
 use Rattle.std.proofs.Common.{rules, ◌∙◌}
 use Rattle.tce_flat.specs.Refusals.{IsFormRefusal}
 use Rattle.tce_flat.proofs.Names.{short_tensor, short_spec}
-use Rattle.tce_flat.proofs.Tools.{converted_from, refused_for, unchanged_from, cause_from, shaped}
+use Rattle.tce_flat.proofs.Tools.{converted_from, refused_for, unchanged_from, cause_from}
 use Rattle.tce_flat.specs.NoHalf.{LeavesConverting}
 use Rattle.tce_flat.proofs.NoHalf.{left_for}
 use Rattle.tce_flat.proofs.commands.convert.Goals as goal
 
-pub find_tensor-requires-clause-spec : goal.find_tensor-requires-clause-spec
-find_tensor-requires-clause-spec g c = short_spec c.args.spec.now c.requires.0
+pub find_shape-requires-clause-spec : goal.find_shape-requires-clause-spec
+find_shape-requires-clause-spec g c = short_spec c.args.spec.now c.requires.0
 
-pub find_tensor-requires-clause-tensor : goal.find_tensor-requires-clause-tensor
-find_tensor-requires-clause-tensor g c = short_tensor c.args.tensor.now c.requires.1
+pub find_shape-requires-clause-tensor : goal.find_shape-requires-clause-tensor
+find_shape-requires-clause-tensor g c = short_tensor c.args.tensor.now c.requires.1
 
 pub convert_tensor-moved-requires : goal.convert_tensor-moved-requires
 convert_tensor-moved-requires g c = record { tensor = short_tensor c.args.tensor.now c.requires.1 }
 
 pub returns-clause-done : goal.returns-clause-done
 returns-clause-done g c =
-    converted_from c.convert_tensor-moved.result _ _ _ c.args.spec.now c.args.tensor.now c.args.form c.shape.result.now c.in_ok-found.ensures.same
-    (shaped _ c.args.spec.now c.args.tensor.now _ c.shape.result.now c.shape.ensures c.in_ok-found.ensures.found) c.convert_tensor-moved.ensures.done
+    converted_from c.convert_tensor-moved.result _ _ _ c.args.spec.now c.args.tensor.now c.args.form c.in_ok-shape.shape c.in_ok-shape.ensures.same
+    c.in_ok-shape.ensures.found c.convert_tensor-moved.ensures.done
 
 pub returns-clause-refused : goal.returns-clause-refused
 returns-clause-refused g c =
-    refused_for (λ files. IsFormRefusal files c.args.tensor.now c.args.form) _ _ c.args.spec.now c.args.tensor.now c.shape.result.now c.convert_tensor-moved.result c.in_ok-found.ensures.same
-    (shaped _ c.args.spec.now c.args.tensor.now _ c.shape.result.now c.shape.ensures c.in_ok-found.ensures.found) c.convert_tensor-moved.ensures.refused
+    refused_for (λ files. IsFormRefusal files c.args.tensor.now c.args.form) _ _ c.args.spec.now c.args.tensor.now c.in_ok-shape.shape c.convert_tensor-moved.result c.in_ok-shape.ensures.same
+    c.in_ok-shape.ensures.found c.convert_tensor-moved.ensures.refused
 
 pub returns-clause-unchanged : goal.returns-clause-unchanged
-returns-clause-unchanged g c = unchanged_from _ _ _ c.convert_tensor-moved.result c.in_ok-found.ensures.same c.convert_tensor-moved.ensures.unchanged
+returns-clause-unchanged g c = unchanged_from _ _ _ c.convert_tensor-moved.result c.in_ok-shape.ensures.same c.convert_tensor-moved.ensures.unchanged
 
 pub returns-clause-cause : goal.returns-clause-cause
-returns-clause-cause g c = cause_from _ _ _ _ _ c.in_ok-found.ensures.cause c.convert_tensor-moved.ensures.cause
+returns-clause-cause g c = cause_from _ _ _ _ _ c.in_ok-shape.ensures.cause c.convert_tensor-moved.ensures.cause
 
 pub returns-clause-told : goal.returns-clause-told
-returns-clause-told g c = λ no. c.convert_tensor-moved.ensures.told no ∙ c.in_ok-found.ensures.told (search rules)
+returns-clause-told g c = λ no. c.convert_tensor-moved.ensures.told no ∙ c.in_ok-shape.ensures.told (search rules)
 
 pub returns-clause-no_half : goal.returns-clause-no_half
 returns-clause-no_half g c =
-    left_for (LeavesConverting c.args.tensor.now c.args.form) c.args.spec.now c.args.tensor.now c.shape.result.now (g.D.Disk.files c.args.disk.now) _ _ c.in_ok-found.ensures.same
-    (shaped _ c.args.spec.now c.args.tensor.now _ c.shape.result.now c.shape.ensures c.in_ok-found.ensures.found) c.convert_tensor-moved.ensures.no_half
+    left_for (LeavesConverting c.args.tensor.now c.args.form) c.args.spec.now c.args.tensor.now c.in_ok-shape.shape (g.D.Disk.files c.args.disk.now) _ _ c.in_ok-shape.ensures.same
+    c.in_ok-shape.ensures.found c.convert_tensor-moved.ensures.no_half
