@@ -1,5 +1,6 @@
 #!/bin/sh
-# Runs the gate, `rt ci`, and prints the processor seconds of each crate's proof, tests and edits, dearest first.
+# Runs the gate, `rt ci`, and prints the processor seconds of each crate's proof, tests and edits, dearest first, and of the
+# dearest single edits.
 # usage: bench/gate.sh [--anew] [NAME ..] [> table]      What rt says goes to standard error.
 # Where an earlier run keeps what a crate needs, its columns show what this run did alone: --anew proves all.
 cd "$(dirname "$0")/.." || exit 1
@@ -8,7 +9,9 @@ trap 'rm -f "$log"' EXIT
 python3 - "$(readlink -f "$(command -v rt)")" "$log" "$@" <<'END' >&2
 import importlib.machinery
 import importlib.util
+import os
 import sys
+import threading
 
 path, log, *words = sys.argv[1:]
 sys.path.insert(0, path.rpartition("/")[0])
@@ -18,10 +21,10 @@ sys.modules["rt"] = rt
 sys.argv = [path, "ci", *words]
 loader.exec_module(rt)
 
-# A check of rattle: its crate, what it is for, and its processor and wall seconds.
+# A check of rattle: its crate, what it is for, its processor and wall seconds, and the edit that it tries.
 TIMED = """
 import os, sys, time
-log, words, began = sys.argv[1], sys.argv[2:], time.time()
+log, edit, words, began = sys.argv[1], sys.argv[2], sys.argv[3:], time.time()
 child = os.fork()
 if not child:
     os.execvp(words[0], words)
@@ -29,13 +32,26 @@ _, status, used = os.wait4(child, 0)
 name = words[words.index('--crate-name') + 1] if '--crate-name' in words else '-'
 kind = 'edits' if '/rt-edit-' in os.getcwd() else 'tests' if '--test' in words else 'proof'
 with open(log, 'a') as it:
-    it.write(f'{name} {kind} {used.ru_utime + used.ru_stime:.1f} {time.time() - began:.1f}\\n')
+    it.write(f'{name} {kind} {used.ru_utime + used.ru_stime:.1f} {time.time() - began:.1f} {edit}\\n')
 if os.WIFSIGNALED(status):
     os.kill(os.getpid(), os.WTERMSIG(status))
 os._exit(os.WEXITSTATUS(status))
 """
+here = threading.local()
+must_fail = rt.must_fail
+
+
+def try_edit(crate, edit, *more):
+    here.edit = os.path.basename(edit).removesuffix(".edit")
+    try:
+        return must_fail(crate, edit, *more)
+    finally:
+        here.edit = "-"
+
+
+rt.must_fail = try_edit
 guarded = rt.rtlib.guarded
-rt.rtlib.guarded = lambda: [*guarded(), sys.executable, "-ISc", TIMED, log]
+rt.rtlib.guarded = lambda: [*guarded(), sys.executable, "-ISc", TIMED, log, getattr(here, "edit", "-")]
 sys.exit(rt.main(["ci", *words]))
 END
 status=$?
@@ -47,4 +63,6 @@ awk '
         for (name in names)
             printf "| %s | %d | %d | %d | %d |\n", name, seconds[name " proof"], seconds[name " tests"], seconds[name " edits"], all[name] | "sort -t\"|\" -k6,6nr"
     }' "$log"
+printf '\n| Edit | seconds |\n|---|---|\n'
+awk '$5 != "-" { all[$1 "/" $5] += $3 } END { for (edit in all) printf "| %s | %d |\n", edit, all[edit] }' "$log" | sort -t'|' -k3,3nr | head -40
 exit $status
