@@ -1,5 +1,5 @@
 -- Parts of a tree, as the program goes through them.
-use Rattle.std.proofs.Common.{◌≡◌, ℕ, ◌+◌, ◌-◌, ◌<◌, ◌≤◌, true, false, cond, List, length, take, sym, ap, ◌∙◌, subst, arith}
+use Rattle.std.proofs.Common.{◌≡◌, ℕ, ◌+◌, ◌-◌, ◌<◌, ◌≤◌, true, false, cond, List, length, take, sym, ap, ap₂, ◌∙◌, subst, arith}
 use Rattle.std.specs.Prelude.{codes}
 use Rattle.std.specs.Fmt.{decimal}
 use Rattle.std.proofs.lemmas.Fmt.{length-decimal-le}
@@ -10,7 +10,8 @@ use Rattle.tce_tree.specs.FlatTree.{first_number_of}
 use Rattle.tce_tree.proofs.Nodes.{node-root, node-right_at, size_bounds}
 use Rattle.tce_tree.proofs.Operands.{Stands, stands-node, stands-left, stands-right, stands-operand}
 use Rattle.tce_pieces.specs.Pieces.{Cuts, reference_to, unless_cut, rest_of}
-use Rattle.tce_spec.specs.PieceCode.{StandsAt}
+use Rattle.tce_spec.specs.PieceSpecification.{renumbered}
+use Rattle.tce_spec.specs.PieceCode.{StandsAt, with_operands}
 
 parts_stand : (tree : ContractionTree) (first : ℕ) (c : ContractionTree) → Stands tree first c → StandsAt tree first c
 parts_stand tree first (leaf t is) st = tt
@@ -62,6 +63,17 @@ rest_binary cut first k op l r v number behind h =
 pub rest_sum : (cut : Cuts) (first : ℕ) (is : List ℕ) (x : ContractionTree) (v : ℕ) → v + 1 ≡ first + (operations x + 1) → cut v ≡ false
     → rest_of cut first (sum is x) ≡ sum is (rest_of cut first x)
 rest_sum cut first is x v number h = unless_false cut (first + operations x) v (sum is x) (sum is (rest_of cut first x)) (omega arith) h
+
+-- a node whose operands are as they are left, or renumbered
+pub rest_operands : (cut : Cuts) (first k : ℕ) (op : Arithmetic) (own c l r left right : ContractionTree) (v : ℕ) → own ≡ with_operands c left right → c ≡ binary op l r
+    → left ≡ rest_of cut first l → right ≡ rest_of cut k r → v + 1 ≡ first + (operations l + operations r + 1) → k ≡ first + operations l → cut v ≡ false → own ≡ rest_of cut first c
+rest_operands cut first k op own c l r left right v made is left_is right_is number behind h =
+    made ∙ ap (λ t. with_operands t left right) is ∙ ap₂ (binary op) left_is right_is ∙ sym (ap (rest_of cut first) is ∙ rest_binary cut first k op l r v number behind h)
+
+pub renumbered_operands : (place : ℕ → ℕ) (op : Arithmetic) (own c l r left right : ContractionTree) → own ≡ with_operands c left right → c ≡ binary op l r
+    → left ≡ renumbered place l → right ≡ renumbered place r → own ≡ renumbered place c
+renumbered_operands place op own c l r left right made is left_is right_is =
+    made ∙ ap (λ t. with_operands t left right) is ∙ ap₂ (binary op) left_is right_is ∙ sym (ap (renumbered place) is)
 
 -- nodes of parts
 pub in_right : (op : Arithmetic) (l r : ContractionTree) (v k : ℕ) → operations l ≤ v → v < operations l + operations r → k ≡ v - operations l → node (binary op l r) v ≡ node r k

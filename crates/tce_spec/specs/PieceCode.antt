@@ -4,7 +4,7 @@ use Rattle.std.specs.List.{AllByRecursion, IsDistinct}
 use Rattle.std.specs.Str.{bytes_eq}
 use Rattle.tce_space.specs.Limits.{max_rank, max_tensors}
 use Rattle.tce_space.specs.IndexSet.{count, has}
-use Rattle.tce_tree.specs.ContractionTree.{ContractionTree, leaf, constant, binary, sum, operations, node, node_dims}
+use Rattle.tce_tree.specs.ContractionTree.{ContractionTree, leaf, constant, binary, sum, subtract, operations, node, node_dims}
 use Rattle.tce_declarations.specs.Declarations.{IsTensor, Declarations}
 use Rattle.tce_pieces.specs.Pieces.{Cuts, stored, except, rest_of}
 use Rattle.tce_spec.specs.Specification.{Specification}
@@ -44,6 +44,13 @@ target_number s v = if v + 1 == operations s.tree then s.result else stored v
 -- the cut nodes, as the bits of a number, but the root of the piece
 abbrev pub cuts_below : ℕ → ℕ → Cuts
 cuts_below cuts root = except (has cuts) root
+
+-- a node with these operands in place of its own two; of a node with fewer, their difference
+abbrev pub with_operands : ContractionTree → ContractionTree → ContractionTree → ContractionTree
+with_operands (leaf tensor indexes) left right = binary subtract left right
+with_operands (constant number) left right = binary subtract left right
+with_operands (binary op own other) left right = binary op left right
+with_operands (sum indexes operand) left right = binary subtract left right
 
 -- an expression of what is left of a part of the tree, whose nodes are numbered from `first` on
 abbrev pub IsRestOf : ℕ → ℕ → ℕ → Expr → Expr → Type 0

@@ -12,7 +12,7 @@ ghost use Rattle.tce_declarations.specs.Declarations.{HaveNames};
 ghost use Rattle.tce_pieces.specs.Pieces as model;
 ghost use Rattle.tce_pieces.specs.Storable.{ranges_of_node};
 ghost use Rattle.tce_spec.specs.PieceSpecification.{CanCut, piece_of, renumbered, place_in, source, target_indexes, declared_of};
-ghost use Rattle.tce_spec.specs.PieceCode.{StandsAt, HaveRank, IsSource, CanDeclare, target_number, cuts_below, IsRestOf, IsRenumbered, specification_to};
+ghost use Rattle.tce_spec.specs.PieceCode.{StandsAt, HaveRank, IsSource, CanDeclare, target_number, cuts_below, IsRestOf, IsRenumbered, with_operands, specification_to};
 ghost use Rattle.tce_spec.specs.Specification.{ConstantsAreWords};
 ghost use Rattle.tce_formula.specs.Contraction.{IsContraction};
 ghost use Rattle.tce_tree.specs.WellFormed.{sums_distinct};
@@ -119,6 +119,17 @@ fn node_of(expr: &Expr, v: u64) -> &Expr
     }
 }
 
+// The node with these operands in place of its own two; of a node with fewer, their difference.
+fn with_operands(node: &Expr, left: Box<Expr>, right: Box<Expr>) -> Expr
+    ensures { tree_of result ≡ with_operands (tree_of node.now) (tree_of left.value) (tree_of right.value) }
+{
+    match node {
+        Expr::Product(..) => Expr::Product(left, right),
+        Expr::Add(..) => Expr::Add(left, right),
+        Expr::Sub(..) | Expr::Sum(..) | Expr::Leaf(_) | Expr::Constant(_) => Expr::Sub(left, right),
+    }
+}
+
 // What is left of a part of the tree whose nodes are numbered from `first` on.
 fn rest_of(
     alloc: Global,
@@ -143,23 +154,11 @@ fn rest_of(
             indexes: leaf.indexes.clone()?,
         })),
         Expr::Constant(number) => Ok(Expr::Constant(*number)),
-        Expr::Product(left, right) => {
+        Expr::Product(left, right) | Expr::Add(left, right) | Expr::Sub(left, right) => {
             let behind = first + left.operations() as u8;
             let left = Box::new(alloc, rest_of(alloc, tree, cut, first, left)?)?;
             let right = Box::new(alloc, rest_of(alloc, tree, cut, behind, right)?)?;
-            Ok(Expr::Product(left, right))
-        }
-        Expr::Add(left, right) => {
-            let behind = first + left.operations() as u8;
-            let left = Box::new(alloc, rest_of(alloc, tree, cut, first, left)?)?;
-            let right = Box::new(alloc, rest_of(alloc, tree, cut, behind, right)?)?;
-            Ok(Expr::Add(left, right))
-        }
-        Expr::Sub(left, right) => {
-            let behind = first + left.operations() as u8;
-            let left = Box::new(alloc, rest_of(alloc, tree, cut, first, left)?)?;
-            let right = Box::new(alloc, rest_of(alloc, tree, cut, behind, right)?)?;
-            Ok(Expr::Sub(left, right))
+            Ok(with_operands(part, left, right))
         }
         Expr::Sum(indexes, operand) => {
             let rest = Box::new(alloc, rest_of(alloc, tree, cut, first, operand)?)?;
@@ -197,20 +196,10 @@ fn renumbered(alloc: Global, expr: &Expr, numbers: &[u8]) -> Result<Expr, AllocE
             indexes: leaf.indexes.clone()?,
         })),
         Expr::Constant(number) => Ok(Expr::Constant(*number)),
-        Expr::Product(left, right) => {
+        Expr::Product(left, right) | Expr::Add(left, right) | Expr::Sub(left, right) => {
             let left = Box::new(alloc, renumbered(alloc, left, numbers)?)?;
             let right = Box::new(alloc, renumbered(alloc, right, numbers)?)?;
-            Ok(Expr::Product(left, right))
-        }
-        Expr::Add(left, right) => {
-            let left = Box::new(alloc, renumbered(alloc, left, numbers)?)?;
-            let right = Box::new(alloc, renumbered(alloc, right, numbers)?)?;
-            Ok(Expr::Add(left, right))
-        }
-        Expr::Sub(left, right) => {
-            let left = Box::new(alloc, renumbered(alloc, left, numbers)?)?;
-            let right = Box::new(alloc, renumbered(alloc, right, numbers)?)?;
-            Ok(Expr::Sub(left, right))
+            Ok(with_operands(expr, left, right))
         }
         Expr::Sum(indexes, operand) => {
             let own = Box::new(alloc, renumbered(alloc, operand, numbers)?)?;
