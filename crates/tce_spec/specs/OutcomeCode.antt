@@ -1,11 +1,19 @@
 -- What the program answers of a text.
-use Rattle.std.specs.Prelude.{◌≡◌, Result, ℕ, List}
+use Rattle.std.specs.Prelude.{◌≡◌, IsTrue, Result, ℕ, List, drop}
 use Rattle.std.specs.declared.result.Result.TheVariants.{Ok, Err}
+use Rattle.tce_space.specs.Name.{is_name}
+use Rattle.tce_grammar.specs.Lines.{lines}
+use Rattle.tce_grammar.specs.Grammar.{AreNames}
+use Rattle.tce_grammar.specs.Code.{names, formula}
 use Rattle.tce_declarations.specs.Faults.{Fault}
 use Rattle.tce_declarations.specs.FaultCode.{Shows}
-use Rattle.tce_declarations.specs.TextCode.{fault_in}
+use Rattle.tce_declarations.specs.TextCode.{fault_in, AnswersHead}
+use Rattle.tce_declarations.specs.declared.text.Head.{Head}
 use Rattle.tce_declarations.specs.declared.fault.SpecFault.{SpecFault}
+use Rattle.tce_formula.specs.Places.{IsNamed}
+use Rattle.tce_formula.specs.declared.read.Contraction.{Contraction}
 use Rattle.tce_spec.specs.Specification.{Specification}
+use Rattle.tce_spec.specs.SpecCode.{specification_of}
 use Rattle.tce_spec.specs.Outcome.{IsOutcome}
 
 -- the program answers what a text is found to specify, or want of memory
@@ -16,3 +24,18 @@ Answers found (Err f) = Shows (fault_in found) f
 -- whatever the text is found to specify, the program answers it
 abbrev pub AnswersText : List ℕ → Result Specification SpecFault → Type 0
 AnswersText text result = (found : Result Specification Fault) → IsOutcome text found → Answers found result
+
+-- the formula line of a head has names
+abbrev pub HasNames : Head → Type 0
+HasNames h = IsTrue (is_name h.result.now) × AreNames (names h.indexes.items) × IsNamed (formula h.formula)
+
+-- a text has this head, and the lines of its rest behind it
+abbrev pub HasHead : List ℕ → Head → Type 0
+HasHead text h = AnswersHead text (Ok h) × (lines h.rest.now ≡ drop h.line (lines text))
+
+-- each text with this head specifies this; or this is the fault of each
+abbrev pub SpecifiesAs : Head → Contraction → Type 0
+SpecifiesAs h c = (text : List ℕ) (found : Result Specification Fault) → HasHead text h → IsOutcome text found → found ≡ Ok (specification_of h.declarations c)
+
+abbrev pub HasFault : Head → SpecFault → Type 0
+HasFault h f = (text : List ℕ) (found : Result Specification Fault) → HasHead text h → IsOutcome text found → Shows (fault_in found) f

@@ -1,12 +1,13 @@
 //! A specification, and its reader.
 
-ghost use Rattle.std.specs.Prelude.{◌≡◌, ◌<◌, ◌≤◌, length, Result, IfOk};
+ghost use Rattle.std.specs.Prelude.{◌≡◌, ◌<◌, ◌≤◌, ◌+◌, length, Result, IfOk, IfErr};
+ghost use Rattle.tce_space.specs.Limits.{max_spec_bytes};
 ghost use Rattle.tce_space.specs.Tiling.{tile_words};
 ghost use Rattle.tce_tree.specs.Expr.{tree_of};
 ghost use Rattle.tce_declarations.specs.Declarations.{HaveNames, tensor_number, tensor_at};
 ghost use Rattle.tce_spec.specs.Specification.{IsSpecification};
 ghost use Rattle.tce_spec.specs.Operands.{operands, largest_tile, shape_of};
-ghost use Rattle.tce_spec.specs.OutcomeCode.{AnswersText};
+ghost use Rattle.tce_spec.specs.OutcomeCode.{HasNames, SpecifiesAs, HasFault, AnswersText};
 ghost use Rattle.tce_spec.specs.Canonical.{canonical_of};
 ghost use Rattle.tce_spec.specs.SpecCode.{specification_of, IsKept};
 
@@ -15,7 +16,7 @@ use arrayvec::ArrayVec;
 use std::alloc::{AllocError, Global};
 use std::marker::Model;
 use tce_canonical::print_lines;
-use tce_declarations::{Declarations, SpecFault, Tensor, check_rest, read_head};
+use tce_declarations::{Declarations, Head, SpecFault, Tensor, check_rest, read_head};
 use tce_formula::{Contraction, read_formula};
 use tce_space::{MAX_TENSORS, Space};
 use tce_tree::{Expr, Leaf, Tree};
@@ -142,15 +143,14 @@ impl Spec {
     }
 }
 
-/// Reads a specification.
-///
-/// `TooLong` where the text has more than 65,536 bytes. Else the first line with a fault decides, and on one line the
-/// first fault in the order of [`SpecFault`]. The numbers kept in faults are those of lines, from 1.
-pub fn read_spec(alloc: Global, text: &[u8]) -> Result<Spec, SpecFault>
-    ensures answers { AnswersText text.now result }
-    ensures names { IfOk result (λ s. HaveNames s.declarations.tensors) }
+/// What the formula of a head means, with nothing but skipped lines behind it.
+fn read_contraction(alloc: Global, head: &Head) -> Result<Contraction, SpecFault>
+    requires names { HasNames head.now }
+    requires few { head.now.line + length head.now.rest.now ≤ max_spec_bytes }
+    ensures kept { IfOk result (IsKept head.now.declarations) }
+    ensures specified { IfOk result (SpecifiesAs head.now) }
+    ensures fault { IfErr result (HasFault head.now) }
 {
-    let head = read_head(alloc, text)?;
     // Declarations keep their rules.
     let _space = head.declarations.space();
     let contraction = read_formula(
@@ -161,11 +161,34 @@ pub fn read_spec(alloc: Global, text: &[u8]) -> Result<Spec, SpecFault>
         head.indexes.as_slice(),
         &head.formula,
     )?;
-    check_rest(alloc, head.line + 1, head.rest)?;
-    Ok(Spec {
-        declarations: head.declarations,
-        contraction,
-    })
+    match check_rest(alloc, head.line + 1, head.rest) {
+        Ok(()) => Ok(contraction),
+        Err(fault) => {
+            drop(contraction);
+            Err(fault)
+        }
+    }
+}
+
+/// Reads a specification.
+///
+/// `TooLong` where the text has more than 65,536 bytes. Else the first line with a fault decides, and on one line the
+/// first fault in the order of [`SpecFault`]. The numbers kept in faults are those of lines, from 1.
+pub fn read_spec(alloc: Global, text: &[u8]) -> Result<Spec, SpecFault>
+    ensures answers { AnswersText text.now result }
+    ensures names { IfOk result (λ s. HaveNames s.declarations.tensors) }
+{
+    let head = read_head(alloc, text)?;
+    match read_contraction(alloc, &head) {
+        Ok(contraction) => Ok(Spec {
+            declarations: head.declarations,
+            contraction,
+        }),
+        Err(fault) => {
+            drop(head);
+            Err(fault)
+        }
+    }
 }
 
 /// The canonical text of a specification: a line for each range, the indexes in order of declaration with neighbours of
