@@ -6,11 +6,13 @@ use Rattle.tce_declarations.specs.Declarations.{Declarations, HaveNames}
 use Rattle.tce_declarations.specs.Faults.{Fault}
 use Rattle.tce_declarations.specs.FaultCode.{Shows}
 use Rattle.tce_declarations.specs.TextCode.{fault_in}
+use Rattle.tce_declarations.specs.declared.text.Head.{Head}
 use Rattle.tce_declarations.specs.declared.fault.SpecFault.{SpecFault}
 use Rattle.tce_declarations.specs.Text.{closing_fault}
 use Rattle.tce_formula.specs.declared.read.Contraction.{Contraction}
 use Rattle.tce_spec.specs.Specification.{Specification, IsSpecification}
 use Rattle.tce_spec.specs.SpecCode.{specification_of, IsKept}
+use Rattle.tce_spec.specs.OutcomeCode.{HasHead}
 use Rattle.tce_grammar.specs.Code.{names, formula}
 use Rattle.tce_grammar.specs.declared.formula.Formula.{Formula}
 use Rattle.tce_grammar.specs.Lines.{lines}
@@ -68,6 +70,13 @@ ReadsFurther d first first_number text read = Ok (specification_of d first) ∷ 
 
 abbrev pub further_fault : ℕ → Declarations → List ℕ → Option Fault
 further_fault first_number d text = fault_in (together (of_lines first_number d (map line_of (lines text))))
+
+-- what is read is what each text with this head specifies; or this is the fault of each
+abbrev pub ReadsLines : Head → List Contraction → Type 0
+ReadsLines h read = (text : List ℕ) (found : Result (List Specification) Fault) → HasHead text h → IsBatchOutcome text found → found ≡ Ok (specifications_of h.declarations read)
+
+abbrev pub LinesShow : Head → SpecFault → Type 0
+LinesShow h f = (text : List ℕ) (found : Result (List Specification) Fault) → HasHead text h → IsBatchOutcome text found → Shows (fault_in found) f
 
 -- the program answers what the text specifies as a batch
 abbrev pub AnswersBatch : List ℕ → Result (List Specification) SpecFault → Type 0

@@ -1,17 +1,19 @@
 //! The reader of several formulas.
 
-ghost use Rattle.std.specs.Prelude.{◌≡◌, ◌+◌, ◌<◌, ◌^◌, ◌++◌, All, IfOk, IfErr, OnOk, length};
+ghost use Rattle.std.specs.Prelude.{◌≡◌, ◌+◌, ◌<◌, ◌^◌, ◌≤◌, ◌++◌, All, IfOk, IfErr, OnOk, length};
+ghost use Rattle.tce_space.specs.Limits.{max_spec_bytes};
 ghost use Rattle.tce_grammar.specs.Lines.{lines};
 ghost use Rattle.tce_declarations.specs.FaultCode.{Shows};
 ghost use Rattle.tce_declarations.specs.TextCode.{AnswersFault};
 ghost use Rattle.tce_spec.specs.SpecCode.{IsKept};
+ghost use Rattle.tce_spec.specs.OutcomeCode.{HasNames};
 ghost use Rattle.tce_batch.specs.Reading.{as_list};
-ghost use Rattle.tce_batch.specs.BatchCode.{behind_fault, further_fault, AnswersBatch, ReadsFurther};
+ghost use Rattle.tce_batch.specs.BatchCode.{behind_fault, further_fault, AnswersBatch, ReadsFurther, ReadsLines, LinesShow};
 
 use crate::batch::Batch;
 use crate::line::{contraction_of, may_follow, read_next};
 use std::alloc::{AllocError, Global};
-use tce_declarations::{Declarations, SpecFault, read_head};
+use tce_declarations::{Declarations, Head, SpecFault, read_head};
 use tce_formula::Contraction;
 use tce_grammar::first_line;
 
@@ -72,6 +74,32 @@ fn read_further(
     Ok(contractions)
 }
 
+/// What the formula lines of a text compute, of which the first stands in its head.
+fn read_lines(alloc: Global, head: &Head) -> Result<Vec<Contraction>, SpecFault>
+    requires names { HasNames head.now }
+    requires few { head.now.line + length head.now.rest.now ≤ max_spec_bytes }
+    ensures some { IfOk result (λ cs. 0 < length cs.items) }
+    ensures kept { IfOk result (λ cs. All (IsKept head.now.declarations) cs.items) }
+    ensures read { IfOk result (λ cs. ReadsLines head.now cs.items) }
+    ensures fault { IfErr result (LinesShow head.now) }
+{
+    let first = contraction_of(
+        alloc,
+        head.line,
+        &head.declarations,
+        head.result,
+        head.indexes.as_slice(),
+        &head.formula,
+    )?;
+    match check_behind(alloc, head.line + 1, head.rest) {
+        Ok(()) => read_further(alloc, &head.declarations, first, head.line + 1, head.rest),
+        Err(fault) => {
+            drop(first);
+            Err(fault)
+        }
+    }
+}
+
 /// Reads a text with one formula line or more.
 ///
 /// For each formula line the text is taken with the content of every other formula line dropped, and must be a
@@ -83,18 +111,14 @@ pub fn read_batch(alloc: Global, text: &[u8]) -> Result<Batch, SpecFault>
     ensures { AnswersBatch text.now result }
 {
     let head = read_head(alloc, text)?;
-    let first = contraction_of(
-        alloc,
-        head.line,
-        &head.declarations,
-        head.result,
-        head.indexes.as_slice(),
-        &head.formula,
-    )?;
-    check_behind(alloc, head.line + 1, head.rest)?;
-    let contractions = read_further(alloc, &head.declarations, first, head.line + 1, head.rest)?;
-    Ok(Batch {
-        declarations: head.declarations,
-        contractions,
-    })
+    match read_lines(alloc, &head) {
+        Ok(contractions) => Ok(Batch {
+            declarations: head.declarations,
+            contractions,
+        }),
+        Err(fault) => {
+            drop(head);
+            Err(fault)
+        }
+    }
 }
