@@ -5,7 +5,7 @@ ghost use Rattle.tce_space.specs.Box.{IsInside};
 use tce_space::Shape;
 
 /// How a file stores its words, which a file tells by its first 24 bytes.
-#[derive(Clone, Copy, Debug, PartialEq, Eq)]
+#[derive(Clone, Copy, PartialEq, Eq)]
 pub enum Form {
     /// The first version of the format, `TCARRAY1`: eight bytes a word.
     One,

@@ -5,7 +5,7 @@ ghost use Rattle.tce_batch_job.specs.Refusals.{IsNamed};
 use tce_job::JobFault;
 
 /// Why several formulas are refused, and which of them, from 1.
-#[derive(Clone, Copy, Debug)]
+#[derive(Clone, Copy)]
 pub struct BatchFault {
     pub formula: u64,
     pub fault: JobFault,

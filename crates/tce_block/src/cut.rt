@@ -3,7 +3,7 @@ use arrayvec::ArrayVec;
 use tce_space::MAX_LOOPS;
 
 /// One loop of a box: its index, how many numbers it runs through, and the edge of the tiles at which it is cut.
-#[derive(Clone, Copy, Debug, Default, PartialEq, Eq)]
+#[derive(Clone, Copy, Default, PartialEq, Eq)]
 pub struct Cut {
     /// The number of the loop's index, which no block depends on.
     pub index: u8,
@@ -14,7 +14,7 @@ pub struct Cut {
 }
 
 /// A block of a box: in each dimension its first number, and how many numbers it has there.
-#[derive(Debug, Default, Drop, PartialEq, Eq)]
+#[derive(Default, Drop, PartialEq, Eq)]
 pub struct Block {
     /// The first number in each dimension.
     pub from: ArrayVec<u64, MAX_LOOPS>,

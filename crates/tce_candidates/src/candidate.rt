@@ -8,7 +8,7 @@ use tce_nesting::{Nesting, Row};
 use tce_space::{IndexSet, MAX_NODES};
 
 /// A state of a subtree, with the sets that are fused above its nodes, in their order.
-#[derive(Debug, Default, Drop, PartialEq, Eq)]
+#[derive(Default, Drop, PartialEq, Eq)]
 pub struct Candidate {
     pub row: Row,
     pub sets: ArrayVec<IndexSet, MAX_NODES>,

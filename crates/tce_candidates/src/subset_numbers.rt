@@ -7,7 +7,7 @@ const BYTES: usize = 256;
 /// The numbers of the subsets of some loops: bit `k` is set where the subset has loop `k` of them, from the least on.
 ///
 /// It is a table for each byte of a set, so that a number is found by three reads.
-#[derive(Clone, Copy, Debug)]
+#[derive(Clone, Copy)]
 pub struct SubsetNumbers {
     low: [u16; BYTES],
     middle: [u16; BYTES],

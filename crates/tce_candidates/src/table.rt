@@ -135,7 +135,7 @@ fn add_all_steps(
 }
 
 /// The loops of a node, and the outer ones, which are those of its parent.
-#[derive(Clone, Copy, Debug)]
+#[derive(Clone, Copy)]
 pub struct NodeLoops {
     pub own: IndexSet,
     pub outer: IndexSet,

@@ -3,7 +3,7 @@
 use std::alloc::AllocError;
 
 /// Why a text is no certificate of a plan that fits the tree, or want of memory. The numbers are those of lines, from 1.
-#[derive(Clone, Copy, Debug, PartialEq, Eq)]
+#[derive(Clone, Copy, PartialEq, Eq)]
 pub enum CertFault {
     /// The first faulty line has none of the forms of lines, has no line feed, or is missing.
     BadText(u64),

@@ -1,7 +1,7 @@
 // The operations of loop code.
 
 /// One operation of loop code. Indexes and nodes go by their numbers.
-#[derive(Clone, Copy, PartialEq, Eq, Debug)]
+#[derive(Clone, Copy, PartialEq, Eq)]
 pub enum Op {
     /// Begins a loop over an index, from 0 to its extent less 1.
     Open(u8),

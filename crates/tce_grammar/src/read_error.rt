@@ -5,7 +5,7 @@ ghost use Rattle.tce_grammar.specs.declared.read_error.ReadError.TheVariants.{Me
 
 use std::alloc::{AllocError, AllocFailed};
 
-#[derive(Debug, Drop)]
+#[derive(Drop)]
 pub(crate) enum ReadError {
     Memory,
     /// The tokens have no such form.

@@ -2,7 +2,7 @@
 use tce_array::ArrayFault;
 
 /// Why a run is refused.
-#[derive(Clone, Copy, Debug)]
+#[derive(Clone, Copy)]
 pub enum JobFault {
     /// The budget is below three of the largest tiles, which have so many words.
     BudgetTooSmall(u64),

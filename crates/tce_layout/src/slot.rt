@@ -5,7 +5,7 @@ use tce_space::{MAX_INDEXES, MAX_NODES, Numbers};
 
 /// The words of one node: the first word, how many there are, and for each index how many words further on the place
 /// stands whose number of this index is one more.
-#[derive(Clone, Copy, Debug, PartialEq, Eq)]
+#[derive(Clone, Copy, PartialEq, Eq)]
 pub struct Slot {
     pub offset: u64,
     pub size: u64,

@@ -13,7 +13,7 @@ use tce_space::{IndexSet, MAX_INDEXES, MAX_LOOPS};
 /// Disjoint sets of indexes with members, at most ten, outermost first: its classes.
 ///
 /// An index is above another where its class is earlier, or it has a class and the other has none.
-#[derive(Clone, PartialEq, Eq, Debug, Drop)]
+#[derive(Clone, PartialEq, Eq, Drop)]
 pub struct Nesting {
     classes: ArrayVec<IndexSet, MAX_LOOPS>,
 }

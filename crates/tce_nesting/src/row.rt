@@ -7,7 +7,7 @@ use std::marker::Model;
 use tce_space::{COST_LIMIT, IndexSet};
 
 /// A state of a subtree: which loops have to be above which, and the elements that its nodes keep together.
-#[derive(Clone, Default, PartialEq, Eq, Debug, Drop)]
+#[derive(Clone, Default, PartialEq, Eq, Drop)]
 pub struct Row {
     pub classes: Nesting,
     pub cost: u128,

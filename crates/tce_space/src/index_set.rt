@@ -7,7 +7,7 @@ use crate::limits::MAX_INDEXES;
 use std::marker::Model;
 
 /// A set of index numbers below 24, kept as the bits of a number.
-#[derive(Clone, Copy, PartialEq, Eq, Debug)]
+#[derive(Clone, Copy, PartialEq, Eq)]
 pub struct IndexSet(u32);
 
 impl Model for IndexSet {

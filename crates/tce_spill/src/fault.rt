@@ -3,7 +3,7 @@ use tce_array::ArrayFault;
 use tce_space::Name;
 
 /// Why a tree is not cut for a limit, or its pieces are not run.
-#[derive(Clone, Copy, Debug)]
+#[derive(Clone, Copy)]
 pub enum SpillFault {
     /// Thirty-two tensors are declared, so that a piece may need more than there may be.
     TooManyTensors,

@@ -11,11 +11,11 @@ use tce_space::MAX_TENSORS;
 use tce_spec::Spec;
 
 /// The forms of the operands' files, by the numbers of their tensors. That of another tensor may be any.
-#[derive(Clone, Copy, Debug)]
+#[derive(Clone, Copy)]
 pub struct Forms(pub [Form; MAX_TENSORS]);
 
 /// An operand that is refused, by the number of its tensor, and why.
-#[derive(Clone, Copy, Debug)]
+#[derive(Clone, Copy)]
 pub struct Refused {
     pub tensor: u8,
     pub fault: ArrayFault,

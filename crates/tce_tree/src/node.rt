@@ -7,7 +7,7 @@ use arrayvec::ArrayVec;
 use tce_space::{Arithmetic, IndexSet, MAX_INDEXES};
 
 /// What a node computes.
-#[derive(Clone, Copy, PartialEq, Eq, Debug)]
+#[derive(Clone, Copy, PartialEq, Eq)]
 pub enum Kind {
     Product,
     Sum,

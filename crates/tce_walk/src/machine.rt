@@ -11,7 +11,7 @@ use tce_space::{LoopOrder, Numbers};
 
 /// A tail: loops, outermost first, that hold the operation of one node, and behind it that of a joined sum, where there
 /// is one.
-#[derive(Clone, Debug, PartialEq, Eq, Drop)]
+#[derive(Clone, PartialEq, Eq, Drop)]
 pub struct Tail {
     pub loops: LoopOrder,
     pub node: u8,

@@ -12,7 +12,7 @@ use tce_strides::{Loop, SumLoop};
 
 /// How far in a loop runs best. They are compared field by field, the first one first: the greater, the better the loop is as
 /// the innermost one.
-#[derive(Clone, Copy, Debug, Default, PartialEq, Eq, PartialOrd, Ord)]
+#[derive(Clone, Copy, Default, PartialEq, Eq, PartialOrd, Ord)]
 pub(crate) struct Rank {
     // Whether there are so many turns that a run pays for its call.
     long: bool,
@@ -23,7 +23,7 @@ pub(crate) struct Rank {
 
 /// A loop: its index, where it stands among the loops, how many numbers it has in the block that runs, and how far in it
 /// runs best.
-#[derive(Clone, Copy, Debug, Default)]
+#[derive(Clone, Copy, Default)]
 pub(crate) struct Axis {
     pub(crate) index: u8,
     pub(crate) at: usize,

@@ -17,7 +17,7 @@ fn expect(rt: &impl Abort, alloc: Global, spec: &Spec, text: &str, wanted: Verdi
     let (space, tree) = (spec.space(), spec.tree());
     let plan = plan_of(rt, alloc, text);
     assert!(rt; plan.fits(tree), "{text}");
-    assert_eq!(rt; check(space, tree, &plan), wanted, "{text}");
+    assert!(rt; check(space, tree, &plan) == wanted, "{text}");
 }
 
 fn accepted_plans(rt: &impl Abort, alloc: Global, spec: &Spec) {
