@@ -5,4 +5,5 @@ pub mod MemoryRows
 pub mod RowPlaces
 pub mod RowSteps
 pub mod RunSteps
+pub mod ThreeParts
 pub mod WordSteps
