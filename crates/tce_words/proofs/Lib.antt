@@ -1,4 +1,5 @@
 pub mod DotSteps
+pub mod LoadSteps
 pub mod MemoryLent
 pub mod MemoryMade
 pub mod MemoryRows
