@@ -5,7 +5,7 @@ use Rattle.tce_outside.specs.Files.{HasPart, KeepsBefore, KeepsFrom, written}
 use Rattle.tce_holes.specs.Holes.{IsHole}
 use Rattle.tce_holes.specs.Told.{Told}
 use Rattle.tce_holes.proofs.Seen.{others_seen, cause_seen}
-use Rattle.tce_holes.proofs.Zeros.{none_zeros, written_zeros}
+use Rattle.tce_holes.proofs.Zeros.{written_zeros}
 use Rattle.tce_holes.proofs.sparse_disk.SparseDiskDisk.write_at.Goals as goal
 
 pub invariant_of-self : goal.invariant_of-self
@@ -14,10 +14,6 @@ invariant_of-self g c =
     (λ p hole. subst (λ known. (known ≡ c.args.name.now) × IsHole c.self.inside.holes p × ((p < c.args.at) ⊎ (c.args.at + length c.args.bytes.now ≤ p))) c.as_str.ensures.value (c.note_write.ensures p hole))
     (subst (λ told. ForSome told (λ fs. HasPart fs c.args.name.now c.args.at (length c.args.bytes.now))) (sym (ap (λ (t : Told). t.files) c.self.view_is)) c.requires)
     c.in-Ok.ensures.written
-
-pub invariant_of-self-in-Err : goal.invariant_of-self-in-Err
-invariant_of-self-in-Err g c =
-    none_zeros (g.D.Disk.files c.write_at.new.self) (string_bytes c.self.inside.name) c.forget.new.self c.forget.ensures
 
 pub returns-in-Ok-clause-written : goal.returns-in-Ok-clause-written
 returns-in-Ok-clause-written g c =
