@@ -1,4 +1,5 @@
 pub mod WordBytes
+pub mod Answered
 pub mod Contents
 pub mod Rows
 pub mod Zeros

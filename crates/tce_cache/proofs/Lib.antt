@@ -1,3 +1,4 @@
+pub mod Counted
 pub mod Bytes
 pub mod Transfers
 pub mod Tiles

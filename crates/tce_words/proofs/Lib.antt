@@ -1,8 +1,10 @@
 pub mod DotSteps
+pub mod LoadSteps
 pub mod MemoryLent
 pub mod MemoryMade
 pub mod MemoryRows
 pub mod RowPlaces
 pub mod RowSteps
 pub mod RunSteps
+pub mod ThreeParts
 pub mod WordSteps

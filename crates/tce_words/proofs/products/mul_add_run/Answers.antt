@@ -1,6 +1,6 @@
-use Rattle.std.proofs.Common.{slice_index, arith}
+use Rattle.std.proofs.Common.{slice_index, arith, length}
 use Rattle.tce_base.specs.Word.{wrapping_add, wrapping_mul}
-use Rattle.tce_words.proofs.RunSteps.{one_before_other, joined_values, mapped_values, run_added, steady_left, steady_swapped}
+use Rattle.tce_words.proofs.RunSteps.{one_before_other, joined_values, mapped_values, run_added, steady_left, steady_swapped, part_within}
 use Rattle.tce_words.proofs.WordSteps.{wrapping_mul_comm}
 use Rattle.tce_words.proofs.products.mul_add_run.Goals as goal
 
@@ -34,3 +34,24 @@ returns-in-1-eq0-eq1 c =
     run_added wrapping_add _ c.args.out.first c.args.out.step c.args.n old c.mul_add_scaled-in-1-eq0-eq1.new.words _ c.mul_add_scaled-in-1-eq0-eq1.ensures c.in-1-eq0-eq1.is-0 (omega arith) c.requires.out
     (mapped_values (wrapping_mul (slice_index old c.args.a.first)) _ c.args.b.first c.args.b.step c.args.n old c.in-1-eq0-eq1.is-2 (omega arith) c.requires.b
     (λ t. steady_left wrapping_mul (slice_index old) c.args.a.first t c.args.a.step _ c.in-1-eq0-eq1.is-1))
+
+pub mul_add_contiguous-requires-clause-out : goal.mul_add_contiguous-requires-clause-out
+mul_add_contiguous-requires-clause-out c = part_within (length c.args.words.now) c.args.out.first c.args.out.step c.args.n c.in-1-eq1-eq1.is-0 (omega arith) c.requires.out
+
+pub mul_add_contiguous-requires-clause-a : goal.mul_add_contiguous-requires-clause-a
+mul_add_contiguous-requires-clause-a c = part_within (length c.args.words.now) c.args.a.first c.args.a.step c.args.n c.in-1-eq1-eq1.is-1 (omega arith) c.requires.a
+
+pub mul_add_contiguous-requires-clause-b : goal.mul_add_contiguous-requires-clause-b
+mul_add_contiguous-requires-clause-b c = part_within (length c.args.words.now) c.args.b.first c.args.b.step c.args.n c.in-1-eq1-eq1.is-2 (omega arith) c.requires.b
+
+pub mul_add_scaled-requires-clause-out : goal.mul_add_scaled-requires-clause-out
+mul_add_scaled-requires-clause-out c = part_within (length c.args.words.now) c.args.out.first c.args.out.step c.args.n c.in-1-eq1-eq0.is-0 (omega arith) c.requires.out
+
+pub mul_add_scaled-requires-clause-b : goal.mul_add_scaled-requires-clause-b
+mul_add_scaled-requires-clause-b c = part_within (length c.args.words.now) c.args.a.first c.args.a.step c.args.n c.in-1-eq1-eq0.is-1 (omega arith) c.requires.a
+
+pub mul_add_scaled-requires-in-1-eq0-eq1-clause-out : goal.mul_add_scaled-requires-in-1-eq0-eq1-clause-out
+mul_add_scaled-requires-in-1-eq0-eq1-clause-out c = part_within (length c.args.words.now) c.args.out.first c.args.out.step c.args.n c.in-1-eq0-eq1.is-0 (omega arith) c.requires.out
+
+pub mul_add_scaled-requires-in-1-eq0-eq1-clause-b : goal.mul_add_scaled-requires-in-1-eq0-eq1-clause-b
+mul_add_scaled-requires-in-1-eq0-eq1-clause-b c = part_within (length c.args.words.now) c.args.b.first c.args.b.step c.args.n c.in-1-eq0-eq1.is-2 (omega arith) c.requires.b

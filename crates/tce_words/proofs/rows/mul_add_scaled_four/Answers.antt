@@ -1,48 +1,161 @@
-use Rattle.std.proofs.Common.{◌≡◌, ℕ, ◌+◌, ◌*◌, ◌++◌, length, slice_range, sym, ap, ◌∙◌, arith}
-use Rattle.tce_words.specs.Rows.{row_of}
-use Rattle.tce_words.specs.Run.{with_part}
-use Rattle.tce_words.proofs.RowSteps.{middle_is, same_four}
-use Rattle.tce_words.proofs.RunSteps.{length-part, part_replaced}
+use Rattle.std.proofs.Common.{◌+◌, ◌*◌, ◌≤◌, ◌⊎◌, length, ◌∙◌}
+use Rattle.tce_words.proofs.RowSteps.{same_four}
+use Rattle.tce_words.proofs.ThreeParts.{begins_within, ends_within, reaches_back, target_is, target_replaced, part_is, part_as_long, at_first, at_second, at_third, at_fourth}
 use Rattle.tce_words.proofs.rows.mul_add_scaled_four.Goals as goal
+
+pub split_at_mut-front-requires : goal.split_at_mut-front-requires
+split_at_mut-front-requires c = begins_within (length c.args.words.now) c.args.out c.args.n c.requires.out
+
+pub split_at_mut-target-requires : goal.split_at_mut-target-requires
+split_at_mut-target-requires c =
+    ends_within (length c.args.words.now) (length c.split_at_mut-front.result.1.now) c.args.out c.args.n
+    c.split_at_mut-front.ensures.back_len
+    c.requires.out
+
+pub part-a-requires-clause-front : goal.part-a-requires-clause-front
+part-a-requires-clause-front c = c.split_at_mut-front.ensures.front_len
+
+pub part-a-requires-clause-back : goal.part-a-requires-clause-back
+part-a-requires-clause-back c =
+    reaches_back (length c.args.words.now) (length c.split_at_mut-front.result.1.now) (length c.split_at_mut-target.result.1.now) c.args.out c.args.n c.args.rows.first
+    c.split_at_mut-front.ensures.back_len
+    c.split_at_mut-target.ensures.back_len
+    (at_first (λ at. at + c.args.n ≤ length c.args.words.now) c.args.rows.first c.args.rows.step c.requires.rows)
+
+pub part-a-requires-clause-apart : goal.part-a-requires-clause-apart
+part-a-requires-clause-apart c = at_first (λ at. (at + c.args.n ≤ c.args.out) ⊎ (c.args.out + c.args.n ≤ at)) c.args.rows.first c.args.rows.step c.requires.apart
+
+pub part-b-requires-clause-front : goal.part-b-requires-clause-front
+part-b-requires-clause-front c = c.split_at_mut-front.ensures.front_len
+
+pub part-b-requires-clause-back : goal.part-b-requires-clause-back
+part-b-requires-clause-back c =
+    reaches_back (length c.args.words.now) (length c.split_at_mut-front.result.1.now) (length c.split_at_mut-target.result.1.now) c.args.out c.args.n (c.args.rows.first + c.args.rows.step)
+    c.split_at_mut-front.ensures.back_len
+    c.split_at_mut-target.ensures.back_len
+    (at_second (λ at. at + c.args.n ≤ length c.args.words.now) c.args.rows.first c.args.rows.step c.requires.rows)
+
+pub part-b-requires-clause-apart : goal.part-b-requires-clause-apart
+part-b-requires-clause-apart c = at_second (λ at. (at + c.args.n ≤ c.args.out) ⊎ (c.args.out + c.args.n ≤ at)) c.args.rows.first c.args.rows.step c.requires.apart
+
+pub part-c-requires-clause-front : goal.part-c-requires-clause-front
+part-c-requires-clause-front c = c.split_at_mut-front.ensures.front_len
+
+pub part-c-requires-clause-back : goal.part-c-requires-clause-back
+part-c-requires-clause-back c =
+    reaches_back (length c.args.words.now) (length c.split_at_mut-front.result.1.now) (length c.split_at_mut-target.result.1.now) c.args.out c.args.n (c.args.rows.first + 2 * c.args.rows.step)
+    c.split_at_mut-front.ensures.back_len
+    c.split_at_mut-target.ensures.back_len
+    (at_third (λ at. at + c.args.n ≤ length c.args.words.now) c.args.rows.first c.args.rows.step c.requires.rows)
+
+pub part-c-requires-clause-apart : goal.part-c-requires-clause-apart
+part-c-requires-clause-apart c = at_third (λ at. (at + c.args.n ≤ c.args.out) ⊎ (c.args.out + c.args.n ≤ at)) c.args.rows.first c.args.rows.step c.requires.apart
+
+pub part-d-requires-clause-front : goal.part-d-requires-clause-front
+part-d-requires-clause-front c = c.split_at_mut-front.ensures.front_len
+
+pub part-d-requires-clause-back : goal.part-d-requires-clause-back
+part-d-requires-clause-back c =
+    reaches_back (length c.args.words.now) (length c.split_at_mut-front.result.1.now) (length c.split_at_mut-target.result.1.now) c.args.out c.args.n (c.args.rows.first + 3 * c.args.rows.step)
+    c.split_at_mut-front.ensures.back_len
+    c.split_at_mut-target.ensures.back_len
+    (at_fourth (λ at. at + c.args.n ≤ length c.args.words.now) c.args.rows.first c.args.rows.step c.requires.rows)
+
+pub part-d-requires-clause-apart : goal.part-d-requires-clause-apart
+part-d-requires-clause-apart c = at_fourth (λ at. (at + c.args.n ≤ c.args.out) ⊎ (c.args.out + c.args.n ≤ at)) c.args.rows.first c.args.rows.step c.requires.apart
 
 pub mul_add_four-requires-clause-a : goal.mul_add_four-requires-clause-a
 mul_add_four-requires-clause-a c =
-    let target = c.split_at_mut-target.result.0.now in let words = c.args.words.now in let n = c.args.n in let at = c.args.rows.first in
-    let whole = c.split_at_mut-front.ensures.value ∙ ap (λ xs. c.split_at_mut-front.result.0.now ++ xs) c.split_at_mut-target.ensures.value in
-    ap length (c.part-a.ensures target c.split_at_mut-target.ensures.front_len ∙ ap (λ xs. slice_range xs at (at + n)) (sym whole))
-    ∙ length-part words at n (omega (arith, c.requires.rows 0 (omega arith))) ∙ sym c.split_at_mut-target.ensures.front_len
+    part_as_long c.args.words.now c.split_at_mut-front.result.0.now c.split_at_mut-front.result.1.now c.split_at_mut-target.result.0.now c.split_at_mut-target.result.1.now c.args.out c.args.n
+    c.split_at_mut-front.ensures.value
+    c.split_at_mut-target.ensures.value
+    c.split_at_mut-front.ensures.front_len
+    c.split_at_mut-target.ensures.front_len
+    c.args.rows.first
+    c.part-a.result.now
+    c.part-a.ensures
+    (at_first (λ at. at + c.args.n ≤ length c.args.words.now) c.args.rows.first c.args.rows.step c.requires.rows)
 
 pub mul_add_four-requires-clause-b : goal.mul_add_four-requires-clause-b
 mul_add_four-requires-clause-b c =
-    let target = c.split_at_mut-target.result.0.now in let words = c.args.words.now in let n = c.args.n in let at = c.args.rows.first + c.args.rows.step in
-    let whole = c.split_at_mut-front.ensures.value ∙ ap (λ xs. c.split_at_mut-front.result.0.now ++ xs) c.split_at_mut-target.ensures.value in
-    ap length (c.part-b.ensures target c.split_at_mut-target.ensures.front_len ∙ ap (λ xs. slice_range xs at (at + n)) (sym whole))
-    ∙ length-part words at n (omega (arith, c.requires.rows 1 (omega arith))) ∙ sym c.split_at_mut-target.ensures.front_len
+    part_as_long c.args.words.now c.split_at_mut-front.result.0.now c.split_at_mut-front.result.1.now c.split_at_mut-target.result.0.now c.split_at_mut-target.result.1.now c.args.out c.args.n
+    c.split_at_mut-front.ensures.value
+    c.split_at_mut-target.ensures.value
+    c.split_at_mut-front.ensures.front_len
+    c.split_at_mut-target.ensures.front_len
+    (c.args.rows.first + c.args.rows.step)
+    c.part-b.result.now
+    c.part-b.ensures
+    (at_second (λ at. at + c.args.n ≤ length c.args.words.now) c.args.rows.first c.args.rows.step c.requires.rows)
 
 pub mul_add_four-requires-clause-c : goal.mul_add_four-requires-clause-c
 mul_add_four-requires-clause-c c =
-    let target = c.split_at_mut-target.result.0.now in let words = c.args.words.now in let n = c.args.n in let at = c.args.rows.first + 2 * c.args.rows.step in
-    let whole = c.split_at_mut-front.ensures.value ∙ ap (λ xs. c.split_at_mut-front.result.0.now ++ xs) c.split_at_mut-target.ensures.value in
-    ap length (c.part-c.ensures target c.split_at_mut-target.ensures.front_len ∙ ap (λ xs. slice_range xs at (at + n)) (sym whole))
-    ∙ length-part words at n (omega (arith, c.requires.rows 2 (omega arith))) ∙ sym c.split_at_mut-target.ensures.front_len
+    part_as_long c.args.words.now c.split_at_mut-front.result.0.now c.split_at_mut-front.result.1.now c.split_at_mut-target.result.0.now c.split_at_mut-target.result.1.now c.args.out c.args.n
+    c.split_at_mut-front.ensures.value
+    c.split_at_mut-target.ensures.value
+    c.split_at_mut-front.ensures.front_len
+    c.split_at_mut-target.ensures.front_len
+    (c.args.rows.first + 2 * c.args.rows.step)
+    c.part-c.result.now
+    c.part-c.ensures
+    (at_third (λ at. at + c.args.n ≤ length c.args.words.now) c.args.rows.first c.args.rows.step c.requires.rows)
 
 pub mul_add_four-requires-clause-d : goal.mul_add_four-requires-clause-d
 mul_add_four-requires-clause-d c =
-    let target = c.split_at_mut-target.result.0.now in let words = c.args.words.now in let n = c.args.n in let at = c.args.rows.first + 3 * c.args.rows.step in
-    let whole = c.split_at_mut-front.ensures.value ∙ ap (λ xs. c.split_at_mut-front.result.0.now ++ xs) c.split_at_mut-target.ensures.value in
-    ap length (c.part-d.ensures target c.split_at_mut-target.ensures.front_len ∙ ap (λ xs. slice_range xs at (at + n)) (sym whole))
-    ∙ length-part words at n (omega (arith, c.requires.rows 3 (omega arith))) ∙ sym c.split_at_mut-target.ensures.front_len
+    part_as_long c.args.words.now c.split_at_mut-front.result.0.now c.split_at_mut-front.result.1.now c.split_at_mut-target.result.0.now c.split_at_mut-target.result.1.now c.args.out c.args.n
+    c.split_at_mut-front.ensures.value
+    c.split_at_mut-target.ensures.value
+    c.split_at_mut-front.ensures.front_len
+    c.split_at_mut-target.ensures.front_len
+    (c.args.rows.first + 3 * c.args.rows.step)
+    c.part-d.result.now
+    c.part-d.ensures
+    (at_fourth (λ at. at + c.args.n ≤ length c.args.words.now) c.args.rows.first c.args.rows.step c.requires.rows)
 
 pub returns : goal.returns
 returns c =
-    let front = c.split_at_mut-front.result.0.now in let target = c.split_at_mut-target.result.0.now in let back = c.split_at_mut-target.result.1.now in
-    let words = c.args.words.now in let n = c.args.n in let first : ℕ = c.args.rows.first in let step : ℕ = c.args.rows.step in
-    let whole : words ≡ front ++ (target ++ back) = c.split_at_mut-front.ensures.value ∙ ap (λ xs. front ++ xs) c.split_at_mut-target.ensures.value in
-    let long = c.split_at_mut-target.ensures.front_len in
-    let a_is : c.part-a.result.now ≡ row_of words first n = c.part-a.ensures target long ∙ ap (λ xs. slice_range xs first (first + n)) (sym whole) in
-    let b_is : c.part-b.result.now ≡ row_of words (first + step) n = c.part-b.ensures target long ∙ ap (λ xs. slice_range xs (first + step) (first + step + n)) (sym whole) in
-    let c_is : c.part-c.result.now ≡ row_of words (first + 2 * step) n = c.part-c.ensures target long ∙ ap (λ xs. slice_range xs (first + 2 * step) (first + 2 * step + n)) (sym whole) in
-    let d_is : c.part-d.result.now ≡ row_of words (first + 3 * step) n = c.part-d.ensures target long ∙ ap (λ xs. slice_range xs (first + 3 * step) (first + 3 * step + n)) (sym whole) in
-    let target_is : target ≡ slice_range words c.args.out (c.args.out + n) = middle_is words front target back c.args.out n whole c.split_at_mut-front.ensures.front_len long c.requires.out in
-    part_replaced words front target back c.mul_add_four.new.out c.args.out whole c.split_at_mut-front.ensures.front_len (omega arith)
-    ∙ ap (with_part words c.args.out) (c.mul_add_four.ensures ∙ same_four target _ c.args.factors _ _ _ _ _ _ _ _ target_is a_is b_is c_is d_is)
+    target_replaced c.args.words.now c.split_at_mut-front.result.0.now c.split_at_mut-front.result.1.now c.split_at_mut-target.result.0.now c.split_at_mut-target.result.1.now c.args.out c.args.n
+    c.split_at_mut-front.ensures.value
+    c.split_at_mut-target.ensures.value
+    c.split_at_mut-front.ensures.front_len
+    c.split_at_mut-target.ensures.front_len
+    c.mul_add_four.new.out _ c.mul_add_four.auto.out
+    (c.mul_add_four.ensures ∙ same_four c.split_at_mut-target.result.0.now _ c.args.factors _ _ _ _ _ _ _ _
+    (target_is c.args.words.now c.split_at_mut-front.result.0.now c.split_at_mut-front.result.1.now c.split_at_mut-target.result.0.now c.split_at_mut-target.result.1.now c.args.out c.args.n
+    c.split_at_mut-front.ensures.value
+    c.split_at_mut-target.ensures.value
+    c.split_at_mut-front.ensures.front_len
+    c.split_at_mut-target.ensures.front_len
+    c.requires.out)
+    (part_is c.args.words.now c.split_at_mut-front.result.0.now c.split_at_mut-front.result.1.now c.split_at_mut-target.result.0.now c.split_at_mut-target.result.1.now c.args.out c.args.n
+    c.split_at_mut-front.ensures.value
+    c.split_at_mut-target.ensures.value
+    c.split_at_mut-front.ensures.front_len
+    c.split_at_mut-target.ensures.front_len
+    c.args.rows.first
+    c.part-a.result.now
+    c.part-a.ensures)
+    (part_is c.args.words.now c.split_at_mut-front.result.0.now c.split_at_mut-front.result.1.now c.split_at_mut-target.result.0.now c.split_at_mut-target.result.1.now c.args.out c.args.n
+    c.split_at_mut-front.ensures.value
+    c.split_at_mut-target.ensures.value
+    c.split_at_mut-front.ensures.front_len
+    c.split_at_mut-target.ensures.front_len
+    (c.args.rows.first + c.args.rows.step)
+    c.part-b.result.now
+    c.part-b.ensures)
+    (part_is c.args.words.now c.split_at_mut-front.result.0.now c.split_at_mut-front.result.1.now c.split_at_mut-target.result.0.now c.split_at_mut-target.result.1.now c.args.out c.args.n
+    c.split_at_mut-front.ensures.value
+    c.split_at_mut-target.ensures.value
+    c.split_at_mut-front.ensures.front_len
+    c.split_at_mut-target.ensures.front_len
+    (c.args.rows.first + 2 * c.args.rows.step)
+    c.part-c.result.now
+    c.part-c.ensures)
+    (part_is c.args.words.now c.split_at_mut-front.result.0.now c.split_at_mut-front.result.1.now c.split_at_mut-target.result.0.now c.split_at_mut-target.result.1.now c.args.out c.args.n
+    c.split_at_mut-front.ensures.value
+    c.split_at_mut-target.ensures.value
+    c.split_at_mut-front.ensures.front_len
+    c.split_at_mut-target.ensures.front_len
+    (c.args.rows.first + 3 * c.args.rows.step)
+    c.part-d.result.now
+    c.part-d.ensures))

@@ -1,14 +1,56 @@
-use Rattle.std.proofs.Common.{◌≡◌, ◌+◌, ◌++◌, map, slice_range, sym, ap, ◌∙◌, arith}
+use Rattle.std.proofs.Common.{length, map, ap, ◌∙◌}
 use Rattle.tce_base.specs.Word.{wrapping_sub}
-use Rattle.tce_words.specs.Run.{with_part}
-use Rattle.tce_words.proofs.RunSteps.{part_replaced}
+use Rattle.tce_words.proofs.ThreeParts.{begins_within, ends_within, reaches_back, target_replaced, part_is, part_as_long}
 use Rattle.tce_words.proofs.sums.minus_one.Goals as goal
+
+pub split_at_mut-front-requires : goal.split_at_mut-front-requires
+split_at_mut-front-requires c = begins_within (length c.args.words.now) c.args.out c.args.n c.requires.out
+
+pub split_at_mut-target-requires : goal.split_at_mut-target-requires
+split_at_mut-target-requires c =
+    ends_within (length c.args.words.now) (length c.split_at_mut-front.result.1.now) c.args.out c.args.n
+    c.split_at_mut-front.ensures.back_len
+    c.requires.out
+
+pub part-requires-clause-front : goal.part-requires-clause-front
+part-requires-clause-front c = c.split_at_mut-front.ensures.front_len
+
+pub part-requires-clause-back : goal.part-requires-clause-back
+part-requires-clause-back c =
+    reaches_back (length c.args.words.now) (length c.split_at_mut-front.result.1.now) (length c.split_at_mut-target.result.1.now) c.args.out c.args.n c.args.a
+    c.split_at_mut-front.ensures.back_len
+    c.split_at_mut-target.ensures.back_len
+    c.requires.a
+
+pub part-requires-clause-apart : goal.part-requires-clause-apart
+part-requires-clause-apart c = c.requires.apart
+
+pub minus_vs-requires : goal.minus_vs-requires
+minus_vs-requires c =
+    part_as_long c.args.words.now c.split_at_mut-front.result.0.now c.split_at_mut-front.result.1.now c.split_at_mut-target.result.0.now c.split_at_mut-target.result.1.now c.args.out c.args.n
+    c.split_at_mut-front.ensures.value
+    c.split_at_mut-target.ensures.value
+    c.split_at_mut-front.ensures.front_len
+    c.split_at_mut-target.ensures.front_len
+    c.args.a
+    c.part.result.now
+    c.part.ensures
+    c.requires.a
 
 pub returns : goal.returns
 returns c =
-    let front = c.split_at_mut-front.result.0.now in let target = c.split_at_mut-target.result.0.now in let back = c.split_at_mut-target.result.1.now in
-    let words = c.args.words.now in let end = c.args.a + c.args.n in
-    let whole : words ≡ front ++ (target ++ back) = c.split_at_mut-front.ensures.value ∙ ap (λ xs. front ++ xs) c.split_at_mut-target.ensures.value in
-    let part_is : c.part.result.now ≡ slice_range words c.args.a end = c.part.ensures target c.split_at_mut-target.ensures.front_len ∙ ap (λ xs. slice_range xs c.args.a end) (sym whole) in
-    let made : c.minus_vs.new.out ≡ map (λ x. wrapping_sub x c.args.subtrahend) (slice_range words c.args.a end) = c.minus_vs.ensures ∙ ap (map (λ x. wrapping_sub x c.args.subtrahend)) part_is in
-    part_replaced words front target back c.minus_vs.new.out c.args.out whole c.split_at_mut-front.ensures.front_len (omega arith) ∙ ap (with_part words c.args.out) made
+    target_replaced c.args.words.now c.split_at_mut-front.result.0.now c.split_at_mut-front.result.1.now c.split_at_mut-target.result.0.now c.split_at_mut-target.result.1.now c.args.out c.args.n
+    c.split_at_mut-front.ensures.value
+    c.split_at_mut-target.ensures.value
+    c.split_at_mut-front.ensures.front_len
+    c.split_at_mut-target.ensures.front_len
+    c.minus_vs.new.out _ c.minus_vs.auto.out
+    (c.minus_vs.ensures ∙ ap (map (λ x. wrapping_sub x c.args.subtrahend))
+    (part_is c.args.words.now c.split_at_mut-front.result.0.now c.split_at_mut-front.result.1.now c.split_at_mut-target.result.0.now c.split_at_mut-target.result.1.now c.args.out c.args.n
+    c.split_at_mut-front.ensures.value
+    c.split_at_mut-target.ensures.value
+    c.split_at_mut-front.ensures.front_len
+    c.split_at_mut-target.ensures.front_len
+    c.args.a
+    c.part.result.now
+    c.part.ensures))

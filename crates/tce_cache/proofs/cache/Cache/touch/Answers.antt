@@ -1,4 +1,6 @@
-use Rattle.std.proofs.Common.{◌≡◌, ◌∙◌, ◌+◌, ◌<◌, ◌||◌, ◌∷◌, ℕ, List, Some, None, ap, sym, refl, subst, true, slice_get, slice_index, unwrap_or, inl, inr, arith}
+use Rattle.std.proofs.Common.{◌≡◌, ◌∙◌, ◌+◌, ◌<◌, ◌||◌, ◌∷◌, ℕ, List, Some, None, ap, sym, refl, subst, true, slice_get, slice_index, unwrap_or, length, inl, inr, arith}
+use Rattle.std.specs.Result.{is_err}
+use Rattle.std.proofs.lemmas.Result.{err_from_is_err_and}
 use Rattle.tce_frames.specs.Held.{Held, look_up, without, touched}
 use Rattle.tce_frames.specs.Current.{place}
 use Rattle.tce_frames.specs.Table.{Holding}
@@ -7,8 +9,9 @@ use Rattle.tce_frames.proofs.Found.{found_in, found_frame}
 use Rattle.tce_frames.proofs.Touching.{touches_change, length_without}
 use Rattle.tce_cache.specs.declared.array.ArrayRef.{ArrayRef}
 use Rattle.tce_cache.specs.Transfer.{HasFile}
-use Rattle.tce_cache.specs.Cache.{State, IsCache, IsReady, IsArrayAt, IsWritable, layout, words_of_tile, current_word}
+use Rattle.tce_cache.specs.Cache.{State, IsCache, IsReady, IsArrayAt, IsWritable, Exists, HasRoom, layout, words_of_tile, current_word}
 use Rattle.tce_cache.specs.Touch.{with_held, IsSameArrays}
+use Rattle.tce_cache.proofs.Counted.{cache_counted, outside_counted, others_counted, state_counted, nothing_outside, no_others, no_cause, no_error, cause_of_failure, none_is_held, frames_bounded}
 use Rattle.tce_cache.proofs.Tiles.{told_from}
 use Rattle.tce_cache.proofs.Lists.{touched_apart, marked_as, or_true, or_false}
 use Rattle.tce_cache.proofs.Steps.{holding_is, cache_touched, same_touched, shown_front, ready_again, same_again}
@@ -161,3 +164,140 @@ returns-in_ok-frame-in-None-clause-shown g c fs told =
     let shown : (k : ℕ) → k < words_of_tile (slice_get v.arrays c.args.array) → slice_index c.bring.new.words (c.place-in-None.result + k) ≡ current_word v fs words c.args.array c.args.tile k =
     λ k lt. ap (λ p. slice_index c.bring.new.words (p + k)) at ∙ shown_front v y brought.placed.rest (s.touches + 1) fs gs.0 words c.bring.new.words c.args.array c.args.tile refl refl moved k lt in
     subst (λ (z : State). (k : ℕ) → k < words_of_tile (slice_get z.arrays c.args.array) → slice_index c.bring.new.words (c.place-in-None.result + k) ≡ current_word z fs words c.args.array c.args.tile k) c.self.view_is shown
+
+pub len-len-requires : goal.len-len-requires
+len-len-requires g c = tt
+
+pub place-requires-clause-bounded : goal.place-requires-clause-bounded
+place-requires-clause-bounded g c =
+    let s = c.self.inside in
+    frames_bounded s.at s.table.frames c.touch.new.self.frames s.frame_words (length c.args.words.now)
+    (subst (λ (z : State). HasRoom z c.args.words.now) (sym c.self.view_is) c.requires.room)
+    c.touch.ensures.same.0
+    c.len-len.ensures.limit
+
+pub invariant_of-self-in-None : goal.invariant_of-self-in-None
+invariant_of-self-in-None g c =
+    let s = c.self.inside in
+    let v : State = record { arrays = s.arrays.items; at = s.at; frames = s.table.frames; frame_words = s.frame_words; held = s.table.held; touches = s.touches } in
+    record { table_arrays = c.self.invariant.table_arrays; cache = cache_counted v (s.touches + 1) c.self.invariant.cache }
+
+pub bring-requires-clause-exists : goal.bring-requires-clause-exists
+bring-requires-clause-exists g c = subst (λ (z : State). Exists z c.args.array c.args.tile) (sym c.self.view_is) c.requires.exists
+
+pub bring-requires-clause-absent : goal.bring-requires-clause-absent
+bring-requires-clause-absent g c = c.in-None.ensures
+
+pub bring-requires-clause-writable : goal.bring-requires-clause-writable
+bring-requires-clause-writable g c = λ write. subst (λ (z : State). IsWritable z c.args.array) (sym c.self.view_is) (c.requires.writable write)
+
+pub bring-requires-clause-room : goal.bring-requires-clause-room
+bring-requires-clause-room g c = subst (λ (z : State). HasRoom z c.args.words.now) (sym c.self.view_is) c.requires.room
+
+pub bring-requires-clause-bounded : goal.bring-requires-clause-bounded
+bring-requires-clause-bounded g c = c.len-len.ensures.limit
+
+pub bring-requires-clause-cache : goal.bring-requires-clause-cache
+bring-requires-clause-cache g c =
+    let s = c.self.inside in
+    let v : State = record { arrays = s.arrays.items; at = s.at; frames = s.table.frames; frame_words = s.frame_words; held = s.table.held; touches = s.touches } in
+    cache_counted v (s.touches + 1) c.self.invariant.cache
+
+pub returns-in_err-frame-in-None-clause-touched : goal.returns-in_err-frame-in-None-clause-touched
+returns-in_err-frame-in-None-clause-touched g c =
+    let p = err_from_is_err_and c.from_residual.result c.from_residual.ensures.1 in
+    rw p.1 tt
+
+pub returns-in_err-frame-in-None-clause-shown : goal.returns-in_err-frame-in-None-clause-shown
+returns-in_err-frame-in-None-clause-shown g c =
+    let p = err_from_is_err_and c.from_residual.result c.from_residual.ensures.1 in
+    rw p.1 tt
+
+pub returns-in_err-frame-in-None-clause-arrays : goal.returns-in_err-frame-in-None-clause-arrays
+returns-in_err-frame-in-None-clause-arrays g c =
+    let p = err_from_is_err_and c.from_residual.result c.from_residual.ensures.1 in
+    rw p.1 tt
+
+pub returns-in_err-frame-in-None-clause-held : goal.returns-in_err-frame-in-None-clause-held
+returns-in_err-frame-in-None-clause-held g c = λ some. absurd (none_is_held _ (ap (λ (z : State). look_up z.held c.args.array c.args.tile) (sym c.self.view_is) ∙ c.in-None.ensures) some)
+
+pub returns-in_err-frame-in-None-clause-same : goal.returns-in_err-frame-in-None-clause-same
+returns-in_err-frame-in-None-clause-same g c =
+    let s = c.self.inside in
+    let v : State = record { arrays = s.arrays.items; at = s.at; frames = s.table.frames; frame_words = s.frame_words; held = s.table.held; touches = s.touches } in
+    state_counted v c.args.self.now c.bring.new.self c.self.view_is c.bring.ensures.same
+
+pub returns-in_err-frame-in-None-clause-cache : goal.returns-in_err-frame-in-None-clause-cache
+returns-in_err-frame-in-None-clause-cache g c = c.bring.ensures.cache
+
+pub returns-in_err-frame-in-None-clause-outside : goal.returns-in_err-frame-in-None-clause-outside
+returns-in_err-frame-in-None-clause-outside g c =
+    let s = c.self.inside in
+    let v : State = record { arrays = s.arrays.items; at = s.at; frames = s.table.frames; frame_words = s.frame_words; held = s.table.held; touches = s.touches } in
+    outside_counted v c.args.self.now (s.touches + 1) c.args.words.now c.bring.new.words c.self.view_is c.bring.ensures.outside
+
+pub returns-in_err-frame-in-None-clause-others : goal.returns-in_err-frame-in-None-clause-others
+returns-in_err-frame-in-None-clause-others g c =
+    let s = c.self.inside in
+    let v : State = record { arrays = s.arrays.items; at = s.at; frames = s.table.frames; frame_words = s.frame_words; held = s.table.held; touches = s.touches } in
+    others_counted v c.args.self.now (s.touches + 1) (g.D.Disk.files c.args.disk.now) (g.D.Disk.files c.bring.new.disk) c.self.view_is c.bring.ensures.others
+
+pub returns-in_ok-frame-in-None-clause-held : goal.returns-in_ok-frame-in-None-clause-held
+returns-in_ok-frame-in-None-clause-held g c = λ some. absurd (none_is_held _ (ap (λ (z : State). look_up z.held c.args.array c.args.tile) (sym c.self.view_is) ∙ c.in-None.ensures) some)
+
+pub returns-in_ok-frame-in-None-clause-same : goal.returns-in_ok-frame-in-None-clause-same
+returns-in_ok-frame-in-None-clause-same g c =
+    let s = c.self.inside in
+    let v : State = record { arrays = s.arrays.items; at = s.at; frames = s.table.frames; frame_words = s.frame_words; held = s.table.held; touches = s.touches } in
+    state_counted v c.args.self.now c.bring.new.self c.self.view_is c.bring.ensures.same
+
+pub returns-in_ok-frame-in-None-clause-cache : goal.returns-in_ok-frame-in-None-clause-cache
+returns-in_ok-frame-in-None-clause-cache g c = c.bring.ensures.cache
+
+pub returns-in_ok-frame-in-None-clause-outside : goal.returns-in_ok-frame-in-None-clause-outside
+returns-in_ok-frame-in-None-clause-outside g c =
+    let s = c.self.inside in
+    let v : State = record { arrays = s.arrays.items; at = s.at; frames = s.table.frames; frame_words = s.frame_words; held = s.table.held; touches = s.touches } in
+    outside_counted v c.args.self.now (s.touches + 1) c.args.words.now c.bring.new.words c.self.view_is c.bring.ensures.outside
+
+pub returns-in_ok-frame-in-None-clause-others : goal.returns-in_ok-frame-in-None-clause-others
+returns-in_ok-frame-in-None-clause-others g c =
+    let s = c.self.inside in
+    let v : State = record { arrays = s.arrays.items; at = s.at; frames = s.table.frames; frame_words = s.frame_words; held = s.table.held; touches = s.touches } in
+    others_counted v c.args.self.now (s.touches + 1) (g.D.Disk.files c.args.disk.now) (g.D.Disk.files c.bring.new.disk) c.self.view_is c.bring.ensures.others
+
+pub returns-in_err-frame-in-None-clause-cause : goal.returns-in_err-frame-in-None-clause-cause
+returns-in_err-frame-in-None-clause-cause g c = cause_of_failure (g.D.Disk.faults c.args.disk.now) (g.D.Disk.faults c.bring.new.disk) _ c.in_err-frame-in-None.ensures.cause
+
+pub returns-in_err-frame-in-None-clause-told : goal.returns-in_err-frame-in-None-clause-told
+returns-in_err-frame-in-None-clause-told g c =
+    let p = err_from_is_err_and c.from_residual.result c.from_residual.ensures.1 in
+    λ none. absurd (none (ap is_err p.1))
+
+pub returns-in_ok-frame-in-None-clause-cause : goal.returns-in_ok-frame-in-None-clause-cause
+returns-in_ok-frame-in-None-clause-cause g c = c.in_ok-frame-in-None.ensures.cause
+
+pub returns-in_ok-frame-in-None-clause-told : goal.returns-in_ok-frame-in-None-clause-told
+returns-in_ok-frame-in-None-clause-told g c = c.in_ok-frame-in-None.ensures.told
+
+pub returns-in-Some-clause-held : goal.returns-in-Some-clause-held
+returns-in-Some-clause-held g c = λ some. (refl, refl, refl, refl)
+
+pub returns-in-Some-clause-same : goal.returns-in-Some-clause-same
+returns-in-Some-clause-same g c =
+    let s = c.self.inside in
+    let v : State = record { arrays = s.arrays.items; at = s.at; frames = s.table.frames; frame_words = s.frame_words; held = s.table.held; touches = s.touches } in
+    ap (λ f. record { arrays = s.arrays.items; at = s.at; frames = f; frame_words = s.frame_words; held = c.touch.new.self.held; touches = s.touches + 1 }) c.touch.ensures.same.0
+    ∙ ap (λ (z : State). with_held z c.touch.new.self.held (z.touches + 1)) c.self.view_is
+
+pub returns-in-Some-clause-outside : goal.returns-in-Some-clause-outside
+returns-in-Some-clause-outside g c = nothing_outside c.args.self.now c.args.words.now
+
+pub returns-in-Some-clause-others : goal.returns-in-Some-clause-others
+returns-in-Some-clause-others g c = no_others c.args.self.now (g.D.Disk.files c.args.disk.now)
+
+pub returns-in-Some-clause-cause : goal.returns-in-Some-clause-cause
+returns-in-Some-clause-cause g c = no_cause (g.D.Disk.faults c.args.disk.now) _ no_error
+
+pub returns-in-Some-clause-told : goal.returns-in-Some-clause-told
+returns-in-Some-clause-told g c = λ none. refl

@@ -1,4 +1,4 @@
-use Rattle.std.proofs.Common.{◌≡◌, ◌+◌, false, Some, subst, arith}
+use Rattle.std.proofs.Common.{◌≡◌, false, Some, subst, arith}
 use Rattle.std.specs.List.{slice_get}
 use Rattle.tce_holes.proofs.Pieces.{covered}
 use Rattle.tce_holes.proofs.holes.Holes.cover.Goals as goal

@@ -1,4 +1,4 @@
-use Rattle.std.proofs.Common.{◌≡◌, ◌⊎◌, ◌+◌, ◌-◌, ◌/◌, ◌<◌, false, Some, subst, arith}
+use Rattle.std.proofs.Common.{◌≡◌, ◌⊎◌, ◌-◌, ◌/◌, ◌<◌, false, Some, subst, arith}
 use Rattle.std.specs.List.{slice_get}
 use Rattle.tce_holes.proofs.Pieces.{marked}
 use Rattle.tce_holes.proofs.holes.Holes.mark.Goals as goal

@@ -1,0 +1,56 @@
+use Rattle.std.proofs.Common.{length, map, ap, ◌∙◌}
+use Rattle.tce_base.specs.Word.{wrapping_sub}
+use Rattle.tce_words.proofs.ThreeParts.{begins_within, ends_within, reaches_back, target_replaced, part_is, part_as_long}
+use Rattle.tce_words.proofs.sums.one_minus.Goals as goal
+
+pub split_at_mut-front-requires : goal.split_at_mut-front-requires
+split_at_mut-front-requires c = begins_within (length c.args.words.now) c.args.out c.args.n c.requires.out
+
+pub split_at_mut-target-requires : goal.split_at_mut-target-requires
+split_at_mut-target-requires c =
+    ends_within (length c.args.words.now) (length c.split_at_mut-front.result.1.now) c.args.out c.args.n
+    c.split_at_mut-front.ensures.back_len
+    c.requires.out
+
+pub part-requires-clause-front : goal.part-requires-clause-front
+part-requires-clause-front c = c.split_at_mut-front.ensures.front_len
+
+pub part-requires-clause-back : goal.part-requires-clause-back
+part-requires-clause-back c =
+    reaches_back (length c.args.words.now) (length c.split_at_mut-front.result.1.now) (length c.split_at_mut-target.result.1.now) c.args.out c.args.n c.args.b
+    c.split_at_mut-front.ensures.back_len
+    c.split_at_mut-target.ensures.back_len
+    c.requires.b
+
+pub part-requires-clause-apart : goal.part-requires-clause-apart
+part-requires-clause-apart c = c.requires.apart
+
+pub minus_sv-requires : goal.minus_sv-requires
+minus_sv-requires c =
+    part_as_long c.args.words.now c.split_at_mut-front.result.0.now c.split_at_mut-front.result.1.now c.split_at_mut-target.result.0.now c.split_at_mut-target.result.1.now c.args.out c.args.n
+    c.split_at_mut-front.ensures.value
+    c.split_at_mut-target.ensures.value
+    c.split_at_mut-front.ensures.front_len
+    c.split_at_mut-target.ensures.front_len
+    c.args.b
+    c.part.result.now
+    c.part.ensures
+    c.requires.b
+
+pub returns : goal.returns
+returns c =
+    target_replaced c.args.words.now c.split_at_mut-front.result.0.now c.split_at_mut-front.result.1.now c.split_at_mut-target.result.0.now c.split_at_mut-target.result.1.now c.args.out c.args.n
+    c.split_at_mut-front.ensures.value
+    c.split_at_mut-target.ensures.value
+    c.split_at_mut-front.ensures.front_len
+    c.split_at_mut-target.ensures.front_len
+    c.minus_sv.new.out _ c.minus_sv.auto.out
+    (c.minus_sv.ensures ∙ ap (map (wrapping_sub c.args.minuend))
+    (part_is c.args.words.now c.split_at_mut-front.result.0.now c.split_at_mut-front.result.1.now c.split_at_mut-target.result.0.now c.split_at_mut-target.result.1.now c.args.out c.args.n
+    c.split_at_mut-front.ensures.value
+    c.split_at_mut-target.ensures.value
+    c.split_at_mut-front.ensures.front_len
+    c.split_at_mut-target.ensures.front_len
+    c.args.b
+    c.part.result.now
+    c.part.ensures))
