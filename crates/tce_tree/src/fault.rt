@@ -3,7 +3,7 @@ use std::alloc::AllocError;
 use tce_space::Name;
 
 /// Why an expression has no tree. Nodes are named by their numbers in postorder.
-#[derive(Clone, Copy, Debug, PartialEq, Eq)]
+#[derive(Clone, Copy)]
 pub enum TreeFault {
     /// The expression is a tensor or a constant.
     NoOperation,
