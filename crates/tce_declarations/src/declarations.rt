@@ -1,6 +1,6 @@
 //! Declared ranges, indexes and tensors.
 
-ghost use Rattle.std.specs.Prelude.{◌≡◌, ◌<◌, ◌≤◌, ◌++◌, ◌∷◌, [], None, All, length, IfOk, IfErr, IfSome, OnOk, IsTrue};
+ghost use Rattle.std.specs.Prelude.{◌≡◌, ◌<◌, ◌≤◌, ◌++◌, ◌∷◌, [], Err, None, All, length, IfOk, IfErr, IfSome, OnOk, IsTrue};
 ghost use Rattle.std.specs.List.{IsDistinct};
 ghost use Rattle.std.specs.Str.{bytes_eq};
 ghost use Rattle.tce_space.specs.Limits.{max_name_bytes, max_tensors};
@@ -83,6 +83,17 @@ fn place_of(tensors: &IndexMap<Name, Tensor>, name: &Name) -> Option<usize>
     ensures within { IfSome result (λ place. place < length tensors.now.entries) }
 {
     tensors.get_index_of(name)
+}
+
+/// Refuses a line, where the declarations in front of it end.
+fn refused(
+    _space: Space,
+    _tensors: IndexMap<Name, Tensor>,
+    fault: SpecFault,
+) -> Result<Declarations, SpecFault>
+    ensures { result ≡ Err fault }
+{
+    Err(fault)
 }
 
 impl Declarations {
@@ -181,7 +192,7 @@ impl Declarations {
     ///
     /// `NameTwice`, else `BadNumber`, else `LimitPassed`.
     pub fn with_range(
-        mut self,
+        self,
         line: u64,
         name: &[u8],
         extent: &[u8],
@@ -192,15 +203,18 @@ impl Declarations {
         ensures faultless { OnOk result (RangeFits line self.space name.now extent.now edge.entry) }
         ensures declared { IfOk result (DeclaresRange self name.now extent.now edge.entry) }
     {
-        declare_range(&mut self.space, line, name, extent, edge)?;
-        Ok(self)
+        let Declarations { mut space, tensors } = self;
+        match declare_range(&mut space, line, name, extent, edge) {
+            Ok(()) => Ok(Declarations { space, tensors }),
+            Err(fault) => refused(space, tensors, fault),
+        }
     }
 
     /// Declares indexes of a range, by their names.
     ///
     /// `NameTwice` also where a name stands twice on the line, else `UnknownName`, else `LimitPassed`.
     pub fn with_indexes(
-        mut self,
+        self,
         line: u64,
         range: &[u8],
         indexes: &[&[u8]],
@@ -211,8 +225,11 @@ impl Declarations {
         ensures faultless { OnOk result (IndexesFit line self.space range.now indexes.now) }
         ensures declared { IfOk result (DeclaresIndexes self range.now indexes.now) }
     {
-        declare_indexes(&mut self.space, line, range, indexes)?;
-        Ok(self)
+        let Declarations { mut space, tensors } = self;
+        match declare_indexes(&mut space, line, range, indexes) {
+            Ok(()) => Ok(Declarations { space, tensors }),
+            Err(fault) => refused(space, tensors, fault),
+        }
     }
 
     /// Declares a tensor, by its name and the names of its ranges, one for each dimension.
