@@ -236,7 +236,7 @@ impl Declarations {
     ///
     /// `NameTwice`, else `UnknownName`, else `LimitPassed` in the order of [`Limit`].
     pub fn with_tensor(
-        mut self,
+        self,
         line: u64,
         name: &[u8],
         ranges: &[&[u8]],
@@ -247,9 +247,16 @@ impl Declarations {
         ensures faultless { OnOk result (TensorFits line self name.now ranges.now) }
         ensures declared { IfOk result (λ d. d ≡ with_tensor self name.now (names ranges.now)) }
     {
-        let tensor = self.tensor_of_line(line, name, ranges)?;
-        keep(&mut self.tensors, tensor)?;
-        Ok(self)
+        let made = self.tensor_of_line(line, name, ranges);
+        let Declarations { space, mut tensors } = self;
+        let tensor = match made {
+            Ok(tensor) => tensor,
+            Err(fault) => return refused(space, tensors, fault),
+        };
+        match keep(&mut tensors, tensor) {
+            Ok(()) => Ok(Declarations { space, tensors }),
+            Err(_) => refused(space, tensors, SpecFault::Memory),
+        }
     }
 
     /// Declares a tensor by its name, which may be one that no line can declare, and the numbers of its ranges.
