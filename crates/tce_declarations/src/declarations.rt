@@ -85,14 +85,18 @@ fn place_of(tensors: &IndexMap<Name, Tensor>, name: &Name) -> Option<usize>
     tensors.get_index_of(name)
 }
 
+/// Ends declarations.
+fn ended(_space: Space, _tensors: IndexMap<Name, Tensor>) {}
+
 /// Refuses a line, where the declarations in front of it end.
 fn refused(
-    _space: Space,
-    _tensors: IndexMap<Name, Tensor>,
+    space: Space,
+    tensors: IndexMap<Name, Tensor>,
     fault: SpecFault,
 ) -> Result<Declarations, SpecFault>
     ensures { result ≡ Err fault }
 {
+    ended(space, tensors);
     Err(fault)
 }
 
@@ -261,7 +265,7 @@ impl Declarations {
 
     /// Declares a tensor by its name, which may be one that no line can declare, and the numbers of its ranges.
     pub fn with_tensor_over(
-        mut self,
+        self,
         name: Name,
         ranges: ArrayVec<u8, MAX_RANK>,
     ) -> Result<Declarations, AllocError>
@@ -273,7 +277,10 @@ impl Declarations {
           tensors = self.tensors ++ record { name = name.bytes; ranges = ranges.items } ∷ [];
         }) }
     {
-        let Ok(shape) = self.space.shape(&ranges) else {
+        let made = self.space.shape(&ranges);
+        let Declarations { space, mut tensors } = self;
+        let Ok(shape) = made else {
+            ended(space, tensors);
             return Err(AllocError);
         };
         let tensor = Tensor {
@@ -281,8 +288,13 @@ impl Declarations {
             ranges,
             shape,
         };
-        keep(&mut self.tensors, tensor)?;
-        Ok(self)
+        match keep(&mut tensors, tensor) {
+            Ok(()) => Ok(Declarations { space, tensors }),
+            Err(error) => {
+                ended(space, tensors);
+                Err(error)
+            }
+        }
     }
 
     /// Declares what a line says. A formula declares nothing.
