@@ -1,6 +1,6 @@
 //! Declared ranges, indexes and tensors.
 
-ghost use Rattle.std.specs.Prelude.{◌≡◌, ◌<◌, ◌≤◌, ◌++◌, ◌∷◌, [], None, All, length, IfOk, IfErr, IfSome, OnOk, IsTrue};
+ghost use Rattle.std.specs.Prelude.{◌≡◌, ◌<◌, ◌≤◌, ◌++◌, ◌∷◌, [], Err, None, All, length, IfOk, IfErr, IfSome, OnOk, IsTrue};
 ghost use Rattle.std.specs.List.{IsDistinct};
 ghost use Rattle.std.specs.Str.{bytes_eq};
 ghost use Rattle.tce_space.specs.Limits.{max_name_bytes, max_tensors};
@@ -83,6 +83,21 @@ fn place_of(tensors: &IndexMap<Name, Tensor>, name: &Name) -> Option<usize>
     ensures within { IfSome result (λ place. place < length tensors.now.entries) }
 {
     tensors.get_index_of(name)
+}
+
+/// Ends declarations.
+fn ended(_space: Space, _tensors: IndexMap<Name, Tensor>) {}
+
+/// Refuses a line, where the declarations in front of it end.
+fn refused(
+    space: Space,
+    tensors: IndexMap<Name, Tensor>,
+    fault: SpecFault,
+) -> Result<Declarations, SpecFault>
+    ensures { result ≡ Err fault }
+{
+    ended(space, tensors);
+    Err(fault)
 }
 
 impl Declarations {
@@ -181,7 +196,7 @@ impl Declarations {
     ///
     /// `NameTwice`, else `BadNumber`, else `LimitPassed`.
     pub fn with_range(
-        mut self,
+        self,
         line: u64,
         name: &[u8],
         extent: &[u8],
@@ -192,15 +207,18 @@ impl Declarations {
         ensures faultless { OnOk result (RangeFits line self.space name.now extent.now edge.entry) }
         ensures declared { IfOk result (DeclaresRange self name.now extent.now edge.entry) }
     {
-        declare_range(&mut self.space, line, name, extent, edge)?;
-        Ok(self)
+        let Declarations { mut space, tensors } = self;
+        match declare_range(&mut space, line, name, extent, edge) {
+            Ok(()) => Ok(Declarations { space, tensors }),
+            Err(fault) => refused(space, tensors, fault),
+        }
     }
 
     /// Declares indexes of a range, by their names.
     ///
     /// `NameTwice` also where a name stands twice on the line, else `UnknownName`, else `LimitPassed`.
     pub fn with_indexes(
-        mut self,
+        self,
         line: u64,
         range: &[u8],
         indexes: &[&[u8]],
@@ -211,15 +229,18 @@ impl Declarations {
         ensures faultless { OnOk result (IndexesFit line self.space range.now indexes.now) }
         ensures declared { IfOk result (DeclaresIndexes self range.now indexes.now) }
     {
-        declare_indexes(&mut self.space, line, range, indexes)?;
-        Ok(self)
+        let Declarations { mut space, tensors } = self;
+        match declare_indexes(&mut space, line, range, indexes) {
+            Ok(()) => Ok(Declarations { space, tensors }),
+            Err(fault) => refused(space, tensors, fault),
+        }
     }
 
     /// Declares a tensor, by its name and the names of its ranges, one for each dimension.
     ///
     /// `NameTwice`, else `UnknownName`, else `LimitPassed` in the order of [`Limit`].
     pub fn with_tensor(
-        mut self,
+        self,
         line: u64,
         name: &[u8],
         ranges: &[&[u8]],
@@ -230,14 +251,21 @@ impl Declarations {
         ensures faultless { OnOk result (TensorFits line self name.now ranges.now) }
         ensures declared { IfOk result (λ d. d ≡ with_tensor self name.now (names ranges.now)) }
     {
-        let tensor = self.tensor_of_line(line, name, ranges)?;
-        keep(&mut self.tensors, tensor)?;
-        Ok(self)
+        let made = self.tensor_of_line(line, name, ranges);
+        let Declarations { space, mut tensors } = self;
+        let tensor = match made {
+            Ok(tensor) => tensor,
+            Err(fault) => return refused(space, tensors, fault),
+        };
+        match keep(&mut tensors, tensor) {
+            Ok(()) => Ok(Declarations { space, tensors }),
+            Err(_) => refused(space, tensors, SpecFault::Memory),
+        }
     }
 
     /// Declares a tensor by its name, which may be one that no line can declare, and the numbers of its ranges.
     pub fn with_tensor_over(
-        mut self,
+        self,
         name: Name,
         ranges: ArrayVec<u8, MAX_RANK>,
     ) -> Result<Declarations, AllocError>
@@ -249,7 +277,10 @@ impl Declarations {
           tensors = self.tensors ++ record { name = name.bytes; ranges = ranges.items } ∷ [];
         }) }
     {
-        let Ok(shape) = self.space.shape(&ranges) else {
+        let made = self.space.shape(&ranges);
+        let Declarations { space, mut tensors } = self;
+        let Ok(shape) = made else {
+            ended(space, tensors);
             return Err(AllocError);
         };
         let tensor = Tensor {
@@ -257,8 +288,13 @@ impl Declarations {
             ranges,
             shape,
         };
-        keep(&mut self.tensors, tensor)?;
-        Ok(self)
+        match keep(&mut tensors, tensor) {
+            Ok(()) => Ok(Declarations { space, tensors }),
+            Err(error) => {
+                ended(space, tensors);
+                Err(error)
+            }
+        }
     }
 
     /// Declares what a line says. A formula declares nothing.

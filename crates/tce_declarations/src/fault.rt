@@ -5,7 +5,7 @@ use tce_space::Name;
 use tce_tree::TreeFault;
 
 /// A limit that a line passes.
-#[derive(Clone, Copy, PartialEq, Eq)]
+#[derive(Clone, Copy)]
 pub enum Limit {
     /// There are 16 ranges.
     Ranges,
@@ -22,7 +22,7 @@ pub enum Limit {
 }
 
 /// Why a text is no specification. The first number of a fault is that of its line, from 1.
-#[derive(Clone, Copy, PartialEq, Eq)]
+#[derive(Clone, Copy)]
 pub enum SpecFault {
     /// The text has more than 65,536 bytes.
     TooLong,

@@ -1,6 +1,6 @@
 //! The lines of a text up to its formula, and behind it.
 
-ghost use Rattle.std.specs.Prelude.{◌≡◌, ◌+◌, ◌-◌, ◌<◌, ◌≤◌, ◌^◌, List, ◌∷◌, map, Ok, IfOk, IfErr, Option, Result, length, drop};
+ghost use Rattle.std.specs.Prelude.{◌≡◌, ◌+◌, ◌-◌, ◌<◌, ◌≤◌, ◌^◌, List, ◌∷◌, map, Ok, Err, IfOk, IfErr, Option, Result, length, drop};
 ghost use Rattle.tce_space.specs.Limits.{max_spec_bytes};
 ghost use Rattle.tce_grammar.specs.Code.{line as line_view};
 ghost use Rattle.tce_grammar.specs.Lines.{lines};
@@ -48,6 +48,13 @@ fn read_named<'a>(alloc: Global, text: &'a [u8]) -> Result<Line<'a>, AllocError>
     read_line(alloc, text)
 }
 
+/// Refuses a line, where the declarations in front of it end.
+fn refused<'a>(_declarations: Declarations, fault: SpecFault) -> Result<Read<'a>, SpecFault>
+    ensures { result ≡ Err fault }
+{
+    Err(fault)
+}
+
 /// Reads a line behind some declarations, with the text behind it.
 fn read_first<'a>(
     alloc: Global,
@@ -61,15 +68,17 @@ fn read_first<'a>(
     ensures fault { IfErr result (ShowsFirst line declarations first.now) }
     ensures place { IfOk result (StandsAt line rest.now) }
 {
-    match read_named(alloc, first)? {
-        Line::Skipped => Ok(Read::Declared(declarations)),
-        Line::Bad => Err(SpecFault::BadText(line)),
-        Line::Says(
-            Statement::Formula {
-                result,
-                indexes,
-                formula,
-            },
+    match read_named(alloc, first) {
+        Ok(Line::Skipped) => Ok(Read::Declared(declarations)),
+        Ok(Line::Bad) => refused(declarations, SpecFault::BadText(line)),
+        Ok(
+            Line::Says(
+                Statement::Formula {
+                    result,
+                    indexes,
+                    formula,
+                },
+            ),
         ) => Ok(Read::Formula(Head {
             declarations,
             line,
@@ -78,7 +87,8 @@ fn read_first<'a>(
             formula,
             rest,
         })),
-        Line::Says(said) => Ok(Read::Declared(declarations.declare(line, &said)?)),
+        Ok(Line::Says(said)) => Ok(Read::Declared(declarations.declare(line, &said)?)),
+        Err(_) => refused(declarations, SpecFault::Memory),
     }
 }
 

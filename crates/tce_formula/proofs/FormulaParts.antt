@@ -1,5 +1,5 @@
 -- The parts of the fault of a formula line.
-use Rattle.std.proofs.Common.{◌≡◌, ℕ, ◌≤◌, List, [], ◌∷◌, length, Bool, true, false, not, ◌==◌, Option, Some, None, refl, ap, ◌∙◌, nat_lt, arith}
+use Rattle.std.proofs.Common.{◌≡◌, ℕ, ◌≤◌, List, [], ◌∷◌, length, Bool, true, false, not, ◌==◌, Option, Some, None, refl, sym, ap, subst, ◌∙◌, nat_lt, arith}
 use Rattle.std.specs.Prelude.{option_map, is_none}
 use Rattle.std.specs.Option.{option_or}
 use Rattle.std.specs.List.{list_all}
@@ -18,6 +18,9 @@ use Rattle.tce_formula.specs.Meaning.{meaning, indexes_of, tensor_of}
 use Rattle.tce_formula.specs.Rules.{places_fault, tree_fault}
 use Rattle.tce_formula.specs.Lengths.{IsShort}
 use Rattle.tce_formula.specs.Contraction.{IsContraction}
+use Rattle.tce_declarations.specs.FaultCode.{Shows}
+use Rattle.tce_declarations.specs.declared.fault.SpecFault.{SpecFault}
+use Rattle.tce_formula.proofs.ShownFaults.{shown_1}
 use Rattle.tce_formula.proofs.Nothing.{none_or, none_mapped, none_found}
 use Rattle.tce_formula.proofs.DistinctNames.{distinct_numbers, numbers_below}
 use Rattle.tce_formula.proofs.Faultless.{same_operations, indexes_declared, sums_once, short_leaf, short_formula, fits_tensor, leaves_fit, not_operand, sums_listed}
@@ -147,3 +150,18 @@ only_tree line d result indexes f few none =
     fault_parts line d result indexes f
     ∙ ap (λ b. option_or (fault_if b (too_many_nodes line)) (option_or (places_fault line d result indexes f) (tree_fault line d indexes f))) few
     ∙ ap (λ o. option_or o (tree_fault line d indexes f)) none
+
+-- the fault of a line of few operations is that at its places, if there is one
+pub shown_places : (line : ℕ) (d : Declarations) (result : List ℕ) (indexes : List (List ℕ)) (f : Formula) → nat_lt 32 (operations f) ≡ false
+    → (fault : SpecFault) → Shows (places_fault line d result indexes f) fault → Shows (formula_fault line d result indexes f) fault
+shown_places line d result indexes f few fault shown =
+    let parts : formula_fault line d result indexes f ≡ option_or (places_fault line d result indexes f) (tree_fault line d indexes f) =
+    fault_parts line d result indexes f
+    ∙ ap (λ b. option_or (fault_if b (too_many_nodes line)) (option_or (places_fault line d result indexes f) (tree_fault line d indexes f))) few in
+    subst (λ (found : Option Fault). Shows found fault) (sym parts) (shown_1 (places_fault line d result indexes f) (tree_fault line d indexes f) fault shown)
+
+pub too_many : (line : ℕ) (d : Declarations) (result : List ℕ) (indexes : List (List ℕ)) (f : Formula) → nat_lt 32 (operations f) ≡ true
+    → formula_fault line d result indexes f ≡ Some (too_many_nodes line)
+too_many line d result indexes f many =
+    fault_parts line d result indexes f
+    ∙ ap (λ b. option_or (fault_if b (too_many_nodes line)) (option_or (places_fault line d result indexes f) (tree_fault line d indexes f))) many

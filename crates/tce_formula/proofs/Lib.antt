@@ -8,3 +8,4 @@ pub mod Root
 pub mod FormulaParts
 pub mod LineNames
 pub mod ExampleFaults
+pub mod ShownFaults

@@ -100,3 +100,42 @@ sum_by_parts enclosed ts =
     let listed : (list : List Token) → ((names_at 125 list >>= λ names. behind 40 names.1 >>= λ operand. Some (names.0, operand)) >>= whole) ≡ (names_at 125 list >>= λ names. behind 40 names.1 >>= λ operand. whole (names.0, operand)) =
     λ list. bound_twice (names_at 125 list) (λ names. behind 40 names.1 >>= λ operand. Some (names.0, operand)) whole ∙ (λ i. names_at 125 list >>= λ names. opened names i) in
     sym (bound_twice (behind 123 ts) (λ list. names_at 125 list >>= λ names. behind 40 names.1 >>= λ operand. Some (names.0, operand)) whole ∙ (λ i. behind 123 ts >>= λ list. listed list i))
+
+-- an operator, and behind it no operand
+pub chained_lost : (operator : Token → Option Arithmetic) (operand : List Token → Reads Formula) (ts : List Token) (f : Formula) (o : Arithmetic) (us behind : List Token)
+    → IsChained operator operand ts f us → Some (o, behind) ≡ ahead operator us → operand behind ≡ None → chain_at operator operand ts ≡ None
+chained_lost operator operand ts f o us behind c is read =
+    let a : (t : Token) × (us ≡ t ∷ behind) × (operator t ≡ Some o) = ahead_some operator us o behind (sym is) in
+    chained_fails operator operand ts f o a.0 behind (subst (λ (vs : List Token). IsChained operator operand ts f vs) a.1 c) a.2 read
+
+above_zero : (n : ℕ) → (n ≡ 0 → ⊥) → 0 < n
+above_zero zero h = absurd (h refl)
+above_zero (suc n) h = omega arith
+
+-- what is enclosed, by the formula in it and the parenthesis behind that
+pub enclosed_lost : (n : ℕ) (ts : List Token) → (n ≡ 0 → ⊥) → formula_within (n - 1) ts ≡ None → enclosed_within n ts ≡ None
+enclosed_lost n ts h e = enclosed_some n ts (above_zero n h) ∙ ap (λ (m : Reads Formula). m >>= λ r. behind 41 r.1 >>= λ rest. Some (r.0, rest)) e
+
+-- a formula that was enclosed, where the parenthesis behind it was read
+abbrev pub enclosed_end : Formula → Option (List Token) → Reads Formula
+enclosed_end f read = read >>= λ after. Some (f, after)
+
+pub enclosed_behind : (n : ℕ) (ts rest : List Token) (f : Formula) → (n ≡ 0 → ⊥) → formula_within (n - 1) ts ≡ Some (f, rest)
+    → enclosed_within n ts ≡ enclosed_end f (behind 41 rest)
+enclosed_behind n ts rest f h e = enclosed_some n ts (above_zero n h) ∙ ap (λ (m : Reads Formula). m >>= λ r. behind 41 r.1 >>= λ rest. Some (r.0, rest)) e
+
+-- a sum, by its indexes and what is enclosed behind them
+pub sum_lost : (enclosed : List Token → Reads Formula) (ts : List Token) → summed_at ts ≡ None → sum_at enclosed ts ≡ None
+sum_lost enclosed ts e = sum_by_parts enclosed ts ∙ ap (λ (m : Reads (List (List ℕ))). m >>= λ names. enclosed names.1 >>= λ r. Some (sum names.0 r.0, r.1)) e
+
+pub sum_behind : (enclosed : List Token → Reads Formula) (ts rest : List Token) (names : List (List ℕ)) → summed_at ts ≡ Some (names, rest)
+    → sum_at enclosed ts ≡ (enclosed rest >>= λ r. Some (sum names r.0, r.1))
+sum_behind enclosed ts rest names e = sum_by_parts enclosed ts ∙ ap (λ (m : Reads (List (List ℕ))). m >>= λ names. enclosed names.1 >>= λ r. Some (sum names.0 r.0, r.1)) e
+
+pub sum_unenclosed : (enclosed : List Token → Reads Formula) (ts rest : List Token) (names : List (List ℕ)) → summed_at ts ≡ Some (names, rest)
+    → enclosed rest ≡ None → sum_at enclosed ts ≡ None
+sum_unenclosed enclosed ts rest names e none = sum_behind enclosed ts rest names e ∙ ap (λ (m : Reads Formula). m >>= λ r. Some (sum names r.0, r.1)) none
+
+pub sum_whole : (enclosed : List Token → Reads Formula) (ts rest after : List Token) (names : List (List ℕ)) (f : Formula) → summed_at ts ≡ Some (names, rest)
+    → enclosed rest ≡ Some (f, after) → sum_at enclosed ts ≡ Some (sum names f, after)
+sum_whole enclosed ts rest after names f e whole = sum_behind enclosed ts rest names e ∙ ap (λ (m : Reads Formula). m >>= λ r. Some (sum names r.0, r.1)) whole

@@ -1,3 +1,4 @@
+pub mod Failures
 pub mod Formulas
 pub mod Sound
 pub mod Statements
@@ -12,3 +13,4 @@ pub mod Printed
 pub mod WrittenForms
 pub mod CanonicalLines
 pub mod ExampleReadings
+pub mod Sides

@@ -1,6 +1,6 @@
 -- Reading the statement of a line from its tokens, from the left. The contracts inside this crate speak of these
 -- functions; the laws say that what they read is what the grammar says, and nothing else.
-use Rattle.std.specs.Prelude.{◌≡◌, ℕ, zero, suc, ◌==◌, ◌&&◌, if◌then◌else◌, List, [], ◌∷◌, length, codes, Option, option_map, max}
+use Rattle.std.specs.Prelude.{◌≡◌, ℕ, zero, suc, ◌==◌, if◌then◌else◌, List, [], ◌∷◌, length, codes, Option, option_map, max}
 use Rattle.std.specs.declared.option.Option.TheVariants.{Some, None}
 use Rattle.std.specs.Str.{bytes_eq}
 use Rattle.std.specs.List.{prefix_len}
@@ -165,6 +165,10 @@ index_of _ = None
 abbrev pub declaration_of : List Token → Option Statement
 declaration_of (word name ∷ ts) = if is_name name then option_map (declaration name) (whole (brackets_at ts)) else None
 declaration_of _ = None
+
+-- what stands behind the left side of a formula: the sign, and no more than an expression
+abbrev pub right_side_of : List Token → Option Formula
+right_side_of ts = behind 61 ts >>= λ rest. whole (formula_within 64 rest)
 
 abbrev pub formula_of : List ℕ → List Token → Option Statement
 formula_of name ts =

@@ -1,12 +1,13 @@
-ghost use Rattle.std.specs.Prelude.{◌≡◌, IfOk};
-ghost use Rattle.tce_grammar.specs.Code.{line, IsOnlyLine};
+ghost use Rattle.std.specs.Prelude.{◌≡◌, map, Some, IfOk};
+ghost use Rattle.tce_grammar.specs.Code.{line, token, IsOnlyLine};
 ghost use Rattle.tce_grammar.specs.Grammar.{IsLine};
 ghost use Rattle.tce_grammar.specs.Grammar as grammar;
-ghost use Rattle.tce_grammar.specs.Reading.{line_of};
+ghost use Rattle.tce_grammar.specs.Reading.{line_of, line_of_tokens};
 
 use crate::lines::without_comment;
 use crate::read_error::ReadError;
 use crate::statement::{Statement, read_statement};
+use crate::token::Token;
 use crate::tokenizer::tokens;
 use std::alloc::{AllocError, Global};
 
@@ -35,15 +36,21 @@ pub fn read_line<'a>(alloc: Global, text: &'a [u8]) -> Result<Line<'a>, AllocErr
 fn read_tokens<'a>(alloc: Global, text: &'a [u8]) -> Result<Line<'a>, AllocError>
     ensures { IfOk result (λ read. line read ≡ line_of text.now) }
 {
-    let found = match tokens(alloc, without_comment(text)) {
-        Ok(found) => found,
-        Err(ReadError::Form) => return Ok(Line::Bad),
-        Err(ReadError::Memory) => return Err(AllocError),
-    };
-    if found.is_empty() {
+    match tokens(alloc, without_comment(text)) {
+        Ok(found) => line_said(alloc, found.as_slice()),
+        Err(ReadError::Form) => Ok(Line::Bad),
+        Err(ReadError::Memory) => Err(AllocError),
+    }
+}
+
+/// The line of these tokens.
+fn line_said<'a>(alloc: Global, tokens: &[Token<'a>]) -> Result<Line<'a>, AllocError>
+    ensures { IfOk result (λ read. line read ≡ line_of_tokens (Some (map token tokens.now))) }
+{
+    if tokens.is_empty() {
         return Ok(Line::Skipped);
     }
-    match read_statement(alloc, found.as_slice()) {
+    match read_statement(alloc, tokens) {
         Ok(statement) => Ok(Line::Says(statement)),
         Err(ReadError::Form) => Ok(Line::Bad),
         Err(ReadError::Memory) => Err(AllocError),

@@ -1,8 +1,9 @@
 //! The four forms of a line.
 
-ghost use Rattle.std.specs.Prelude.{◌≡◌, ◌<◌, ℕ, length, map, option_map, IfOk, codes};
+ghost use Rattle.std.specs.Prelude.{◌≡◌, ◌<◌, ◌∷◌, ℕ, length, map, option_map, IfOk, codes};
 ghost use Rattle.tce_grammar.specs.Code.{Gives, token, names, formula, text_if_some, statement};
-ghost use Rattle.tce_grammar.specs.Reading.{edge_of, range_of, index_of, all_names, declaration_of, formula_of, statement_of};
+ghost use Rattle.tce_grammar.specs.Reading.{edge_of, range_of, index_of, all_names, declaration_of, formula_of, statement_of, right_side_of};
+ghost use Rattle.tce_grammar.specs.Tokens.{word};
 
 use crate::formula::Formula;
 use crate::name::{INDEX, RANGE, TENSOR, TILE};
@@ -121,6 +122,19 @@ fn read_tensor<'a>(alloc: Global, tokens: &[Token<'a>]) -> Result<Statement<'a>,
     }
 }
 
+/// What a formula says of its result: `=`, and behind it no more than an expression.
+fn right_side<'a>(alloc: Global, tokens: &[Token<'a>]) -> Result<Formula<'a>, ReadError>
+    ensures { Gives formula result (right_side_of (map token tokens.now)) }
+{
+    let tokens = behind(b'=', tokens).ok_or(ReadError::Form)?;
+    let (formula, rest) = expression(alloc, OPEN_LIMIT, tokens)?;
+    if rest.is_empty() {
+        Ok(formula)
+    } else {
+        Err(ReadError::Form)
+    }
+}
+
 /// The formula, behind the name of its result.
 fn read_formula<'a>(
     alloc: Global,
@@ -133,16 +147,30 @@ fn read_formula<'a>(
         return Err(ReadError::Form);
     }
     let (indexes, rest) = brackets(alloc, tokens)?;
-    let rest = behind(b'=', rest).ok_or(ReadError::Form)?;
-    let (formula, rest) = expression(alloc, OPEN_LIMIT, rest)?;
-    if rest.is_empty() {
-        Ok(Statement::Formula {
-            result: result_name,
-            indexes,
-            formula,
-        })
+    Ok(Statement::Formula {
+        result: result_name,
+        indexes,
+        formula: right_side(alloc, rest)?,
+    })
+}
+
+/// The statement that begins with this word.
+#[tactic(auto, unfolding(crate::specs::Reading::statement_of))]
+fn read_behind<'a>(
+    alloc: Global,
+    first: &'a [u8],
+    rest: &[Token<'a>],
+) -> Result<Statement<'a>, ReadError>
+    ensures { Gives statement result (statement_of (word first.now ∷ map token rest.now)) }
+{
+    if first == RANGE {
+        read_range(rest)
+    } else if first == INDEX {
+        read_index(alloc, rest)
+    } else if first == TENSOR {
+        read_tensor(alloc, rest)
     } else {
-        Err(ReadError::Form)
+        read_formula(alloc, first, rest)
     }
 }
 
@@ -155,10 +183,7 @@ pub(crate) fn read_statement<'a>(
     ensures { Gives statement result (statement_of (map token tokens.now)) }
 {
     match tokens {
-        [Token::Word(word), rest @ ..] if *word == RANGE => read_range(rest),
-        [Token::Word(word), rest @ ..] if *word == INDEX => read_index(alloc, rest),
-        [Token::Word(word), rest @ ..] if *word == TENSOR => read_tensor(alloc, rest),
-        [Token::Word(word), rest @ ..] => read_formula(alloc, *word, rest),
+        [Token::Word(first), rest @ ..] => read_behind(alloc, *first, rest),
         _ => Err(ReadError::Form),
     }
 }

@@ -10,3 +10,4 @@ pub mod OrderTests
 pub mod Values
 pub mod Conditions
 pub mod Operands
+pub mod Appended

@@ -1,12 +1,12 @@
 -- Worked trees, with what the definitions give for them.
-use Rattle.std.specs.Prelude.{◌≡◌, ℕ, ◌+◌, ◌-◌, ◌*◌, ◌^◌, Option, None, Some, List, [], ◌∷◌, map, slice_index, slice_index_or, codes}
+use Rattle.std.specs.Prelude.{◌≡◌, ℕ, ◌-◌, ◌^◌, None, Some, List, [], ◌∷◌, map, slice_index, slice_index_or, codes}
 use Rattle.std.specs.List.{range_with_len}
 use Rattle.tce_space.specs.Box.{place, places}
 use Rattle.tce_space.specs.IndexSet.{set_of}
 use Rattle.tce_space.specs.Space.{IndexSpace}
 use Rattle.tce_tree.specs.ContractionTree.{ContractionTree, leaf, constant, binary, sum, multiply, add, subtract, nodes, operations, node_dims, node_loops, parent}
 use Rattle.tce_tree.specs.Value.{Elements, assignment, value}
-use Rattle.tce_tree.specs.Faults.{Fault, no_operation, sum_over_absent, too_many_loops, volume_too_large, fault_of}
+use Rattle.tce_tree.specs.Faults.{no_operation, sum_over_absent, too_many_loops, volume_too_large, fault_of}
 
 -- `A[i] * B[j]`, over the indexes i, j
 abbrev pub outer_product : ContractionTree
