@@ -3,7 +3,6 @@ use Rattle.std.proofs.Common.{◌≡◌, ℕ, zero, suc, replicate, ◌+◌, ◌
 use mathlib.Core.Path.{fun_ext}
 use Rattle.std.proofs.lemmas.Bool.{false≢true}
 use Rattle.std.proofs.lemmas.List.{get_or_default, set-get_or}
-use Rattle.tce_outside.specs.Fault.{HasCause, TellsFaults}
 use Rattle.tce_space.specs.Space.{IndexSpace, extent_at}
 use Rattle.tce_tree.specs.ContractionTree.{ContractionTree, multiply, add, subtract}
 use Rattle.tce_tree.specs.Value.{Assignment}
@@ -167,16 +166,6 @@ pub past-end : (space : IndexSpace) (tree : ContractionTree) (s : Setting) (ops 
     → length ops ≤ at → start ≤ at → at ≤ length ops → IsLeft space tree s ops start at a before now t u → IsEnd ops start at
 past-end space tree s ops start at a before now t u l behind within h =
     record { ends = ends-past ops start at l h.others; behind = behind; within = within }
-
--- faults of a later machine, where none came before
-pub cause-since : (first middle last : ℕ) (failed : Type 0) → middle ≡ first → HasCause middle last failed → HasCause first last failed
-cause-since first middle last failed same h = subst (λ n. HasCause n last failed) same h
-
-pub told-since : (first middle last : ℕ) (failed : Type 0) → middle ≡ first → TellsFaults middle last failed → TellsFaults first last failed
-told-since first middle last failed same h = subst (λ n. TellsFaults n last failed) same h
-
-pub no-cause : (first last : ℕ) (failed : Type 0) → last ≡ first → (failed → ⊥) → HasCause first last failed
-no-cause first last failed same none = record { later = omega (arith, same); rose = λ f. absurd (none f) }
 
 -- setting a number again, and back
 pub set-next : (numbers mid now : List ℕ) (i x y : ℕ) → mid ≡ set numbers i y → now ≡ set mid i x → now ≡ set numbers i x

@@ -1,6 +1,7 @@
 use Rattle.std.proofs.Common.{◌≡◌, ◌+◌, ◌-◌, ◌<◌, length, get_or, set, refl, sym, ap, ◌∙◌, subst, arith, rules}
 use Rattle.std.proofs.lemmas.Bool.{false≢true}
 use Rattle.std.proofs.lemmas.Result.{err_from_is_err_and}
+use Rattle.tce_outside.specs.Fault.{Rose}
 use Rattle.tce_space.specs.Space.{extent_at}
 use Rattle.tce_code.specs.Program.{stop, loop}
 use Rattle.tce_code.specs.declared.op.Op.TheVariants.{Open}
@@ -10,7 +11,7 @@ use Rattle.tce_walk.specs.Run.{RunsOver, IsPart, IsRun}
 use Rattle.tce_walk.proofs.Turns.{IsIndex, AreTurns, loop-index, assignment-set, set-again, turn-part, turn-few, turns-none, turns-next, turns-all}
 use Rattle.tce_walk.proofs.TailParts.{part-shaped, tail-asks, tail-few, tail-run}
 use Rattle.tce_walk.proofs.Positions.{left-start}
-use Rattle.tce_walk.proofs.Walking.{over-later, over-part, over-extents, plain-is, plain-part, plain-rest, plain-few, plain-left, open-part, open-few, open-rest, open-left, set-next, set-back, close-run, close-end, past-run, past-end, cause-since, told-since, no-cause}
+use Rattle.tce_walk.proofs.Walking.{over-later, over-part, over-extents, plain-is, plain-part, plain-rest, plain-few, plain-left, open-part, open-few, open-rest, open-left, set-next, set-back, close-run, close-end, past-run, past-end}
 use Rattle.tce_walk.proofs.running.+walking.Goals as goal
 
 pub run_loop-find_tail-requires-clause-shaped : goal.run_loop-find_tail-requires-clause-shaped
@@ -337,7 +338,7 @@ run_part-returns-in-Close g t c = record {
       (g.M.Machine.state c.args.machine.now) (g.M.Machine.state c.loop-at.machine) (g.M.Machine.touches c.args.machine.now) (g.M.Machine.touches c.loop-at.machine)
       c.loop-at-test.true c.in-Close.is c.loop-at.invariant.behind c.loop-at.invariant.left;
   numbers = c.loop-at.invariant.numbers_same;
-  cause = no-cause (g.M.Machine.faults c.args.machine.now) (g.M.Machine.faults c.loop-at.machine) _ c.loop-at.invariant.counted (λ f. false≢true f);
+  cause = record { later = omega (arith, c.loop-at.invariant.counted); rose = λ f. absurd (false≢true f) };
   told = λ none. c.loop-at.invariant.counted;
   space = c.loop-at.invariant.space;
   setting = c.loop-at.invariant.setting;
@@ -352,8 +353,8 @@ run_part-returns-in_err-close-in-Open g t c =
       run = tt;
       end = tt;
       numbers = tt;
-      cause = cause-since (g.M.Machine.faults c.args.machine.now) (g.M.Machine.faults c.loop-at.machine) (g.M.Machine.faults c.run_loop.new.machine) _ c.loop-at.invariant.counted c.in_err-close-in-Open.ensures.cause;
-      told = told-since (g.M.Machine.faults c.args.machine.now) (g.M.Machine.faults c.loop-at.machine) (g.M.Machine.faults c.run_loop.new.machine) _ c.loop-at.invariant.counted c.in_err-close-in-Open.ensures.told;
+      cause = record { later = omega (arith, c.loop-at.invariant.counted, c.in_err-close-in-Open.ensures.cause.later); rose = λ f. subst (λ n. Rose n (g.M.Machine.faults c.run_loop.new.machine)) c.loop-at.invariant.counted (c.in_err-close-in-Open.ensures.cause.rose f) };
+      told = λ none. c.in_err-close-in-Open.ensures.told none ∙ c.loop-at.invariant.counted;
       space = c.run_loop.ensures.space ∙ c.loop-at.invariant.space;
       setting = c.run_loop.ensures.setting ∙ c.loop-at.invariant.setting;
       kept = g.met.M.Machine.keeps_on c.args.machine.now c.loop-at.machine c.run_loop.new.machine c.loop-at.invariant.kept c.run_loop.ensures.kept;
@@ -367,8 +368,8 @@ run_part-returns-in_err-run_action-in_default g t c =
       run = tt;
       end = tt;
       numbers = tt;
-      cause = cause-since (g.M.Machine.faults c.args.machine.now) (g.M.Machine.faults c.loop-at.machine) (g.M.Machine.faults c.run_action.new.machine) _ c.loop-at.invariant.counted c.in_err-run_action-in_default.ensures.cause;
-      told = told-since (g.M.Machine.faults c.args.machine.now) (g.M.Machine.faults c.loop-at.machine) (g.M.Machine.faults c.run_action.new.machine) _ c.loop-at.invariant.counted c.in_err-run_action-in_default.ensures.told;
+      cause = record { later = omega (arith, c.loop-at.invariant.counted, c.in_err-run_action-in_default.ensures.cause.later); rose = λ f. subst (λ n. Rose n (g.M.Machine.faults c.run_action.new.machine)) c.loop-at.invariant.counted (c.in_err-run_action-in_default.ensures.cause.rose f) };
+      told = λ none. c.in_err-run_action-in_default.ensures.told none ∙ c.loop-at.invariant.counted;
       space = c.run_action.ensures.space ∙ c.loop-at.invariant.space;
       setting = c.run_action.ensures.setting ∙ c.loop-at.invariant.setting;
       kept = g.met.M.Machine.keeps_on c.args.machine.now c.loop-at.machine c.run_action.new.machine c.loop-at.invariant.kept c.run_action.ensures.kept;
@@ -386,7 +387,7 @@ run_part-returns g t c = record {
       (g.M.Machine.state c.args.machine.now) (g.M.Machine.state c.loop-at.machine) (g.M.Machine.touches c.args.machine.now) (g.M.Machine.touches c.loop-at.machine)
       c.loop-at-test.false c.loop-at.invariant.behind c.loop-at.invariant.within c.loop-at.invariant.left;
   numbers = c.loop-at.invariant.numbers_same;
-  cause = no-cause (g.M.Machine.faults c.args.machine.now) (g.M.Machine.faults c.loop-at.machine) _ c.loop-at.invariant.counted (λ f. false≢true f);
+  cause = record { later = omega (arith, c.loop-at.invariant.counted); rose = λ f. absurd (false≢true f) };
   told = λ none. c.loop-at.invariant.counted;
   space = c.loop-at.invariant.space;
   setting = c.loop-at.invariant.setting;
@@ -416,8 +417,8 @@ run_turns-returns-in_err-close-2 g t c =
       run = tt;
       end = tt;
       numbers = tt;
-      cause = cause-since (g.M.Machine.faults c.args.machine.now) (g.M.Machine.faults c.loop-x.machine) (g.M.Machine.faults c.run_part-in-loop-x.new.machine) _ c.loop-x.invariant.counted c.in_err-close-2.ensures.cause;
-      told = told-since (g.M.Machine.faults c.args.machine.now) (g.M.Machine.faults c.loop-x.machine) (g.M.Machine.faults c.run_part-in-loop-x.new.machine) _ c.loop-x.invariant.counted c.in_err-close-2.ensures.told;
+      cause = record { later = omega (arith, c.loop-x.invariant.counted, c.in_err-close-2.ensures.cause.later); rose = λ f. subst (λ n. Rose n (g.M.Machine.faults c.run_part-in-loop-x.new.machine)) c.loop-x.invariant.counted (c.in_err-close-2.ensures.cause.rose f) };
+      told = λ none. c.in_err-close-2.ensures.told none ∙ c.loop-x.invariant.counted;
       space = c.run_part-in-loop-x.ensures.space ∙ c.loop-x.invariant.space;
       setting = c.run_part-in-loop-x.ensures.setting ∙ c.loop-x.invariant.setting;
       kept = g.met.M.Machine.keeps_on c.args.machine.now c.loop-x.machine c.run_part-in-loop-x.new.machine c.loop-x.invariant.kept c.run_part-in-loop-x.ensures.kept;
@@ -446,7 +447,7 @@ pub run_turns-returns-clause-end : goal.run_turns-returns-clause-end
 run_turns-returns-clause-end g t c = c.loop-x.invariant.end
 
 pub run_turns-returns-clause-cause : goal.run_turns-returns-clause-cause
-run_turns-returns-clause-cause g t c = no-cause (g.M.Machine.faults c.args.machine.now) (g.M.Machine.faults c.loop-x.machine) _ c.loop-x.invariant.counted (λ f. false≢true f)
+run_turns-returns-clause-cause g t c = record { later = omega (arith, c.loop-x.invariant.counted); rose = λ f. absurd (false≢true f) }
 
 pub run_turns-returns-clause-told : goal.run_turns-returns-clause-told
 run_turns-returns-clause-told g t c = λ none. c.loop-x.invariant.counted
