@@ -1,9 +1,9 @@
 -- Candidates that stand for a state have entries in the groups of its upper parts.
-use Rattle.std.proofs.Common.{◌≡◌, ◌↔◌, ℕ, ◌+◌, ◌<◌, ◌≤◌, ◌%◌, ◌∙◌, Bool, inl, inr, sym, ap, subst, arith, List, [], ◌∷◌, ◌++◌, length, map, get_or, set, insert, replicate}
+use Rattle.std.proofs.Common.{◌≡◌, ◌↔◌, ℕ, ◌+◌, ◌<◌, ◌≤◌, ◌%◌, ◌∙◌, Bool, inl, inr, sym, ap, ap₂, subst, arith, List, [], ◌∷◌, ◌++◌, length, map, get_or, set, insert, replicate}
 use Rattle.std.specs.Prelude.{IsTrue}
 use Rattle.std.specs.List.{All, AllWithin, Any, Contains}
 use Rattle.std.proofs.lemmas.Bool.{cases_eq, cases_lt}
-use Rattle.std.proofs.lemmas.List.{length_push, length-map, get_or_append_left, get_or_push, get_or-set_same, get_or-set_other, length-set, map-set, get_or-map, get_or-replicate, get_or_past, length-replicate}
+use Rattle.std.proofs.lemmas.List.{length_push, length-map, get_or_append_left, get_or_push, get_or-set_same, get_or-set_other, length-set, map-set, get_or-map, get_or-replicate, get_or_past, length-replicate, map-append, replicate_more}
 use Rattle.std.proofs.lemmas.List.Elements.{All-contains, Contains-append_right, Contains-append_cases, Contains-push, Contains-push_cases, Contains-append_left, at_read}
 use Rattle.std.proofs.lemmas.List.Sorted.{IsPermutation-insert, IsPermutation-sym, Contains-permutation, IsNonDecreasingBy-insert}
 use Rattle.std.proofs.lemmas.Grind.{get_or_default_zero}
@@ -178,6 +178,15 @@ module _ (old : List (List Entry)) (number : ℕ) (entry : Entry) (more : List E
             subst (λ n. get_or lower n 0 ≤ e.cost) (sym is) (here e (subst (λ xs. Contains xs e) (get_or-set_same old number more [] low) at_number))
         | inr other ↦ omega (arith, below k, before.least k e (subst (λ xs. Contains xs e) (get_or-set_other old number k more [] other) inn))
       ]
+
+-- lists without entries, and one more of them
+pub none_yet : {X : Type 0} (lists : List X) (f : X → List Entry) → lists ≡ [] → map f lists ≡ []
+none_yet lists f is = ap (map f) is
+
+pub none_further : {X : Type 0} (old new : List X) (last : X) (f : X → List Entry) (n : ℕ) → new ≡ old ++ last ∷ [] → f last ≡ [] → map f old ≡ replicate {A = List Entry} n []
+    → map f new ≡ replicate {A = List Entry} (n + 1) []
+none_further old new last f n grown none before =
+    ap (map f) grown ∙ map-append f old (last ∷ []) ∙ ap₂ (λ (xs : List (List Entry)) x. xs ++ x ∷ []) before none ∙ replicate_more n []
 
 -- without entries
 pub leasts_of_none : (groups : List (List Entry)) (leasts : List ℕ) (count : ℕ) → 0 < count → groups ≡ replicate {A = List Entry} count [] → length leasts ≡ length groups → HaveLeasts groups leasts

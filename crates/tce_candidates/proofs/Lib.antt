@@ -1,3 +1,4 @@
+pub mod Adding
 pub mod Agreeing
 pub mod Bounding
 pub mod Covers

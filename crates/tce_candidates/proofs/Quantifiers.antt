@@ -64,6 +64,10 @@ AllPairs-last R xs y all k d low =
     subst (λ a. R a y) (get_or_append_left xs (y ∷ []) d k low)
     (subst (λ b. R (get_or (xs ++ y ∷ []) k d) b) (get_or_push xs y d (length xs) refl) there)
 
+-- nothing has pairs
+pub no_pairs : {X : Type 0} (R : X → X → Type 0) → AllPairs R []
+no_pairs R i j d order low = absurd (omega (arith, low))
+
 -- ---- the other order
 
 pub All-of_reversed : {X : Type 0} (P : X → Type 0) (xs : List X) → All P xs → All P (reverse xs)

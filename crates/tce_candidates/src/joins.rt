@@ -1,9 +1,9 @@
 // What the candidates of a node's operands are together, before a set is chosen for the node.
-ghost use Rattle.std.specs.Prelude.{◌≡◌, ◌⊎◌, ◌↔◌, ◌+◌, ◌<◌, ◌≤◌, length, IsTrue, IfOk, OnOk, All, AllPairs, Contains};
+ghost use Rattle.std.specs.Prelude.{◌≡◌, ◌⊎◌, ◌↔◌, ◌+◌, ◌<◌, ◌≤◌, [], length, IsTrue, IfOk, OnOk, All, AllPairs, Contains};
 ghost use Rattle.tce_space.specs.Limits.{max_loops};
 ghost use Rattle.tce_space.specs.IndexSet.{count};
 ghost use Rattle.tce_candidates.specs.Candidates.{StandForAll, IsLimited, LeavesRoom, HaveRoom};
-ghost use Rattle.tce_candidates.specs.Ends.{AreStarts, AreFor};
+ghost use Rattle.tce_candidates.specs.Ends.{AreStarts, AreFor, KnowsRuns};
 ghost use Rattle.tce_candidates.specs.Groups.{LeavesOpen};
 ghost use Rattle.tce_candidates.specs.Joins.{IsJoinBelow, IsSomeJoinBelow, JoinCovered, AreJoinable, RunCovered, AllCovered, HasGrownBy, HasNext};
 
@@ -104,6 +104,63 @@ fn add_joins(
     Ok(())
 }
 
+// Appends what each left candidate and the right ones are together, by the runs of these.
+fn add_joins_by_runs(
+    alloc: Global,
+    list: &mut CandidateList,
+    lefts: &[Candidate],
+    side: &Rights,
+    loops: IndexSet,
+) -> Result<(), AllocError>
+    requires loops { count loops ≤ max_loops }
+    requires outer { list.old.outer ≡ loops }
+    requires empty { list.old.candidates ≡ [] }
+    requires lefts { All IsLimited lefts.now }
+    requires rights { All IsLimited side.now.candidates.now }
+    requires room { HaveRoom lefts.now side.now.candidates.now }
+    requires runs { KnowsRuns loops side.now }
+    ensures outer { OnOk result (list.new.outer ≡ loops) }
+    ensures covered { OnOk result (All (λ left. All (JoinCovered side.now.limit loops list.new.candidates left) side.now.candidates.now) lefts.now) }
+    ensures joins { OnOk result (All (IsSomeJoinBelow side.now.limit loops lefts.now side.now.candidates.now) list.new.candidates) }
+    ensures later { OnOk result (AllPairs (LeavesOpen loops) list.new.candidates) }
+{
+    let mut starts = starts_of(alloc, side, loops, Ends::default(), 0)?;
+    for left in lefts {
+        starts = starts_for(alloc, starts, &left.row, side, loops)?;
+        add_joins(list, left, side, &starts)?;
+    }
+    Ok(())
+}
+
+// Appends what the operands' candidates are together.
+fn add_all_joins(
+    alloc: Global,
+    list: &mut CandidateList,
+    lefts: &[Candidate],
+    rights: &[Candidate],
+    loops: IndexSet,
+    limit: u128,
+) -> Result<(), AllocError>
+    requires loops { count loops ≤ max_loops }
+    requires outer { list.old.outer ≡ loops }
+    requires empty { list.old.candidates ≡ [] }
+    requires lefts { All IsLimited lefts.now }
+    requires rights { All IsLimited rights.now }
+    requires room { HaveRoom lefts.now rights.now }
+    ensures outer { OnOk result (list.new.outer ≡ loops) }
+    ensures covered { OnOk result (All (λ left. All (JoinCovered limit loops list.new.candidates left) rights.now) lefts.now) }
+    ensures joins { OnOk result (All (IsSomeJoinBelow limit loops lefts.now rights.now) list.new.candidates) }
+    ensures later { OnOk result (AllPairs (LeavesOpen loops) list.new.candidates) }
+{
+    let runs = runs_of(alloc, rights, loops)?;
+    let side = Rights {
+        candidates: rights,
+        runs: runs.as_slice(),
+        limit,
+    };
+    add_joins_by_runs(alloc, list, lefts, &side, loops)
+}
+
 /// What the operands' candidates are together, pair by pair: joined rows below the limit, so many that for each pair one of them is coarser on the node's loops and costs no more.
 ///
 /// Each set that may be fused above the joined rows of a pair may be fused above those that are coarser, and what that leaves is coarser too. So the choices of the node need be tried on these alone.
@@ -123,17 +180,6 @@ pub(crate) fn joins_of(
     ensures next { IfOk result (λ joins. All HasNext joins.items) }
 {
     let mut list = CandidateList::new(alloc, loops, lefts.len().saturating_add(rights.len()))?;
-    let runs = runs_of(alloc, rights, loops)?;
-    let side = Rights {
-        candidates: rights,
-        runs: runs.as_slice(),
-        limit,
-    };
-    let mut starts = starts_of(alloc, &side, loops, Ends::default(), 0)?;
-    for left in lefts {
-        starts = starts_for(alloc, starts, &left.row, &side, loops)?;
-        add_joins(&mut list, left, &side, &starts)?;
-    }
-    let joins = thinned(alloc, list)?;
-    Ok(joins)
+    add_all_joins(alloc, &mut list, lefts, rights, loops, limit)?;
+    thinned(alloc, list)
 }

@@ -1,5 +1,5 @@
 -- Steps along the classes of a nesting.
-use Rattle.std.proofs.Common.{◌≡◌, ℕ, suc, ◌+◌, ◌<◌, Bool, true, false, not, ◌&&◌, ◌||◌, ◌⊎◌, ◌↔◌, inl, inr, refl, arith, ◌∙◌, sym, ap, List, [], ◌∷◌, ◌++◌, length, get_or, drop}
+use Rattle.std.proofs.Common.{◌≡◌, ℕ, suc, ◌+◌, ◌<◌, Bool, true, false, not, ◌&&◌, ◌||◌, ◌⊎◌, ◌↔◌, inl, inr, refl, arith, ◌∙◌, sym, ap, subst, List, [], ◌∷◌, ◌++◌, length, get_or, drop}
 use Rattle.std.specs.Prelude.{IsTrue}
 use Rattle.std.proofs.Math.Seq.{drop-cons}
 use Rattle.std.proofs.lemmas.Bool.{cases_Bool, false≢true, both_ways, or_cases, or_parts, or_from, or_left, or_right, and_parts, and_from, not-true, not_from_false}
@@ -158,6 +158,21 @@ coarser_further below rest upper c cs r meet minus = (λ h. (λ i j. first h i j
             | inr later ↦ h.1 i j (minus i ∙ and_from (has below i) (not (has c i)) bi (not_from_false (has c i) fi)) rj later
           ]
         ]
+
+-- the same while the classes are gone through
+module _ (loops below rest upper c : ℕ) (cs later : List ℕ) (all r : Relation) (meet : (i : ℕ) → has upper i ≡ (has c i && has below i))
+    (minus : (i : ℕ) → has rest i ≡ (has below i && not (has c i))) (here : later ≡ c ∷ cs) (before : IsCoarser loops all r ↔ IsCoarser below (above later) r) where
+  pub coarser_next : AllAbove r upper rest → IsCoarser loops all r ↔ IsCoarser rest (above cs) r
+  coarser_next first =
+      let step = coarser_further below rest upper c cs r meet minus in (
+        λ h. (step.0 (subst (λ xs. IsCoarser below (above xs) r) here (before.0 h))).1,
+        λ h. before.1 (subst (λ xs. IsCoarser below (above xs) r) (sym here) (step.1 (first, h))),
+      )
+
+  pub coarser_never : (AllAbove r upper rest → ⊥) → IsCoarser loops all r → ⊥
+  coarser_never none h =
+      let step = coarser_further below rest upper c cs r meet minus in
+      none (step.0 (subst (λ xs. IsCoarser below (above xs) r) here (before.0 h))).0
 
 pub coarser_end : (below : ℕ) (r : Relation) → IsCoarser below (above []) r
 coarser_end below r i j bi bj x = absurd (false≢true x)

@@ -1,3 +1,4 @@
+pub mod ChoiceLists
 pub mod Classes
 pub mod Counts
 pub mod Joins

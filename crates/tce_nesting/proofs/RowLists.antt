@@ -1,6 +1,6 @@
 -- Lists of lists, as functions of the elements of another list show them.
-use Rattle.std.proofs.Common.{◌≡◌, ℕ, ◌<◌, List, [], ◌++◌, map, get_or, set, length, ◌∙◌, sym, ap}
-use Rattle.std.proofs.lemmas.List.{map-set, get_or-map}
+use Rattle.std.proofs.Common.{◌≡◌, ℕ, ◌+◌, ◌<◌, List, [], ◌∷◌, ◌++◌, ap₂, replicate, map, get_or, set, length, ◌∙◌, sym, ap}
+use Rattle.std.proofs.lemmas.List.{map-set, get_or-map, map-append, replicate_more}
 use Rattle.std.proofs.Math.Seq.{map-set_same}
 
 -- an element is replaced by one that shows the same
@@ -12,3 +12,9 @@ pub appended_at : {X Y : Type 0} (l : List X) (f : X → List Y) (i : ℕ) (old 
     → map f (set l i new) ≡ set (map f l) i (get_or (map f l) i [] ++ more)
 appended_at l f i old new more low is grown =
     map-set f l i new ∙ ap (set (map f l) i) (grown ∙ ap (λ xs. xs ++ more) (ap f is ∙ sym (get_or-map f l i old [] low)))
+
+-- one more element that shows nothing
+pub empty_further : {X Y : Type 0} (old new : List X) (last : X) (f : X → List Y) (n : ℕ) → new ≡ old ++ last ∷ [] → f last ≡ [] → map f old ≡ replicate {A = List Y} n []
+    → map f new ≡ replicate {A = List Y} (n + 1) []
+empty_further {X} {Y} old new last f n grown none before =
+    ap (map f) grown ∙ map-append f old (last ∷ []) ∙ ap₂ (λ (xs : List (List Y)) x. xs ++ x ∷ []) before none ∙ replicate_more n []

@@ -3,7 +3,6 @@ use Rattle.std.proofs.Common.{◌≡◌, ℕ, zero, suc, replicate, ◌+◌, ◌
 use mathlib.Core.Path.{fun_ext}
 use Rattle.std.proofs.lemmas.Bool.{false≢true}
 use Rattle.std.proofs.lemmas.List.{get_or_default, set-get_or}
-use Rattle.tce_outside.specs.Fault.{HasCause}
 use Rattle.tce_space.specs.Space.{IndexSpace, extent_at}
 use Rattle.tce_tree.specs.ContractionTree.{ContractionTree, multiply, add, subtract}
 use Rattle.tce_tree.specs.Value.{Assignment}
@@ -15,9 +14,9 @@ use Rattle.tce_code.specs.declared.op.Op.TheVariants.{Open, Close, Clear, Mul, A
 use Rattle.tce_walk.specs.Touches.{touch_bound}
 use Rattle.tce_walk.specs.Machine.{assignment_of}
 use Rattle.tce_walk.specs.Positions.{programs_at, program_at, EndsAt, IsPlain, plain_program}
-use Rattle.tce_walk.specs.Run.{zeros, IsCodeOf, RunsOver, IsPart, IsRun}
+use Rattle.tce_walk.specs.Run.{zeros, IsCodeOf, RunsOver, IsPart, IsRun, IsEnd}
 use Rattle.tce_walk.proofs.Searching.{program-loop}
-use Rattle.tce_walk.proofs.Positions.{programs-action, programs-loop, programs-within, IsLeft, left-plain, left-loop}
+use Rattle.tce_walk.proofs.Positions.{programs-action, programs-loop, programs-within, IsLeft, left-plain, left-loop, left-done, stop-close, stop-past, ends-close, ends-past}
 
 -- the same machine, later
 pub over-later : (space : IndexSpace) (tree : ContractionTree) (own later : IndexSpace) (s next : Setting) → later ≡ own → next ≡ s → RunsOver space tree own s
@@ -149,9 +148,24 @@ plain-left space tree own s now ops start at d a before state later t m u over s
     left-plain space tree s ops start at a before state later t m u (get_or ops at d) l (named ops at d (get_or ops at d) l refl) plain h
     (over-run space tree own s now (plain_program (get_or ops at d)) a state later m u over same run)
 
--- faults of a later machine
-pub cause-later : (before mid now : ℕ) (failed : Type 0) → before ≤ mid → HasCause mid now failed → before ≤ now
-cause-later before mid now failed l h = omega (arith, l, h.later)
+-- at a `Close`, or at the end, the part is run
+pub close-run : (space : IndexSpace) (tree : ContractionTree) (s : Setting) (ops : List Op) (start at : ℕ) (d : Op) (a : Assignment) (before now : Option State) (t u : ℕ)
+    → at < length ops → get_or ops at d ≡ Close → IsLeft space tree s ops start at a before now t u → IsRun space tree s (program_at ops start) a before now t u
+close-run space tree s ops start at d a before now t u l is h = left-done space tree s ops start at a before now t u (stop-close ops at l (named ops at d Close l is)) h
+
+pub past-run : (space : IndexSpace) (tree : ContractionTree) (s : Setting) (ops : List Op) (start at : ℕ) (a : Assignment) (before now : Option State) (t u : ℕ)
+    → length ops ≤ at → IsLeft space tree s ops start at a before now t u → IsRun space tree s (program_at ops start) a before now t u
+past-run space tree s ops start at a before now t u l h = left-done space tree s ops start at a before now t u (stop-past ops at l) h
+
+pub close-end : (space : IndexSpace) (tree : ContractionTree) (s : Setting) (ops : List Op) (start at : ℕ) (d : Op) (a : Assignment) (before now : Option State) (t u : ℕ)
+    → at < length ops → get_or ops at d ≡ Close → start ≤ at → IsLeft space tree s ops start at a before now t u → IsEnd ops start at
+close-end space tree s ops start at d a before now t u l is behind h =
+    record { ends = ends-close ops start at l (named ops at d Close l is) h.others; behind = behind; within = omega (arith, l) }
+
+pub past-end : (space : IndexSpace) (tree : ContractionTree) (s : Setting) (ops : List Op) (start at : ℕ) (a : Assignment) (before now : Option State) (t u : ℕ)
+    → length ops ≤ at → start ≤ at → at ≤ length ops → IsLeft space tree s ops start at a before now t u → IsEnd ops start at
+past-end space tree s ops start at a before now t u l behind within h =
+    record { ends = ends-past ops start at l h.others; behind = behind; within = within }
 
 -- setting a number again, and back
 pub set-next : (numbers mid now : List ℕ) (i x y : ℕ) → mid ≡ set numbers i y → now ≡ set mid i x → now ≡ set numbers i x

@@ -1,3 +1,4 @@
+use Rattle.std.proofs.lemmas.Result.{err_from_is_err_and}
 use Rattle.std.proofs.Common.{◌≡◌, ◌+◌, ◌<◌, ◌∙◌, ap, subst, arith, length}
 use Rattle.std.proofs.lemmas.List.{length_push}
 use Rattle.tce_nesting.specs.Ends.{IsAlone}
@@ -21,4 +22,29 @@ loop-candidate-preserved c =
     record {
       count = ap (λ xs. length xs) c.in_ok-push.ensures.items ∙ length_push old last ∙ ap (λ n. n + 1) c.loop-candidate.invariant.count;
       each = runs_further c.args.loops k rows old c.push.new.self.items last c.in_ok-push.ensures.items c.loop-candidate.invariant.count run c.loop-candidate.invariant.each;
+    }
+
+pub returns-in_err-runs : goal.returns-in_err-runs
+returns-in_err-runs c =
+    let p = err_from_is_err_and c.from_residual.result c.from_residual.ensures.1 in
+    rw p.1 tt
+
+pub returns-in_err-push : goal.returns-in_err-push
+returns-in_err-push c =
+    let p = err_from_is_err_and c.from_residual-in_err-push.result c.from_residual-in_err-push.ensures.1 in
+    rw p.1 tt
+
+pub loop-candidate-init : goal.loop-candidate-init
+loop-candidate-init c = record {
+  count = ap length c.in_ok-runs.ensures.items;
+  each = λ k r low. absurd (omega (arith, low));
+}
+
+pub returns : goal.returns
+returns c =
+    let all = rows_count c.args.candidates.now in
+    let done = c.loop-candidate.auto.candidate-index-end in
+    record {
+      count = omega (arith, all, done, c.loop-candidate-test.false, c.loop-candidate.invariant.count);
+      each = λ k r low. c.loop-candidate.invariant.each k r (omega (arith, low, all, c.loop-candidate-test.false));
     }

@@ -15,3 +15,20 @@ loop-i-preserved c k j l m h hj =
           ])
       | inr ne ↦ c.loop-i.invariant k j (omega arith) m h hj
     ]
+
+pub loop-i-init : goal.loop-i-init
+loop-i-init c k j l m h hj = absurd (omega (arith, l))
+
+pub returns-then-crosses_another-clause-yes : goal.returns-then-crosses_another-clause-yes
+returns-then-crosses_another-clause-yes c h =
+    let other = c.crosses_another.ensures.yes c.if-crosses_another.true in
+    (c.loop-i.i, other.0, sym c.has.ensures ∙ c.if-has.true, other.1, other.2)
+
+pub returns-then-crosses_another-clause-no : goal.returns-then-crosses_another-clause-no
+returns-then-crosses_another-clause-no c e = absurd (false≢true (sym e))
+
+pub returns-clause-yes : goal.returns-clause-yes
+returns-clause-yes c h = absurd (false≢true h)
+
+pub returns-clause-no : goal.returns-clause-no
+returns-clause-no c e i j li lj hi hj = c.loop-i.invariant i j (omega (arith, li, c.loop-i-test.false)) lj hi hj

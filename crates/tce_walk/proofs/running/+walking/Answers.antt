@@ -1,4 +1,7 @@
 use Rattle.std.proofs.Common.{◌≡◌, ◌+◌, ◌-◌, ◌<◌, length, get_or, set, refl, sym, ap, ◌∙◌, subst, arith, rules}
+use Rattle.std.proofs.lemmas.Bool.{false≢true}
+use Rattle.std.proofs.lemmas.Result.{err_from_is_err_and}
+use Rattle.tce_outside.specs.Fault.{Rose}
 use Rattle.tce_space.specs.Space.{extent_at}
 use Rattle.tce_code.specs.Program.{stop, loop}
 use Rattle.tce_code.specs.declared.op.Op.TheVariants.{Open}
@@ -6,8 +9,9 @@ use Rattle.tce_walk.specs.Machine.{assignment_of}
 use Rattle.tce_walk.specs.Positions.{program_at, IsPlain, plain_program}
 use Rattle.tce_walk.specs.Run.{RunsOver, IsPart, IsRun}
 use Rattle.tce_walk.proofs.Turns.{IsIndex, AreTurns, loop-index, assignment-set, set-again, turn-part, turn-few, turns-none, turns-next, turns-all}
-use Rattle.tce_walk.proofs.TailParts.{part-shaped, tail-asks}
-use Rattle.tce_walk.proofs.Walking.{over-later, over-part, over-extents, plain-is, plain-part, plain-rest, plain-few, plain-left, open-part, open-few, open-rest, open-left, set-next, set-back}
+use Rattle.tce_walk.proofs.TailParts.{part-shaped, tail-asks, tail-few, tail-run}
+use Rattle.tce_walk.proofs.Positions.{left-start}
+use Rattle.tce_walk.proofs.Walking.{over-later, over-part, over-extents, plain-is, plain-part, plain-rest, plain-few, plain-left, open-part, open-few, open-rest, open-left, set-next, set-back, close-run, close-end, past-run, past-end}
 use Rattle.tce_walk.proofs.running.+walking.Goals as goal
 
 pub run_loop-find_tail-requires-clause-shaped : goal.run_loop-find_tail-requires-clause-shaped
@@ -269,3 +273,190 @@ run_turns-returns-clause-numbers g t c =
     let index : IsIndex c.args.space.now c.args.head.index = loop-index c.args.space.now c.args.tree.now c.args.head.index (program_at c.args.ops.now (c.args.head.at + 1))
     (assignment_of c.args.numbers.now) c.requires.limits c.requires.over.measured c.requires.part in
     set-back c.args.numbers.now c.loop-x.numbers c.args.head.index (c.loop-x.x - 1) (omega (arith, index.small, c.told-numbers)) c.loop-x.invariant.numbers_set
+
+pub run_loop-run_tail-requires-clause-few : goal.run_loop-run_tail-requires-clause-few
+run_loop-run_tail-requires-clause-few g t c =
+    tail-few c.args.space.now c.args.tree.now (g.M.Machine.space c.args.machine.now) (g.M.Machine.setting c.args.machine.now) c.args.head.index
+    (program_at c.args.ops.now (c.args.head.at + 1)) c.in-Some.found.tail (g.M.Machine.touches c.args.machine.now) c.requires.over (c.in-Some.ensures).0 c.requires.few
+
+pub run_loop-returns-in_err-run_tail : goal.run_loop-returns-in_err-run_tail
+run_loop-returns-in_err-run_tail g t c =
+    let p = err_from_is_err_and c.from_residual.result c.from_residual.ensures.1 in
+    rw p.1 (record {
+      ready = tt;
+      run = tt;
+      end = tt;
+      numbers = tt;
+      cause = c.in_err-run_tail.ensures.cause;
+      told = c.in_err-run_tail.ensures.told;
+      space = c.run_tail.ensures.space;
+      setting = c.run_tail.ensures.setting;
+      kept = c.run_tail.ensures.kept;
+    })
+
+pub run_loop-returns-in-Some : goal.run_loop-returns-in-Some
+run_loop-returns-in-Some g t c =
+    let e = c.in_ok-run_tail.ensures in
+    record {
+      ready = e.ready;
+      run =
+          tail-run c.args.space.now c.args.tree.now (g.M.Machine.space c.args.machine.now) (g.M.Machine.setting c.args.machine.now) c.args.head.index
+          (program_at c.args.ops.now (c.args.head.at + 1)) c.in-Some.found.tail (assignment_of c.args.numbers.now) (g.M.Machine.state c.args.machine.now)
+          (g.M.Machine.state c.run_tail.new.self) (g.M.Machine.touches c.args.machine.now) (g.M.Machine.touches c.run_tail.new.self) c.requires.over (c.in-Some.ensures).0
+          e.state e.touches;
+      end = (c.in-Some.ensures).1;
+      numbers = refl {a = c.args.numbers.now};
+      cause = e.cause;
+      told = e.told;
+      space = c.run_tail.ensures.space;
+      setting = c.run_tail.ensures.setting;
+      kept = c.run_tail.ensures.kept;
+    }
+
+pub run_loop-returns : goal.run_loop-returns
+run_loop-returns g t c = record {
+  ready = c.run_turns.ensures.ready;
+  run = c.run_turns.ensures.run;
+  end = c.run_turns.ensures.end;
+  numbers = c.run_turns.ensures.numbers;
+  cause = c.run_turns.ensures.cause;
+  told = c.run_turns.ensures.told;
+  space = c.run_turns.ensures.space;
+  setting = c.run_turns.ensures.setting;
+  kept = c.run_turns.ensures.kept;
+}
+
+pub run_part-returns-in-Close : goal.run_part-returns-in-Close
+run_part-returns-in-Close g t c = record {
+  ready = c.loop-at.invariant.ready;
+  run =
+      close-run c.args.space.now c.args.tree.now (g.M.Machine.setting c.args.machine.now) c.args.ops.now c.args.start c.loop-at.at (Open 0) (assignment_of c.args.numbers.now)
+      (g.M.Machine.state c.args.machine.now) (g.M.Machine.state c.loop-at.machine) (g.M.Machine.touches c.args.machine.now) (g.M.Machine.touches c.loop-at.machine)
+      c.loop-at-test.true c.in-Close.is c.loop-at.invariant.left;
+  end =
+      close-end c.args.space.now c.args.tree.now (g.M.Machine.setting c.args.machine.now) c.args.ops.now c.args.start c.loop-at.at (Open 0) (assignment_of c.args.numbers.now)
+      (g.M.Machine.state c.args.machine.now) (g.M.Machine.state c.loop-at.machine) (g.M.Machine.touches c.args.machine.now) (g.M.Machine.touches c.loop-at.machine)
+      c.loop-at-test.true c.in-Close.is c.loop-at.invariant.behind c.loop-at.invariant.left;
+  numbers = c.loop-at.invariant.numbers_same;
+  cause = record { later = omega (arith, c.loop-at.invariant.counted); rose = λ f. absurd (false≢true f) };
+  told = λ none. c.loop-at.invariant.counted;
+  space = c.loop-at.invariant.space;
+  setting = c.loop-at.invariant.setting;
+  kept = c.loop-at.invariant.kept;
+}
+
+pub run_part-returns-in_err-close-in-Open : goal.run_part-returns-in_err-close-in-Open
+run_part-returns-in_err-close-in-Open g t c =
+    let p = err_from_is_err_and c.from_residual.result c.from_residual.ensures.1 in
+    rw p.1 (record {
+      ready = tt;
+      run = tt;
+      end = tt;
+      numbers = tt;
+      cause = record { later = omega (arith, c.loop-at.invariant.counted, c.in_err-close-in-Open.ensures.cause.later); rose = λ f. subst (λ n. Rose n (g.M.Machine.faults c.run_loop.new.machine)) c.loop-at.invariant.counted (c.in_err-close-in-Open.ensures.cause.rose f) };
+      told = λ none. c.in_err-close-in-Open.ensures.told none ∙ c.loop-at.invariant.counted;
+      space = c.run_loop.ensures.space ∙ c.loop-at.invariant.space;
+      setting = c.run_loop.ensures.setting ∙ c.loop-at.invariant.setting;
+      kept = g.met.M.Machine.keeps_on c.args.machine.now c.loop-at.machine c.run_loop.new.machine c.loop-at.invariant.kept c.run_loop.ensures.kept;
+    })
+
+pub run_part-returns-in_err-run_action-in_default : goal.run_part-returns-in_err-run_action-in_default
+run_part-returns-in_err-run_action-in_default g t c =
+    let p = err_from_is_err_and c.from_residual-in_err-run_action-in_default.result c.from_residual-in_err-run_action-in_default.ensures.1 in
+    rw p.1 (record {
+      ready = tt;
+      run = tt;
+      end = tt;
+      numbers = tt;
+      cause = record { later = omega (arith, c.loop-at.invariant.counted, c.in_err-run_action-in_default.ensures.cause.later); rose = λ f. subst (λ n. Rose n (g.M.Machine.faults c.run_action.new.machine)) c.loop-at.invariant.counted (c.in_err-run_action-in_default.ensures.cause.rose f) };
+      told = λ none. c.in_err-run_action-in_default.ensures.told none ∙ c.loop-at.invariant.counted;
+      space = c.run_action.ensures.space ∙ c.loop-at.invariant.space;
+      setting = c.run_action.ensures.setting ∙ c.loop-at.invariant.setting;
+      kept = g.met.M.Machine.keeps_on c.args.machine.now c.loop-at.machine c.run_action.new.machine c.loop-at.invariant.kept c.run_action.ensures.kept;
+    })
+
+pub run_part-returns : goal.run_part-returns
+run_part-returns g t c = record {
+  ready = c.loop-at.invariant.ready;
+  run =
+      past-run c.args.space.now c.args.tree.now (g.M.Machine.setting c.args.machine.now) c.args.ops.now c.args.start c.loop-at.at (assignment_of c.args.numbers.now)
+      (g.M.Machine.state c.args.machine.now) (g.M.Machine.state c.loop-at.machine) (g.M.Machine.touches c.args.machine.now) (g.M.Machine.touches c.loop-at.machine)
+      c.loop-at-test.false c.loop-at.invariant.left;
+  end =
+      past-end c.args.space.now c.args.tree.now (g.M.Machine.setting c.args.machine.now) c.args.ops.now c.args.start c.loop-at.at (assignment_of c.args.numbers.now)
+      (g.M.Machine.state c.args.machine.now) (g.M.Machine.state c.loop-at.machine) (g.M.Machine.touches c.args.machine.now) (g.M.Machine.touches c.loop-at.machine)
+      c.loop-at-test.false c.loop-at.invariant.behind c.loop-at.invariant.within c.loop-at.invariant.left;
+  numbers = c.loop-at.invariant.numbers_same;
+  cause = record { later = omega (arith, c.loop-at.invariant.counted); rose = λ f. absurd (false≢true f) };
+  told = λ none. c.loop-at.invariant.counted;
+  space = c.loop-at.invariant.space;
+  setting = c.loop-at.invariant.setting;
+  kept = c.loop-at.invariant.kept;
+}
+
+pub run_turns-returns-in_err-close : goal.run_turns-returns-in_err-close
+run_turns-returns-in_err-close g t c =
+    let p = err_from_is_err_and c.from_residual.result c.from_residual.ensures.1 in
+    rw p.1 (record {
+      ready = tt;
+      run = tt;
+      end = tt;
+      numbers = tt;
+      cause = c.in_err-close.ensures.cause;
+      told = c.in_err-close.ensures.told;
+      space = c.run_part.ensures.space;
+      setting = c.run_part.ensures.setting;
+      kept = c.run_part.ensures.kept;
+    })
+
+pub run_turns-returns-in_err-close-2 : goal.run_turns-returns-in_err-close-2
+run_turns-returns-in_err-close-2 g t c =
+    let p = err_from_is_err_and c.from_residual-in_err-close-2.result c.from_residual-in_err-close-2.ensures.1 in
+    rw p.1 (record {
+      ready = tt;
+      run = tt;
+      end = tt;
+      numbers = tt;
+      cause = record { later = omega (arith, c.loop-x.invariant.counted, c.in_err-close-2.ensures.cause.later); rose = λ f. subst (λ n. Rose n (g.M.Machine.faults c.run_part-in-loop-x.new.machine)) c.loop-x.invariant.counted (c.in_err-close-2.ensures.cause.rose f) };
+      told = λ none. c.in_err-close-2.ensures.told none ∙ c.loop-x.invariant.counted;
+      space = c.run_part-in-loop-x.ensures.space ∙ c.loop-x.invariant.space;
+      setting = c.run_part-in-loop-x.ensures.setting ∙ c.loop-x.invariant.setting;
+      kept = g.met.M.Machine.keeps_on c.args.machine.now c.loop-x.machine c.run_part-in-loop-x.new.machine c.loop-x.invariant.kept c.run_part-in-loop-x.ensures.kept;
+    })
+
+pub run_part-loop-at-init : goal.run_part-loop-at-init
+run_part-loop-at-init g t c = record {
+  setting = refl {a = g.M.Machine.setting c.args.machine.now};
+  space = refl {a = g.M.Machine.space c.args.machine.now};
+  ready = c.requires.ready;
+  kept = g.met.M.Machine.keeps_own c.args.machine.now;
+  counted = refl {a = g.M.Machine.faults c.args.machine.now};
+  left =
+      left-start c.args.space.now c.args.tree.now (g.M.Machine.setting c.args.machine.now) c.args.ops.now c.args.start (assignment_of c.args.numbers.now)
+      (g.M.Machine.state c.args.machine.now) (g.M.Machine.touches c.args.machine.now);
+  part = c.requires.part;
+  numbers_same = refl {a = c.args.numbers.now};
+  behind = omega arith;
+  within = c.requires.start;
+}
+
+pub run_turns-returns-clause-ready : goal.run_turns-returns-clause-ready
+run_turns-returns-clause-ready g t c = c.loop-x.invariant.ready
+
+pub run_turns-returns-clause-end : goal.run_turns-returns-clause-end
+run_turns-returns-clause-end g t c = c.loop-x.invariant.end
+
+pub run_turns-returns-clause-cause : goal.run_turns-returns-clause-cause
+run_turns-returns-clause-cause g t c = record { later = omega (arith, c.loop-x.invariant.counted); rose = λ f. absurd (false≢true f) }
+
+pub run_turns-returns-clause-told : goal.run_turns-returns-clause-told
+run_turns-returns-clause-told g t c = λ none. c.loop-x.invariant.counted
+
+pub run_turns-returns-clause-space : goal.run_turns-returns-clause-space
+run_turns-returns-clause-space g t c = c.loop-x.invariant.space
+
+pub run_turns-returns-clause-setting : goal.run_turns-returns-clause-setting
+run_turns-returns-clause-setting g t c = c.loop-x.invariant.setting
+
+pub run_turns-returns-clause-kept : goal.run_turns-returns-clause-kept
+run_turns-returns-clause-kept g t c = c.loop-x.invariant.kept
