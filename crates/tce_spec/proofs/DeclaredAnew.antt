@@ -85,3 +85,12 @@ pub tensor_more : (s : Specification) (us : List ℕ) (k : ℕ) (before after : 
 tensor_more s us k before after t inside so_far is tensor =
     is ∙ ap₂ (λ (d : Declarations) (x : Tensor). record { space = d.space; tensors = d.tensors ++ x ∷ [] }) so_far tensor
     ∙ ap (λ (ts : List Tensor). record { space = s.declarations.space; tensors = ts }) (sym (map-append (source s) (take k us) (get_or us k 0 ∷ [])) ∙ ap (map (source s)) (sym (take_more us k 0 inside)))
+
+pub room_before : (s : Specification) (us : List ℕ) (k : ℕ) (before : Declarations) → k < length us → length us ≤ 32 → before ≡ record { space = s.declarations.space; tensors = map (source s) (take k us) }
+    → length before.tensors < 32
+room_before s us k before inside few so_far =
+    omega (arith, inside, few, ap (λ (d : Declarations). length d.tensors) so_far, length-map (take k us) (source s), length-take k us)
+
+pub all_tensors : (s : Specification) (us : List ℕ) (k : ℕ) (all : Declarations) → length us ≤ k → all ≡ record { space = s.declarations.space; tensors = map (source s) (take k us) }
+    → all ≡ record { space = s.declarations.space; tensors = map (source s) us }
+all_tensors s us k all past so_far = so_far ∙ ap (λ (vs : List ℕ). record { space = s.declarations.space; tensors = map (source s) vs }) (take_all k us past)

@@ -1,6 +1,6 @@
 //! The specifications of pieces of a tree.
 
-ghost use Rattle.std.specs.Prelude.{◌≡◌, ◌<◌, ◌≤◌, ◌+◌, ◌-◌, ◌++◌, ◌&&◌, nat_lt, codes, IfOk, IsTrue, length};
+ghost use Rattle.std.specs.Prelude.{◌≡◌, ◌<◌, ◌≤◌, ◌+◌, ◌-◌, ◌++◌, ◌∷◌, [], None, ◌&&◌, nat_lt, codes, IfOk, IsTrue, length};
 ghost use Rattle.std.specs.List.{list_all};
 ghost use Rattle.std.specs.Fmt.{decimal};
 ghost use Rattle.tce_space.specs.Limits.{max_nodes, max_rank, max_tensors};
@@ -8,7 +8,7 @@ ghost use Rattle.tce_space.specs.IndexSet.{has, count, members};
 ghost use Rattle.tce_tree.specs.Expr.{tree_of};
 ghost use Rattle.tce_tree.specs.ContractionTree.{operations, node, node_dims};
 ghost use Rattle.tce_tree.specs.Measure.{IsMeasured};
-ghost use Rattle.tce_declarations.specs.Declarations.{HaveNames};
+ghost use Rattle.tce_declarations.specs.Declarations.{HaveNames, IsTensor, tensor_number};
 ghost use Rattle.tce_pieces.specs.Pieces as model;
 ghost use Rattle.tce_pieces.specs.Storable.{ranges_of_node};
 ghost use Rattle.tce_spec.specs.PieceSpecification.{CanCut, piece_of, renumbered, place_in, source, target_indexes, declared_of};
@@ -261,6 +261,30 @@ fn source_ranges(spec: &Spec, t: u8) -> Result<ArrayVec<u8, MAX_RANK>, AllocErro
     }
 }
 
+// One more tensor or array behind the others.
+fn declare_source(
+    declarations: Declarations,
+    spec: &Spec,
+    t: u8,
+) -> Result<Declarations, AllocError>
+    requires source { IsSource spec.now t }
+    requires unnamed { tensor_number declarations.tensors (source spec.now t).name ≡ None }
+    requires room { length declarations.tensors < max_tensors }
+    requires fits { IsTensor declarations.space (source spec.now t) }
+    ensures { IfOk result (λ d. d ≡ record {
+      space = declarations.space;
+      tensors = declarations.tensors ++ source spec.now t ∷ [];
+    }) }
+{
+    match source_ranges(spec, t) {
+        Ok(ranges) => declarations.with_tensor_over(source_name(spec, t), ranges),
+        Err(error) => {
+            drop(declarations);
+            Err(error)
+        }
+    }
+}
+
 // These tensors and arrays over the same space.
 fn declared(alloc: Global, spec: &Spec, numbers: &[u8]) -> Result<Declarations, AllocError>
     requires { CanDeclare spec.now numbers.now }
@@ -268,8 +292,7 @@ fn declared(alloc: Global, spec: &Spec, numbers: &[u8]) -> Result<Declarations, 
 {
     let mut declarations = Declarations::over(alloc, copied_space(alloc, spec.space())?)?;
     for t in numbers {
-        let ranges = source_ranges(spec, *t)?;
-        declarations = declarations.with_tensor_over(source_name(spec, *t), ranges)?;
+        declarations = declare_source(declarations, spec, *t)?;
     }
     Ok(declarations)
 }
