@@ -12,26 +12,26 @@ use Rattle.tce_spill_job.specs.Refusals.{IsRunFault}
 use Rattle.tce_spill_job.proofs.Afforded.{affordable_at}
 use Rattle.tce_spill_job.proofs.run.run_piece.Goals as goal
 
-pub run_one-requires-clause-affordable : goal.run_one-requires-clause-affordable
-run_one-requires-clause-affordable g c =
+pub run_one-ran-requires-clause-affordable : goal.run_one-ran-requires-clause-affordable
+run_one-ran-requires-clause-affordable g c =
     subst (λ (p : Specification). IsAffordable p c.args.spilling.budget) (sym c.in-Ok.ensures)
     (affordable_at c.args.spec.now (has c.args.spilling.cuts) c.args.spilling.budget c.args.turn.root c.tree-tree.ensures.rules c.requires.can c.requires.inside c.requires.root)
 
-pub run_one-requires-clause-plan : goal.run_one-requires-clause-plan
-run_one-requires-clause-plan g c =
+pub run_one-ran-requires-clause-plan : goal.run_one-ran-requires-clause-plan
+run_one-ran-requires-clause-plan g c =
     subst (λ (p : Specification). IsLeastButRows p.declarations.space p.tree c.args.turn.plan) (sym c.in-Ok.ensures) c.requires.plan
 
 pub returns-clause-told : goal.returns-clause-told
 returns-clause-told g c =
-    subst (λ (p : Specification). OnOk c.run_one.result (g.D.Disk.files c.run_one.new.disk ≡ option_map (with_result p) (g.D.Disk.files c.args.disk.now))) c.in-Ok.ensures c.run_one.ensures.told
+    subst (λ (p : Specification). OnOk c.run_one-ran.result (g.D.Disk.files c.run_one-ran.new.disk ≡ option_map (with_result p) (g.D.Disk.files c.args.disk.now))) c.in-Ok.ensures c.run_one-ran.ensures.told
 
 pub returns-clause-refused : goal.returns-clause-refused
-returns-clause-refused g c = subst (λ (p : Specification). IfErr c.run_one.result (IsRunFault (g.D.Disk.files c.args.disk.now) p)) c.in-Ok.ensures c.run_one.ensures.refused
+returns-clause-refused g c = subst (λ (p : Specification). IfErr c.run_one-ran.result (IsRunFault (g.D.Disk.files c.args.disk.now) p)) c.in-Ok.ensures c.run_one-ran.ensures.refused
 
 pub returns-clause-takings : goal.returns-clause-takings
 returns-clause-takings g c =
-    subst (λ (p : Specification). IfErr c.run_one.result (λ _. (g.R.Room.takings c.run_one.new.room ≡ g.R.Room.takings c.args.room.now) ⊎ HasTaken p c.args.spilling.budget (g.R.Room.takings c.args.room.now) (g.R.Room.takings c.run_one.new.room)))
-    c.in-Ok.ensures c.run_one.ensures.takings
+    subst (λ (p : Specification). IfErr c.run_one-ran.result (λ _. (g.R.Room.takings c.run_one-ran.new.room ≡ g.R.Room.takings c.args.room.now) ⊎ HasTaken p c.args.spilling.budget (g.R.Room.takings c.args.room.now) (g.R.Room.takings c.run_one-ran.new.room)))
+    c.in-Ok.ensures c.run_one-ran.ensures.takings
 
 pub returns-clause-no_half : goal.returns-clause-no_half
-returns-clause-no_half g c = subst (λ (p : Specification). LeavesNoHalfResult p (g.D.Disk.files c.args.disk.now) (g.D.Disk.files c.run_one.new.disk)) c.in-Ok.ensures c.run_one.ensures.no_half
+returns-clause-no_half g c = subst (λ (p : Specification). LeavesNoHalfResult p (g.D.Disk.files c.args.disk.now) (g.D.Disk.files c.run_one-ran.new.disk)) c.in-Ok.ensures c.run_one-ran.ensures.no_half
