@@ -1,4 +1,4 @@
-use Rattle.std.proofs.Common.{Option, refl, subst, arith}
+use Rattle.std.proofs.Common.{Option, subst}
 use Rattle.std.proofs.lemmas.Result.{err_from_is_err_and}
 use Rattle.tce_outside.specs.Files.{Files}
 use Rattle.tce_batch_job.specs.Refusals.{IsCauseAt}

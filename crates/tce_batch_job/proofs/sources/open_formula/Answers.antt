@@ -6,7 +6,7 @@ use Rattle.tce_spec.proofs.Seen.{operand_declared}
 use Rattle.tce_batch.specs.BatchCode.{results_before}
 use Rattle.tce_batch_job.specs.Refusals.{IsOperandFault}
 use Rattle.tce_batch_job.proofs.Openings.{source_fault}
-use Rattle.tce_batch_job.proofs.Counted.{cause_after, answered_quiet, sources_more}
+use Rattle.tce_batch_job.proofs.Counted.{answered_quiet, sources_more}
 use Rattle.tce_batch_job.proofs.sources.open_formula.Goals as goal
 
 pub open_source-requires-clause-declared : goal.open_source-requires-clause-declared
