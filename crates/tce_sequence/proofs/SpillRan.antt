@@ -12,7 +12,6 @@ use Rattle.tce_spill.specs.declared.fault.SpillFault.TheVariants as faults
 use Rattle.tce_spill_job.specs.Pieces.{pieces_of}
 use Rattle.tce_spill_job.specs.Refusals.{IsSpillCause, WithCuts}
 use Rattle.tce_spill_job.specs.Left.{HasSpilled, IsLeft, IsRoomLeft, OnlyPiecesDiffer as OnlyFilesOfPiecesDiffer}
-use Rattle.tce_command.specs.Refusals.{IsFree}
 use Rattle.tce_command.specs.declared.refusal.Refusal.{Refusal}
 use Rattle.tce_command.specs.declared.refusal.Refusal.TheVariants.{Disk, Memory}
 use Rattle.tce_source.specs.Source.{HasSpecification}
