@@ -1,12 +1,17 @@
 use Rattle.std.proofs.Common.{◌≡◌, ◌⊎◌, sym, subst}
-use Rattle.std.specs.Prelude.{OnOk, IfErr}
+use Rattle.std.specs.Prelude.{OnOk, IfOk, IfErr}
+use Rattle.std.specs.Option.{ForSome}
+use Rattle.tce_outside.specs.Files.{others}
 use Rattle.std.specs.Option.{option_map}
 use Rattle.tce_space.specs.IndexSet.{has}
 use Rattle.tce_spec.specs.Specification.{Specification}
 use Rattle.tce_tensors.specs.Laws.{LeavesNoHalfResult}
+use Rattle.tce_tensors.specs.Opened.{HasOperands, operand_count}
+use Rattle.tce_tensors.specs.TensorFiles.{file_of}
 use Rattle.tce_tensors.specs.ResultBytes.{with_result}
 use Rattle.tce_job.specs.Refusals.{IsAffordable}
 use Rattle.tce_job.specs.Prepared.{HasTaken}
+use Rattle.tce_job.specs.Run.{IsReported}
 use Rattle.tce_spill.specs.Planned.{IsLeastButRows}
 use Rattle.tce_spill_job.specs.Refusals.{IsRunFault}
 use Rattle.tce_spill_job.proofs.Afforded.{affordable_at}
@@ -35,3 +40,24 @@ returns-clause-takings g c =
 
 pub returns-clause-no_half : goal.returns-clause-no_half
 returns-clause-no_half g c = subst (λ (p : Specification). LeavesNoHalfResult p (g.D.Disk.files c.args.disk.now) (g.D.Disk.files c.run_one-ran.new.disk)) c.in-Ok.ensures c.run_one-ran.ensures.no_half
+
+pub run_one-ran-requires-clause-operands : goal.run_one-ran-requires-clause-operands
+run_one-ran-requires-clause-operands g c =
+    subst (λ (p : Specification). ForSome (g.D.Disk.files c.args.disk.now) (λ files. HasOperands files p (operand_count p))) (sym c.in-Ok.ensures) c.requires.operands
+
+pub returns-clause-reported : goal.returns-clause-reported
+returns-clause-reported g c =
+    subst (λ (p : Specification). IfOk c.run_one-ran.result (IsReported p c.args.spilling.budget (g.R.Room.takings c.args.room.now) (g.R.Room.takings c.run_one-ran.new.room))) c.in-Ok.ensures c.run_one-ran.ensures.reported
+
+pub returns-clause-unchanged : goal.returns-clause-unchanged
+returns-clause-unchanged g c = c.run_one-ran.ensures.unchanged
+
+pub returns-clause-others : goal.returns-clause-others
+returns-clause-others g c =
+    subst (λ (p : Specification). others (file_of p p.result) (g.D.Disk.files c.run_one-ran.new.disk) ≡ others (file_of p p.result) (g.D.Disk.files c.args.disk.now)) c.in-Ok.ensures c.run_one-ran.ensures.others
+
+pub returns-clause-cause : goal.returns-clause-cause
+returns-clause-cause g c = c.run_one-ran.ensures.cause
+
+pub returns-clause-quiet : goal.returns-clause-quiet
+returns-clause-quiet g c = c.run_one-ran.ensures.quiet
