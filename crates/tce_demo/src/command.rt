@@ -59,10 +59,12 @@ fn demonstrate<D: Disk, R: Room>(
 {
     put_input(disk, made, seed)?;
     let run = run_example(alloc, &made.spec, disk, room)?;
+    let (memory, tiles) = (run.memory, run.tiles);
+    drop(run);
     let Ok(sum) = result_sum(disk, &made.spec) else {
         return Err(Refusal::Disk);
     };
-    match report(alloc, run.memory, run.tiles, sum) {
+    match report(alloc, memory, tiles, sum) {
         Ok(text) => Ok(text),
         Err(_) => Err(Refusal::Memory),
     }
@@ -98,5 +100,7 @@ pub fn demo<D: Disk, R: Room>(
     let Ok(made) = make_example(alloc, v, o) else {
         return Err(Refusal::Memory);
     };
-    demonstrate(alloc, &made, seed, disk, room)
+    let done = demonstrate(alloc, &made, seed, disk, room);
+    drop(made);
+    done
 }
