@@ -11,3 +11,4 @@ pub mod Others
 pub mod Ready
 pub mod PlannedRuns
 pub mod Counted
+pub mod Spared
