@@ -59,12 +59,10 @@ fn demonstrate<D: Disk, R: Room>(
 {
     put_input(disk, made, seed)?;
     let run = run_example(alloc, &made.spec, disk, room)?;
-    let (memory, tiles) = (run.memory, run.tiles);
-    drop(run);
     let Ok(sum) = result_sum(disk, &made.spec) else {
         return Err(Refusal::Disk);
     };
-    match report(alloc, memory, tiles, sum) {
+    match report(alloc, run.memory, run.tiles, sum) {
         Ok(text) => Ok(text),
         Err(_) => Err(Refusal::Memory),
     }

@@ -27,8 +27,8 @@ returns-in-Ok-report-clause-others g c =
     all_stay c.args.made.now.spec c.requires.spec (g.D.Disk.files c.args.disk.now) (g.D.Disk.files c.put_input.new.disk) (g.D.Disk.files c.run_example.new.disk) (g.D.Disk.files c.result_sum.new.disk) c.put_input.ensures.others
     c.run_example.ensures.others c.result_sum.ensures.same
 
-pub returns-in-Err-clause-others : goal.returns-in-Err-clause-others
-returns-in-Err-clause-others g c =
+pub returns-clause-others : goal.returns-clause-others
+returns-clause-others g c =
     all_stay c.args.made.now.spec c.requires.spec (g.D.Disk.files c.args.disk.now) (g.D.Disk.files c.put_input.new.disk) (g.D.Disk.files c.run_example.new.disk) (g.D.Disk.files c.result_sum.new.disk) c.put_input.ensures.others
     c.run_example.ensures.others c.result_sum.ensures.same
 
@@ -60,7 +60,7 @@ returns-in-Ok-report-clause-no_half g c =
     run_left c.args.made.now.spec c.requires.spec c.args.seed c.args.made.now.text.items (g.D.Disk.files c.args.disk.now) (g.D.Disk.files c.put_input.new.disk) (g.D.Disk.files c.run_example.new.disk) _
     c.in_ok-put_input.ensures.written c.put_input.ensures.no_half c.run_example.ensures.others c.run_example.ensures.no_half c.result_sum.ensures.same
 
-pub returns-in-Err-clause-no_half : goal.returns-in-Err-clause-no_half
-returns-in-Err-clause-no_half g c =
+pub returns-clause-no_half : goal.returns-clause-no_half
+returns-clause-no_half g c =
     run_left c.args.made.now.spec c.requires.spec c.args.seed c.args.made.now.text.items (g.D.Disk.files c.args.disk.now) (g.D.Disk.files c.put_input.new.disk) (g.D.Disk.files c.run_example.new.disk) _
     c.in_ok-put_input.ensures.written c.put_input.ensures.no_half c.run_example.ensures.others c.run_example.ensures.no_half c.result_sum.ensures.same
