@@ -14,6 +14,10 @@ pub on_ok : {A P Q : Type 0} (result : Result A JobFault) → (P → Q) → OnOk
 on_ok (Ok a) more p = more p
 on_ok (Err f) more p = tt
 
+pub on_ok_as : {A E P : Type 0} (result : Result A E) → P → OnOk result P
+on_ok_as (Ok a) p = p
+on_ok_as (Err f) p = tt
+
 pub if_ok : {A : Type 0} {P Q : A → Type 0} (result : Result A JobFault) → ((a : A) → P a → Q a) → IfOk result P → IfOk result Q
 if_ok (Ok a) more p = more a p
 if_ok (Err f) more p = tt

@@ -7,3 +7,4 @@ pub mod Reports
 pub mod Ended
 pub mod Causes
 pub mod Others
+pub mod Counted

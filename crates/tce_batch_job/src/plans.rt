@@ -96,7 +96,9 @@ fn find_plan(
     let Ok(spec) = batch.spec(alloc, number) else {
         return Err(JobFault::Memory);
     };
-    keep_plan(alloc, &spec, budget, number, plans)
+    let kept = keep_plan(alloc, &spec, budget, number, plans);
+    drop(spec);
+    kept
 }
 
 /// Finds the plans of all formulas, or refuses the first formula that costs too much.

@@ -44,8 +44,18 @@ pub(crate) fn push_section(
     ensures { OnOk result (text.new.items ≡ text.old.items ++ section_of formula run.now) }
 {
     let number = format!(in alloc; "{formula}")?;
+    let pushed = push_lines(text, number.as_str().as_bytes(), run);
+    drop(number);
+    pushed
+}
+
+// The same by the digits of the formula's number.
+fn push_lines(text: &mut Vec<u8>, number: &[u8], run: &[u8]) -> Result<(), AllocError>
+    ensures { OnOk result (text.new.items ≡ text.old.items
+        ++ (codes "formula " ++ (number.now ++ (codes "\n" ++ without_first_line run.now)))) }
+{
     text.extend_from_slice("formula ".as_bytes())?;
-    text.extend_from_slice(number.as_str().as_bytes())?;
+    text.extend_from_slice(number)?;
     text.extend_from_slice("\n".as_bytes())?;
     text.extend_from_slice(lines_behind(run))
 }

@@ -55,9 +55,16 @@ fn run_kept<D: Disk, R: Room>(
     let Ok(plan) = kept.plan(alloc) else {
         return Err(JobFault::Memory);
     };
-    let forms = opened_forms(spec, disk)?;
-    let planned = PlannedRun { plan, forms };
-    run_by(alloc, spec, budget, planned, disk, room)
+    match opened_forms(spec, disk) {
+        Ok(forms) => {
+            let planned = PlannedRun { plan, forms };
+            run_by(alloc, spec, budget, planned, disk, room)
+        }
+        Err(fault) => {
+            drop(plan);
+            Err(fault)
+        }
+    }
 }
 
 // Runs a formula by the plan that was kept of it.
@@ -92,7 +99,9 @@ fn run_formula<D: Disk, R: Room>(
     let Ok(spec) = batch.spec(alloc, kept.number) else {
         return Err(JobFault::Memory);
     };
-    run_kept(alloc, &spec, kept, budget, disk, room)
+    let ran = run_kept(alloc, &spec, kept, budget, disk, room);
+    drop(spec);
+    ran
 }
 
 // Runs all formulas in turn, by the plans that were kept of them.
@@ -142,6 +151,39 @@ fn run_all<D: Disk, R: Room>(
     Ok(text)
 }
 
+// Opens the files of all operands that are no earlier result, and runs the formulas by the plans that were kept of them.
+fn run_planned<D: Disk, R: Room>(
+    alloc: Global,
+    batch: &Batch,
+    plans: &[KeptPlan],
+    budget: u64,
+    disk: &mut D,
+    room: &mut R,
+) -> Result<BatchReport, BatchFault>
+    requires budget { budget ≤ max_memory }
+    requires kept { AreKept batch.now (length batch.now) plans.now }
+    requires affordable { AffordableBelow batch.now budget (length batch.now) }
+    ensures told { OnOk result (WritesResults batch.now (D.files disk.old) (D.files disk.new)) }
+    ensures reported { IfOk result
+        (λ report. HasRun batch.now budget (R.takings room.old) (R.takings room.new) report.text) }
+    ensures sources { OnOk result (HasAllSources (D.files disk.old) batch.now) }
+    ensures refused { IfErr result (IsBatchCause (D.files disk.old) batch.now budget) }
+    ensures exactly { IsExact (D.files disk.old) batch.now budget result }
+    ensures left { IfErr result (IsLeft (D.files disk.old) (D.files disk.new) batch.now) }
+    ensures takings { LeavesRoom result (R.takings room.old) (R.takings room.new) batch.now budget }
+    ensures tested { TakesTested result (D.files disk.old)
+        (R.takings room.old) (R.takings room.new) }
+    ensures others { OnlyResultsDiffer batch.now (D.files disk.old) (D.files disk.new) }
+    ensures cause { HasCause (D.faults disk.old) (D.faults disk.new) (HasDiskFault result) }
+    ensures quiet { TellsFaults (D.faults disk.old) (D.faults disk.new) (HasDiskFault result) }
+{
+    open_sources(alloc, batch, disk)?;
+    let text = run_all(alloc, batch, plans, budget, disk, room)?;
+    Ok(BatchReport {
+        text: Bytes::of(text),
+    })
+}
+
 /// Runs several formulas in order, each as `run_job` runs one: a result may be an operand of a later formula.
 ///
 /// The budget, in words, is for the tiles of each run; it is at most 2^40. Before any file is touched, the first formula
@@ -175,9 +217,7 @@ pub fn run_batch<D: Disk, R: Room>(
     ensures quiet { TellsFaults (D.faults disk.old) (D.faults disk.new) (HasDiskFault result) }
 {
     let plans = find_plans(alloc, batch, budget)?;
-    open_sources(alloc, batch, disk)?;
-    let text = run_all(alloc, batch, plans.as_slice(), budget, disk, room)?;
-    Ok(BatchReport {
-        text: Bytes::of(text),
-    })
+    let ran = run_planned(alloc, batch, plans.as_slice(), budget, disk, room);
+    drop(plans);
+    ran
 }

@@ -104,7 +104,9 @@ fn open_numbered<D: Disk>(
     let Ok(spec) = batch.spec(alloc, number) else {
         return Err(JobFault::Memory);
     };
-    open_formula(batch, number, &spec, disk)
+    let opened = open_formula(batch, number, &spec, disk);
+    drop(spec);
+    opened
 }
 
 /// Opens the files of all operands that are no earlier result, formula by formula.

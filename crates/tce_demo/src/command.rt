@@ -98,5 +98,7 @@ pub fn demo<D: Disk, R: Room>(
     let Ok(made) = make_example(alloc, v, o) else {
         return Err(Refusal::Memory);
     };
-    demonstrate(alloc, &made, seed, disk, room)
+    let done = demonstrate(alloc, &made, seed, disk, room);
+    drop(made);
+    done
 }

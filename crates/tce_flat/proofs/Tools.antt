@@ -1,7 +1,7 @@
 -- What the tools answer, as refusals.
 use Rattle.std.proofs.Common.{◌≡◌, ◌≢◌, refl, sym, subst, ◌∙◌, ◌⊎◌, inl, inr, ℕ, List, Option, None, Result, Ok, Err, IfOk, IfErr, String, Global, arith}
 use Rattle.std.specs.String.{string_bytes}
-use Rattle.tce_flat.specs.Done.{IsPacking, IsUnpacking, IsConverting, IsPacked, IsUnpacked, IsConverted}
+use Rattle.tce_flat.specs.Done.{report_text, IsPacking, IsUnpacking, IsConverting, IsPacked, IsUnpacked, IsConverted}
 use Rattle.std.specs.Option.{ForSome}
 use Rattle.tce_outside.specs.Fault.{HasCause, Rose}
 use Rattle.tce_outside.specs.Files.{Files, file}
@@ -212,3 +212,7 @@ undeclared_in files spec tensor s (Einsum x) has lacks = absurd lacks.1
 undeclared_in files spec tensor s (Spill x) has lacks = absurd lacks.1
 undeclared_in files spec tensor s (Symmetry x u) has lacks = absurd lacks.1
 undeclared_in files spec tensor s Disk has lacks = absurd lacks.1
+
+-- a report of the same file and length
+pub report_is : (verb text w v : List ℕ) (m n : ℕ) → text ≡ report_text verb w m → w ≡ v → m ≡ n → text ≡ report_text verb v n
+report_is verb text w v m n told file len = rw (told, file, len) refl

@@ -37,8 +37,7 @@ pub fn pack<D: Disk>(
     ensures told { TellsFaults (D.faults disk.old) (D.faults disk.new) (result ≡ Err Refusal.Disk) }
 {
     let shape = find_shape(alloc, spec, tensor, disk)?;
-    let moved = pack_tensor(alloc, &shape, tensor, flat, disk);
-    moved
+    pack_tensor(alloc, &shape, tensor, flat, disk)
 }
 
 /// Makes a flat file of the elements of a tensor's array file, and gives the report.
@@ -63,8 +62,7 @@ pub fn unpack<D: Disk>(
     ensures told { TellsFaults (D.faults disk.old) (D.faults disk.new) (result ≡ Err Refusal.Disk) }
 {
     let shape = find_shape(alloc, spec, tensor, disk)?;
-    let moved = unpack_tensor(alloc, &shape, tensor, flat, disk);
-    moved
+    unpack_tensor(alloc, &shape, tensor, flat, disk)
 }
 
 /// Makes a second array file of the elements of a tensor's array file, in the form that is asked for, and gives the
@@ -89,8 +87,7 @@ pub fn convert<D: Disk>(
     ensures told { TellsFaults (D.faults disk.old) (D.faults disk.new) (result ≡ Err Refusal.Disk) }
 {
     let shape = find_shape(alloc, spec, tensor, disk)?;
-    let moved = convert_tensor(alloc, &shape, tensor, form, disk);
-    moved
+    convert_tensor(alloc, &shape, tensor, form, disk)
 }
 
 /// Makes the array file of a tensor of the file in which it is stored once for each pair of exchanged coordinates, and
@@ -114,6 +111,5 @@ pub fn expand<D: Disk>(
     ensures told { TellsFaults (D.faults disk.old) (D.faults disk.new) (result ≡ Err Refusal.Disk) }
 {
     let shape = find_shape(alloc, spec, tensor, disk)?;
-    let moved = expand_tensor(alloc, &shape, tensor, disk);
-    moved
+    expand_tensor(alloc, &shape, tensor, disk)
 }

@@ -45,6 +45,8 @@ pub fn find_shape<D: Disk>(
     ensures cause { HasCause (D.faults disk.old) (D.faults disk.new) (result ≡ Err Refusal.Disk) }
     ensures told { TellsFaults (D.faults disk.old) (D.faults disk.new) (result ≡ Err Refusal.Disk) }
 {
-    let spec = read_source(alloc, disk, spec)?;
-    shape_named(&spec, tensor)
+    let source = read_source(alloc, disk, spec)?;
+    let found = shape_named(&source, tensor);
+    drop(source);
+    found
 }

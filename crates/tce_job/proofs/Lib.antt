@@ -4,3 +4,4 @@ pub mod Begun
 pub mod Made
 pub mod Ended
 pub mod Several
+pub mod Answered

@@ -1,9 +1,12 @@
 // A run by a plan, up to the file of its result.
-ghost use Rattle.std.specs.Prelude.{◌≡◌, ◌≤◌, Err, IfOk, IfErr, OnOk, OnErr};
+ghost use Rattle.std.specs.Prelude.{◌≡◌, ◌≤◌, ◌+◌, [], ◌∷◌, ◌++◌, replicate, Err, IfOk, IfErr, OnOk, OnErr};
 ghost use Rattle.tce_space.specs.Limits.{max_memory};
 ghost use Rattle.tce_outside.specs.Files.{others};
 ghost use Rattle.tce_outside.specs.Fault.{HasCause, TellsFaults};
-ghost use Rattle.tce_tensors.specs.Takings.{least_budget};
+ghost use Rattle.tce_tree.specs.Orders.{lists_of};
+ghost use Rattle.tce_code.specs.CodeFor.{IsCodeFor};
+ghost use Rattle.tce_code.specs.Plan.{plan_of};
+ghost use Rattle.tce_tensors.specs.Takings.{least_budget, tile_take};
 ghost use Rattle.tce_tensors.specs.Laws.{LeavesNoHalfResult};
 ghost use Rattle.tce_job.specs.declared.fault.JobFault.{JobFault as Fault};
 ghost use Rattle.tce_job.specs.Refusals.{IsFree};
@@ -18,14 +21,14 @@ use crate::report::RunReport;
 use std::alloc::{AllocError, Global};
 use tce_array::{Form, form_len};
 use tce_cache::Cache;
-use tce_code::generate;
+use tce_code::{Code, generate};
 use tce_layout::lay_out;
 use tce_nesting::Plan;
 use tce_outside::{Disk, OutFault};
 use tce_report::run_text;
 use tce_spec::Spec;
 use tce_tensors::{Forms, arrays_of, file_of, frame_count, tile_take};
-use tce_words::Room;
+use tce_words::{Room, Words};
 
 // A cache for the arrays of a run, whose frames stand behind the words of its intermediates.
 fn empty_cache(
@@ -67,6 +70,58 @@ fn report_of(alloc: Global, spec: &Spec, budget: u64, plan: &Plan) -> Result<Run
     })
 }
 
+// The code of a run by this plan, and its report.
+fn code_and_report(
+    alloc: Global,
+    spec: &Spec,
+    budget: u64,
+    plan: &Plan,
+) -> Result<(Code, RunReport), AllocError>
+    requires enough { least_budget spec.now ≤ budget }
+    requires plan { IsCarriedPlan spec.now.declarations.space spec.now.tree plan.now }
+    ensures code { IfOk result (λ pair. IsCodeFor spec.now.tree
+        (plan_of plan.now.fusion.0.items (lists_of plan.now.orders.0.items)) pair.0) }
+    ensures report { IfOk result (λ pair. IsReport spec.now budget plan.now pair.1) }
+{
+    let code = generate(alloc, spec.tree(), &plan.fusion, &plan.orders)?;
+    match report_of(alloc, spec, budget, plan) {
+        Ok(report) => Ok((code, report)),
+        Err(refused) => {
+            drop(code);
+            Err(refused)
+        }
+    }
+}
+
+// The cache of a run, and the words of the room, which are taken last.
+fn cache_and_words<R: Room>(
+    alloc: Global,
+    spec: &Spec,
+    budget: u64,
+    forms: &Forms,
+    memory: u64,
+    room: &mut R,
+) -> Result<(Cache, Words), AllocError>
+    requires enough { least_budget spec.now ≤ budget }
+    requires limit { budget ≤ max_memory }
+    requires small { memory ≤ max_memory }
+    ensures cache { IfOk result (λ pair. IsEmptyCache spec.now budget forms.now.0 memory pair.0) }
+    ensures words { IfOk result
+        (λ pair. pair.1 ≡ replicate (memory + tile_take spec.now budget) 0) }
+    ensures taken { OnOk result (R.takings room.new
+        ≡ R.takings room.old ++ (memory, tile_take spec.now budget) ∷ []) }
+    ensures refused { OnErr result (R.takings room.new ≡ R.takings room.old) }
+{
+    let cache = empty_cache(alloc, spec, budget, forms, memory)?;
+    match room.take(memory, tile_take(spec, budget)) {
+        Ok(words) => Ok((cache, words)),
+        Err(refused) => {
+            drop(cache);
+            Err(refused)
+        }
+    }
+}
+
 // Takes all memory of a run, the words of the room last.
 fn take_memory<R: Room>(
     alloc: Global,
@@ -86,20 +141,32 @@ fn take_memory<R: Room>(
         (Takes spec.now budget plan (R.takings room.old) (R.takings room.new)) }
     ensures refused { OnErr result (R.takings room.new ≡ R.takings room.old) }
 {
-    let memory = plan.memory as u64;
-    let code = generate(alloc, spec.tree(), &plan.fusion, &plan.orders)?;
-    let cache = empty_cache(alloc, spec, budget, forms, memory)?;
-    let report = report_of(alloc, spec, budget, &plan)?;
-    let words = room.take(memory, tile_take(spec, budget))?;
-    let layout = lay_out(spec.space(), spec.tree(), &plan.fusion);
-    Ok(Prepared {
-        plan,
-        code,
-        layout,
-        words,
-        cache,
-        report,
-    })
+    let (code, report) = match code_and_report(alloc, spec, budget, &plan) {
+        Ok(written) => written,
+        Err(refused) => {
+            drop(plan);
+            return Err(refused);
+        }
+    };
+    match cache_and_words(alloc, spec, budget, forms, plan.memory as u64, room) {
+        Ok((cache, words)) => {
+            let layout = lay_out(spec.space(), spec.tree(), &plan.fusion);
+            Ok(Prepared {
+                plan,
+                code,
+                layout,
+                words,
+                cache,
+                report,
+            })
+        }
+        Err(refused) => {
+            drop(code);
+            drop(report);
+            drop(plan);
+            Err(refused)
+        }
+    }
 }
 
 // Makes the file of the result, of zeros: its head comes when all its elements are there.
@@ -163,6 +230,11 @@ pub fn begin<D: Disk, R: Room>(
     let Ok(prepared) = take_memory(alloc, spec, budget, &forms, plan, room) else {
         return Err(JobFault::Memory);
     };
-    make_result(spec, disk)?;
-    Ok(prepared)
+    match make_result(spec, disk) {
+        Ok(()) => Ok(prepared),
+        Err(fault) => {
+            drop(prepared);
+            Err(fault)
+        }
+    }
 }

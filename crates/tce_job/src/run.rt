@@ -99,8 +99,10 @@ pub fn run_by<D: Disk, R: Room>(
     // Specifications keep their rules.
     let _space = spec.space();
     let mut prepared = begin(alloc, spec, budget, planned, disk, room)?;
-    match run_prepared(spec, &mut prepared, disk) {
-        Ok(()) => Ok(prepared.into_report()),
+    let ran = run_prepared(spec, &mut prepared, disk);
+    let report = prepared.into_report();
+    match ran {
+        Ok(()) => Ok(report),
         Err(Failed) => Err(JobFault::Disk),
     }
 }
@@ -145,6 +147,5 @@ pub fn run_job<D: Disk, R: Room>(
 {
     let (plan, forms) = tested(alloc, spec, budget, disk)?;
     let planned = PlannedRun { plan, forms };
-    let report = run_by(alloc, spec, budget, planned, disk, room)?;
-    Ok(report)
+    run_by(alloc, spec, budget, planned, disk, room)
 }

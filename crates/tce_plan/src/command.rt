@@ -26,9 +26,17 @@ pub fn plan<D: Disk>(alloc: Global, spec: &str, disk: &mut D) -> Result<Vec<u8>,
     ensures told { TellsFaults (D.faults disk.old) (D.faults disk.new) (result ≡ Err Refusal.Disk) }
 {
     let source = read_source(alloc, disk, spec)?;
-    let made = least_report(alloc, &source);
+    let made = plan_source(alloc, &source);
     drop(source);
-    match made {
+    made
+}
+
+// The same of a specification that was read: only memory may be wanting.
+fn plan_source(alloc: Global, source: &Spec) -> Result<Vec<u8>, Refusal>
+    ensures done { IfOk result (λ report. IsPlanReport source.now report.items) }
+    ensures refused { IfErr result (λ refusal. refusal ≡ Refusal.Memory) }
+{
+    match least_report(alloc, source) {
         Ok(report) => Ok(report),
         Err(_) => Err(Refusal::Memory),
     }

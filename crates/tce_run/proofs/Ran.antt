@@ -1,9 +1,9 @@
 -- What the command leaves, by what the run of its specification leaves.
-use Rattle.std.proofs.Common.{◌≡◌, ℕ, ◌/◌, ◌≤◌, List, Option, inl, inr, ap, ◌∙◌, subst, arith}
+use Rattle.std.proofs.Common.{◌≡◌, ◌⊎◌, ℕ, ◌/◌, ◌≤◌, List, Option, Result, Ok, Err, inl, inr, ap, ◌∙◌, subst, arith}
 use Rattle.std.proofs.Math.Nat.{mul-div-le, mul-le-mul_left}
 use Rattle.std.specs.Option.{ForSome, option_map}
 use Rattle.tce_outside.specs.Files.{Files, others}
-use Rattle.tce_outside.specs.Fault.{HasCause, Rose}
+use Rattle.tce_outside.specs.Fault.{HasCause, Rose, TellsFaults}
 use Rattle.tce_spec.specs.Specification.{Specification}
 use Rattle.tce_spec.specs.Operands.{largest_tile}
 use Rattle.tce_tensors.specs.TensorFiles.{file_of}
@@ -11,16 +11,14 @@ use Rattle.tce_tensors.specs.ResultBytes.{with_result}
 use Rattle.tce_tensors.specs.Laws.{LeavesNoHalfResult}
 use Rattle.tce_tensors.specs.Takings.{tile_take, frame_count}
 use Rattle.tce_tensors.specs.Opened.{IsRefused}
-use Rattle.tce_job.specs.declared.fault.JobFault.{JobFault}
-use Rattle.tce_job.specs.declared.report.RunReport.{RunReport}
-use Rattle.tce_job.specs.Refusals.{IsCause, MayBeRefused, CanRun}
-use Rattle.tce_job.specs.Run.{IsReported}
+use Rattle.tce_job.specs.Refusals.{MayBeRefused}
 use Rattle.tce_command.specs.declared.refusal.Refusal.{Refusal}
+use Rattle.tce_command.specs.declared.refusal.Refusal.TheVariants.{Disk}
 use Rattle.tce_source.specs.Source.{HasSpecification}
-use Rattle.tce_run.specs.Refusals.{IsRunRefusal}
-use Rattle.tce_run.specs.Done.{IsRun, OnlyResultDiffers}
-use Rattle.tce_run.specs.Told.{IsToldAs}
-use Rattle.tce_run.proofs.Told.{told_cause}
+use Rattle.tce_run.specs.Refusals.{IsRunRefusalIfTold}
+use Rattle.tce_run.specs.Done.{IsRun, IsRoomLeft, OnlyResultDiffers}
+use Rattle.tce_run.specs.OfSource.{IsRunFault, IsRunOf}
+use Rattle.tce_run.proofs.Told.{told_cause, told_room, unchanged}
 use Rattle.tce_run.proofs.Reasons.{cause_map}
 
 -- the words for tiles are within the budget
@@ -31,25 +29,33 @@ within s budget =
     let all = mul-div-le budget (largest_tile s) in
     omega (arith, words, all)
 
-pub ran : (before middle after : Option Files) (taken taken_after : List (ℕ × ℕ)) (spec : List ℕ) (budget : ℕ) (s : Specification) (report : RunReport) → middle ≡ before
-    → ForSome before (λ files. HasSpecification files spec s) → ForSome middle (λ files. CanRun files s budget) → after ≡ option_map (with_result s) middle → IsReported s budget taken taken_after report
-    → IsRun before after taken taken_after spec budget report.text
-ran before middle after taken taken_after spec budget s report same specified able written reported = record {
+pub ran : (before middle after : Option Files) (taken taken_after : List (ℕ × ℕ)) (spec : List ℕ) (budget : ℕ) (s : Specification) (text : List ℕ) → middle ≡ before
+    → ForSome before (λ files. HasSpecification files spec s) → IsRunOf middle after taken taken_after s budget text → IsRun before after taken taken_after spec budget text
+ran before middle after taken taken_after spec budget s text same specified done = record {
   specification = s;
   specified = specified;
-  able = λ files told. able files (same ∙ told);
-  written = written ∙ ap (option_map (with_result s)) same;
-  plan = reported.plan;
-  least = reported.least;
-  taking = reported.taken;
+  able = λ files told. done.able files (same ∙ told);
+  written = done.written ∙ ap (option_map (with_result s)) same;
+  plan = done.reported.plan;
+  least = done.reported.least;
+  taking = done.reported.taken;
   within = within s budget;
-  reported = reported.report_is.text;
+  reported = done.text_is ∙ done.reported.report_is.text;
 }
 
-pub refused : (before middle : Option Files) (spec : List ℕ) (budget : ℕ) (s : Specification) (f : JobFault) (a : Refusal) → middle ≡ before
-    → ForSome before (λ files. HasSpecification files spec s) → IsToldAs s f a → IsCause (MayBeRefused middle s) s budget f → ForSome before (λ files. IsRunRefusal files spec budget a)
-refused before middle spec budget s f a same specified told cause files is =
-    inr (s, specified files is, told_cause files s budget f a told (cause_map (MayBeRefused middle s) (IsRefused files s) s budget f (λ r h. h.1 files (same ∙ is)) cause))
+pub refused : (before middle after : Option Files) (taken taken_after : List (ℕ × ℕ)) (spec : List ℕ) (budget : ℕ) (s : Specification) (a : Refusal) → middle ≡ before
+    → ForSome before (λ files. HasSpecification files spec s) → IsRunFault middle after taken taken_after s budget a → IsRunRefusalIfTold before spec budget a
+refused before middle after taken taken_after spec budget s a same specified left = λ files is.
+    inr (s, specified files is, told_cause files s budget left.fault a left.told (cause_map (MayBeRefused middle s) (IsRefused files s) s budget left.fault (λ r h. h.1 files (same ∙ is)) left.cause))
+
+pub left_unchanged : (before middle after : Option Files) (taken taken_after : List (ℕ × ℕ)) (budget : ℕ) (s : Specification) (a : Refusal) → middle ≡ before
+    → IsRunFault middle after taken taken_after s budget a → (a ≡ Disk) ⊎ (after ≡ before)
+left_unchanged before middle after taken taken_after budget s a same left = unchanged before middle after s left.fault a same left.told left.unchanged
+
+pub left_room : (before middle after : Option Files) (taken taken_after : List (ℕ × ℕ)) (spec : List ℕ) (budget : ℕ) (s : Specification) (a : Refusal) → middle ≡ before
+    → ForSome before (λ files. HasSpecification files spec s) → IsRunFault middle after taken taken_after s budget a → IsRoomLeft a before taken taken_after spec budget
+left_room before middle after taken taken_after spec budget s a same specified left =
+    told_room before middle s spec budget left.fault a taken taken_after same specified left.told left.tested left.room
 
 pub others_stay : (before middle after : Option Files) (spec : List ℕ) (s : Specification) → middle ≡ before → ForSome before (λ files. HasSpecification files spec s)
     → others (file_of s s.result) after ≡ others (file_of s s.result) middle → LeavesNoHalfResult s middle after → OnlyResultDiffers spec before after
@@ -67,3 +73,11 @@ rose_later a b c later (inr end) = inr end
 
 pub both_causes : {P Q R : Type 0} (a b c : ℕ) → HasCause a b P → HasCause b c Q → (R → Q) → HasCause a c R
 both_causes a b c first last failed = record { later = omega (arith, first.later, last.later); rose = λ r. rose_later a b c first.later (last.rose (failed r)) }
+
+-- the same call with another answer
+pub cause_as : {P Q : Type 0} (a b : ℕ) → (Q → P) → HasCause a b P → HasCause a b Q
+cause_as a b from cause = record { later = cause.later; rose = λ failed. cause.rose (from failed) }
+
+-- a call that is answered had no fault
+pub ok_quiet : {A B : Type 0} {f : B} (a b : ℕ) (x : A) (given : Result A B) → given ≡ Ok x → TellsFaults a b (given ≡ Err f) → b ≡ a
+ok_quiet a b x given is told = told (λ failed. absurd (cc))

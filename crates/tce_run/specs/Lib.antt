@@ -2,3 +2,4 @@ pub mod Refusals
 pub mod Done
 pub mod Laws
 pub mod Told
+pub mod OfSource

@@ -4,7 +4,10 @@ ghost use Rattle.tce_space.specs.Limits.{max_memory};
 ghost use Rattle.tce_outside.specs.Fault.{HasCause, TellsFaults};
 ghost use Rattle.tce_command.specs.Command.{NamesSpec};
 ghost use Rattle.tce_command.specs.Refusals.{SameOrDisk};
+ghost use Rattle.tce_tensors.specs.Laws.{LeavesNoHalfResult};
+ghost use Rattle.tce_job.specs.Told.{ResultAlone};
 ghost use Rattle.tce_run.specs.Done.{IsRun, IsRoomLeft, OnlyResultDiffers};
+ghost use Rattle.tce_run.specs.OfSource.{IsRunFault, IsRunOf};
 ghost use Rattle.tce_run.specs.Refusals.{IsRunRefusalIfTold};
 
 use crate::refusals::refusal_of;
@@ -13,6 +16,7 @@ use tce_command::Refusal;
 use tce_job::run_job;
 use tce_outside::Disk;
 use tce_source::read_source;
+use tce_spec::Spec;
 use tce_words::Room;
 
 /// Runs the specification in a file: puts the file of its result in place of whatever has that name, and gives the report.
@@ -42,10 +46,31 @@ pub fn run<D: Disk, R: Room>(
     ensures told { TellsFaults (D.faults disk.old) (D.faults disk.new) (result ≡ Err Refusal.Disk) }
 {
     let source = read_source(alloc, disk, spec)?;
-    // A specification keeps its rules.
-    let _space = source.space();
-    match run_job(alloc, &source, budget, disk, room) {
+    let ran = run_source(alloc, &source, budget, disk, room);
+    drop(source);
+    ran
+}
+
+// The same of a specification that was read.
+fn run_source<D: Disk, R: Room>(
+    alloc: Global,
+    source: &Spec,
+    budget: u64,
+    disk: &mut D,
+    room: &mut R,
+) -> Result<Vec<u8>, Refusal>
+    requires { budget ≤ max_memory }
+    ensures done { IfOk result (λ report. IsRunOf (D.files disk.old) (D.files disk.new)
+        (R.takings room.old) (R.takings room.new) source.now budget report.items) }
+    ensures refused { IfErr result (IsRunFault (D.files disk.old) (D.files disk.new)
+        (R.takings room.old) (R.takings room.new) source.now budget) }
+    ensures no_half { LeavesNoHalfResult source.now (D.files disk.old) (D.files disk.new) }
+    ensures others { ResultAlone source.now (D.files disk.old) (D.files disk.new) }
+    ensures cause { HasCause (D.faults disk.old) (D.faults disk.new) (result ≡ Err Refusal.Disk) }
+    ensures told { TellsFaults (D.faults disk.old) (D.faults disk.new) (result ≡ Err Refusal.Disk) }
+{
+    match run_job(alloc, source, budget, disk, room) {
         Ok(report) => Ok(report.text.into_vec()),
-        Err(fault) => Err(refusal_of(&source, fault)),
+        Err(fault) => Err(refusal_of(source, fault)),
     }
 }

@@ -1,5 +1,5 @@
 -- What the command leaves that runs several formulas, by what their runs leave.
-use Rattle.std.proofs.Common.{◌≡◌, ◌⊎◌, ℕ, ◌+◌, ◌-◌, ◌≤◌, List, length, All, get_or, Option, Some, inl, inr, refl, sym, subst, ap, ◌∙◌, arith}
+use Rattle.std.proofs.Common.{◌≡◌, ◌⊎◌, ℕ, ◌+◌, ◌-◌, ◌≤◌, List, All, get_or, Option, Some, inl, inr, refl, sym, subst, ap, ◌∙◌, arith}
 use Rattle.std.specs.Prelude.{slice_get}
 use Rattle.std.specs.Option.{ForSome, option_map}
 use Rattle.std.proofs.lemmas.Option.{slice_get_within}
@@ -11,8 +11,7 @@ use Rattle.tce_job.specs.declared.fault.JobFault.TheVariants as faults
 use Rattle.tce_job.specs.Refusals.{NamesDeclared, IsFree as IsFreeFault}
 use Rattle.tce_batch_job.specs.declared.fault.BatchFault.{BatchFault}
 use Rattle.tce_job.specs.Several.{files_after, OnlyResultsDiffer}
-use Rattle.tce_batch_job.specs.Refusals.{AffordableBelow, SourcesBelow, IsAt, IsOneOf, IsCauseAt}
-use Rattle.tce_batch_job.specs.Reports.{HasRun}
+use Rattle.tce_batch_job.specs.Refusals.{IsAt, IsOneOf, IsCauseAt}
 use Rattle.tce_batch_job.specs.Left.{IsLeftAt, IsRoomLeftAt}
 use Rattle.tce_command.specs.Refusals.{IsFree}
 use Rattle.tce_command.specs.declared.refusal.Refusal.{Refusal}
@@ -20,7 +19,8 @@ use Rattle.tce_command.specs.declared.refusal.Refusal.TheVariants.{Disk, Memory}
 use Rattle.tce_source.specs.BatchSource.{HasBatch}
 use Rattle.tce_run.specs.Told.{IsOfFiles, IsToldAs}
 use Rattle.tce_sequence.specs.BatchDone.{IsBatchLeft, IsBatchRoomLeft, IsBatchRun, IsBatchTaking, OnlyBatchDiffers}
-use Rattle.tce_sequence.specs.BatchRefusals.{IsBatchRefusal, IsToldAt, IsToldWithout}
+use Rattle.tce_sequence.specs.BatchOfFormulas.{AreRun, IsFormulaFault}
+use Rattle.tce_sequence.specs.BatchRefusals.{IsBatchRefusal, IsFormulaRefusal, IsToldAt, IsToldWithout}
 use Rattle.tce_run.proofs.Ran.{within}
 use Rattle.tce_run.proofs.Told.{told_disk, disk_told}
 use Rattle.tce_sequence.proofs.BatchReasons.{told_free}
@@ -94,20 +94,19 @@ told_of_memory : (formulas : List Specification) (formula : ℕ) (a : Refusal) �
 told_of_memory formulas formula a (inl told) = told
 told_of_memory formulas formula a (inr told) = told.here
 
-pub batch_refused : (before middle : Option Files) (spec : List ℕ) (budget : ℕ) (formulas : List Specification) (refused : BatchFault) (a : Refusal) → middle ≡ before
-    → ForSome before (λ files. HasBatch files spec formulas) → IsToldAt formulas refused a → IsCauseAt middle formulas budget refused.formula refused.fault → ForSome before (λ files. IsBatchRefusal files spec budget a)
-batch_refused before middle spec budget formulas refused a same specified (inl told) cause files is = inr (formulas, specified files is, inl (without_free refused.fault a told))
-batch_refused before middle spec budget formulas refused a same specified (inr told) cause files is =
-    inr (
-      formulas,
-      specified files is,
-      inr (record {
-        formula = refused.formula;
-        fault = refused.fault;
-        cause = subst (λ (o : Option Files). IsCauseAt o formulas budget refused.formula refused.fault) (same ∙ is) cause;
-        told = told;
-      }),
-    )
+pub batch_refused : (before middle after : Option Files) (taken taken_after : List (ℕ × ℕ)) (spec : List ℕ) (budget : ℕ) (formulas : List Specification) (a : Refusal) → middle ≡ before
+    → ForSome before (λ files. HasBatch files spec formulas) → IsFormulaFault middle after taken taken_after formulas budget a → ForSome before (λ files. IsBatchRefusal files spec budget a)
+batch_refused before middle after taken taken_after spec budget formulas a same specified left = λ files is. inr (formulas, specified files is, by_telling files is left.told)
+  where
+    by_telling : (files : Files) → before ≡ Some files → IsToldAt formulas left.refused a → IsFree a ⊎ IsFormulaRefusal files formulas budget a
+    by_telling files is (inl told) = inl (without_free left.refused.fault a told)
+    by_telling files is (inr told) =
+        inr (record {
+          formula = left.refused.formula;
+          fault = left.refused.fault;
+          cause = subst (λ (o : Option Files). IsCauseAt o formulas budget left.refused.formula left.refused.fault) (same ∙ is) left.cause;
+          told = told;
+        })
 
 -- What is left.
 
@@ -132,10 +131,11 @@ files_left before after spec formulas formula faults.Memory a specified told lef
       | inr is ↦ record { formulas = formulas; specified = specified; count = left.number + 1; within = omega (arith, w); files_are = is }
     ]))
 
-pub batch_left : (before middle after : Option Files) (spec : List ℕ) (formulas : List Specification) (refused : BatchFault) (a : Refusal) → middle ≡ before → ForSome before (λ files. HasBatch files spec formulas)
-    → IsToldAt formulas refused a → IsLeftAt middle after formulas refused.formula refused.fault → IsBatchLeft a before after spec
-batch_left before middle after spec formulas refused a same specified told left =
-    files_left before after spec formulas refused.formula refused.fault a specified told (subst (λ (o : Option Files). IsLeftAt o after formulas refused.formula refused.fault) same left)
+pub batch_left : (before middle after : Option Files) (taken taken_after : List (ℕ × ℕ)) (spec : List ℕ) (budget : ℕ) (formulas : List Specification) (a : Refusal) → middle ≡ before
+    → ForSome before (λ files. HasBatch files spec formulas) → IsFormulaFault middle after taken taken_after formulas budget a → IsBatchLeft a before after spec
+batch_left before middle after taken taken_after spec budget formulas a same specified left =
+    files_left before after spec formulas left.refused.formula left.refused.fault a specified left.told
+    (subst (λ (o : Option Files). IsLeftAt o after formulas left.refused.formula left.refused.fault) same left.left)
 
 taken_in_turn : (before : Option Files) (spec : List ℕ) (budget : ℕ) (formulas : List Specification) (formula : ℕ) (f : JobFault) (taken after : List (ℕ × ℕ)) → ForSome before (λ files. HasBatch files spec formulas)
     → IsRoomLeftAt taken after formulas budget formula f → (after ≡ taken) ⊎ IsBatchTaking before taken after spec budget
@@ -160,12 +160,11 @@ taken_in_turn before spec budget formulas formula faults.Memory taken after spec
       | inr some ↦ inr (record { formulas = formulas; specified = specified; count = left.number + 1; within = omega (arith, w); taking = some })
     ]
 
-pub batch_room : (before middle : Option Files) (spec : List ℕ) (budget : ℕ) (formulas : List Specification) (refused : BatchFault) (a : Refusal) (taken after : List (ℕ × ℕ)) → middle ≡ before
-    → ForSome before (λ files. HasBatch files spec formulas) → IsToldAt formulas refused a → IsRoomLeftAt taken after formulas budget refused.formula refused.fault
-    → ForSome middle (λ _. (IsFreeFault refused.fault → ⊥) → after ≡ taken) → IsBatchRoomLeft a before taken after spec budget
-batch_room before middle spec budget formulas refused a taken after same specified told left tested = record {
-  takings = taken_in_turn before spec budget formulas refused.formula refused.fault taken after specified left;
-  untaken = λ free files is. tested files (same ∙ is) (λ fault. free (free_told formulas refused a told fault));
+pub batch_room : (before middle after : Option Files) (taken taken_after : List (ℕ × ℕ)) (spec : List ℕ) (budget : ℕ) (formulas : List Specification) (a : Refusal) → middle ≡ before
+    → ForSome before (λ files. HasBatch files spec formulas) → IsFormulaFault middle after taken taken_after formulas budget a → IsBatchRoomLeft a before taken taken_after spec budget
+batch_room before middle after taken taken_after spec budget formulas a same specified left = record {
+  takings = taken_in_turn before spec budget formulas left.refused.formula left.refused.fault taken taken_after specified left.takings;
+  untaken = λ free files is. left.tested files (same ∙ is) (λ fault. free (free_told formulas left.refused a left.told fault));
 }
 
 pub same_room : (a : Refusal) (before : Option Files) (spec : List ℕ) (budget : ℕ) (taken after : List (ℕ × ℕ)) → after ≡ taken → IsBatchRoomLeft a before taken after spec budget
@@ -180,13 +179,12 @@ within_each : (formulas : List Specification) (budget : ℕ) → All (λ (s : Sp
 within_each formulas budget = λ k d less. within (get_or formulas k d) budget
 
 pub batch_ran : (before middle after : Option Files) (taken taken_after : List (ℕ × ℕ)) (spec : List ℕ) (budget : ℕ) (formulas : List Specification) (report : List ℕ) → middle ≡ before
-    → ForSome before (λ files. HasBatch files spec formulas) → AffordableBelow formulas budget (length formulas) → ForSome middle (λ files. SourcesBelow files formulas (length formulas))
-    → after ≡ option_map (files_after formulas) middle → HasRun formulas budget taken taken_after report → IsBatchRun before after taken taken_after spec budget report
-batch_ran before middle after taken taken_after spec budget formulas report same specified able sources written run = record {
+    → ForSome before (λ files. HasBatch files spec formulas) → AreRun middle after taken taken_after formulas budget report → IsBatchRun before after taken taken_after spec budget report
+batch_ran before middle after taken taken_after spec budget formulas report same specified are = record {
   formulas = formulas;
   specified = specified;
-  able = λ files told. record { affordable = able; sources = sources files (same ∙ told) };
-  written = written ∙ ap (option_map (files_after formulas)) same;
+  able = λ files told. record { affordable = are.affordable; sources = are.sources files (same ∙ told) };
+  written = are.written ∙ ap (option_map (files_after formulas)) same;
   within = within_each formulas budget;
-  run = run;
+  run = are.run;
 }

@@ -1,5 +1,5 @@
 -- The command that runs several formulas has one answer.
-use Rattle.std.proofs.Common.{◌≡◌, ℕ, ◌⊎◌, ◌+◌, List, length, Option, Some, inl, inr, refl, sym, ap, ◌∙◌, subst, arith}
+use Rattle.std.proofs.Common.{◌≡◌, ℕ, ◌⊎◌, List, length, Option, Some, inl, inr, refl, sym, ap, ◌∙◌, subst, arith}
 use Rattle.std.specs.Prelude.{slice_get}
 use Rattle.std.specs.Option.{ForSome}
 use Rattle.tce_outside.specs.Files.{Files, file}
@@ -12,7 +12,6 @@ use Rattle.tce_batch_job.specs.Refusals.{IsAt, IsCauseAt, IsKnown, SourcesBelow}
 use Rattle.tce_batch_job.proofs.Causes.{one_cause, no_cause}
 use Rattle.tce_command.specs.Refusals.{IsFree, SameRefusal}
 use Rattle.tce_command.specs.declared.refusal.Refusal.{Refusal}
-use Rattle.tce_command.specs.declared.refusal.Refusal.TheVariants.{Disk, Memory}
 use Rattle.tce_source.proofs.Outcomes.{one_batch, one_batch_refusal, not_both_batch}
 use Rattle.tce_run.specs.Told.{IsToldAs}
 use Rattle.tce_sequence.specs.BatchDone.{CanRunFormulas, IsBatchRun}

@@ -7,14 +7,11 @@ use Rattle.tce_array.specs.declared.fault.ArrayFault.TheVariants as array_fault
 use Rattle.tce_spec.specs.Specification.{Specification}
 use Rattle.tce_tensors.specs.Takings.{tile_take}
 use Rattle.tce_job.specs.Several.{OnlyResultsDiffer}
-use Rattle.tce_spill.specs.Refusals.{IsFree as IsFreeFault}
 use Rattle.tce_spill.specs.declared.fault.SpillFault.{SpillFault}
 use Rattle.tce_spill.specs.declared.fault.SpillFault.TheVariants as faults
 use Rattle.tce_spill_job.specs.Pieces.{pieces_of}
-use Rattle.tce_spill_job.specs.Reports.{IsReportedFor}
 use Rattle.tce_spill_job.specs.Refusals.{IsSpillCause, WithCuts}
 use Rattle.tce_spill_job.specs.Left.{HasSpilled, IsLeft, IsRoomLeft, OnlyPiecesDiffer as OnlyFilesOfPiecesDiffer}
-use Rattle.tce_command.specs.Refusals.{IsFree}
 use Rattle.tce_command.specs.declared.refusal.Refusal.{Refusal}
 use Rattle.tce_command.specs.declared.refusal.Refusal.TheVariants.{Disk, Memory}
 use Rattle.tce_source.specs.Source.{HasSpecification}
@@ -22,7 +19,8 @@ use Rattle.tce_run.specs.Told.{TellsArray}
 use Rattle.tce_run.proofs.Ran.{within}
 use Rattle.tce_run.proofs.Told.{refusal_in}
 use Rattle.tce_sequence.specs.SpillDone.{IsSpillLeft, IsSpillRoomLeft, IsSpillRun, IsSpillTaking, OnlyPiecesDiffer}
-use Rattle.tce_sequence.specs.SpillRefusals.{CanRunPieces, IsOfFiles, IsSpillRefusal, IsToldAs}
+use Rattle.tce_sequence.specs.SpillOfSource.{ArePiecesRun, IsPieceFault}
+use Rattle.tce_sequence.specs.SpillRefusals.{IsOfFiles, IsSpillRefusal, IsToldAs}
 use Rattle.tce_sequence.proofs.SpillReasons.{told_free}
 
 -- an array is refused for its file
@@ -60,10 +58,10 @@ told_no_failure f a given told is was says none failed =
     let fault : f ≡ faults.Disk = cc in
     none (was ∙ ap Err (disk_told f a says fault))
 
-pub spill_refused : (before middle : Option Files) (spec : List ℕ) (budget limit : ℕ) (s : Specification) (f : SpillFault) (a : Refusal) → middle ≡ before → ForSome before (λ files. HasSpecification files spec s)
-    → IsToldAs f a → IsSpillCause middle s budget limit f → ForSome before (λ files. IsSpillRefusal files spec budget limit a)
-spill_refused before middle spec budget limit s f a same specified told cause files is =
-    inr (s, specified files is, record { fault = f; cause = subst (λ (o : Option Files). IsSpillCause o s budget limit f) (same ∙ is) cause; told = told })
+pub spill_refused : (before middle after : Option Files) (taken taken_after : List (ℕ × ℕ)) (spec : List ℕ) (budget limit : ℕ) (s : Specification) (a : Refusal) → middle ≡ before
+    → ForSome before (λ files. HasSpecification files spec s) → IsPieceFault middle after taken taken_after s budget limit a → ForSome before (λ files. IsSpillRefusal files spec budget limit a)
+spill_refused before middle after taken taken_after spec budget limit s a same specified left = λ files is.
+    inr (s, specified files is, record { fault = left.fault; cause = subst (λ (o : Option Files). IsSpillCause o s budget limit left.fault) (same ∙ is) left.cause; told = left.told })
 
 -- What is left.
 
@@ -84,10 +82,10 @@ files_left before after spec limit s (faults.LimitTooSmall v n) a specified told
 files_left before after spec limit s (faults.BudgetTooSmall n) a specified told (inr some) = unchanged_left before after spec limit a some.here
 files_left before after spec limit s (faults.Array name u) a specified told (inr some) = unchanged_left before after spec limit a some.here
 
-pub spill_left : (before middle after : Option Files) (spec : List ℕ) (limit : ℕ) (s : Specification) (f : SpillFault) (a : Refusal) → middle ≡ before → ForSome before (λ files. HasSpecification files spec s)
-    → IsToldAs f a → IsLeft middle after s limit f → IsSpillLeft a before after spec limit
-spill_left before middle after spec limit s f a same specified told left =
-    files_left before after spec limit s f a specified told (subst (λ (o : Option Files). IsLeft o after s limit f) same left)
+pub spill_left : (before middle after : Option Files) (taken taken_after : List (ℕ × ℕ)) (spec : List ℕ) (budget limit : ℕ) (s : Specification) (a : Refusal) → middle ≡ before
+    → ForSome before (λ files. HasSpecification files spec s) → IsPieceFault middle after taken taken_after s budget limit a → IsSpillLeft a before after spec limit
+spill_left before middle after taken taken_after spec budget limit s a same specified left =
+    files_left before after spec limit s left.fault a specified left.told (subst (λ (o : Option Files). IsLeft o after s limit left.fault) same left.left)
 
 taken_in_turn : (before : Option Files) (spec : List ℕ) (budget limit : ℕ) (s : Specification) (f : SpillFault) (taken after : List (ℕ × ℕ)) → ForSome before (λ files. HasSpecification files spec s)
     → IsRoomLeft taken after s budget limit f → (after ≡ taken) ⊎ IsSpillTaking before taken after spec budget limit
@@ -97,12 +95,11 @@ taken_in_turn before spec budget limit s (faults.BudgetTooSmall n) taken after s
 taken_in_turn before spec budget limit s f taken after specified (inl same) = inl same
 taken_in_turn before spec budget limit s f taken after specified (inr some) = inr (record { specification = s; specified = specified; taking = some })
 
-pub spill_room : (before middle : Option Files) (spec : List ℕ) (budget limit : ℕ) (s : Specification) (f : SpillFault) (a : Refusal) (taken after : List (ℕ × ℕ)) → middle ≡ before
-    → ForSome before (λ files. HasSpecification files spec s) → IsToldAs f a → IsRoomLeft taken after s budget limit f → ForSome middle (λ _. (IsFreeFault f → ⊥) → after ≡ taken)
-    → IsSpillRoomLeft a before taken after spec budget limit
-spill_room before middle spec budget limit s f a taken after same specified told left tested = record {
-  takings = taken_in_turn before spec budget limit s f taken after specified left;
-  untaken = λ free files is. tested files (same ∙ is) (λ fault. free (told_free f a told fault));
+pub spill_room : (before middle after : Option Files) (taken taken_after : List (ℕ × ℕ)) (spec : List ℕ) (budget limit : ℕ) (s : Specification) (a : Refusal) → middle ≡ before
+    → ForSome before (λ files. HasSpecification files spec s) → IsPieceFault middle after taken taken_after s budget limit a → IsSpillRoomLeft a before taken taken_after spec budget limit
+spill_room before middle after taken taken_after spec budget limit s a same specified left = record {
+  takings = taken_in_turn before spec budget limit s left.fault taken taken_after specified left.takings;
+  untaken = λ free files is. left.tested files (same ∙ is) (λ fault. free (told_free left.fault a left.told fault));
 }
 
 pub same_room : (a : Refusal) (before : Option Files) (spec : List ℕ) (budget limit : ℕ) (taken after : List (ℕ × ℕ)) → after ≡ taken → IsSpillRoomLeft a before taken after spec budget limit
@@ -122,13 +119,12 @@ within_each : (pieces : List Specification) (budget : ℕ) → All (λ (p : Spec
 within_each pieces budget = λ k d less. within (get_or pieces k d) budget
 
 pub spill_ran : (before middle after : Option Files) (taken taken_after : List (ℕ × ℕ)) (spec : List ℕ) (budget limit : ℕ) (s : Specification) (report : List ℕ) → middle ≡ before
-    → ForSome before (λ files. HasSpecification files spec s) → ForSome before (λ files. CanRunPieces files s budget limit) → HasSpilled middle after s limit → IsReportedFor s budget limit taken taken_after report
-    → IsSpillRun before after taken taken_after spec budget limit report
-spill_ran before middle after taken taken_after spec budget limit s report same specified able spilled run = record {
+    → ForSome before (λ files. HasSpecification files spec s) → ArePiecesRun middle after taken taken_after s budget limit report → IsSpillRun before after taken taken_after spec budget limit report
+spill_ran before middle after taken taken_after spec budget limit s report same specified are = record {
   specification = s;
   specified = specified;
-  able = able;
-  spilled = subst (λ (o : Option Files). HasSpilled o after s limit) same spilled;
-  run = run;
-  within = within_each (pieces_of s run.cut) budget;
+  able = λ files told. are.able files (same ∙ told);
+  spilled = subst (λ (o : Option Files). HasSpilled o after s limit) same are.spilled;
+  run = are.run;
+  within = within_each (pieces_of s are.run.cut) budget;
 }

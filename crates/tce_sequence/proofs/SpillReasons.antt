@@ -1,10 +1,9 @@
 -- The command that runs a tree in pieces has one answer.
-use Rattle.std.proofs.Common.{◌≡◌, ◌≢◌, ◌⊎◌, inl, inr, ℕ, ◌*◌, ◌<◌, ◌≤◌, List, [], length, Option, Some, Result, Ok, refl, sym, ap, ◌∙◌, subst, arith}
+use Rattle.std.proofs.Common.{◌≡◌, ◌⊎◌, inl, inr, ℕ, ◌*◌, ◌<◌, ◌≤◌, List, [], length, Option, Some, Ok, refl, sym, ap, ◌∙◌, subst, arith}
 use Rattle.std.specs.Option.{ForSome}
 use Rattle.std.proofs.lemmas.Bool.{cases_lt}
 use Rattle.tce_outside.specs.Files.{Files, file}
 use Rattle.tce_array.specs.declared.fault.ArrayFault.{ArrayFault}
-use Rattle.tce_array.specs.declared.fault.ArrayFault.TheVariants as array_fault
 use Rattle.arrayvec.specs.ArrayString.{ArrayString}
 use Rattle.tce_declarations.specs.Declarations.{Tensor}
 use Rattle.tce_pieces.specs.Pieces.{Cuts}
@@ -19,12 +18,10 @@ use Rattle.tce_spill.specs.declared.fault.SpillFault.{SpillFault}
 use Rattle.tce_spill.specs.declared.fault.SpillFault.TheVariants as faults
 use Rattle.tce_spill_job.specs.Pieces.{largest_of}
 use Rattle.tce_spill_job.specs.Refusals.{AreCut, IsExact, IsKnown, IsOpeningFault, IsRefusedSource, IsSameFault, IsSpillCause}
-use Rattle.tce_spill_job.specs.Left.{HasSpilled}
 use Rattle.tce_spill_job.proofs.Causes.{cut_exact, no_cause, test_exact}
 use Rattle.tce_spill_job.proofs.Ready.{few_of}
 use Rattle.tce_command.specs.Refusals.{IsFree, SameRefusal}
 use Rattle.tce_command.specs.declared.refusal.Refusal.{Refusal}
-use Rattle.tce_source.specs.Source.{HasSpecification}
 use Rattle.tce_source.proofs.Outcomes.{one, one_refusal, not_both}
 use Rattle.tce_run.specs.Told.{TellsArray}
 use Rattle.tce_sequence.specs.SpillDone.{IsSpillRun}

@@ -3,3 +3,5 @@ pub mod BatchRefusals
 pub mod SpillDone
 pub mod SpillRefusals
 pub mod Laws
+pub mod BatchOfFormulas
+pub mod SpillOfSource

@@ -4,11 +4,14 @@ ghost use Rattle.std.specs.Option.{ForSome};
 ghost use Rattle.tce_space.specs.Limits.{max_memory};
 ghost use Rattle.tce_outside.specs.Fault.{HasCause, TellsFaults};
 ghost use Rattle.tce_command.specs.Command.{NamesSpec};
+ghost use Rattle.tce_job.specs.Several.{OnlyResultsDiffer};
 ghost use Rattle.tce_sequence.specs.BatchDone.{IsBatchLeft, IsBatchRoomLeft, IsBatchRun, OnlyBatchDiffers};
+ghost use Rattle.tce_sequence.specs.BatchOfFormulas.{AreRun, IsFormulaFault};
 ghost use Rattle.tce_sequence.specs.BatchRefusals.{IsBatchRefusal};
 
 use crate::batch_refusals::refusal_at;
 use std::alloc::Global;
+use tce_batch::Batch;
 use tce_batch_job::run_batch;
 use tce_command::Refusal;
 use tce_outside::Disk;
@@ -42,8 +45,28 @@ pub fn run_all<D: Disk, R: Room>(
     ensures told { TellsFaults (D.faults disk.old) (D.faults disk.new) (result ≡ Err Refusal.Disk) }
 {
     let batch = read_batch_source(alloc, disk, spec)?;
-    match run_batch(alloc, &batch, budget, disk, room) {
+    let ran = run_formulas(alloc, &batch, budget, disk, room);
+    drop(batch);
+    ran
+}
+
+// The same of formulas that were read.
+fn run_formulas<D: Disk, R: Room>(
+    alloc: Global,
+    batch: &Batch,
+    budget: u64,
+    disk: &mut D,
+    room: &mut R,
+) -> Result<Vec<u8>, Refusal>
+    requires { budget ≤ max_memory }
+    ensures done { IfOk result (λ report. AreRun (D.files disk.old) (D.files disk.new) (R.takings room.old) (R.takings room.new) batch.now budget report.items) }
+    ensures refused { IfErr result (IsFormulaFault (D.files disk.old) (D.files disk.new) (R.takings room.old) (R.takings room.new) batch.now budget) }
+    ensures others { OnlyResultsDiffer batch.now (D.files disk.old) (D.files disk.new) }
+    ensures cause { HasCause (D.faults disk.old) (D.faults disk.new) (result ≡ Err Refusal.Disk) }
+    ensures told { TellsFaults (D.faults disk.old) (D.faults disk.new) (result ≡ Err Refusal.Disk) }
+{
+    match run_batch(alloc, batch, budget, disk, room) {
         Ok(report) => Ok(report.text.into_vec()),
-        Err(refused) => Err(refusal_at(alloc, &batch, refused)),
+        Err(refused) => Err(refusal_at(alloc, batch, refused)),
     }
 }

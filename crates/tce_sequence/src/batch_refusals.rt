@@ -33,7 +33,11 @@ pub(crate) fn refusal_at(alloc: Global, batch: &Batch, refused: BatchFault) -> R
 {
     let number = refused.formula as usize - 1;
     match batch.spec(alloc, number) {
-        Ok(spec) => refusal_of(&spec, refused.fault),
+        Ok(spec) => {
+            let refusal = refusal_of(&spec, refused.fault);
+            drop(spec);
+            refusal
+        }
         Err(_) => refusal_without(refused.fault),
     }
 }

@@ -4,7 +4,10 @@ ghost use Rattle.std.specs.Option.{ForSome};
 ghost use Rattle.tce_space.specs.Limits.{max_memory};
 ghost use Rattle.tce_outside.specs.Fault.{HasCause, TellsFaults};
 ghost use Rattle.tce_command.specs.Command.{NamesSpec};
+ghost use Rattle.tce_declarations.specs.Declarations.{HaveNames};
+ghost use Rattle.tce_spill_job.specs.Left.{OnlyPiecesDiffer as OnlyFilesOfPiecesDiffer};
 ghost use Rattle.tce_sequence.specs.SpillDone.{IsSpillLeft, IsSpillRoomLeft, IsSpillRun, OnlyPiecesDiffer};
+ghost use Rattle.tce_sequence.specs.SpillOfSource.{ArePiecesRun, IsPieceFault};
 ghost use Rattle.tce_sequence.specs.SpillRefusals.{IsSpillRefusal};
 
 use crate::spill_refusals::refusal_of_pieces;
@@ -12,6 +15,7 @@ use std::alloc::Global;
 use tce_command::Refusal;
 use tce_outside::Disk;
 use tce_source::read_source;
+use tce_spec::Spec;
 use tce_spill_job::run_spill;
 use tce_words::Room;
 
@@ -44,9 +48,32 @@ pub fn spill<D: Disk, R: Room>(
     ensures told { TellsFaults (D.faults disk.old) (D.faults disk.new) (result ≡ Err Refusal.Disk) }
 {
     let source = read_source(alloc, disk, spec)?;
+    let ran = run_pieces(alloc, &source, budget, limit, disk, room);
+    drop(source);
+    ran
+}
+
+// The same of a specification that was read.
+fn run_pieces<D: Disk, R: Room>(
+    alloc: Global,
+    source: &Spec,
+    budget: u64,
+    limit: u64,
+    disk: &mut D,
+    room: &mut R,
+) -> Result<Vec<u8>, Refusal>
+    requires names { HaveNames source.now.declarations.tensors }
+    requires budget { budget ≤ max_memory }
+    requires limit { limit ≤ max_memory }
+    ensures done { IfOk result (λ report. ArePiecesRun (D.files disk.old) (D.files disk.new) (R.takings room.old) (R.takings room.new) source.now budget limit report.items) }
+    ensures refused { IfErr result (IsPieceFault (D.files disk.old) (D.files disk.new) (R.takings room.old) (R.takings room.new) source.now budget limit) }
+    ensures others { OnlyFilesOfPiecesDiffer (D.files disk.old) (D.files disk.new) source.now limit }
+    ensures cause { HasCause (D.faults disk.old) (D.faults disk.new) (result ≡ Err Refusal.Disk) }
+    ensures told { TellsFaults (D.faults disk.old) (D.faults disk.new) (result ≡ Err Refusal.Disk) }
+{
     // A specification keeps its rules.
     let _space = source.space();
-    match run_spill(alloc, &source, budget, limit, disk, room) {
+    match run_spill(alloc, source, budget, limit, disk, room) {
         Ok(report) => Ok(report.text.into_vec()),
         Err(fault) => Err(refusal_of_pieces(fault)),
     }

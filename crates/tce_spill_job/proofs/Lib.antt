@@ -10,3 +10,5 @@ pub mod Turns
 pub mod Others
 pub mod Ready
 pub mod PlannedRuns
+pub mod Counted
+pub mod Spared

@@ -37,7 +37,9 @@ pub(crate) fn push_piece(
         "piece {} memory {} tiles {}\n",
         root, run.memory, run.tiles
     )?;
-    text.extend_from_slice(line.as_str().as_bytes())
+    let pushed = text.extend_from_slice(line.as_str().as_bytes());
+    drop(line);
+    pushed
 }
 
 /// Puts the line of the result's file behind the others.
@@ -48,5 +50,7 @@ pub(crate) fn push_wrote(alloc: Global, text: &mut Vec<u8>, spec: &Spec) -> Resu
     let name = file_of(spec, number);
     let bytes = form_len(Form::One, &spec.tensor(number).shape);
     let line = format!(in alloc; "wrote {name} {bytes}\n")?;
-    text.extend_from_slice(line.as_str().as_bytes())
+    let pushed = text.extend_from_slice(line.as_str().as_bytes());
+    drop(line);
+    pushed
 }

@@ -61,7 +61,13 @@ fn run_one<D: Disk, R: Room>(
     ensures cause { HasCause (D.faults disk.old) (D.faults disk.new) (result ≡ Err Fault.Disk) }
     ensures quiet { TellsFaults (D.faults disk.old) (D.faults disk.new) (result ≡ Err Fault.Disk) }
 {
-    let forms = open_all(spec, disk)?;
+    let forms = match open_all(spec, disk) {
+        Ok(forms) => forms,
+        Err(fault) => {
+            drop(plan);
+            return Err(fault);
+        }
+    };
     let planned = PlannedRun { plan, forms };
     match run_by(alloc, spec, budget, planned, disk, room) {
         Ok(report) => Ok(report),
@@ -100,7 +106,9 @@ fn run_piece<D: Disk, R: Room>(
     let Ok(piece) = piece(alloc, spec, turn.root, spilling.cuts) else {
         return Err(SpillFault::Memory);
     };
-    run_one(alloc, &piece, spilling.budget, turn.plan, disk, room)
+    let ran = run_one(alloc, &piece, spilling.budget, turn.plan, disk, room);
+    drop(piece);
+    ran
 }
 
 // Runs all pieces in turn, each by its plan.

@@ -5,6 +5,7 @@ ghost use Rattle.tce_space.specs.IndexSet.{has};
 ghost use Rattle.tce_tree.specs.ContractionTree.{operations};
 ghost use Rattle.tce_pieces.specs.Pieces.{is_root as is_root_of};
 ghost use Rattle.tce_pieces.specs.Storable.{shape_of_node, storable};
+ghost use Rattle.tce_spec.specs.Operands.{shape_of};
 ghost use Rattle.tce_spec.specs.PieceSpecification.{CanCut};
 ghost use Rattle.tce_declarations.specs.Declarations.{HaveNames};
 ghost use Rattle.tce_space.specs.Tiling.{tile_words};
@@ -65,5 +66,15 @@ fn array_tile(alloc: Global, spec: &Spec, cuts: u32, v: u8) -> Result<u64, Alloc
     ensures limit { IfOk result (λ words. words ≤ max_tile_words) }
 {
     let piece = piece(alloc, spec, v, cuts)?;
-    Ok(piece.tensor(piece.result().tensor).shape.tile_words())
+    let words = result_words(&piece);
+    drop(piece);
+    Ok(words)
+}
+
+// The words of a tile of the result.
+fn result_words(spec: &Spec) -> u64
+    ensures words { result ≡ tile_words (shape_of spec.now spec.now.result) }
+    ensures limit { result ≤ max_tile_words }
+{
+    spec.tensor(spec.result().tensor).shape.tile_words()
 }

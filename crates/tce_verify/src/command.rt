@@ -37,7 +37,9 @@ pub fn verify<D: Disk>(
     ensures told { TellsFaults (D.faults disk.old) (D.faults disk.new) (IsDiskFault result) }
 {
     let source = read_source(alloc, disk, spec)?;
-    verify_file(alloc, &source, cert, disk)
+    let verified = verify_file(alloc, &source, cert, disk);
+    drop(source);
+    verified
 }
 
 // Checks the certificate in a file for a specification, and gives the report.
@@ -56,7 +58,9 @@ fn verify_file<D: Disk>(
     ensures told { TellsFaults (D.faults disk.old) (D.faults disk.new) (IsDiskFault result) }
 {
     let text = read_file(alloc, disk, cert)?;
-    text_report(alloc, spec, &text)
+    let verified = text_report(alloc, spec, &text);
+    drop(text);
+    verified
 }
 
 // The report on a text that is the certificate of an accepted plan.

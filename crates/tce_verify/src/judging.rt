@@ -19,7 +19,9 @@ pub fn judge(alloc: Global, spec: &Spec, text: &[u8]) -> Result<u128, CommandRef
     ensures refused { IfErr result (IsJudgement spec.now text.now) }
 {
     let plan = read_plan(alloc, spec, text)?;
-    judge_plan(spec, &plan)
+    let judged = judge_plan(spec, &plan);
+    drop(plan);
+    judged
 }
 
 // The plan that a text is the certificate of.

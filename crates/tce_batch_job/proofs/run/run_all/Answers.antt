@@ -1,4 +1,4 @@
-use Rattle.std.proofs.Common.{inl, inr, ℕ, ◌+◌, ◌++◌, List, length, refl, subst, ap, ◌∙◌, arith, rules}
+use Rattle.std.proofs.Common.{inl, inr, ℕ, ◌+◌, ◌++◌, List, length, refl, subst, ap, ◌∙◌, arith}
 use Rattle.std.specs.Option.{option_map}
 use Rattle.std.proofs.lemmas.List.{take_all}
 use Rattle.std.proofs.lemmas.Option.{slice_get_read}
@@ -10,6 +10,7 @@ use Rattle.tce_batch_job.proofs.Kept.{kept_place}
 use Rattle.tce_batch_job.proofs.Files.{none_after, told_more}
 use Rattle.tce_batch_job.proofs.Reports.{none_taken, none_run, run_taken, taken_more, run_more}
 use Rattle.tce_batch_job.proofs.Ended.{has_failed, failed_cause, failed_left, failed_takings}
+use Rattle.tce_batch_job.proofs.Counted.{cause_after, no_cause_after, none_counted, fault_of, fault_is, answered_quiet}
 use Rattle.tce_batch_job.proofs.run.run_all.Goals as goal
 
 pub loop-number-init : goal.loop-number-init
@@ -141,5 +142,23 @@ loop-number-preserved g c =
       told = told_more (g.D.Disk.files c.args.disk.now) (g.D.Disk.files c.loop-number.disk) (g.D.Disk.files c.run_formula.new.disk) c.args.batch.now number s at c.loop-number.invariant.told (c.in-Ok-run_formula.ensures.told s here);
       run = run_more c.args.budget c.args.batch.now number s (g.R.Room.takings c.args.room.now) (g.R.Room.takings c.loop-number.room) (g.R.Room.takings c.run_formula.new.room) text c.push_section.new.text.items c.in-Ok-run_formula.report at
           c.loop-number.invariant.run (c.in-Ok-run_formula.ensures.reported s here) (c.in-Ok-push_section.ensures ∙ ap (λ (xs : List ℕ). text ++ section_of (number + 1) xs) c.as_slice.ensures);
-      counted = c.in-Ok-run_formula.ensures.quiet (search rules) ∙ c.loop-number.invariant.counted;
+      counted = answered_quiet _ _ c.in-Ok-run_formula.report _ refl c.in-Ok-run_formula.ensures.quiet ∙ c.loop-number.invariant.counted;
     }
+
+pub returns-in_default-push_section-clause-cause : goal.returns-in_default-push_section-clause-cause
+returns-in_default-push_section-clause-cause g c = no_cause_after _ _ _ c.loop-number.invariant.counted (λ failed. absurd (cc)) c.in-Ok-run_formula.ensures.cause
+
+pub returns-in_default-push_section-clause-quiet : goal.returns-in_default-push_section-clause-quiet
+returns-in_default-push_section-clause-quiet g c = λ none. answered_quiet _ _ c.in-Ok-run_formula.report _ refl c.in-Ok-run_formula.ensures.quiet ∙ c.loop-number.invariant.counted
+
+pub returns-in-Err-clause-cause : goal.returns-in-Err-clause-cause
+returns-in-Err-clause-cause g c = cause_after _ _ _ c.loop-number.invariant.counted (fault_of c.in-Err.fault _ refl) c.in-Err.ensures.cause
+
+pub returns-in-Err-clause-quiet : goal.returns-in-Err-clause-quiet
+returns-in-Err-clause-quiet g c = λ none. c.in-Err.ensures.quiet (λ failed. none (fault_is c.in-Err.fault _ refl failed)) ∙ c.loop-number.invariant.counted
+
+pub returns-clause-cause : goal.returns-clause-cause
+returns-clause-cause g c = none_counted _ _ c.loop-number.invariant.counted (λ failed. failed)
+
+pub returns-clause-quiet : goal.returns-clause-quiet
+returns-clause-quiet g c = λ none. c.loop-number.invariant.counted

@@ -1,11 +1,9 @@
-use Rattle.std.proofs.Common.{Option, refl, subst, arith}
+use Rattle.std.proofs.Common.{refl, arith}
 use Rattle.std.proofs.lemmas.Result.{err_from_is_err_and}
-use Rattle.tce_outside.specs.Files.{Files}
-use Rattle.tce_batch_job.specs.Refusals.{IsCauseAt}
-use Rattle.tce_job.specs.Several.{OnlyResultsDiffer}
-use Rattle.tce_batch_job.proofs.Causes.{one_cause, no_cause}
+use Rattle.tce_batch_job.proofs.Afforded.{on_ok_as}
+use Rattle.tce_batch_job.proofs.Causes.{one_cause}
 use Rattle.tce_batch_job.proofs.Ended.{left_before, takings_before}
-use Rattle.tce_batch_job.proofs.Others.{left_others, same_others, told_others}
+use Rattle.tce_batch_job.proofs.Others.{same_others}
 use Rattle.tce_batch_job.proofs.run.run_batch.Goals as goal
 
 pub returns-in_err-plans-clause-refused : goal.returns-in_err-plans-clause-refused
@@ -34,20 +32,6 @@ returns-in_err-plans-clause-cause g c =
     let p = err_from_is_err_and c.from_residual.result c.from_residual.ensures.1 in
     rw (p.1, p.2) (record { later = omega arith; rose = λ failed. absurd (why.0 failed) })
 
-pub returns-in_err-open_sources-clause-left : goal.returns-in_err-open_sources-clause-left
-returns-in_err-open_sources-clause-left g c =
-    let r = c.in_err-open_sources.field-0.0 in
-    let why = c.in_err-open_sources.ensures.refused c.args.budget c.in_ok-plans.ensures.affordable in
-    let p = err_from_is_err_and c.from_residual-in_err-open_sources.result c.from_residual-in_err-open_sources.ensures.1 in
-    rw (p.1, p.2) (left_before (g.D.Disk.files c.args.disk.now) (g.D.Disk.files c.open_sources.new.disk) c.args.batch.now c.args.budget r.formula r.fault c.in_err-open_sources.ensures.same why.0 why.1)
-
-pub returns-in_err-open_sources-clause-takings : goal.returns-in_err-open_sources-clause-takings
-returns-in_err-open_sources-clause-takings g c =
-    let r = c.in_err-open_sources.field-0.0 in
-    let why = c.in_err-open_sources.ensures.refused c.args.budget c.in_ok-plans.ensures.affordable in
-    let p = err_from_is_err_and c.from_residual-in_err-open_sources.result c.from_residual-in_err-open_sources.ensures.1 in
-    rw (p.1, p.2) (takings_before (g.D.Disk.files c.args.disk.now) c.args.batch.now c.args.budget r.formula r.fault (g.R.Room.takings c.args.room.now) why.0 why.1)
-
 pub returns-in_err-plans-clause-exactly : goal.returns-in_err-plans-clause-exactly
 returns-in_err-plans-clause-exactly g c =
     let r = c.in_err-plans.field-0.0 in
@@ -55,37 +39,41 @@ returns-in_err-plans-clause-exactly g c =
     let p = err_from_is_err_and c.from_residual.result c.from_residual.ensures.1 in
     rw (p.1, p.2) (λ due free cause known. one_cause (g.D.Disk.files c.args.disk.now) c.args.batch.now c.args.budget r.formula due.formula r.fault due.fault why.2 free cause known)
 
-pub returns-in_err-open_sources-clause-exactly : goal.returns-in_err-open_sources-clause-exactly
-returns-in_err-open_sources-clause-exactly g c =
-    let r = c.in_err-open_sources.field-0.0 in
-    let why = c.in_err-open_sources.ensures.refused c.args.budget c.in_ok-plans.ensures.affordable in
-    let p = err_from_is_err_and c.from_residual-in_err-open_sources.result c.from_residual-in_err-open_sources.ensures.1 in
-    rw (p.1, p.2) (λ due free cause known. one_cause (g.D.Disk.files c.args.disk.now) c.args.batch.now c.args.budget r.formula due.formula r.fault due.fault why.1 free cause known)
-
-pub returns-clause-exactly : goal.returns-clause-exactly
-returns-clause-exactly g c = λ due free cause known.
-    no_cause (g.D.Disk.files c.args.disk.now) c.args.batch.now c.args.budget due.formula due.fault c.in_ok-plans.ensures.affordable c.in_ok-open_sources.ensures.opened free cause known
-
-pub returns-in_err-text-clause-exactly : goal.returns-in_err-text-clause-exactly
-returns-in_err-text-clause-exactly g c =
-    let r = c.in_err-text.field-0.0 in
-    let why = subst (λ (told : Option Files). IsCauseAt told c.args.batch.now c.args.budget r.formula r.fault) c.in_ok-open_sources.ensures.same c.in_err-text.ensures.refused in
-    let p = err_from_is_err_and c.from_residual-in_err-text.result c.from_residual-in_err-text.ensures.1 in
-    rw (p.1, p.2) (λ due free cause known. one_cause (g.D.Disk.files c.args.disk.now) c.args.batch.now c.args.budget r.formula due.formula r.fault due.fault why free cause known)
-
 pub returns-in_err-plans-clause-others : goal.returns-in_err-plans-clause-others
 returns-in_err-plans-clause-others g c = same_others c.args.batch.now _ _ refl
 
-pub returns-in_err-open_sources-clause-others : goal.returns-in_err-open_sources-clause-others
-returns-in_err-open_sources-clause-others g c = same_others c.args.batch.now (g.D.Disk.files c.args.disk.now) (g.D.Disk.files c.open_sources.new.disk) c.in_err-open_sources.ensures.same
+pub returns-clause-told : goal.returns-clause-told
+returns-clause-told g c = c.run_planned-ran.ensures.told
 
-pub returns-in_err-text-clause-others : goal.returns-in_err-text-clause-others
-returns-in_err-text-clause-others g c =
-    let r = c.in_err-text.field-0.0 in
-    subst (λ (told : Option Files). OnlyResultsDiffer c.args.batch.now told (g.D.Disk.files c.run_all.new.disk)) c.in_ok-open_sources.ensures.same
-    (left_others (g.D.Disk.files c.open_sources.new.disk) (g.D.Disk.files c.run_all.new.disk) c.args.batch.now r.formula r.fault c.in_err-text.ensures.left)
+pub returns-clause-reported : goal.returns-clause-reported
+returns-clause-reported g c = c.run_planned-ran.ensures.reported
+
+pub returns-clause-sources : goal.returns-clause-sources
+returns-clause-sources g c = c.run_planned-ran.ensures.sources
+
+pub returns-clause-refused : goal.returns-clause-refused
+returns-clause-refused g c = c.run_planned-ran.ensures.refused
+
+pub returns-clause-exactly : goal.returns-clause-exactly
+returns-clause-exactly g c = c.run_planned-ran.ensures.exactly
+
+pub returns-clause-left : goal.returns-clause-left
+returns-clause-left g c = c.run_planned-ran.ensures.left
+
+pub returns-clause-takings : goal.returns-clause-takings
+returns-clause-takings g c = c.run_planned-ran.ensures.takings
+
+pub returns-clause-tested : goal.returns-clause-tested
+returns-clause-tested g c = c.run_planned-ran.ensures.tested
 
 pub returns-clause-others : goal.returns-clause-others
-returns-clause-others g c =
-    subst (λ (told : Option Files). OnlyResultsDiffer c.args.batch.now told (g.D.Disk.files c.run_all.new.disk)) c.in_ok-open_sources.ensures.same
-    (told_others c.args.batch.now (g.D.Disk.files c.open_sources.new.disk) (g.D.Disk.files c.run_all.new.disk) c.in_ok-text.ensures.told)
+returns-clause-others g c = c.run_planned-ran.ensures.others
+
+pub returns-clause-cause : goal.returns-clause-cause
+returns-clause-cause g c = c.run_planned-ran.ensures.cause
+
+pub returns-clause-quiet : goal.returns-clause-quiet
+returns-clause-quiet g c = c.run_planned-ran.ensures.quiet
+
+pub returns-clause-affordable : goal.returns-clause-affordable
+returns-clause-affordable g c = on_ok_as c.run_planned-ran.result c.in_ok-plans.ensures.affordable

@@ -11,23 +11,23 @@ use Rattle.tce_batch_job.proofs.run.run_formula.Goals as goal
 
 pub returns-clause-told : goal.returns-clause-told
 returns-clause-told g c =
-    on_ok c.run_kept.result (λ told s at. at_place (λ (x : Specification). g.D.Disk.files c.run_kept.new.disk ≡ option_map (with_result x) (g.D.Disk.files c.args.disk.now)) c.in-Ok.spec s _ c.in-Ok.ensures told at) c.run_kept.ensures.told
+    on_ok c.run_kept-ran.result (λ told s at. at_place (λ (x : Specification). g.D.Disk.files c.run_kept-ran.new.disk ≡ option_map (with_result x) (g.D.Disk.files c.args.disk.now)) c.in-Ok.spec s _ c.in-Ok.ensures told at) c.run_kept-ran.ensures.told
 
 pub returns-clause-reported : goal.returns-clause-reported
 returns-clause-reported g c =
-    if_ok c.run_kept.result (λ report is s at. at_place (λ (x : Specification). IsReported x c.args.budget (g.R.Room.takings c.args.room.now) (g.R.Room.takings c.run_kept.new.room) report) c.in-Ok.spec s _ c.in-Ok.ensures is at) c.run_kept.ensures.reported
+    if_ok c.run_kept-ran.result (λ report is s at. at_place (λ (x : Specification). IsReported x c.args.budget (g.R.Room.takings c.args.room.now) (g.R.Room.takings c.run_kept-ran.new.room) report) c.in-Ok.spec s _ c.in-Ok.ensures is at) c.run_kept-ran.ensures.reported
 
 pub returns-clause-refused : goal.returns-clause-refused
 returns-clause-refused g c =
-    if_err c.run_kept.result (λ fault why s at. at_place (λ (x : Specification). IsCause (MayBeRefused (g.D.Disk.files c.args.disk.now) x) x c.args.budget fault) c.in-Ok.spec s _ c.in-Ok.ensures why at) c.run_kept.ensures.refused
+    if_err c.run_kept-ran.result (λ fault why s at. at_place (λ (x : Specification). IsCause (MayBeRefused (g.D.Disk.files c.args.disk.now) x) x c.args.budget fault) c.in-Ok.spec s _ c.in-Ok.ensures why at) c.run_kept-ran.ensures.refused
 
 pub returns-clause-takings : goal.returns-clause-takings
 returns-clause-takings g c =
-    if_err c.run_kept.result (λ fault left s at. at_place (λ (x : Specification). IsRoomLeft fault x c.args.budget (g.R.Room.takings c.args.room.now) (g.R.Room.takings c.run_kept.new.room)) c.in-Ok.spec s _ c.in-Ok.ensures left at) c.run_kept.ensures.takings
+    if_err c.run_kept-ran.result (λ fault left s at. at_place (λ (x : Specification). IsRoomLeft fault x c.args.budget (g.R.Room.takings c.args.room.now) (g.R.Room.takings c.run_kept-ran.new.room)) c.in-Ok.spec s _ c.in-Ok.ensures left at) c.run_kept-ran.ensures.takings
 
-pub run_kept-requires-clause-affordable : goal.run_kept-requires-clause-affordable
-run_kept-requires-clause-affordable g c = c.requires.affordable c.args.kept.now.number c.in-Ok.spec c.requires.number c.in-Ok.ensures
+pub run_kept-ran-requires-clause-affordable : goal.run_kept-ran-requires-clause-affordable
+run_kept-ran-requires-clause-affordable g c = c.requires.affordable c.args.kept.now.number c.in-Ok.spec c.requires.number c.in-Ok.ensures
 
 pub returns-clause-no_half : goal.returns-clause-no_half
 returns-clause-no_half g c = λ s at.
-    at_place (λ (x : Specification). LeavesNoHalfResult x (g.D.Disk.files c.args.disk.now) (g.D.Disk.files c.run_kept.new.disk)) c.in-Ok.spec s _ c.in-Ok.ensures c.run_kept.ensures.no_half at
+    at_place (λ (x : Specification). LeavesNoHalfResult x (g.D.Disk.files c.args.disk.now) (g.D.Disk.files c.run_kept-ran.new.disk)) c.in-Ok.spec s _ c.in-Ok.ensures c.run_kept-ran.ensures.no_half at

@@ -1,4 +1,11 @@
-use Rattle.std.proofs.lemmas.Result.{err_from_is_err_and}
+use Rattle.std.proofs.Common.{Option, refl, subst, inr, ap, ◌∙◌}
+use Rattle.std.specs.Prelude.{OnOk}
+use Rattle.tce_outside.specs.Files.{Files, others}
+use Rattle.tce_tensors.specs.TensorFiles.{file_of}
+use Rattle.tce_tensors.specs.Laws.{LeavesNoHalfResult}
+use Rattle.tce_job.specs.Told.{FailsOrKeeps, ResultAlone, WritesResult}
+use Rattle.tce_job.proofs.Answered.{later_cause, cause_as, same_fault, answered_quiet}
+use Rattle.tce_job.proofs.Ended.{same_is_no_half}
 use Rattle.tce_job.proofs.Plans.{opening_cause}
 use Rattle.tce_batch_job.proofs.Planned.{is_carried, is_small, answer_reported, answer_refused, answer_room_left}
 use Rattle.tce_batch_job.proofs.run.run_kept.Goals as goal
@@ -9,20 +16,56 @@ run_by-requires-clause-plan g c = is_carried c.args.spec.now c.args.kept.now c.i
 pub run_by-requires-clause-small : goal.run_by-requires-clause-small
 run_by-requires-clause-small g c = is_small c.args.spec.now c.args.kept.now c.in-Ok.plan c.requires.kept c.in-Ok.ensures
 
-pub returns-clause-reported : goal.returns-clause-reported
-returns-clause-reported g c =
+pub returns-in-Ok-opened_forms-clause-reported : goal.returns-in-Ok-opened_forms-clause-reported
+returns-in-Ok-opened_forms-clause-reported g c =
     answer_reported c.args.spec.now c.args.kept.now c.in-Ok.plan c.requires.kept c.in-Ok.ensures c.args.budget (g.R.Room.takings c.args.room.now) (g.R.Room.takings c.run_by.new.room) c.run_by.result
     c.run_by.ensures.taken c.run_by.ensures.report
 
-pub returns-clause-refused : goal.returns-clause-refused
-returns-clause-refused g c = answer_refused (g.D.Disk.files c.args.disk.now) c.args.spec.now c.args.budget c.run_by.result c.run_by.ensures.free
+pub returns-in-Ok-opened_forms-clause-refused : goal.returns-in-Ok-opened_forms-clause-refused
+returns-in-Ok-opened_forms-clause-refused g c = answer_refused (g.D.Disk.files c.args.disk.now) c.args.spec.now c.args.budget c.run_by.result c.run_by.ensures.free
 
-pub returns-clause-takings : goal.returns-clause-takings
-returns-clause-takings g c =
+pub returns-in-Ok-opened_forms-clause-takings : goal.returns-in-Ok-opened_forms-clause-takings
+returns-in-Ok-opened_forms-clause-takings g c =
     answer_room_left c.args.spec.now c.args.kept.now c.in-Ok.plan c.requires.kept c.in-Ok.ensures c.args.budget (g.R.Room.takings c.args.room.now) (g.R.Room.takings c.run_by.new.room) c.run_by.result
     c.run_by.ensures.free c.run_by.ensures.takings
 
-pub returns-in_err-forms-clause-refused : goal.returns-in_err-forms-clause-refused
-returns-in_err-forms-clause-refused g c =
-    let p = err_from_is_err_and c.from_residual.result c.from_residual.ensures.1 in
-    rw (p.1, p.2) (opening_cause (g.D.Disk.files c.args.disk.now) c.args.spec.now c.args.budget c.in_err-forms.field-0.0 c.requires.affordable c.in_err-forms.ensures.refused)
+pub returns-in-Err-clause-refused : goal.returns-in-Err-clause-refused
+returns-in-Err-clause-refused g c =
+    opening_cause (g.D.Disk.files c.args.disk.now) c.args.spec.now c.args.budget c.in-Err.fault c.requires.affordable c.in-Err.ensures.refused
+
+pub returns-in-Ok-opened_forms-clause-told : goal.returns-in-Ok-opened_forms-clause-told
+returns-in-Ok-opened_forms-clause-told g c =
+    subst (λ (told : Option Files). OnOk c.run_by.result (WritesResult c.args.spec.now told (g.D.Disk.files c.run_by.new.disk))) c.in-Ok-opened_forms.ensures.same c.run_by.ensures.told
+
+pub returns-in-Ok-opened_forms-clause-unchanged : goal.returns-in-Ok-opened_forms-clause-unchanged
+returns-in-Ok-opened_forms-clause-unchanged g c =
+    subst (λ (told : Option Files). FailsOrKeeps c.run_by.result told (g.D.Disk.files c.run_by.new.disk)) c.in-Ok-opened_forms.ensures.same c.run_by.ensures.unchanged
+
+pub returns-in-Ok-opened_forms-clause-no_half : goal.returns-in-Ok-opened_forms-clause-no_half
+returns-in-Ok-opened_forms-clause-no_half g c =
+    subst (λ (told : Option Files). LeavesNoHalfResult c.args.spec.now told (g.D.Disk.files c.run_by.new.disk)) c.in-Ok-opened_forms.ensures.same c.run_by.ensures.no_half
+
+pub returns-in-Ok-opened_forms-clause-others : goal.returns-in-Ok-opened_forms-clause-others
+returns-in-Ok-opened_forms-clause-others g c =
+    subst (λ (told : Option Files). ResultAlone c.args.spec.now told (g.D.Disk.files c.run_by.new.disk)) c.in-Ok-opened_forms.ensures.same c.run_by.ensures.others
+
+pub returns-in-Ok-opened_forms-clause-cause : goal.returns-in-Ok-opened_forms-clause-cause
+returns-in-Ok-opened_forms-clause-cause g c = later_cause _ _ _ c.in-Ok-opened_forms.ensures.cause (λ failed. failed) c.run_by.ensures.cause
+
+pub returns-in-Ok-opened_forms-clause-quiet : goal.returns-in-Ok-opened_forms-clause-quiet
+returns-in-Ok-opened_forms-clause-quiet g c = λ none. c.run_by.ensures.quiet none ∙ answered_quiet _ _ c.in-Ok-opened_forms.forms _ refl c.in-Ok-opened_forms.ensures.quiet
+
+pub returns-in-Err-clause-unchanged : goal.returns-in-Err-clause-unchanged
+returns-in-Err-clause-unchanged g c = inr c.in-Err.ensures.same
+
+pub returns-in-Err-clause-no_half : goal.returns-in-Err-clause-no_half
+returns-in-Err-clause-no_half g c = same_is_no_half c.args.spec.now (g.D.Disk.files c.args.disk.now) (g.D.Disk.files c.opened_forms.new.disk) c.in-Err.ensures.same
+
+pub returns-in-Err-clause-others : goal.returns-in-Err-clause-others
+returns-in-Err-clause-others g c = ap (λ (told : Option Files). others (file_of c.args.spec.now c.args.spec.now.result) told) c.in-Err.ensures.same
+
+pub returns-in-Err-clause-cause : goal.returns-in-Err-clause-cause
+returns-in-Err-clause-cause g c = cause_as _ _ (same_fault c.in-Err.fault _ _ refl refl) c.in-Err.ensures.cause
+
+pub returns-in-Err-clause-quiet : goal.returns-in-Err-clause-quiet
+returns-in-Err-clause-quiet g c = λ none. c.in-Err.ensures.quiet (λ failed. none (same_fault c.in-Err.fault _ _ refl refl failed))

@@ -1,4 +1,4 @@
-use Rattle.std.proofs.Common.{◌≡◌, ◌<◌, ℕ, List, length, get_or, Option, ap, ◌∙◌, subst}
+use Rattle.std.proofs.Common.{◌≡◌, ◌<◌, ℕ, List, length, get_or, Option, ap, ◌∙◌, subst, refl}
 use Rattle.std.proofs.lemmas.Result.{err_from_is_err_and}
 use Rattle.tce_outside.specs.Files.{Files}
 use Rattle.tce_spec.specs.Operands.{operands}
@@ -6,6 +6,7 @@ use Rattle.tce_spec.proofs.Seen.{operand_declared}
 use Rattle.tce_batch.specs.BatchCode.{results_before}
 use Rattle.tce_batch_job.specs.Refusals.{IsOperandFault}
 use Rattle.tce_batch_job.proofs.Openings.{source_fault}
+use Rattle.tce_batch_job.proofs.Counted.{answered_quiet, sources_more}
 use Rattle.tce_batch_job.proofs.sources.open_formula.Goals as goal
 
 pub open_source-requires-clause-declared : goal.open_source-requires-clause-declared
@@ -25,3 +26,13 @@ returns-in_err-open_source-clause-refused g c =
     rw (p.1, p.2) (source_fault (g.D.Disk.files c.args.disk.now) c.args.spec.now (results_before c.args.batch.now c.args.number) c.loop-t.t-index t fault
     (ap (λ (ts : List ℕ). get_or ts c.loop-t.t-index 0) same) within declared c.in_err-open_source.ensures.source c.loop-t.invariant.opened
     (subst (λ (told : Option Files). IsOperandFault told c.args.spec.now t fault) c.loop-t.invariant.same c.in_err-open_source.ensures.refused))
+
+pub loop-t-preserved : goal.loop-t-preserved
+loop-t-preserved g c =
+    let same : c.as_slice-t-items.result.now ≡ operands c.args.spec.now = c.as_slice-t-items.ensures.value ∙ c.operands-operands.ensures in
+    let t = get_or c.as_slice-t-items.result.now c.loop-t.t-index 0 in record {
+      same = c.open_source.ensures.same ∙ c.loop-t.invariant.same;
+      counted = answered_quiet _ _ c.in_ok-open_source.field-0 _ refl c.in_ok-open_source.ensures.quiet ∙ c.loop-t.invariant.counted;
+      opened = sources_more (g.D.Disk.files c.args.disk.now) (g.D.Disk.files c.loop-t.disk) c.args.spec.now (results_before c.args.batch.now c.args.number) c.loop-t.t-index t
+          (ap (λ (ts : List ℕ). get_or ts c.loop-t.t-index 0) same) c.loop-t.invariant.same c.loop-t.invariant.opened c.in_ok-open_source.ensures.opened;
+    }

@@ -12,29 +12,29 @@ find_shape-requires-clause-spec g c = short_spec c.args.spec.now c.requires.0
 pub find_shape-requires-clause-tensor : goal.find_shape-requires-clause-tensor
 find_shape-requires-clause-tensor g c = short_tensor c.args.tensor.now c.requires.1
 
-pub convert_tensor-moved-requires : goal.convert_tensor-moved-requires
-convert_tensor-moved-requires g c = record { tensor = short_tensor c.args.tensor.now c.requires.1 }
+pub convert_tensor-requires : goal.convert_tensor-requires
+convert_tensor-requires g c = record { tensor = short_tensor c.args.tensor.now c.requires.1 }
 
 pub returns-clause-done : goal.returns-clause-done
 returns-clause-done g c =
-    converted_from c.convert_tensor-moved.result _ _ _ c.args.spec.now c.args.tensor.now c.args.form c.in_ok-shape.shape c.in_ok-shape.ensures.same
-    c.in_ok-shape.ensures.found c.convert_tensor-moved.ensures.done
+    converted_from c.convert_tensor.result _ _ _ c.args.spec.now c.args.tensor.now c.args.form c.in_ok-shape.shape c.in_ok-shape.ensures.same
+    c.in_ok-shape.ensures.found c.convert_tensor.ensures.done
 
 pub returns-clause-refused : goal.returns-clause-refused
 returns-clause-refused g c =
-    refused_for (λ files. IsFormRefusal files c.args.tensor.now c.args.form) _ _ c.args.spec.now c.args.tensor.now c.in_ok-shape.shape c.convert_tensor-moved.result c.in_ok-shape.ensures.same
-    c.in_ok-shape.ensures.found c.convert_tensor-moved.ensures.refused
+    refused_for (λ files. IsFormRefusal files c.args.tensor.now c.args.form) _ _ c.args.spec.now c.args.tensor.now c.in_ok-shape.shape c.convert_tensor.result c.in_ok-shape.ensures.same
+    c.in_ok-shape.ensures.found c.convert_tensor.ensures.refused
 
 pub returns-clause-unchanged : goal.returns-clause-unchanged
-returns-clause-unchanged g c = unchanged_from _ _ _ c.convert_tensor-moved.result c.in_ok-shape.ensures.same c.convert_tensor-moved.ensures.unchanged
+returns-clause-unchanged g c = unchanged_from _ _ _ c.convert_tensor.result c.in_ok-shape.ensures.same c.convert_tensor.ensures.unchanged
 
 pub returns-clause-cause : goal.returns-clause-cause
-returns-clause-cause g c = cause_from _ _ _ _ _ c.in_ok-shape.ensures.cause c.convert_tensor-moved.ensures.cause
+returns-clause-cause g c = cause_from _ _ _ _ _ c.in_ok-shape.ensures.cause c.convert_tensor.ensures.cause
 
 pub returns-clause-told : goal.returns-clause-told
-returns-clause-told g c = λ no. c.convert_tensor-moved.ensures.told no ∙ c.in_ok-shape.ensures.told (search rules)
+returns-clause-told g c = λ no. c.convert_tensor.ensures.told no ∙ c.in_ok-shape.ensures.told (search rules)
 
 pub returns-clause-no_half : goal.returns-clause-no_half
 returns-clause-no_half g c =
     left_for (LeavesConverting c.args.tensor.now c.args.form) c.args.spec.now c.args.tensor.now c.in_ok-shape.shape (g.D.Disk.files c.args.disk.now) _ _ c.in_ok-shape.ensures.same
-    c.in_ok-shape.ensures.found c.convert_tensor-moved.ensures.no_half
+    c.in_ok-shape.ensures.found c.convert_tensor.ensures.no_half

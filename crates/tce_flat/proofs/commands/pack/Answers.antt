@@ -12,35 +12,35 @@ find_shape-requires-clause-spec g c = short_spec c.args.spec.now c.requires.0
 pub find_shape-requires-clause-tensor : goal.find_shape-requires-clause-tensor
 find_shape-requires-clause-tensor g c = short_tensor c.args.tensor.now c.requires.1
 
-pub pack_tensor-moved-requires-clause-tensor : goal.pack_tensor-moved-requires-clause-tensor
-pack_tensor-moved-requires-clause-tensor g c = short_tensor c.args.tensor.now c.requires.1
+pub pack_tensor-requires-clause-tensor : goal.pack_tensor-requires-clause-tensor
+pack_tensor-requires-clause-tensor g c = short_tensor c.args.tensor.now c.requires.1
 
-pub pack_tensor-moved-requires-clause-flat : goal.pack_tensor-moved-requires-clause-flat
-pack_tensor-moved-requires-clause-flat g c = short_flat c.args.flat.now c.requires.2
+pub pack_tensor-requires-clause-flat : goal.pack_tensor-requires-clause-flat
+pack_tensor-requires-clause-flat g c = short_flat c.args.flat.now c.requires.2
 
-pub pack_tensor-moved-requires-clause-apart : goal.pack_tensor-moved-requires-clause-apart
-pack_tensor-moved-requires-clause-apart g c = flat_apart c.args.tensor.now c.args.flat.now c.requires.1 c.requires.2
+pub pack_tensor-requires-clause-apart : goal.pack_tensor-requires-clause-apart
+pack_tensor-requires-clause-apart g c = flat_apart c.args.tensor.now c.args.flat.now c.requires.1 c.requires.2
 
 pub returns-clause-done : goal.returns-clause-done
 returns-clause-done g c =
-    packed_from c.pack_tensor-moved.result _ _ _ c.args.spec.now c.args.tensor.now c.args.flat.now c.in_ok-shape.shape c.in_ok-shape.ensures.same
-    c.in_ok-shape.ensures.found c.pack_tensor-moved.ensures.done
+    packed_from c.pack_tensor.result _ _ _ c.args.spec.now c.args.tensor.now c.args.flat.now c.in_ok-shape.shape c.in_ok-shape.ensures.same
+    c.in_ok-shape.ensures.found c.pack_tensor.ensures.done
 
 pub returns-clause-refused : goal.returns-clause-refused
 returns-clause-refused g c =
-    refused_for (λ files. IsFlatRefusal files c.args.flat.now) _ _ c.args.spec.now c.args.tensor.now c.in_ok-shape.shape c.pack_tensor-moved.result c.in_ok-shape.ensures.same
-    c.in_ok-shape.ensures.found c.pack_tensor-moved.ensures.refused
+    refused_for (λ files. IsFlatRefusal files c.args.flat.now) _ _ c.args.spec.now c.args.tensor.now c.in_ok-shape.shape c.pack_tensor.result c.in_ok-shape.ensures.same
+    c.in_ok-shape.ensures.found c.pack_tensor.ensures.refused
 
 pub returns-clause-unchanged : goal.returns-clause-unchanged
-returns-clause-unchanged g c = unchanged_from _ _ _ c.pack_tensor-moved.result c.in_ok-shape.ensures.same c.pack_tensor-moved.ensures.unchanged
+returns-clause-unchanged g c = unchanged_from _ _ _ c.pack_tensor.result c.in_ok-shape.ensures.same c.pack_tensor.ensures.unchanged
 
 pub returns-clause-cause : goal.returns-clause-cause
-returns-clause-cause g c = cause_from _ _ _ _ _ c.in_ok-shape.ensures.cause c.pack_tensor-moved.ensures.cause
+returns-clause-cause g c = cause_from _ _ _ _ _ c.in_ok-shape.ensures.cause c.pack_tensor.ensures.cause
 
 pub returns-clause-told : goal.returns-clause-told
-returns-clause-told g c = λ no. c.pack_tensor-moved.ensures.told no ∙ c.in_ok-shape.ensures.told (search rules)
+returns-clause-told g c = λ no. c.pack_tensor.ensures.told no ∙ c.in_ok-shape.ensures.told (search rules)
 
 pub returns-clause-no_half : goal.returns-clause-no_half
 returns-clause-no_half g c =
     left_for (LeavesPacking c.args.tensor.now c.args.flat.now) c.args.spec.now c.args.tensor.now c.in_ok-shape.shape (g.D.Disk.files c.args.disk.now) _ _ c.in_ok-shape.ensures.same
-    c.in_ok-shape.ensures.found c.pack_tensor-moved.ensures.no_half
+    c.in_ok-shape.ensures.found c.pack_tensor.ensures.no_half

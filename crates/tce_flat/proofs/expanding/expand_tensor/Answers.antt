@@ -1,5 +1,5 @@
-use Rattle.std.proofs.Common.{rules, ◌∙◌, List, ℕ, Option, inr, subst}
-use Rattle.tce_outside.specs.Files.{Files}
+use Rattle.std.proofs.Common.{◌≡◌, rules, ◌∙◌, ap, refl, Err, List, ℕ, Option, inl, inr, subst, codes}
+use Rattle.tce_outside.specs.Files.{Files, others}
 use Rattle.tce_space.specs.Tiling.{Tiling}
 use Rattle.tce_array.specs.declared.form.Form.TheVariants.{One}
 use Rattle.tce_array.specs.Forms.{head_len, array_bytes}
@@ -8,7 +8,9 @@ use Rattle.tce_tools.specs.NoHalf.{LeavesNoHalfOf}
 use Rattle.tce_sym.specs.declared.symmetry.Symmetry.{Symmetry}
 use Rattle.tce_sym.specs.Storage.{full_cell}
 use Rattle.tce_flat.specs.Tensors.{array_file, sym_file}
+use Rattle.tce_sym.specs.Told.{Expands, IsStoredIn}
 use Rattle.tce_flat.proofs.SymFiles.{files_apart}
+use Rattle.tce_flat.proofs.Tools.{report_is}
 use Rattle.tce_flat.proofs.expanding.expand_tensor.Goals as goal
 
 -- the stored elements are not in the array file
@@ -43,3 +45,41 @@ returns-in-Err-Failed-clause-no_half g c =
           (subst (λ (array : List ℕ). left_of c.args.shape.now s c.as_str-3.result.now array (g.D.Disk.files c.open_sym.new.disk) after) (c.as_str-4.ensures.value ∙ c.file_of-array.ensures)
           c.expand_file.ensures.no_half)),
     )
+
+pub returns-in-Ok-expand_file-clause-done : goal.returns-in-Ok-expand_file-clause-done
+returns-in-Ok-expand_file-clause-done g c =
+    let s = c.in-Ok-open_sym.s in
+    let after = g.D.Disk.files c.expand_file.new.disk in record {
+      symmetry = s;
+      found = subst (λ (packed : List ℕ). IsStoredIn (g.D.Disk.files c.args.disk.now) packed c.args.shape.now.extents s) (c.as_str-2.ensures.value ∙ c.file_of-packed.ensures) c.in-Ok-open_sym.ensures.opened;
+      written =
+          subst (λ (before : Option Files). Expands (sym_file c.args.tensor.now) s (array_file c.args.tensor.now) c.args.shape.now before after) c.open_sym.ensures.same
+          (subst (λ (packed : List ℕ). Expands packed s (array_file c.args.tensor.now) c.args.shape.now (g.D.Disk.files c.open_sym.new.disk) after) (c.as_str-3.ensures.value ∙ c.file_of-packed.ensures)
+          (subst (λ (array : List ℕ). Expands c.as_str-3.result.now s array c.args.shape.now (g.D.Disk.files c.open_sym.new.disk) after) (c.as_str-4.ensures.value ∙ c.file_of-array.ensures)
+          c.in-Ok-expand_file.ensures.expanded));
+      reported = report_is (codes "expand") _ _ _ _ _ c.in-Ok.ensures (c.as_str.ensures.value ∙ c.file_of-array.ensures) c.form_len-len.ensures.bytes;
+    }
+
+pub returns-clause-no_half : goal.returns-clause-no_half
+returns-clause-no_half g c = inl (c.in-Err-Memory.ensures.memory (ap Err c.in-Err-Memory.field-0-is) ∙ c.open_sym.ensures.same)
+
+pub returns-clause-unchanged : goal.returns-clause-unchanged
+returns-clause-unchanged g c = λ real. c.in-Err-Memory.ensures.memory (ap Err c.in-Err-Memory.field-0-is) ∙ c.open_sym.ensures.same
+
+pub returns-in-Err-Failed-clause-unchanged : goal.returns-in-Err-Failed-clause-unchanged
+returns-in-Err-Failed-clause-unchanged g c = λ real. absurd (real refl)
+
+pub returns-in-Ok-expand_file-clause-others : goal.returns-in-Ok-expand_file-clause-others
+returns-in-Ok-expand_file-clause-others g c =
+    subst (λ (name : List ℕ). others name (g.D.Disk.files c.expand_file.new.disk) ≡ others name (g.D.Disk.files c.args.disk.now)) (c.as_str-4.ensures.value ∙ c.file_of-array.ensures)
+    (c.expand_file.ensures.others ∙ ap (others c.as_str-4.result.now) c.open_sym.ensures.same)
+
+pub returns-in-Err-Failed-clause-others : goal.returns-in-Err-Failed-clause-others
+returns-in-Err-Failed-clause-others g c =
+    subst (λ (name : List ℕ). others name (g.D.Disk.files c.expand_file.new.disk) ≡ others name (g.D.Disk.files c.args.disk.now)) (c.as_str-4.ensures.value ∙ c.file_of-array.ensures)
+    (c.expand_file.ensures.others ∙ ap (others c.as_str-4.result.now) c.open_sym.ensures.same)
+
+pub returns-clause-others : goal.returns-clause-others
+returns-clause-others g c =
+    subst (λ (name : List ℕ). others name (g.D.Disk.files c.expand_file.new.disk) ≡ others name (g.D.Disk.files c.args.disk.now)) (c.as_str-4.ensures.value ∙ c.file_of-array.ensures)
+    (c.expand_file.ensures.others ∙ ap (others c.as_str-4.result.now) c.open_sym.ensures.same)

@@ -1,7 +1,54 @@
+use Rattle.std.proofs.Common.{inr, refl}
+use Rattle.tce_job.proofs.Answered.{answered, answered_quiet, cause_as, same_fault}
 use Rattle.tce_job.proofs.Made.{begun}
 use Rattle.tce_job.proofs.preparing.begin.Goals as goal
 
-pub returns-clause-begun : goal.returns-clause-begun
-returns-clause-begun g c =
+pub returns-in-Ok-make_result-clause-begun : goal.returns-in-Ok-make_result-clause-begun
+returns-in-Ok-make_result-clause-begun g c =
     begun c.args.spec.now c.args.budget c.args.planned.forms.0 (g.D.Disk.files c.args.disk.now) (g.D.Disk.files c.make_result.new.disk) c.in-Ok.prepared c.space-space.ensures.rules
-    c.requires.enough c.in-Ok.ensures.prepared c.requires.opened c.in_ok-make_result.ensures.made
+    c.requires.enough c.in-Ok.ensures.prepared c.requires.opened c.in-Ok-make_result.ensures.made
+
+pub returns-in-Ok-make_result-clause-others : goal.returns-in-Ok-make_result-clause-others
+returns-in-Ok-make_result-clause-others g c = c.make_result.ensures.others
+
+pub returns-in-Ok-make_result-clause-no_half : goal.returns-in-Ok-make_result-clause-no_half
+returns-in-Ok-make_result-clause-no_half g c = c.make_result.ensures.no_half
+
+pub returns-in-Ok-make_result-clause-made : goal.returns-in-Ok-make_result-clause-made
+returns-in-Ok-make_result-clause-made g c = c.in-Ok-make_result.ensures.made
+
+pub returns-in-Err-clause-no_half : goal.returns-in-Err-clause-no_half
+returns-in-Err-clause-no_half g c = c.make_result.ensures.no_half
+
+pub returns-in-Err-clause-others : goal.returns-in-Err-clause-others
+returns-in-Err-clause-others g c = c.make_result.ensures.others
+
+pub returns-in-Err-clause-takings : goal.returns-in-Err-clause-takings
+returns-in-Err-clause-takings g c = inr c.in-Ok.ensures.taken
+
+pub returns-in-Ok-make_result-clause-prepared : goal.returns-in-Ok-make_result-clause-prepared
+returns-in-Ok-make_result-clause-prepared g c = c.in-Ok.ensures.prepared
+
+pub returns-in-Ok-make_result-clause-plan : goal.returns-in-Ok-make_result-clause-plan
+returns-in-Ok-make_result-clause-plan g c = c.in-Ok.ensures.plan
+
+pub returns-in-Ok-make_result-clause-taken : goal.returns-in-Ok-make_result-clause-taken
+returns-in-Ok-make_result-clause-taken g c = c.in-Ok.ensures.taken
+
+pub returns-in-Ok-make_result-clause-cause : goal.returns-in-Ok-make_result-clause-cause
+returns-in-Ok-make_result-clause-cause g c = cause_as _ _ (answered c.in-Ok.prepared _ refl) c.in-Ok-make_result.ensures.cause
+
+pub returns-in-Ok-make_result-clause-quiet : goal.returns-in-Ok-make_result-clause-quiet
+returns-in-Ok-make_result-clause-quiet g c = λ none. answered_quiet _ _ c.in-Ok-make_result.field-0 _ refl c.in-Ok-make_result.ensures.quiet
+
+pub returns-in-Err-clause-free : goal.returns-in-Err-clause-free
+returns-in-Err-clause-free g c = c.in-Err.ensures.free
+
+pub returns-in-Err-clause-unchanged : goal.returns-in-Err-clause-unchanged
+returns-in-Err-clause-unchanged g c = c.in-Err.ensures.unchanged
+
+pub returns-in-Err-clause-cause : goal.returns-in-Err-clause-cause
+returns-in-Err-clause-cause g c = cause_as _ _ (same_fault c.in-Err.fault _ _ refl refl) c.in-Err.ensures.cause
+
+pub returns-in-Err-clause-quiet : goal.returns-in-Err-clause-quiet
+returns-in-Err-clause-quiet g c = λ none. c.in-Err.ensures.quiet (λ failed. none (same_fault c.in-Err.fault _ _ refl refl failed))

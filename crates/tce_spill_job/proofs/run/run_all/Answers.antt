@@ -1,13 +1,16 @@
-use Rattle.std.proofs.Common.{ℕ, ◌+◌, List, sym, subst, ap, ◌∙◌, arith, rules}
+use Rattle.std.proofs.Common.{ℕ, ◌≡◌, ◌+◌, List, refl, sym, subst, ap, ◌∙◌, arith}
 use Rattle.tce_space.specs.IndexSet.{has}
 use Rattle.tce_tree.specs.ContractionTree.{operations}
 use Rattle.tce_spill.specs.Planned.{HavePlansFrom}
 use Rattle.tce_spill_job.specs.Reports.{HasRun}
 use Rattle.tce_spill_job.proofs.Roots.{told_more, told_same}
-use Rattle.tce_spill_job.proofs.Reports.{taken_more, run_taken, run_more, run_same}
+use Rattle.tce_job.proofs.Answered.{same_fault, answered_quiet}
+use Rattle.tce_spill_job.specs.Left.{files_at}
+use Rattle.tce_spill_job.proofs.Counted.{cause_after, no_cause_after, none_counted}
+use Rattle.tce_spill_job.proofs.Reports.{taken_more, run_taken, run_more, run_same, none_taken, all_reported}
 use Rattle.tce_spill_job.proofs.Ended.{late_fault, failed_left, failed_takings}
 use Rattle.tce_spill_job.proofs.PlannedRuns.{plan_place, some_plan, taken_plan, plans_on, plans_after}
-use Rattle.tce_spill_job.proofs.Turns.{operands_there, held_more, held_same}
+use Rattle.tce_spill_job.proofs.Turns.{operands_there, held_more, held_same, all_spilled}
 use Rattle.tce_spill_job.proofs.run.run_all.Goals as goal
 use Rattle.tce_spill_job.proofs.run.run_all.Goals.{then-has_root+in-Ok-run_piece+in-Ok-push_piece, else-has_root}
 
@@ -106,7 +109,7 @@ loop-root-preserved g c =
             run =
                 subst (λ (x : List (ℕ × ℕ)). HasRun s cut (n + 1) budget before x c.if-has_root.text.items) (sym (ap (λ r. g.R.Room.takings r) w.room-is))
                 (subst (λ (t : List ℕ). HasRun s cut (n + 1) budget before after t) (sym (ap (λ t. t.items) w.text-is)) more);
-            counted = ap (λ d. g.D.Disk.faults d) w.disk-is ∙ w.in-Ok-run_piece.ensures.quiet (search rules) ∙ c.loop-root.invariant.counted;
+            counted = ap (λ d. g.D.Disk.faults d) w.disk-is ∙ answered_quiet _ _ w.in-Ok-run_piece.report _ refl w.in-Ok-run_piece.ensures.quiet ∙ c.loop-root.invariant.counted;
           }
       | else-has_root w ↦
           let root = sym c.has_root.ensures ∙ w.if-has_root.false in
@@ -122,3 +125,66 @@ loop-root-preserved g c =
             counted = ap (λ d. g.D.Disk.faults d) w.disk-is ∙ c.loop-root.invariant.counted;
           }
     ]
+
+pub returns-in_default-clause-takings : goal.returns-in_default-clause-takings
+returns-in_default-clause-takings g c = none_taken c.args.spec.now (has c.args.spilling.cuts) c.args.spilling.budget (g.R.Room.takings c.args.room.now)
+
+pub returns-in_default-push_piece-clause-cause : goal.returns-in_default-push_piece-clause-cause
+returns-in_default-push_piece-clause-cause g c = no_cause_after _ _ _ c.loop-root.invariant.counted (λ failed. absurd (cc)) c.in-Ok-run_piece.ensures.cause
+
+pub returns-in_default-push_piece-clause-quiet : goal.returns-in_default-push_piece-clause-quiet
+returns-in_default-push_piece-clause-quiet g c = λ none. answered_quiet _ _ c.in-Ok-run_piece.report _ refl c.in-Ok-run_piece.ensures.quiet ∙ c.loop-root.invariant.counted
+
+pub returns-in-Err-clause-cause : goal.returns-in-Err-clause-cause
+returns-in-Err-clause-cause g c = cause_after _ _ _ c.loop-root.invariant.counted (same_fault c.in-Err.fault _ _ refl refl) c.in-Err.ensures.cause
+
+pub returns-in-Err-clause-quiet : goal.returns-in-Err-clause-quiet
+returns-in-Err-clause-quiet g c = λ none. c.in-Err.ensures.quiet (λ failed. none (same_fault c.in-Err.fault _ _ refl refl failed)) ∙ c.loop-root.invariant.counted
+
+pub returns-in_default-push_wrote-clause-left : goal.returns-in_default-push_wrote-clause-left
+returns-in_default-push_wrote-clause-left g c =
+    let size = c.count-count.ensures.value ∙ ap operations c.tree.ensures.tree in (
+      c.loop-root.root,
+      record { inside = omega (arith, c.loop-root-test.false, size); files = c.loop-root.invariant.told },
+    )
+
+pub returns-in_default-push_wrote-clause-takings : goal.returns-in_default-push_wrote-clause-takings
+returns-in_default-push_wrote-clause-takings g c =
+    let size = c.count-count.ensures.value ∙ ap operations c.tree.ensures.tree in record {
+      end = c.loop-root.root;
+      inside = omega (arith, c.loop-root-test.false, size);
+      taken = run_taken c.args.spec.now (has c.args.spilling.cuts) c.loop-root.root c.args.spilling.budget (g.R.Room.takings c.args.room.now) (g.R.Room.takings c.loop-root.room) c.loop-root.text.items c.loop-root.invariant.run;
+    }
+
+pub returns-in_default-push_wrote-clause-cause : goal.returns-in_default-push_wrote-clause-cause
+returns-in_default-push_wrote-clause-cause g c = none_counted _ _ c.loop-root.invariant.counted (λ failed. absurd (cc))
+
+pub returns-in_default-push_wrote-clause-quiet : goal.returns-in_default-push_wrote-clause-quiet
+returns-in_default-push_wrote-clause-quiet g c = λ none. c.loop-root.invariant.counted
+
+pub returns-clause-told : goal.returns-clause-told
+returns-clause-told g c =
+    let size = c.count-count.ensures.value ∙ ap operations c.tree.ensures.tree in
+    let last : c.loop-root.root ≡ operations c.args.spec.now.tree = omega (arith, c.loop-root-test.false, size) in
+    c.loop-root.invariant.told ∙ ap (λ n. files_at (g.D.Disk.files c.args.disk.now) c.args.spec.now (has c.args.spilling.cuts) n) last
+
+pub returns-clause-spilled : goal.returns-clause-spilled
+returns-clause-spilled g c =
+    let size = c.count-count.ensures.value ∙ ap operations c.tree.ensures.tree in
+    let last : c.loop-root.root ≡ operations c.args.spec.now.tree = omega (arith, c.loop-root-test.false, size) in
+    all_spilled (g.D.Disk.files c.args.disk.now) (g.D.Disk.files c.loop-root.disk) c.args.spec.now (has c.args.spilling.cuts) c.loop-root.root last c.loop-root.invariant.told c.loop-root.invariant.held
+
+pub returns-clause-reported : goal.returns-clause-reported
+returns-clause-reported g c =
+    let size = c.count-count.ensures.value ∙ ap operations c.tree.ensures.tree in
+    let last : c.loop-root.root ≡ operations c.args.spec.now.tree = omega (arith, c.loop-root-test.false, size) in
+    let before = g.R.Room.takings c.args.room.now in
+    let after = g.R.Room.takings c.loop-root.room in
+    all_reported c.args.spec.now (has c.args.spilling.cuts) c.args.spilling.budget before after c.loop-root.text.items c.push_wrote.new.text.items
+    (subst (λ n. HasRun c.args.spec.now (has c.args.spilling.cuts) n c.args.spilling.budget before after c.loop-root.text.items) last c.loop-root.invariant.run) c.in-Ok-push_wrote.ensures
+
+pub returns-clause-cause : goal.returns-clause-cause
+returns-clause-cause g c = none_counted _ _ c.loop-root.invariant.counted (λ failed. absurd (cc))
+
+pub returns-clause-quiet : goal.returns-clause-quiet
+returns-clause-quiet g c = λ none. c.loop-root.invariant.counted

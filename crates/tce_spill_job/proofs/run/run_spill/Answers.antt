@@ -1,4 +1,4 @@
-use Rattle.std.proofs.Common.{inr, Option, subst}
+use Rattle.std.proofs.Common.{inl, inr, Option, refl, subst}
 use Rattle.std.proofs.lemmas.Result.{err_from_is_err_and}
 use Rattle.tce_outside.specs.Files.{Files}
 use Rattle.tce_space.specs.IndexSet.{has}
@@ -8,6 +8,7 @@ use Rattle.tce_spill_job.specs.Refusals.{IsLateFault}
 use Rattle.tce_spill_job.proofs.Causes.{test_cause, test_exact, no_cause, late_cause, late_exact, late_free}
 use Rattle.tce_spill_job.proofs.Others.{left_others}
 use Rattle.tce_spill_job.proofs.Ready.{few_of, are_cut, can_spill, has_spilled, reported_for, only_pieces}
+use Rattle.tce_spill_job.proofs.Spared.{same_room, late_room, late_left}
 use Rattle.tce_spill_job.proofs.run.run_spill.Goals as goal
 
 pub test_budget-requires-clause-few : goal.test_budget-requires-clause-few
@@ -92,3 +93,55 @@ returns-clause-others g c =
     let cut = has c.in_ok-planned.planned.nodes in
     only_pieces (g.D.Disk.files c.args.disk.now) (g.D.Disk.files c.test_budget.new.disk) (g.D.Disk.files c.run_all.new.disk) c.args.spec.now c.args.limit cut
     (are_cut c.args.spec.now c.args.limit cut c.in_ok-planned.ensures.exactly c.in_ok-planned.ensures.cuts) c.in_ok-test_budget.ensures.same c.in_ok-text.ensures.told
+
+pub returns-in_err-planned-clause-left : goal.returns-in_err-planned-clause-left
+returns-in_err-planned-clause-left g c =
+    let p = err_from_is_err_and c.from_residual.result c.from_residual.ensures.1 in
+    rw (p.1, p.2) (inl refl)
+
+pub returns-in_err-planned-clause-takings : goal.returns-in_err-planned-clause-takings
+returns-in_err-planned-clause-takings g c =
+    let p = err_from_is_err_and c.from_residual.result c.from_residual.ensures.1 in
+    rw (p.1, p.2) (same_room c.args.spec.now c.args.budget c.args.limit c.in_err-planned.field-0.0 (g.R.Room.takings c.args.room.now) (g.R.Room.takings c.args.room.now) refl)
+
+pub returns-in_err-planned-clause-tested : goal.returns-in_err-planned-clause-tested
+returns-in_err-planned-clause-tested g c =
+    let p = err_from_is_err_and c.from_residual.result c.from_residual.ensures.1 in
+    rw (p.1, p.2) (λ files eq free. refl)
+
+pub returns-in_err-planned-clause-others : goal.returns-in_err-planned-clause-others
+returns-in_err-planned-clause-others g c = inl refl
+
+pub returns-in_err-test_budget-clause-left : goal.returns-in_err-test_budget-clause-left
+returns-in_err-test_budget-clause-left g c =
+    let p = err_from_is_err_and c.from_residual-in_err-test_budget.result c.from_residual-in_err-test_budget.ensures.1 in
+    rw (p.1, p.2) (inl c.in_err-test_budget.ensures.same)
+
+pub returns-in_err-test_budget-clause-takings : goal.returns-in_err-test_budget-clause-takings
+returns-in_err-test_budget-clause-takings g c =
+    let p = err_from_is_err_and c.from_residual-in_err-test_budget.result c.from_residual-in_err-test_budget.ensures.1 in
+    rw (p.1, p.2) (same_room c.args.spec.now c.args.budget c.args.limit c.in_err-test_budget.field-0.0 (g.R.Room.takings c.args.room.now) (g.R.Room.takings c.args.room.now) refl)
+
+pub returns-in_err-test_budget-clause-tested : goal.returns-in_err-test_budget-clause-tested
+returns-in_err-test_budget-clause-tested g c =
+    let p = err_from_is_err_and c.from_residual-in_err-test_budget.result c.from_residual-in_err-test_budget.ensures.1 in
+    rw (p.1, p.2) (λ files eq free. refl)
+
+pub returns-in_err-test_budget-clause-others : goal.returns-in_err-test_budget-clause-others
+returns-in_err-test_budget-clause-others g c = inl c.in_err-test_budget.ensures.same
+
+pub returns-in_err-text-clause-left : goal.returns-in_err-text-clause-left
+returns-in_err-text-clause-left g c =
+    let cut = has c.in_ok-planned.planned.nodes in
+    let are = are_cut c.args.spec.now c.args.limit cut c.in_ok-planned.ensures.exactly c.in_ok-planned.ensures.cuts in
+    let p = err_from_is_err_and c.from_residual-in_err-text.result c.from_residual-in_err-text.ensures.1 in
+    rw (p.1, p.2) (late_left (g.D.Disk.files c.args.disk.now) (g.D.Disk.files c.test_budget.new.disk) (g.D.Disk.files c.run_all.new.disk) c.args.spec.now cut c.args.limit c.in_err-text.field-0.0 are
+    c.in_ok-test_budget.ensures.same c.in_err-text.ensures.left)
+
+pub returns-in_err-text-clause-takings : goal.returns-in_err-text-clause-takings
+returns-in_err-text-clause-takings g c =
+    let cut = has c.in_ok-planned.planned.nodes in
+    let are = are_cut c.args.spec.now c.args.limit cut c.in_ok-planned.ensures.exactly c.in_ok-planned.ensures.cuts in
+    let p = err_from_is_err_and c.from_residual-in_err-text.result c.from_residual-in_err-text.ensures.1 in
+    rw (p.1, p.2) (late_room (g.D.Disk.files c.test_budget.new.disk) c.args.spec.now cut c.args.budget c.args.limit c.in_err-text.field-0.0 (g.R.Room.takings c.args.room.now) (g.R.Room.takings c.run_all.new.room) are
+    c.in_err-text.ensures.refused c.in_err-text.ensures.takings)

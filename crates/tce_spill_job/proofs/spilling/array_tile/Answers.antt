@@ -1,4 +1,4 @@
-use Rattle.std.proofs.Common.{ap, ◌∙◌}
+use Rattle.std.proofs.Common.{refl, ap, ◌∙◌}
 use Rattle.tce_space.specs.IndexSet.{has}
 use Rattle.tce_space.specs.Tiling.{tile_words}
 use Rattle.tce_spill_job.proofs.Sources.{array_words}
@@ -6,6 +6,5 @@ use Rattle.tce_spill_job.proofs.spilling.array_tile.Goals as goal
 
 pub returns-clause-words : goal.returns-clause-words
 returns-clause-words c =
-    c.tile_words.ensures.words
-    ∙ ap tile_words (array_words c.args.spec.now (has c.args.cuts) c.args.v c.in_ok-piece.piece c.result.result.now.tensor c.tensor.result.now.shape c.requires.can c.requires.cut
-    c.in_ok-piece.ensures c.result.ensures.tensor c.tensor.ensures.shape)
+    c.result_words-words.ensures.words
+    ∙ ap tile_words (array_words c.args.spec.now (has c.args.cuts) c.args.v c.in_ok-piece.piece _ _ c.requires.can c.requires.cut c.in_ok-piece.ensures refl refl)

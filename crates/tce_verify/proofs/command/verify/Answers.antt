@@ -27,28 +27,28 @@ returns-in_err-source-clause-told g c =
     let p = err_from_is_err_and c.from_residual.result c.from_residual.ensures.1 in
     told_as _ _ (λ e. as_disk c.from_residual.result p.0 _ p.1 p.2 (is_err_disk _ _ refl e)) c.in_err-source.ensures.told
 
-pub verify_file-requires : goal.verify_file-requires
-verify_file-requires g c = short (codes ".cert") c.args.cert.now c.requires.cert
+pub verify_file-verified-requires : goal.verify_file-verified-requires
+verify_file-verified-requires g c = short (codes ".cert") c.args.cert.now c.requires.cert
 
 pub returns-clause-done : goal.returns-clause-done
 returns-clause-done g c =
-    IfOk-weaker c.verify_file.result _ _
+    IfOk-weaker c.verify_file-verified.result _ _
     (λ report found. verified (g.D.Disk.files c.args.disk.now) c.args.spec.now c.args.cert.now c.in_ok-source.source _ c.in_ok-source.ensures.read
-    (λ files told. found files (c.in_ok-source.ensures.same ∙ told))) c.verify_file.ensures.done
+    (λ files told. found files (c.in_ok-source.ensures.same ∙ told))) c.verify_file-verified.ensures.done
 
 pub returns-clause-refused : goal.returns-clause-refused
 returns-clause-refused g c =
-    IfErr-weaker c.verify_file.result _ _
+    IfErr-weaker c.verify_file-verified.result _ _
     (λ refusal found. refused (g.D.Disk.files c.args.disk.now) c.args.spec.now c.args.cert.now c.in_ok-source.source refusal c.in_ok-source.ensures.read
-    (λ files told. found files (c.in_ok-source.ensures.same ∙ told))) c.verify_file.ensures.refused
+    (λ files told. found files (c.in_ok-source.ensures.same ∙ told))) c.verify_file-verified.ensures.refused
 
 pub returns-clause-line : goal.returns-clause-line
 returns-clause-line g c =
-    IfErr-weaker c.verify_file.result _ _
-    (λ refusal written. written_for (g.D.Disk.files c.args.disk.now) c.args.spec.now c.in_ok-source.source refusal c.in_ok-source.ensures.read written) c.verify_file.ensures.line
+    IfErr-weaker c.verify_file-verified.result _ _
+    (λ refusal written. written_for (g.D.Disk.files c.args.disk.now) c.args.spec.now c.in_ok-source.source refusal c.in_ok-source.ensures.read written) c.verify_file-verified.ensures.line
 
 pub returns-clause-cause : goal.returns-clause-cause
-returns-clause-cause g c = cause_since _ _ _ _ c.in_ok-source.ensures.cause.later c.verify_file.ensures.cause
+returns-clause-cause g c = cause_since _ _ _ _ c.in_ok-source.ensures.cause.later c.verify_file-verified.ensures.cause
 
 pub returns-clause-told : goal.returns-clause-told
-returns-clause-told g c = told_since _ _ _ (c.in_ok-source.ensures.told (ok_no_disk _ _ refl)) c.verify_file.ensures.told
+returns-clause-told g c = told_since _ _ _ (c.in_ok-source.ensures.told (ok_no_disk _ _ refl)) c.verify_file-verified.ensures.told

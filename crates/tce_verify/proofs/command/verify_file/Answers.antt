@@ -28,21 +28,21 @@ returns-in_err-text-clause-told g c =
 
 pub returns-clause-done : goal.returns-clause-done
 returns-clause-done g c =
-    IfOk-weaker c.text_report.result _ _
+    IfOk-weaker c.text_report-verified.result _ _
     (λ report found. file_verified (g.D.Disk.files c.args.disk.now) c.args.cert.now c.args.spec.now c.in_ok-text.text.items (string_bytes report) c.in_ok-text.ensures.bytes
-    (subst (λ (text : List ℕ). IsVerifiedText c.args.spec.now text (string_bytes report)) c.deref.ensures.value found)) c.text_report.ensures.done
+    (subst (λ (text : List ℕ). IsVerifiedText c.args.spec.now text (string_bytes report)) c.deref.ensures.value found)) c.text_report-verified.ensures.done
 
 pub returns-clause-refused : goal.returns-clause-refused
 returns-clause-refused g c =
-    IfErr-weaker c.text_report.result _ _
+    IfErr-weaker c.text_report-verified.result _ _
     (λ refusal found. file_refused (g.D.Disk.files c.args.disk.now) c.args.cert.now c.args.spec.now c.in_ok-text.text.items refusal c.in_ok-text.ensures.bytes
-    (subst (λ (text : List ℕ). IsJudgement c.args.spec.now text refusal) c.deref.ensures.value found)) c.text_report.ensures.refused
+    (subst (λ (text : List ℕ). IsJudgement c.args.spec.now text refusal) c.deref.ensures.value found)) c.text_report-verified.ensures.refused
 
 pub returns-clause-line : goal.returns-clause-line
-returns-clause-line g c = IfErr-weaker c.text_report.result _ _ (written_over c.args.spec.now c.deref.result.now) c.text_report.ensures.refused
+returns-clause-line g c = IfErr-weaker c.text_report-verified.result _ _ (written_over c.args.spec.now c.deref.result.now) c.text_report-verified.ensures.refused
 
 pub returns-clause-cause : goal.returns-clause-cause
-returns-clause-cause g c = cause_as _ _ _ _ (λ failed. absurd (no_fault c.text_report.result c.args.spec.now c.deref.result.now c.text_report.ensures.refused failed)) c.in_ok-text.ensures.cause
+returns-clause-cause g c = cause_as _ _ _ _ (λ failed. absurd (no_fault c.text_report-verified.result c.args.spec.now c.deref.result.now c.text_report-verified.ensures.refused failed)) c.in_ok-text.ensures.cause
 
 pub returns-clause-told : goal.returns-clause-told
 returns-clause-told g c = λ none. c.in_ok-text.ensures.told (ok_no_disk _ _ refl)

@@ -1,0 +1,18 @@
+use Rattle.std.proofs.Common.{refl}
+use Rattle.std.proofs.lemmas.Result.{IfOk-weaker, IfErr-weaker}
+use Rattle.tce_plan.proofs.Planned.{memory_refused, no_failure, no_answer}
+use Rattle.tce_plan.proofs.command.plan.Goals as goal
+
+pub returns-clause-done : goal.returns-clause-done
+returns-clause-done g c =
+    IfOk-weaker c.plan_source-made.result _ _
+    (λ report planned files told. record { specification = c.in_ok-source.source; specified = c.in_ok-source.ensures.read files told; planned = planned }) c.plan_source-made.ensures.done
+
+pub returns-clause-refused : goal.returns-clause-refused
+returns-clause-refused g c = IfErr-weaker c.plan_source-made.result _ _ (memory_refused (g.D.Disk.files c.args.disk.now) c.args.spec.now) c.plan_source-made.ensures.refused
+
+pub returns-clause-cause : goal.returns-clause-cause
+returns-clause-cause g c = record { later = c.in_ok-source.ensures.cause.later; rose = λ failed. absurd (no_failure c.plan_source-made.result c.plan_source-made.ensures.refused failed) }
+
+pub returns-clause-told : goal.returns-clause-told
+returns-clause-told g c = λ none. c.in_ok-source.ensures.told (no_answer c.in_ok-source.source _ refl)

@@ -1,0 +1,55 @@
+use Rattle.std.proofs.Common.{refl}
+use Rattle.tce_job.specs.Refusals.{MayBeRefused}
+use Rattle.tce_job.proofs.Causes.{names_declared}
+use Rattle.tce_run.proofs.Told.{of_files, told_failure, told_no_failure, answered}
+use Rattle.tce_run.proofs.Ran.{cause_as, ok_quiet}
+use Rattle.tce_run.proofs.command.run_source.Goals as goal
+
+pub returns-in-Ok-clause-done : goal.returns-in-Ok-clause-done
+returns-in-Ok-clause-done g c = record {
+  able = c.in-Ok.ensures.able;
+  written = c.in-Ok.ensures.told;
+  report = c.in-Ok.report;
+  reported = c.in-Ok.ensures.reported;
+  text_is = c.into_vec.ensures;
+}
+
+pub returns-in-Ok-clause-no_half : goal.returns-in-Ok-clause-no_half
+returns-in-Ok-clause-no_half g c = c.run_job.ensures.no_half
+
+pub returns-in-Ok-clause-others : goal.returns-in-Ok-clause-others
+returns-in-Ok-clause-others g c = c.run_job.ensures.others
+
+pub returns-in-Ok-clause-cause : goal.returns-in-Ok-clause-cause
+returns-in-Ok-clause-cause g c = cause_as _ _ (answered c.into_vec.result _ refl) c.in-Ok.ensures.cause
+
+pub returns-in-Ok-clause-told : goal.returns-in-Ok-clause-told
+returns-in-Ok-clause-told g c = λ none. ok_quiet _ _ c.in-Ok.report _ refl c.in-Ok.ensures.quiet
+
+pub refusal_of-requires-clause-declared : goal.refusal_of-requires-clause-declared
+refusal_of-requires-clause-declared g c = names_declared (g.D.Disk.files c.args.disk.now) c.args.source.now c.args.budget c.in-Err.fault c.in-Err.ensures.refused
+
+pub refusal_of-requires-clause-of_files : goal.refusal_of-requires-clause-of_files
+refusal_of-requires-clause-of_files g c = of_files (MayBeRefused (g.D.Disk.files c.args.disk.now) c.args.source.now) c.args.source.now c.args.budget c.in-Err.fault c.in-Err.ensures.refused
+
+pub returns-in-Err-clause-refused : goal.returns-in-Err-clause-refused
+returns-in-Err-clause-refused g c = record {
+  fault = c.in-Err.fault;
+  told = c.refusal_of.ensures;
+  cause = c.in-Err.ensures.refused;
+  unchanged = c.in-Err.ensures.unchanged;
+  tested = c.run_job.ensures.tested;
+  room = c.in-Err.ensures.takings;
+}
+
+pub returns-in-Err-clause-no_half : goal.returns-in-Err-clause-no_half
+returns-in-Err-clause-no_half g c = c.run_job.ensures.no_half
+
+pub returns-in-Err-clause-others : goal.returns-in-Err-clause-others
+returns-in-Err-clause-others g c = c.run_job.ensures.others
+
+pub returns-in-Err-clause-cause : goal.returns-in-Err-clause-cause
+returns-in-Err-clause-cause g c = cause_as _ _ (told_failure c.args.source.now c.in-Err.fault c.refusal_of.result _ _ refl refl c.refusal_of.ensures) c.in-Err.ensures.cause
+
+pub returns-in-Err-clause-told : goal.returns-in-Err-clause-told
+returns-in-Err-clause-told g c = λ none. c.in-Err.ensures.quiet (told_no_failure c.args.source.now c.in-Err.fault c.refusal_of.result _ _ refl refl c.refusal_of.ensures none)
