@@ -11,7 +11,7 @@ use Rattle.tce_declarations.specs.Faults.{Fault}
 use Rattle.tce_formula.specs.declared.read.Contraction.{Contraction}
 use Rattle.tce_spec.specs.Specification.{Specification}
 use Rattle.tce_spec.specs.SpecCode.{specification_of, IsKept}
-use Rattle.tce_spec.specs.Canonical.{canonical_of}
+use Rattle.tce_round_trip.specs.Canonical.{canonical_of}
 use Rattle.tce_spec.specs.Outcome.{IsOutcome}
 use Rattle.tce_round_trip.proofs.Outcomes.{canonical_outcome}
 use Rattle.tce_batch.specs.BatchCode.{specifications_of, AreKept}

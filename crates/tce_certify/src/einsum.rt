@@ -13,7 +13,8 @@ use std::alloc::{AllocError, Global};
 use tce_command::{EinsumTrouble, Refusal};
 use tce_einsum::{EinsumFault, from_einsum};
 use tce_outside::Disk;
-use tce_spec::{Spec, print_spec};
+use tce_round_trip::print_spec;
+use tce_spec::Spec;
 
 /// Writes the specification of an einsum text and a path to a file, as its canonical text, and gives the report.
 ///

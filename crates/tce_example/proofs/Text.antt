@@ -5,7 +5,7 @@ use Rattle.tce_grammar.specs.Grammar.{Statement, range}
 use Rattle.tce_grammar.specs.Canonical.{canonical_line, canonical_text}
 use Rattle.tce_canonical.specs.Statements.{edge_digits, range_statement, groups, index_statement, tensor_statement, formula_statement}
 use Rattle.tce_tools.specs.Demo.{range_line, demo_formula, demo_text}
-use Rattle.tce_spec.specs.Canonical.{canonical_of}
+use Rattle.tce_round_trip.specs.Canonical.{canonical_of}
 use Rattle.tce_example.specs.Specification.{range_of, demo_space, demo_tensors, demo_declarations, demo_tree, demo_specification}
 
 -- an edge of one is that of an extent of one

@@ -1,7 +1,7 @@
 -- What holds of demonstrations of all extents.
 use Rattle.std.specs.Prelude.{◌≡◌, ℕ}
 use Rattle.tce_tools.specs.Demo.{demo_text}
-use Rattle.tce_spec.specs.Canonical.{canonical_of}
+use Rattle.tce_round_trip.specs.Canonical.{canonical_of}
 use Rattle.tce_example.specs.Specification.{IsExtent, IsDemoOf, demo_specification}
 
 abbrev pub DemosAreSpecified : Type 0

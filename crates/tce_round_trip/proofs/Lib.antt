@@ -11,3 +11,4 @@ pub mod Outcomes
 pub mod KeptDeclarations
 pub mod Written
 pub mod ReadBack
+pub mod Printed

@@ -15,7 +15,7 @@ use Rattle.tce_canonical.specs.Statements.{groups, range_statement, index_statem
 use Rattle.tce_spec.specs.Specification.{Specification}
 use Rattle.tce_spec.specs.Outcome.{IsOutcome, outcome, outcome_in, specified}
 use Rattle.tce_spec.proofs.Reading.{computed, computed_only}
-use Rattle.tce_spec.specs.Canonical.{canonical_of}
+use Rattle.tce_round_trip.specs.Canonical.{canonical_of}
 use Rattle.tce_round_trip.specs.RoundTrip.{IsWritable}
 use Rattle.tce_round_trip.proofs.NumbersBack.{indexes_back, tensor_back}
 use Rattle.tce_round_trip.proofs.WrittenStatements.{statements_written, groups_are, fit_indexes}

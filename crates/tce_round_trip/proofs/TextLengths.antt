@@ -23,7 +23,7 @@ use Rattle.tce_formula.proofs.DistinctNames.{distinct_is}
 use Rattle.tce_formula.proofs.Faultless.{member_below}
 use Rattle.tce_canonical.specs.Statements.{Group, groups, range_statement, index_statement, tensor_statement, formula_statement, formula_of, range_names, index_names, statements}
 use Rattle.tce_spec.specs.Specification.{Specification}
-use Rattle.tce_spec.specs.Canonical.{canonical_of}
+use Rattle.tce_round_trip.specs.Canonical.{canonical_of}
 use Rattle.tce_spec.specs.Specification.{ConstantsAreWords}
 use Rattle.tce_round_trip.specs.RoundTrip.{IsWritable}
 use Rattle.tce_round_trip.proofs.SpaceNames.{of_and}

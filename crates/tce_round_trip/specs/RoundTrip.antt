@@ -3,7 +3,7 @@ use Rattle.std.specs.Prelude.{◌≡◌, ℕ, ◌≤◌, ◌^◌, List, length}
 use Rattle.std.specs.declared.result.Result.TheVariants.{Ok}
 use Rattle.tce_declarations.specs.Declarations.{HaveNames}
 use Rattle.tce_spec.specs.Specification.{Specification, IsSpecification}
-use Rattle.tce_spec.specs.Canonical.{canonical_of}
+use Rattle.tce_round_trip.specs.Canonical.{canonical_of}
 use Rattle.tce_spec.specs.Outcome.{IsOutcome}
 
 -- a specification that a text can give: its tensors have names

@@ -1,6 +1,7 @@
 //! The way of a specification to its canonical text and back.
 //!
-//! What a text specifies is `tce_spec`'s `Outcome.antt`; the canonical text is `tce_canonical`'s `Statements.antt`.
+//! What a text specifies is `tce_spec`'s `Outcome.antt`. [`print_spec`] prints the canonical text (`specs/Canonical.antt`), whose
+//! lines are `tce_canonical`'s `Statements.antt`.
 #![tactic(auto)]
 
 mod laws;
@@ -11,4 +12,4 @@ pub use laws::{
     canonical_texts_specify_the_same, canonical_texts_tell_specifications,
     texts_specify_what_can_be_written,
 };
-pub use texts::read_back;
+pub use texts::{print_spec, read_back};

@@ -3,7 +3,6 @@ pub mod SpecCode
 pub mod Operands
 pub mod Outcome
 pub mod OutcomeCode
-pub mod Canonical
 pub mod Laws
 pub mod PieceSpecification
 pub mod PieceExamples

@@ -8,14 +8,12 @@ ghost use Rattle.tce_declarations.specs.Declarations.{HaveNames, tensor_number, 
 ghost use Rattle.tce_spec.specs.Specification.{IsSpecification};
 ghost use Rattle.tce_spec.specs.Operands.{operands, largest_tile, shape_of};
 ghost use Rattle.tce_spec.specs.OutcomeCode.{HasNames, SpecifiesAs, HasFault, AnswersText};
-ghost use Rattle.tce_spec.specs.Canonical.{canonical_of};
 ghost use Rattle.tce_spec.specs.SpecCode.{specification_of, IsKept};
 
 use crate::operands::add_operands;
 use arrayvec::ArrayVec;
-use std::alloc::{AllocError, Global};
+use std::alloc::Global;
 use std::marker::Model;
-use tce_canonical::print_lines;
 use tce_declarations::{Declarations, Head, SpecFault, Tensor, check_rest, read_head};
 use tce_formula::{Contraction, read_formula};
 use tce_space::{MAX_TENSORS, Space};
@@ -54,6 +52,14 @@ impl Spec {
             declarations,
             contraction,
         }
+    }
+
+    /// The declared ranges, indexes and tensors.
+    pub fn declarations(&self) -> &Declarations
+        ensures declarations { result.now ≡ self.now.declarations }
+        ensures rules { IsSpecification self.now }
+    {
+        &self.declarations
     }
 
     /// The declared ranges and indexes.
@@ -189,14 +195,4 @@ pub fn read_spec(alloc: Global, text: &[u8]) -> Result<Spec, SpecFault>
             Err(fault)
         }
     }
-}
-
-/// The canonical text of a specification: a line for each range, the indexes in order of declaration with neighbours of
-/// one range on one line, a line for each tensor, and the formula. An edge of 1 is not written, and an expression has no
-/// more parentheses than it needs.
-pub fn print_spec(alloc: Global, spec: &Spec) -> Result<Vec<u8>, AllocError>
-    ensures { IfOk result (λ text. text.items ≡ canonical_of spec.now) }
-{
-    let Contraction { result, expr, .. } = &spec.contraction;
-    print_lines(alloc, &spec.declarations, result, expr)
 }

@@ -11,7 +11,7 @@ use Rattle.tce_report.specs.NodeLine.{stated}
 use Rattle.tce_report.specs.Report.{run_text}
 use Rattle.tce_spec.specs.Specification.{Specification}
 use Rattle.tce_spec.specs.Operands.{shape_of}
-use Rattle.tce_spec.specs.Canonical.{canonical_of}
+use Rattle.tce_round_trip.specs.Canonical.{canonical_of}
 use Rattle.tce_einsum.specs.Answer.{Produces}
 use Rattle.tce_einsum.specs.HasValue.{HasValueOfEinsum}
 use Rattle.tce_tensors.specs.TensorFiles.{file_of}

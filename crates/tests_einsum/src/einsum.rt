@@ -4,7 +4,7 @@ use crate::given::{expect_refusal, expect_refusals, repeated};
 use std::alloc::Global;
 use std::process::Abort;
 use tce_einsum::from_einsum;
-use tce_spec::print_spec;
+use tce_round_trip::print_spec;
 
 // The canonical text of what an einsum and its path specify, where they are not refused.
 fn text_of(alloc: Global, text: &str, path: &str) -> Option<Vec<u8>> {

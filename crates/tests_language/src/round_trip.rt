@@ -2,7 +2,8 @@
 
 use std::alloc::Global;
 use tce_round_trip::read_back;
-use tce_spec::{SpecFault, print_spec, read_spec};
+use tce_round_trip::print_spec;
+use tce_spec::{SpecFault, read_spec};
 
 /// The canonical text of what came back from the canonical text of what a text specifies.
 fn printed_twice(alloc: Global, text: &[u8]) -> Result<Vec<u8>, SpecFault> {
