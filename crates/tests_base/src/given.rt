@@ -1,10 +1,23 @@
-//! What tests are given: declarations in a space.
+//! What tests are given: declarations in a space, and how a test ends.
 ghost use Rattle.std.specs.Prelude.{IsTrue};
 ghost use Rattle.tce_space.specs.Name.{is_name};
 
 use std::alloc::Global;
 use std::process::Abort;
 use tce_space::*;
+
+// Ends the test where this does not hold, with what it is about.
+pub(crate) fn check(rt: &impl Abort, holds: bool, what: &str) {
+    assert!(rt; holds, "{what}");
+}
+
+// What was made. The test ends where it could not be made.
+pub(crate) fn must<T, E>(rt: &impl Abort, made: Result<T, E>) -> T {
+    match made {
+        Ok(made) => made,
+        Err(_) => panic!(rt; "this cannot be made"),
+    }
+}
 
 pub(crate) fn new_space(rt: &impl Abort, alloc: Global) -> Space {
     match Space::new(alloc) {

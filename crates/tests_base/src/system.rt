@@ -1,3 +1,4 @@
+use crate::given::{check, must};
 use std::alloc::Global;
 use std::cell::Cell;
 use std::fmt::Display;
@@ -9,19 +10,6 @@ use std::rt::Files;
 use std::{env, fs, io, process};
 use tce_outside::{Disk, Failed, OutFault, Sink};
 use tce_system::{FileDisk, OutSink, read_fully, write_fully};
-
-// Ends the test where this does not hold, with what it is about.
-fn check(rt: &impl Abort, holds: bool, what: &str) {
-    assert!(rt; holds, "{what}");
-}
-
-// What was made. The test ends where it could not be made.
-fn must<T, E>(rt: &impl Abort, made: Result<T, E>) -> T {
-    match made {
-        Ok(made) => made,
-        Err(_) => panic!(rt; "this cannot be made"),
-    }
-}
 
 // The file has these bytes, also for others.
 fn check_file<R: Files<File = File> + AllocGlobal + Abort>(rt: &R, name: &str, bytes: &[u8]) {
