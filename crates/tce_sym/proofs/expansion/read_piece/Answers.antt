@@ -1,4 +1,4 @@
-use Rattle.std.proofs.Common.{rules, ◌≡◌, ◌∙◌, ◌+◌, ◌-◌, ◌<◌, ℕ, List, length, take, drop, refl, sym, subst, arith}
+use Rattle.std.proofs.Common.{◌≡◌, ◌∙◌, ◌+◌, ◌-◌, ◌<◌, ℕ, List, length, take, drop, refl, sym, subst, arith}
 use Rattle.std.proofs.lemmas.List.{length-take-le, length-drop}
 use Rattle.tce_space.specs.Box.{IsInside}
 use Rattle.tce_space.specs.Tiling.{Tiling}
@@ -14,6 +14,7 @@ use Rattle.tce_sym.proofs.FullCells.{among, cell_is}
 use Rattle.tce_sym.proofs.Moved.{moved_is}
 use Rattle.tce_sym.proofs.WordCoords.{moved_none}
 use Rattle.tce_sym.proofs.Pieces.{none_filled, more_filled}
+use Rattle.tce_tools.proofs.Apart.{false_not_true}
 use Rattle.tce_sym.proofs.expansion.read_piece.Goals as goal
 
 pub loop-filled-init : goal.loop-filled-init
@@ -74,7 +75,7 @@ loop-filled-preserved g c =
       lines = λ x told. c.in_ok-read_row.ensures.lines x (c.loop-filled.invariant.files ∙ told);
       files = c.in_ok-read_row.ensures.same ∙ c.loop-filled.invariant.files;
       later = omega (arith, c.in_ok-read_row.ensures.cause.later, c.loop-filled.invariant.later);
-      counted = c.in_ok-read_row.ensures.told (search rules) ∙ c.loop-filled.invariant.counted;
+      counted = c.in_ok-read_row.ensures.told false_not_true ∙ c.loop-filled.invariant.counted;
     }
 
 pub returns-clause-read : goal.returns-clause-read
@@ -109,4 +110,4 @@ pub returns-clause-same : goal.returns-clause-same
 returns-clause-same g c = c.loop-filled.invariant.files
 
 pub returns-clause-cause : goal.returns-clause-cause
-returns-clause-cause g c = record { later = c.loop-filled.invariant.later; rose = λ e. absurd cc }
+returns-clause-cause g c = record { later = c.loop-filled.invariant.later; rose = λ e. absurd (false_not_true e) }

@@ -1,4 +1,4 @@
-use Rattle.std.proofs.Common.{◌≡◌, ◌∙◌, ◌+◌, ◌*◌, ◌<◌, List, ℕ, length, sym, ap, subst, rules, arith}
+use Rattle.std.proofs.Common.{◌≡◌, ◌∙◌, ◌+◌, ◌*◌, ◌<◌, List, ℕ, length, sym, ap, subst, arith}
 use Rattle.std.specs.Option.{IsSomeAnd}
 use Rattle.tce_outside.specs.Files.{file}
 use Rattle.tce_tools.specs.Flat.{contents}
@@ -6,6 +6,7 @@ use Rattle.tce_sym.specs.Storage.{stored_word, turned}
 use Rattle.tce_sym.specs.declared.cells.Pair.{Pair}
 use Rattle.tce_sym.specs.Cells.{IsAmong, IsMirrored, moved_pair}
 use Rattle.tce_sym.proofs.Walked.{mirrored_walk_is, mirrored_placed, moved_nowhere}
+use Rattle.tce_tools.proofs.Apart.{false_not_true}
 use Rattle.tce_sym.proofs.rows.read_mirrored.Goals as goal
 
 pub read_walk-requires-clause-places : goal.read_walk-requires-clause-places
@@ -42,7 +43,7 @@ pub returns-clause-same : goal.returns-clause-same
 returns-clause-same g c = c.in_ok-read_walk.ensures.same
 
 pub returns-clause-cause : goal.returns-clause-cause
-returns-clause-cause g c = record { later = c.in_ok-read_walk.ensures.cause.later; rose = λ e. absurd cc }
+returns-clause-cause g c = record { later = c.in_ok-read_walk.ensures.cause.later; rose = λ e. absurd (false_not_true e) }
 
 pub returns-clause-told : goal.returns-clause-told
-returns-clause-told g c = λ _. c.in_ok-read_walk.ensures.told (search rules)
+returns-clause-told g c = λ _. c.in_ok-read_walk.ensures.told false_not_true

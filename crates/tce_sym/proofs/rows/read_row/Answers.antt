@@ -1,4 +1,4 @@
-use Rattle.std.proofs.Common.{◌≡◌, ◌∙◌, ℕ, ◌+◌, length, sym, ap, subst, rules, arith}
+use Rattle.std.proofs.Common.{◌≡◌, ◌∙◌, ℕ, ◌+◌, length, sym, ap, subst, arith}
 use Rattle.tce_outside.proofs.Files.{on_ok}
 use Rattle.tce_tools.specs.Flat.{contents}
 use Rattle.tce_sym.specs.declared.cells.Pair.{Pair}
@@ -6,6 +6,7 @@ use Rattle.tce_sym.specs.Lines.{HasRoom}
 use Rattle.tce_sym.specs.Cells.{IsAmong, IsUpper, cell_of, moved_pair}
 use Rattle.tce_sym.proofs.StoredReads.{caused_behind}
 use Rattle.tce_sym.proofs.Walked.{joined_words, moved_on, moved_nowhere, mirrored_is}
+use Rattle.tce_tools.proofs.Apart.{false_not_true}
 use Rattle.tce_sym.proofs.rows.read_row.Goals as goal
 
 pub moved_row-behind-requires-clause-outer : goal.moved_row-behind-requires-clause-outer
@@ -76,4 +77,4 @@ pub returns-clause-cause : goal.returns-clause-cause
 returns-clause-cause g c = caused_behind _ (g.D.Disk.faults c.read_mirrored.new.disk) _ _ c.in_ok-read_mirrored.ensures.cause.later c.read_others.ensures.cause
 
 pub returns-clause-told : goal.returns-clause-told
-returns-clause-told g c = λ ok. c.read_others.ensures.told ok ∙ c.in_ok-read_mirrored.ensures.told (search rules)
+returns-clause-told g c = λ ok. c.read_others.ensures.told ok ∙ c.in_ok-read_mirrored.ensures.told false_not_true
