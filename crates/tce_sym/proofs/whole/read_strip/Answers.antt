@@ -7,6 +7,8 @@ use Rattle.tce_sym.proofs.StoredReads.{words_there, strip_there}
 use Rattle.tce_sym.proofs.HeldLines.{line_read}
 use Rattle.tce_sym.proofs.Across.{strip_more, strip_before, strip_all}
 use Rattle.tce_tools.proofs.Apart.{false_not_true}
+use Rattle.std.proofs.lemmas.Result.{IfOk-from_err}
+use Rattle.tce_array.proofs.Answered.{rose_here}
 use Rattle.tce_sym.proofs.whole.read_strip.Goals as goal
 
 pub loop-outer-preserved : goal.loop-outer-preserved
@@ -77,3 +79,18 @@ returns-clause-cause g c = record { later = c.loop-outer.invariant.later; rose =
 
 pub returns-clause-told : goal.returns-clause-told
 returns-clause-told g c = λ _. c.loop-outer.invariant.counted
+
+pub overflow_sub-grid : goal.overflow_sub-grid
+overflow_sub-grid g c = omega (arith, c.requires.from)
+
+pub returns-in_err-read_words-clause-some : goal.returns-in_err-read_words-clause-some
+returns-in_err-read_words-clause-some g c = IfOk-from_err c.from_residual.result _ c.from_residual.ensures.0
+
+pub returns-in_err-read_words-clause-read : goal.returns-in_err-read_words-clause-read
+returns-in_err-read_words-clause-read g c = IfOk-from_err c.from_residual.result _ c.from_residual.ensures.0
+
+pub returns-in_err-read_words-clause-cause : goal.returns-in_err-read_words-clause-cause
+returns-in_err-read_words-clause-cause g c = rose_here (g.D.Disk.faults c.args.disk.now) (g.D.Disk.faults c.loop-outer.disk) (g.D.Disk.faults c.read_words.new.disk) _ c.loop-outer.invariant.counted c.in_err-read_words.ensures.cause
+
+pub returns-in_err-read_words-clause-told : goal.returns-in_err-read_words-clause-told
+returns-in_err-read_words-clause-told g c = λ fine. absurd (fine c.from_residual.ensures.0)
