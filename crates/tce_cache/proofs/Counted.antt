@@ -21,6 +21,10 @@ others_counted c now n old new is same =
 pub state_counted : (c now new : State) → c ≡ now → new ≡ with_held c new.held (c.touches + 1) → new ≡ with_held now new.held (now.touches + 1)
 state_counted c now new is same = same ∙ ap (λ (z : State). with_held z new.held (z.touches + 1)) is
 
+-- the list of held tiles is told by the cache
+pub held_again : (c new : State) (held : List Held) → new ≡ with_held c held c.touches → new ≡ with_held c new.held c.touches
+held_again c new held is = is ∙ ap (λ l. with_held c l c.touches) (sym (ap (λ (z : State). z.held) is))
+
 -- where nothing is read or written
 pub nothing_outside : (c : State) (words : List ℕ) → IsSameOutsideFrames c words words
 nothing_outside c words = record { same_length = refl; same = λ p out. refl }

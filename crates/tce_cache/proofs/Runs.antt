@@ -76,6 +76,16 @@ none_cleaned held frame a t m found un = record {
       sym (ap (λ u. cleaned a u held) tile_is ∙ cleaned_unmarked held a t (held_at a t frame m) found un);
 }
 
+-- the tiles of a run
+pub are_cleaned : (c : State) (frame : ℕ) (run : Run) (new : List Held) → IsRun c run → run.frame ≡ frame → new ≡ run_cleaned run.array run.tile run.n c.held → AreCleaned frame run.n c.held new
+are_cleaned c frame run new is same list = record {
+  array = run.array;
+  tile = run.tile;
+  marked = true;
+  held = λ i lt. subst (λ f. look_up c.held run.array (run.tile + i) ≡ Some (held_at run.array (run.tile + i) (f + i) true)) same (is.held i lt);
+  list = list;
+}
+
 pub frame_cleaned : (frames frame n : ℕ) (held new : List Held) → AreApart frames held → 0 < n → n ≤ 1 → AreCleaned frame n held new → IsCleaned held new frame
 frame_cleaned frames frame n held new apart some one are a t h found at =
     let n_is : n ≡ 1 = omega arith in
@@ -91,6 +101,18 @@ frame_cleaned frames frame n held new apart some one are a t h found at =
     ∙ ap (λ u. cleaned a u held) (sym same.1)
 
 -- ---- which tiles are a run
+pub run_of_one : (c : State) (frame a t : ℕ) (m : Bool) → look_up c.held a t ≡ Some (held_at a t frame m) → m ≡ true → IsRun c (record { array = a; tile = t; frame = frame; n = 1 })
+run_of_one c frame a t m found marked = record {
+  some = omega arith;
+  held = λ i lt.
+      let tile_is : t ≡ t + i = omega arith in
+      let frame_is : frame ≡ frame + i = omega arith in
+      subst (λ u. look_up c.held a u ≡ Some (held_at a u (frame + i) true)) tile_is (found ∙ ap (λ b. Some (held_at a t frame b)) marked ∙ ap (λ f. Some (held_at a t f true)) frame_is);
+  close = λ i lt.
+      let first : 0 ≡ i = omega arith in
+      subst (λ k. words_of_tile (slice_get c.arrays a) * k ≡ k * c.frame_words) first (omega arith);
+}
+
 pub run_more : (c : State) (run : Run) (next a t : ℕ) (m : Bool) → IsRun c run → words_of_tile (slice_get c.arrays run.array) ≡ c.frame_words → look_up c.held a t ≡ Some (held_at a t next m)
     → next ≡ run.frame + run.n → m ≡ true → a ≡ run.array → t ≡ run.tile + run.n → IsRun c (run_of run (run.n + 1))
 run_more c run next a t m r fill found next_is mark a_is t_is = record {

@@ -51,6 +51,15 @@ cache_front c g rest n is absent free low room exists writable = record {
   ];
 }
 
+-- a table that holds one tile more
+pub cache_held : (v now : State) (r : Holding) (g : Held) → IsCache v → v ≡ now → r.frames ≡ v.frames → r.held ≡ g ∷ v.held → length v.held < v.frames → look_up now.held g.array g.tile ≡ None → IsFree g.frame v.held → g.frame < v.frames
+    → Exists now g.array g.tile → (g.marked ≡ true → IsWritable now g.array) → IsCache (record v { frames = r.frames; held = r.held })
+cache_held v now r g is same frames held room absent free low exists writable =
+    let more : IsCache (with_held v (g ∷ v.held) v.touches) =
+    cache_front v g v.held v.touches is (subst (λ (z : State). look_up z.held g.array g.tile ≡ None) (sym same) absent) free low room
+    (subst (λ (z : State). Exists z g.array g.tile) (sym same) exists) (λ m. subst (λ (z : State). IsWritable z g.array) (sym same) (writable m)) in
+    subst (λ l. IsCache (record v { frames = r.frames; held = l })) (sym held) (subst (λ f. IsCache (record v { frames = f; held = g ∷ v.held })) (sym frames) more)
+
 pub holding_is : (now : Holding) (frames arrays : ℕ) (held : List Held) → now.frames ≡ frames → now.arrays ≡ arrays → now.held ≡ held → record { frames = frames; arrays = arrays; held = held } ≡ now
 holding_is now frames arrays held ef ea eh =
     let all : now ≡ record { frames = frames; arrays = arrays; held = held } =

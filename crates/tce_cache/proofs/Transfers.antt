@@ -1,14 +1,15 @@
 -- Words that are read from a file, and words written over a part of one.
-use Rattle.std.proofs.Common.{◌≡◌, ◌∙◌, ℕ, ◌+◌, ◌-◌, ◌*◌, ◌/◌, ◌^◌, ◌<◌, ◌≤◌, cond, List, [], length, take, drop, slice_index, slice_range, Option, Some, None, unwrap_or, sym, refl, ap, subst, inl, inr, arith}
+use Rattle.std.proofs.Common.{◌≡◌, ◌∙◌, ℕ, ◌+◌, ◌-◌, ◌*◌, ◌/◌, ◌%◌, ◌^◌, ◌<◌, ◌≤◌, cond, List, [], length, take, drop, slice_index, slice_range, Option, Some, None, unwrap_or, sym, refl, ap, subst, inl, inr, arith}
 use Rattle.std.specs.List.{flat_map}
 use Rattle.std.specs.Option.{IsSomeAnd}
 use Rattle.std.specs.FinMap.{get-insert}
+use Rattle.std.proofs.Math.Nat.{mul-le-mul_left}
 use Rattle.std.proofs.lemmas.Bool.{cases_lt}
 use Rattle.std.proofs.lemmas.Cmp.{nat_list_cmp_total}
 use Rattle.std.proofs.lemmas.List.{get_or-take, get_or-drop, length-take-le, length-drop}
 use Rattle.tce_base.specs.Word.{word_bytes}
 use Rattle.tce_space.specs.Tiling.{Tiling, IsTiling, padded_words}
-use Rattle.tce_outside.specs.Files.{Files, file, with_file, with_part, without_file, overwritten, part, others, written}
+use Rattle.tce_outside.specs.Files.{Files, file, with_file, with_part, without_file, overwritten, part, others, written, HasPart}
 use Rattle.tce_outside.proofs.Places.{same_name}
 use Rattle.tce_array.specs.declared.form.Form.{Form}
 use Rattle.tce_array.specs.declared.form.Form.TheVariants.{One, Narrow, Wide}
@@ -26,6 +27,28 @@ pub place_small : (form : Form) (s : Tiling) (k : ℕ) → IsTiling s → k ≤ 
 place_small One s k t le = let r = t.rank in let same = t.same_rank in let room = t.room in omega arith
 place_small Narrow s k t le = let r = t.rank in let same = t.same_rank in let room = t.room in omega arith
 place_small Wide s k t le = let r = t.rank in let same = t.same_rank in let room = t.room in omega arith
+
+-- a piece has no more bytes than eight for each word
+pub few_bytes : (form : Form) (wide n : ℕ) → wide ≡ width form → wide * n ≤ 8 * n
+few_bytes One wide n is = let e : wide * n ≡ 8 * n = ap (λ k. k * n) is in omega arith
+few_bytes Narrow wide n is = let e : wide * n ≡ 4 * n = ap (λ k. k * n) is in omega arith
+few_bytes Wide wide n is = let e : wide * n ≡ 8 * n = ap (λ k. k * n) is in omega arith
+
+pub piece_end : (form : Form) (wide n most len : ℕ) → wide ≡ width form → n ≤ most → most ≡ len / 8 → wide * n ≤ len
+piece_end form wide n most len is few by = omega (arith, few_bytes form wide n is, few, by)
+
+pub piece_words : (form : Form) (n len : ℕ) → len ≡ width form * n → (len % width form ≡ 0) × (len / width form ≡ n)
+piece_words One n len is = (omega arith, omega arith)
+piece_words Narrow n len is = (omega arith, omega arith)
+piece_words Wide n len is = (omega arith, omega arith)
+
+-- a file has room for the words of a piece
+pub has_piece : (a : ArrayRef) (files : Files) (from n : ℕ) → HasFile a files → from + n ≤ padded_words a.shape → HasPart files a.file.bytes (word_place a.form a.shape from) (width a.form * n)
+has_piece a files from n has le = by_file (file files a.file.bytes) has
+  where
+    by_file : (o : Option (List ℕ)) → IsSomeAnd o (λ bytes. length bytes ≡ form_len a.form a.shape) → IsSomeAnd o (λ bytes. word_place a.form a.shape from + width a.form * n ≤ length bytes)
+    by_file None h = absurd h
+    by_file (Some bytes) h = let all : width a.form * (from + n) ≤ width a.form * padded_words a.shape = mul-le-mul_left (width a.form) le in omega arith
 
 -- a piece of a file that is loaded
 pub piece_loaded : (a : ArrayRef) (files : Files) (from n at : ℕ) (piece old new : List ℕ) → piece ≡ part files a.file.bytes (word_place a.form a.shape from) (width a.form * n) → length piece ≡ width a.form * n
@@ -91,6 +114,13 @@ told_before name None new now same is = absurd (none (sym (ap (others name) is) 
     none : Some (without_file now name) ≡ None → ⊥
     none e = absurd (cc)
 told_before name (Some files) new now same is = (files, refl)
+
+-- a disk tells one set of files
+pub told_once : (told : Option Files) (x y : Files) → told ≡ Some x → told ≡ Some y → (P : Files → Type 0) → P x → P y
+told_once told x y is other P holds =
+    let both : Some x ≡ Some y = sym is ∙ other in
+    let same : x ≡ y = cc in
+    subst P same holds
 
 -- words written over a part
 pub words_written : (a : ArrayRef) (files : Files) (from at n : ℕ) (words ws : List ℕ) → HasFile a files → from + n ≤ padded_words a.shape → length ws ≡ n

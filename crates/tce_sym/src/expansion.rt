@@ -113,7 +113,6 @@ fn read_piece<D: Disk>(
 }
 
 // Makes the file of all elements, with zeros in the place of its head.
-#[tactic(auto, using(tce_tools::proofs::NoHalf::unmade_left, tce_tools::proofs::NoHalf::same_left))]
 fn expand_elements<D: Disk>(
     disk: &mut D,
     shape: &Shape,

@@ -1,5 +1,5 @@
 -- Answers that are not the same.
-use Rattle.std.proofs.Common.{◌≡◌, true, false, Option, Some, None, Result, Ok, Err}
+use Rattle.std.proofs.Common.{◌≡◌, true, false, Option, Some, None, Result, Ok, Err, is_err}
 use Rattle.tce_outside.specs.declared.device.OutFault.{OutFault}
 use Rattle.tce_outside.specs.declared.device.OutFault.TheVariants.{Failed, Memory}
 use Rattle.tce_array.specs.declared.form.Form.{Form}
@@ -14,6 +14,10 @@ false_not_true h = cc
 
 pub ok_not_err : {A E : Type 0} {x : A} {e : E} → Ok x ≡ Err e → ⊥
 ok_not_err h = cc
+
+pub failed_not_ok : {A E : Type 0} (answer : Result A E) (x : A) → is_err answer ≡ true → answer ≡ Ok x → ⊥
+failed_not_ok (Ok y) x failed ok = cc
+failed_not_ok (Err e) x failed ok = cc
 
 pub failed_not_memory : {A : Type 0} (answer : Result A OutFault) → answer ≡ Err Failed → answer ≡ Err Memory → ⊥
 failed_not_memory answer failed memory = cc

@@ -22,6 +22,15 @@ pub not_made : (P : Result (Unit {0}) ToolFault → Type 0) (answer : Result (Un
 not_made P answer out_fault.Failed is disk memory = refused_for P answer Disk is (disk refl)
 not_made P answer out_fault.Memory is disk memory = refused_for P answer Memory is (memory refl)
 
+-- the answer is that of the call that did not make it
+pub making_failed : {A B : Type 0} (answer : Result A OutFault) (made : Result B OutFault) (was fault : OutFault) → IsErrAnd answer (λ e. e ≡ was) → made ≡ Err was → answer ≡ Err fault → made ≡ Err fault
+making_failed (Ok a) made was fault is told e = absurd is
+making_failed (Err x) made was fault is told e = cc
+
+pub failed_making : {A B : Type 0} (answer : Result A OutFault) (made : Result B OutFault) (was fault : OutFault) → IsErrAnd answer (λ e. e ≡ was) → made ≡ Err was → made ≡ Err fault → answer ≡ Err fault
+failed_making (Ok a) made was fault is told e = absurd is
+failed_making (Err x) made was fault is told e = cc
+
 -- an array file was not opened
 pub not_opened : (P : Result (Unit {0}) ToolFault → Type 0) (answer : Result (Unit {0}) ToolFault) (was : ArrayFault) → IsErrAnd answer (λ e. e ≡ of_opening was)
     → (was ≢ array_fault.Disk → P (Err (Array was))) → (was ≡ array_fault.Disk → P (Err Disk)) → P answer

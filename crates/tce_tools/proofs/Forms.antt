@@ -9,7 +9,7 @@ use Rattle.tce_array.specs.declared.form.Form.TheVariants.{Narrow}
 use Rattle.tce_array.specs.Forms.{word_in, form_of, cell, IsForm, IsArray, Fits}
 use Rattle.tce_tools.specs.declared.storage.Storage.TheVariants.{Flat, Array}
 use Rattle.tce_tools.specs.Flat.{flat_element, array_element}
-use Rattle.tce_tools.specs.Storage.{element_in}
+use Rattle.tce_tools.specs.Storage.{element_in, HasStored}
 use Rattle.tce_tools.specs.Answers.{FitBefore, IsFirstMisfit}
 
 pub flat_is : (s : Tiling) (bytes xs : List ℕ) → element_in Flat s bytes xs ≡ flat_element s bytes xs
@@ -50,3 +50,8 @@ array_elements s form bytes is = ap (λ (f : Form). λ xs. cell f s bytes xs) (s
 pub opened_is : (s : Tiling) (form : Form) (found : Option (List ℕ)) → IsSomeAnd found (IsOpened s form) → IsSomeAnd found (IsForm form s)
 opened_is s form None h = absurd h
 opened_is s form (Some bytes) h = subst (λ (f : Form). IsForm f s bytes) h.0 h.1
+
+-- a file in this form has the length of what is stored in it
+pub form_stored : (form : Form) (s : Tiling) (found : Option (List ℕ)) → IsSomeAnd found (IsForm form s) → HasStored (Array form) s found
+form_stored form s None h = absurd h
+form_stored form s (Some bytes) h = h.whole

@@ -103,7 +103,6 @@ fn misfit_for<D: Disk>(
 /// element that cannot be stored in the form, which is so in `Narrow` for one that as a signed number is below -2^31 or
 /// above 2^31 - 1. `Disk` only where the disk failed, and then the file `to` is as it was, is absent, begins with zeros as
 /// no array does, or is whole but for its head, which is written last; every other refusal changes no file.
-#[tactic(auto, using(crate::proofs::NoHalf::same_left))]
 pub fn convert<D: Disk>(
     disk: &mut D,
     shape: &Shape,

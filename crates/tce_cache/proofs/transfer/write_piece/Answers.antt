@@ -1,13 +1,50 @@
-use Rattle.std.proofs.Common.{◌≡◌, ◌+◌, ◌≤◌, ◌/◌, ◌∙◌, ℕ, List, Option, ap, sym, subst, Some, length, slice_range, arith}
+use Rattle.std.proofs.Common.{◌≡◌, ◌+◌, ◌*◌, ◌≤◌, ◌/◌, ◌∙◌, ℕ, List, Option, ap, sym, subst, Some, length, slice_range, arith}
+use Rattle.std.proofs.lemmas.Result.{IfOk-from_err}
 use Rattle.std.specs.List.{flat_map}
 use Rattle.tce_base.specs.Word.{word_bytes}
-use Rattle.tce_outside.specs.Files.{Files, written, bytes_before}
+use Rattle.tce_outside.specs.Files.{Files, written, bytes_before, others, HasPart}
 use Rattle.tce_space.specs.Tiling.{Tiling}
 use Rattle.tce_array.specs.declared.form.Form.{Form}
-use Rattle.tce_array.specs.Forms.{word_place}
-use Rattle.tce_cache.proofs.Transfers.{piece_written}
+use Rattle.tce_array.specs.Forms.{width, word_place}
+use Rattle.tce_cache.proofs.Counted.{cause_of_failure}
+use Rattle.tce_cache.proofs.Transfers.{has_piece, piece_written}
 use Rattle.tce_cache.proofs.Tiles.{begins_so}
 use Rattle.tce_cache.proofs.transfer.write_piece.Goals as goal
+
+pub store-requires-clause-whole : goal.store-requires-clause-whole
+store-requires-clause-whole g c = omega (arith, c.requires.whole)
+
+pub store-requires-clause-room : goal.store-requires-clause-room
+store-requires-clause-room g c = omega (arith, c.requires.whole, c.requires.room)
+
+pub as_str-requires : goal.as_str-requires
+as_str-requires g c = omega arith
+
+pub place_of-requires-clause-limits : goal.place_of-requires-clause-limits
+place_of-requires-clause-limits g c = c.requires.limits
+
+pub place_of-requires-clause-inside : goal.place_of-requires-clause-inside
+place_of-requires-clause-inside g c = omega (arith, c.requires.inside)
+
+pub write_at-requires : goal.write_at-requires
+write_at-requires g c = λ x told.
+    let a = c.args.array.now in
+    let whole : length c.store.new.out ≡ width a.form * c.args.span.n = c.store.auto.out ∙ c.requires.whole ∙ ap (λ (f : Form). width f * c.args.span.n) (sym c.requires.one) in
+    subst (λ name. HasPart x name c.place_of.result (length c.store.new.out)) (sym c.as_str.ensures.value)
+    (subst (λ at. HasPart x a.file.bytes at (length c.store.new.out)) (sym c.place_of.ensures.place)
+    (subst (HasPart x a.file.bytes (word_place a.form a.shape c.args.span.from)) (sym whole) (has_piece a x c.args.span.from c.args.span.n (c.requires.file x told) c.requires.inside)))
+
+pub returns-in_err-write_at-clause-written : goal.returns-in_err-write_at-clause-written
+returns-in_err-write_at-clause-written g c = IfOk-from_err c.from_residual.result _ c.from_residual.ensures.0
+
+pub returns-in_err-write_at-clause-others : goal.returns-in_err-write_at-clause-others
+returns-in_err-write_at-clause-others g c = subst (λ name. others name (g.D.Disk.files c.write_at.new.self) ≡ others name (g.D.Disk.files c.args.disk.now)) c.as_str.ensures.value c.write_at.ensures.others
+
+pub returns-in_err-write_at-clause-cause : goal.returns-in_err-write_at-clause-cause
+returns-in_err-write_at-clause-cause g c = cause_of_failure (g.D.Disk.faults c.args.disk.now) (g.D.Disk.faults c.write_at.new.self) _ c.in_err-write_at.ensures.cause
+
+pub returns-in_err-write_at-clause-told : goal.returns-in_err-write_at-clause-told
+returns-in_err-write_at-clause-told g c = λ none. absurd (none c.from_residual.ensures.0)
 
 pub returns-clause-written : goal.returns-clause-written
 returns-clause-written g c x told y now =
@@ -40,3 +77,12 @@ pub returns-in_err-write_at-clause-begins : goal.returns-in_err-write_at-clause-
 returns-in_err-write_at-clause-begins g c =
     let a = c.args.array.now in
     begins_still a.file.bytes c.place_of.result _ _ c.as_str.result.now (word_place a.form a.shape c.args.span.from) c.as_str.ensures.value c.place_of.ensures.place (behind_head a.form a.shape c.args.span.from) c.write_at.ensures.before
+
+pub returns-clause-others : goal.returns-clause-others
+returns-clause-others g c = subst (λ name. others name (g.D.Disk.files c.write_at.new.self) ≡ others name (g.D.Disk.files c.args.disk.now)) c.as_str.ensures.value c.write_at.ensures.others
+
+pub returns-clause-cause : goal.returns-clause-cause
+returns-clause-cause g c = c.in_ok-write_at.ensures.cause
+
+pub returns-clause-told : goal.returns-clause-told
+returns-clause-told g c = c.in_ok-write_at.ensures.told

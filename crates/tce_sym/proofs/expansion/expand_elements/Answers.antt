@@ -1,9 +1,10 @@
-use Rattle.std.proofs.Common.{rules, refl, take, replicate, ◌≡◌, ◌∙◌, ◌+◌, ◌*◌, ◌≤◌, length, sym, ap, subst, arith, List, [], ℕ, Option, Some, unwrap_or, is_err}
+use Rattle.std.proofs.Common.{refl, take, replicate, ◌≡◌, ◌∙◌, ◌+◌, ◌*◌, ◌≤◌, length, sym, ap, subst, arith, List, [], ℕ, Option, Some, unwrap_or, is_err}
+use Rattle.std.proofs.lemmas.List.{length-take-le}
 use Rattle.std.specs.Option.{IsSomeAnd}
 use Rattle.tce_space.specs.Tiling.{Tiling, padded_words}
 use Rattle.std.specs.List.{flat_map}
 use Rattle.tce_base.specs.Word.{word_bytes}
-use Rattle.tce_outside.specs.Files.{Files, others, holding, overwritten, bytes_before}
+use Rattle.tce_outside.specs.Files.{Files, others, holding, overwritten, bytes_before, file}
 use Rattle.tce_array.specs.Forms.{width, head_len, array_bytes}
 use Rattle.tce_array.specs.declared.form.Form.TheVariants.{One}
 use Rattle.tce_tools.specs.declared.storage.Storage.TheVariants.{Array}
@@ -18,6 +19,12 @@ use Rattle.tce_sym.specs.Storage.{IsStored, full_cell}
 use Rattle.tce_sym.specs.Lines.{AreHeld, HasRoom}
 use Rattle.tce_sym.specs.TileRows.{AreWords}
 use Rattle.tce_sym.proofs.Pieces.{first_words, no_words, all_words, piece_change}
+use Rattle.tce_tools.proofs.Apart.{false_not_true, ok_not_err, failed_not_memory}
+use Rattle.std.proofs.lemmas.Result.{IfOk-from_err}
+use Rattle.tce_outside.specs.declared.device.OutFault.TheVariants.{Failed, Memory}
+use Rattle.tce_outside.specs.Fault.{HasCause, HasFailed}
+use Rattle.tce_tools.proofs.Faults.{making_failed, failed_making}
+use Rattle.tce_sym.proofs.StoredReads.{words_stored}
 use Rattle.tce_sym.proofs.expansion.expand_elements.Goals as goal
 
 pub loop-done-init : goal.loop-done-init
@@ -29,7 +36,7 @@ loop-done-init g c = record {
   lines = c.in-Ok.ensures.held;
   others = c.in_ok-make.ensures.others ∙ ap (others c.args.array.now) c.in-Ok.ensures.same;
   later = omega (arith, c.in_ok-make.ensures.cause.later, c.in-Ok.ensures.cause.later);
-  counted = c.in_ok-make.ensures.told (search rules) ∙ c.in-Ok.ensures.told (search rules);
+  counted = c.in_ok-make.ensures.told (λ e. ok_not_err e) ∙ c.in-Ok.ensures.told false_not_true;
 }
 
 pub returns-in_err-make-clause-no_half : goal.returns-in_err-make-clause-no_half
@@ -52,7 +59,7 @@ pub write_words-requires-clause-file : goal.write_words-requires-clause-file
 write_words-requires-clause-file g c x told =
     let s : Tiling = c.args.shape.now in
     let h = held (g.D.Disk.files c.args.disk.now) _ c.args.array.now _ (c.in-Ok-read_piece.ensures.same ∙ c.loop-done.invariant.files) x told in
-    let take_is : length (take c.min-len.result c.loop-done.buffer) ≡ c.min-len.result = search rules in
+    let take_is : length (take c.min-len.result c.loop-done.buffer) ≡ c.min-len.result = length-take-le c.min-len.result c.loop-done.buffer (omega (arith, c.min-len.ensures, c.min-len.array_long)) in
     let size : length c.read_piece.new.words ≡ c.min-len.result = c.in-Ok-read_piece.ensures.len ∙ take_is in
     let whole : length (bare_bytes (Array One) s (first_words s (full_cell s.extents c.args.s.now (contents h.files c.args.packed.now)) c.loop-done.done)) ≡ head_len One s + 8 * padded_words s =
     length-bare (Array One) s c.padded_words-padded.ensures.limits (first_words s (full_cell s.extents c.args.s.now (contents h.files c.args.packed.now)) c.loop-done.done) in
@@ -67,7 +74,7 @@ loop-done-preserved g c =
     let element : Files → List ℕ → ℕ = λ fs. full_cell c.args.shape.now.extents c.args.s.now (contents fs c.args.packed.now) in
     let stored : ℕ → Files → List ℕ = λ n fs. bare_bytes (Array One) s (first_words s (element fs) n) in
     let vs : List ℕ = c.read_piece.new.words in
-    let take_is : length (take c.min-len.result c.loop-done.buffer) ≡ c.min-len.result = search rules in
+    let take_is : length (take c.min-len.result c.loop-done.buffer) ≡ c.min-len.result = length-take-le c.min-len.result c.loop-done.buffer (omega (arith, c.min-len.ensures, c.min-len.array_long)) in
     let size : length c.read_piece.new.words ≡ c.min-len.result = c.in-Ok-read_piece.ensures.len ∙ take_is in
     let values : (fs : Files) → before ≡ Some fs → AreWords s (element fs) c.loop-done.done c.min-len.result vs =
     held_beside before (g.D.Disk.files c.loop-done.disk) c.args.array.now (stored c.loop-done.done) c.args.packed.now (λ b. AreWords s (full_cell c.args.shape.now.extents c.args.s.now b) c.loop-done.done c.min-len.result vs)
@@ -86,7 +93,7 @@ loop-done-preserved g c =
           c.loop-done.invariant.files c.requires.names c.in-Ok-read_piece.ensures.lines;
       others = c.in-Ok-write_words.ensures.others ∙ ap (others c.args.array.now) c.in-Ok-read_piece.ensures.same ∙ c.loop-done.invariant.others;
       later = omega (arith, c.in-Ok-read_piece.ensures.cause.later, c.in-Ok-write_words.ensures.cause.later, c.loop-done.invariant.later);
-      counted = c.in-Ok-write_words.ensures.told (search rules) ∙ c.in-Ok-read_piece.ensures.told (search rules) ∙ c.loop-done.invariant.counted;
+      counted = c.in-Ok-write_words.ensures.told false_not_true ∙ c.in-Ok-read_piece.ensures.told false_not_true ∙ c.loop-done.invariant.counted;
     }
 
 pub returns-clause-made : goal.returns-clause-made
@@ -116,12 +123,12 @@ returns-clause-no_half g c =
 
 pub read_piece-requires-clause-inside : goal.read_piece-requires-clause-inside
 read_piece-requires-clause-inside g c =
-    let size : length (take c.min-len.result c.loop-done.buffer) ≡ c.min-len.result = search rules in
+    let size : length (take c.min-len.result c.loop-done.buffer) ≡ c.min-len.result = length-take-le c.min-len.result c.loop-done.buffer (omega (arith, c.min-len.ensures, c.min-len.array_long)) in
     omega (arith, size, c.min-len.ensures, c.padded_words-padded.ensures.words, c.loop-done-test.true)
 
 pub read_piece-requires-clause-fits : goal.read_piece-requires-clause-fits
 read_piece-requires-clause-fits g c =
-    let size : length (take c.min-len.result c.loop-done.buffer) ≡ c.min-len.result = search rules in
+    let size : length (take c.min-len.result c.loop-done.buffer) ≡ c.min-len.result = length-take-le c.min-len.result c.loop-done.buffer (omega (arith, c.min-len.ensures, c.min-len.array_long)) in
     omega (arith, size, c.min-len.ensures, c.padded_words-padded.ensures.words, c.padded_words-padded.ensures.limits.room, c.loop-done-test.true)
 
 pub read_piece-requires-clause-room : goal.read_piece-requires-clause-room
@@ -159,3 +166,90 @@ returns-in_default-write_words-clause-cause g c =
 
 pub returns-clause-cause : goal.returns-clause-cause
 returns-clause-cause g c = record { later = c.loop-done.invariant.later; rose = λ e. absurd cc }
+
+pub triangles_of-triangles-requires-clause-right : goal.triangles_of-triangles-requires-clause-right
+triangles_of-triangles-requires-clause-right g c = c.requires.right
+
+pub triangles_of-triangles-requires-clause-some : goal.triangles_of-triangles-requires-clause-some
+triangles_of-triangles-requires-clause-some g c = omega (arith, c.requires.some)
+
+pub hold_words-requires-clause-room : goal.hold_words-requires-clause-room
+hold_words-requires-clause-room g c = c.triangles_of-triangles.ensures.room
+
+pub hold_words-requires-clause-count : goal.hold_words-requires-clause-count
+hold_words-requires-clause-count g c = omega (arith, c.triangles_of-triangles.ensures.triangles.grid, c.triangles_of-triangles.ensures.triangles.small)
+
+pub hold_words-requires-clause-file : goal.hold_words-requires-clause-file
+hold_words-requires-clause-file g c = λ x told.
+    words_stored c.args.shape.now.extents c.args.s.now c.triangles_of-triangles.result.slots.grid.count (file x c.args.packed.now) (c.triangles_of-triangles.ensures.triangles.grid ∙ c.triangles_of-triangles.ensures.count) (c.requires.file x told)
+
+pub returns-in_default-clause-memory : goal.returns-in_default-clause-memory
+returns-in_default-clause-memory g c = λ memory. absurd (failed_not_memory _ refl memory)
+
+pub returns-in_default-clause-told : goal.returns-in_default-clause-told
+returns-in_default-clause-told g c = λ fine. absurd (fine refl)
+
+pub returns-in_err-make-clause-made : goal.returns-in_err-make-clause-made
+returns-in_err-make-clause-made g c = IfOk-from_err c.from_residual.result _ c.from_residual.ensures.0
+
+pub returns-in_err-make-clause-memory : goal.returns-in_err-make-clause-memory
+returns-in_err-make-clause-memory g c = λ memory. c.make.ensures.memory (making_failed c.from_residual.result c.make.result c.in_err-make.field-0.0 Memory c.from_residual.ensures.1 c.in_err-make.was memory) ∙ c.in-Ok.ensures.same
+
+pub returns-in_err-make-clause-cause : goal.returns-in_err-make-clause-cause
+returns-in_err-make-clause-cause g c =
+    let from : HasCause (g.D.Disk.faults c.args.disk.now) (g.D.Disk.faults c.make.new.self) (HasFailed c.make.result) =
+    subst (λ n. HasCause n (g.D.Disk.faults c.make.new.self) (HasFailed c.make.result)) (c.in-Ok.ensures.told false_not_true) c.make.ensures.cause in
+    record { later = from.later; rose = λ failed. from.rose (making_failed c.from_residual.result c.make.result c.in_err-make.field-0.0 Failed c.from_residual.ensures.1 c.in_err-make.was failed) }
+
+pub returns-in_err-make-clause-told : goal.returns-in_err-make-clause-told
+returns-in_err-make-clause-told g c = λ fine. c.make.ensures.told (λ failed. fine (failed_making c.from_residual.result c.make.result c.in_err-make.field-0.0 Failed c.from_residual.ensures.1 c.in_err-make.was failed)) ∙ c.in-Ok.ensures.told false_not_true
+
+pub overflow_sub-padded : goal.overflow_sub-padded
+overflow_sub-padded g c = c.loop-done.invariant.done
+
+pub slice_bounds-buffer-end : goal.slice_bounds-buffer-end
+slice_bounds-buffer-end g c = omega (arith, c.min-len.ensures, c.min-len.array_long)
+
+pub slice_bounds-words-end : goal.slice_bounds-words-end
+slice_bounds-words-end g c = sym (length-take-le c.min-len.result c.loop-done.buffer (omega (arith, c.min-len.ensures, c.min-len.array_long)))
+
+pub read_piece-requires-clause-right : goal.read_piece-requires-clause-right
+read_piece-requires-clause-right g c = c.requires.right
+
+pub read_piece-requires-clause-few : goal.read_piece-requires-clause-few
+read_piece-requires-clause-few g c =
+    let size : length (take c.min-len.result c.loop-done.buffer) ≡ c.min-len.result = length-take-le c.min-len.result c.loop-done.buffer (omega (arith, c.min-len.ensures, c.min-len.array_long)) in
+    omega (arith, size, c.min-len.ensures)
+
+pub read_piece-requires-clause-triangles : goal.read_piece-requires-clause-triangles
+read_piece-requires-clause-triangles g c = c.triangles_of-triangles.ensures.triangles
+
+pub read_piece-requires-clause-of : goal.read_piece-requires-clause-of
+read_piece-requires-clause-of g c = c.triangles_of-triangles.ensures.same
+
+pub read_piece-requires-clause-count : goal.read_piece-requires-clause-count
+read_piece-requires-clause-count g c = c.triangles_of-triangles.ensures.count
+
+pub returns-in_default-read_piece-clause-memory : goal.returns-in_default-read_piece-clause-memory
+returns-in_default-read_piece-clause-memory g c = λ memory. absurd (failed_not_memory _ refl memory)
+
+pub returns-in_default-read_piece-clause-told : goal.returns-in_default-read_piece-clause-told
+returns-in_default-read_piece-clause-told g c = λ fine. absurd (fine refl)
+
+pub overflow_mul-done : goal.overflow_mul-done
+overflow_mul-done g c = omega (arith, c.loop-done.invariant.done, c.padded_words-padded.ensures.words, c.padded_words-padded.ensures.limits.room)
+
+pub returns-in_default-write_words-clause-memory : goal.returns-in_default-write_words-clause-memory
+returns-in_default-write_words-clause-memory g c = λ memory. absurd (failed_not_memory _ refl memory)
+
+pub returns-in_default-write_words-clause-told : goal.returns-in_default-write_words-clause-told
+returns-in_default-write_words-clause-told g c = λ fine. absurd (fine refl)
+
+pub overflow_add-done : goal.overflow_add-done
+overflow_add-done g c = omega (arith, c.min-len.ensures, c.loop-done.invariant.done, c.padded_words-padded.ensures.words, c.padded_words-padded.ensures.limits.room)
+
+pub loop-done-smaller : goal.loop-done-smaller
+loop-done-smaller g c = omega (arith, c.min-len.ensures, c.loop-done-test.true)
+
+pub returns-clause-memory : goal.returns-clause-memory
+returns-clause-memory g c = λ memory. absurd (ok_not_err memory)

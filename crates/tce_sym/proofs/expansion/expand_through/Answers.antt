@@ -1,10 +1,14 @@
-use Rattle.std.proofs.Common.{◌∙◌, ap, is_err, arith}
+use Rattle.std.proofs.Common.{◌∙◌, ap, is_err, arith, refl}
 use Rattle.tce_array.specs.declared.form.Form.TheVariants.{One}
 use Rattle.tce_tools.specs.declared.storage.Storage.TheVariants.{Array}
 use Rattle.tce_tools.specs.Flat.{contents}
 use Rattle.tce_tools.proofs.NoHalf.{bare_left, bare_stored}
 use Rattle.tce_tools.proofs.Told.{failed_from}
 use Rattle.tce_sym.specs.Storage.{full_cell}
+use Rattle.std.proofs.lemmas.Result.{IfOk-from_err}
+use Rattle.tce_outside.specs.declared.device.OutFault.TheVariants.{Failed, Memory}
+use Rattle.tce_tools.proofs.Apart.{false_not_true, ok_not_err, failed_not_memory}
+use Rattle.tce_tools.proofs.Faults.{making_failed, failed_making}
 use Rattle.tce_sym.proofs.expansion.expand_through.Goals as goal
 
 pub write_start-requires : goal.write_start-requires
@@ -32,7 +36,49 @@ pub returns-in-Err-clause-others : goal.returns-in-Err-clause-others
 returns-in-Err-clause-others g c = c.write_start.ensures.others ∙ c.in_ok-expand_elements.ensures.others
 
 pub returns-in-Ok-clause-cause : goal.returns-in-Ok-clause-cause
-returns-in-Ok-clause-cause g c = record { later = omega (arith, c.in_ok-expand_elements.ensures.cause.later, c.write_start.ensures.cause.later); rose = λ e. absurd cc }
+returns-in-Ok-clause-cause g c = record { later = omega (arith, c.in_ok-expand_elements.ensures.cause.later, c.write_start.ensures.cause.later); rose = λ e. absurd (ok_not_err e) }
 
 pub returns-in-Err-clause-cause : goal.returns-in-Err-clause-cause
 returns-in-Err-clause-cause g c = failed_from _ (g.D.Disk.faults c.expand_elements.new.disk) _ _ _ c.in_ok-expand_elements.ensures.cause.later c.write_start.ensures.cause (ap is_err c.in-Err.is)
+
+pub expand_elements-requires-clause-names : goal.expand_elements-requires-clause-names
+expand_elements-requires-clause-names g c = c.requires.names
+
+pub expand_elements-requires-clause-some : goal.expand_elements-requires-clause-some
+expand_elements-requires-clause-some g c = c.requires.some
+
+pub expand_elements-requires-clause-right : goal.expand_elements-requires-clause-right
+expand_elements-requires-clause-right g c = c.requires.right
+
+pub expand_elements-requires-clause-file : goal.expand_elements-requires-clause-file
+expand_elements-requires-clause-file g c = c.requires.file
+
+pub returns-in_err-expand_elements-clause-expanded : goal.returns-in_err-expand_elements-clause-expanded
+returns-in_err-expand_elements-clause-expanded g c = IfOk-from_err c.from_residual.result _ c.from_residual.ensures.0
+
+pub returns-in_err-expand_elements-clause-memory : goal.returns-in_err-expand_elements-clause-memory
+returns-in_err-expand_elements-clause-memory g c = λ memory. c.expand_elements.ensures.memory (making_failed c.from_residual.result c.expand_elements.result c.in_err-expand_elements.field-0.0 Memory c.from_residual.ensures.1 c.in_err-expand_elements.was memory)
+
+pub returns-in_err-expand_elements-clause-no_half : goal.returns-in_err-expand_elements-clause-no_half
+returns-in_err-expand_elements-clause-no_half g c = c.expand_elements.ensures.no_half
+
+pub returns-in_err-expand_elements-clause-others : goal.returns-in_err-expand_elements-clause-others
+returns-in_err-expand_elements-clause-others g c = c.expand_elements.ensures.others
+
+pub returns-in_err-expand_elements-clause-cause : goal.returns-in_err-expand_elements-clause-cause
+returns-in_err-expand_elements-clause-cause g c = record { later = c.expand_elements.ensures.cause.later; rose = λ failed. c.expand_elements.ensures.cause.rose (making_failed c.from_residual.result c.expand_elements.result c.in_err-expand_elements.field-0.0 Failed c.from_residual.ensures.1 c.in_err-expand_elements.was failed) }
+
+pub returns-in_err-expand_elements-clause-told : goal.returns-in_err-expand_elements-clause-told
+returns-in_err-expand_elements-clause-told g c = λ fine. c.expand_elements.ensures.told (λ failed. fine (failed_making c.from_residual.result c.expand_elements.result c.in_err-expand_elements.field-0.0 Failed c.from_residual.ensures.1 c.in_err-expand_elements.was failed))
+
+pub returns-in-Ok-clause-memory : goal.returns-in-Ok-clause-memory
+returns-in-Ok-clause-memory g c = λ memory. absurd (ok_not_err memory)
+
+pub returns-in-Ok-clause-told : goal.returns-in-Ok-clause-told
+returns-in-Ok-clause-told g c = λ fine. c.in-Ok.ensures.told false_not_true ∙ c.in_ok-expand_elements.ensures.told (λ e. ok_not_err e)
+
+pub returns-in-Err-clause-memory : goal.returns-in-Err-clause-memory
+returns-in-Err-clause-memory g c = λ memory. absurd (failed_not_memory _ refl memory)
+
+pub returns-in-Err-clause-told : goal.returns-in-Err-clause-told
+returns-in-Err-clause-told g c = λ fine. absurd (fine refl)

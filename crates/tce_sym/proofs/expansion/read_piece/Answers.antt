@@ -1,4 +1,4 @@
-use Rattle.std.proofs.Common.{rules, ◌≡◌, ◌∙◌, ◌+◌, ◌-◌, ◌<◌, ℕ, List, length, take, drop, refl, sym, subst, arith}
+use Rattle.std.proofs.Common.{◌≡◌, ◌∙◌, ◌+◌, ◌-◌, ◌<◌, ℕ, List, length, take, drop, refl, sym, subst, arith}
 use Rattle.std.proofs.lemmas.List.{length-take-le, length-drop}
 use Rattle.tce_space.specs.Box.{IsInside}
 use Rattle.tce_space.specs.Tiling.{Tiling}
@@ -14,6 +14,9 @@ use Rattle.tce_sym.proofs.FullCells.{among, cell_is}
 use Rattle.tce_sym.proofs.Moved.{moved_is}
 use Rattle.tce_sym.proofs.WordCoords.{moved_none}
 use Rattle.tce_sym.proofs.Pieces.{none_filled, more_filled}
+use Rattle.tce_tools.proofs.Apart.{false_not_true}
+use Rattle.std.proofs.lemmas.Result.{IfOk-from_err}
+use Rattle.tce_array.proofs.Answered.{rose_here}
 use Rattle.tce_sym.proofs.expansion.read_piece.Goals as goal
 
 pub loop-filled-init : goal.loop-filled-init
@@ -74,7 +77,7 @@ loop-filled-preserved g c =
       lines = λ x told. c.in_ok-read_row.ensures.lines x (c.loop-filled.invariant.files ∙ told);
       files = c.in_ok-read_row.ensures.same ∙ c.loop-filled.invariant.files;
       later = omega (arith, c.in_ok-read_row.ensures.cause.later, c.loop-filled.invariant.later);
-      counted = c.in_ok-read_row.ensures.told (search rules) ∙ c.loop-filled.invariant.counted;
+      counted = c.in_ok-read_row.ensures.told false_not_true ∙ c.loop-filled.invariant.counted;
     }
 
 pub returns-clause-read : goal.returns-clause-read
@@ -109,4 +112,22 @@ pub returns-clause-same : goal.returns-clause-same
 returns-clause-same g c = c.loop-filled.invariant.files
 
 pub returns-clause-cause : goal.returns-clause-cause
-returns-clause-cause g c = record { later = c.loop-filled.invariant.later; rose = λ e. absurd cc }
+returns-clause-cause g c = record { later = c.loop-filled.invariant.later; rose = λ e. absurd (false_not_true e) }
+
+pub row_of-row-requires-clause-right : goal.row_of-row-requires-clause-right
+row_of-row-requires-clause-right g c = c.requires.right
+
+pub read_row-requires-clause-triangles : goal.read_row-requires-clause-triangles
+read_row-requires-clause-triangles g c = c.requires.triangles
+
+pub returns-in_err-read_row-clause-read : goal.returns-in_err-read_row-clause-read
+returns-in_err-read_row-clause-read g c = IfOk-from_err c.from_residual.result _ c.from_residual.ensures.0
+
+pub returns-in_err-read_row-clause-lines : goal.returns-in_err-read_row-clause-lines
+returns-in_err-read_row-clause-lines g c = IfOk-from_err c.from_residual.result _ c.from_residual.ensures.0
+
+pub returns-in_err-read_row-clause-cause : goal.returns-in_err-read_row-clause-cause
+returns-in_err-read_row-clause-cause g c = rose_here (g.D.Disk.faults c.args.disk.now) (g.D.Disk.faults c.loop-filled.disk) (g.D.Disk.faults c.read_row.new.disk) _ c.loop-filled.invariant.counted c.in_err-read_row.ensures.cause
+
+pub returns-in_err-read_row-clause-told : goal.returns-in_err-read_row-clause-told
+returns-in_err-read_row-clause-told g c = λ fine. absurd (fine c.from_residual.ensures.0)

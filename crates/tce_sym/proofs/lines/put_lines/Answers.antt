@@ -61,3 +61,26 @@ loop-step-preserved-then-grid-words c =
       from = omega (arith, c.loop-step-test.true, c.max-from.ensures, c.loop-step.invariant.from, c.requires.grid.some);
       step = omega (arith, c.loop-step.invariant.step, c.min.ensures, c.max-from.ensures);
     }
+
+pub slice_bounds-put_line-end : goal.slice_bounds-put_line-end
+slice_bounds-put_line-end c = sym (length-take-le c.min-first.result c.args.words.now (omega (arith, c.min-first.ensures)))
+
+pub put_line-requires-clause-grid : goal.put_line-requires-clause-grid
+put_line-requires-clause-grid c = c.requires.grid
+
+pub put_line-requires-clause-slot : goal.put_line-requires-clause-slot
+put_line-requires-clause-slot c = c.requires.slot
+
+pub put_line-requires-clause-short : goal.put_line-requires-clause-short
+put_line-requires-clause-short c =
+    let size = length-take-le c.min-first.result c.args.words.now (omega (arith, c.min-first.ensures)) in
+    omega (arith, size, c.min-first.ensures)
+
+pub overflow_sub-grid : goal.overflow_sub-grid
+overflow_sub-grid c = c.loop-step.invariant.slot
+
+pub returns-else-wanted-grid : goal.returns-else-wanted-grid
+returns-else-wanted-grid c = c.loop-step.invariant.kept
+
+pub returns-after-loop-step : goal.returns-after-loop-step
+returns-after-loop-step c = c.loop-step.invariant.kept

@@ -1,10 +1,13 @@
-use Rattle.std.proofs.Common.{◌≡◌, ◌∙◌, ◌+◌, ◌-◌, ap, rules, arith}
+use Rattle.std.proofs.Common.{◌≡◌, ◌∙◌, ◌+◌, ◌-◌, ap, arith, refl, sym}
 use Rattle.std.proofs.lemmas.List.{length-take-le}
 use Rattle.tce_outside.specs.Files.{file}
 use Rattle.tce_tools.specs.Flat.{contents}
 use Rattle.tce_sym.specs.Storage.{stored_word}
 use Rattle.tce_sym.proofs.HeldLines.{line_read}
 use Rattle.tce_sym.proofs.StoredReads.{words_there}
+use Rattle.tce_tools.proofs.Apart.{false_not_true}
+use Rattle.std.proofs.lemmas.Result.{IfOk-from_err}
+use Rattle.tce_array.proofs.Answered.{rose_here}
 use Rattle.tce_sym.proofs.lines.read_through.Goals as goal
 
 pub slice_bounds-words-end : goal.slice_bounds-words-end
@@ -50,7 +53,49 @@ pub returns-clause-same : goal.returns-clause-same
 returns-clause-same g c = c.in_ok-read_words.ensures.same
 
 pub returns-clause-cause : goal.returns-clause-cause
-returns-clause-cause g c = record { later = c.in_ok-read_words.ensures.cause.later; rose = λ e. absurd cc }
+returns-clause-cause g c = record { later = c.in_ok-read_words.ensures.cause.later; rose = λ e. absurd (false_not_true e) }
 
 pub returns-clause-told : goal.returns-clause-told
-returns-clause-told g c = λ _. c.in_ok-read_words.ensures.told (search rules)
+returns-clause-told g c = λ _. c.in_ok-read_words.ensures.told false_not_true
+
+pub overflow_sub-grid : goal.overflow_sub-grid
+overflow_sub-grid g c = omega (arith, c.requires.wanted.start, c.requires.wanted.place)
+
+pub slice_bounds-words-end-2 : goal.slice_bounds-words-end-2
+slice_bounds-words-end-2 g c = sym (length-take-le c.min-len.result c.args.buffers.words.now (omega (arith, c.min-len.ensures, c.requires.span)))
+
+pub overflow_mul-wanted : goal.overflow_mul-wanted
+overflow_mul-wanted g c = omega (arith, c.requires.wanted.start, c.requires.wanted.place, c.requires.wanted.count)
+
+pub overflow_add-wanted : goal.overflow_add-wanted
+overflow_add-wanted g c = omega (arith, c.requires.wanted.start, c.requires.wanted.place, c.requires.wanted.count)
+
+pub returns-in_err-read_words-clause-word : goal.returns-in_err-read_words-clause-word
+returns-in_err-read_words-clause-word g c = IfOk-from_err c.from_residual.result _ c.from_residual.ensures.0
+
+pub returns-in_err-read_words-clause-lines : goal.returns-in_err-read_words-clause-lines
+returns-in_err-read_words-clause-lines g c = IfOk-from_err c.from_residual.result _ c.from_residual.ensures.0
+
+pub returns-in_err-read_words-clause-same : goal.returns-in_err-read_words-clause-same
+returns-in_err-read_words-clause-same g c = c.read_words.ensures.same
+
+pub returns-in_err-read_words-clause-cause : goal.returns-in_err-read_words-clause-cause
+returns-in_err-read_words-clause-cause g c = rose_here (g.D.Disk.faults c.args.disk.now) (g.D.Disk.faults c.args.disk.now) (g.D.Disk.faults c.read_words.new.disk) _ refl c.in_err-read_words.ensures.cause
+
+pub returns-in_err-read_words-clause-told : goal.returns-in_err-read_words-clause-told
+returns-in_err-read_words-clause-told g c = λ fine. absurd (fine c.from_residual.ensures.0)
+
+pub put_lines-requires-clause-grid : goal.put_lines-requires-clause-grid
+put_lines-requires-clause-grid g c = c.requires.grid
+
+pub put_lines-requires-clause-slot : goal.put_lines-requires-clause-slot
+put_lines-requires-clause-slot g c = c.requires.wanted.slot
+
+pub put_lines-requires-clause-count : goal.put_lines-requires-clause-count
+put_lines-requires-clause-count g c = c.requires.wanted.count
+
+pub overflow_sub-result : goal.overflow_sub-result
+overflow_sub-result g c = c.requires.wanted.start
+
+pub offset_bounds-words-wanted : goal.offset_bounds-words-wanted
+offset_bounds-words-wanted g c = omega (arith, c.requires.wanted.place, c.requires.wanted.count)

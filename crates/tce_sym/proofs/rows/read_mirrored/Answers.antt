@@ -1,4 +1,4 @@
-use Rattle.std.proofs.Common.{◌≡◌, ◌∙◌, ◌+◌, ◌*◌, ◌<◌, List, ℕ, length, sym, ap, subst, rules, arith}
+use Rattle.std.proofs.Common.{◌≡◌, ◌∙◌, ◌+◌, ◌*◌, ◌<◌, List, ℕ, length, sym, ap, subst, arith, refl}
 use Rattle.std.specs.Option.{IsSomeAnd}
 use Rattle.tce_outside.specs.Files.{file}
 use Rattle.tce_tools.specs.Flat.{contents}
@@ -6,6 +6,9 @@ use Rattle.tce_sym.specs.Storage.{stored_word, turned}
 use Rattle.tce_sym.specs.declared.cells.Pair.{Pair}
 use Rattle.tce_sym.specs.Cells.{IsAmong, IsMirrored, moved_pair}
 use Rattle.tce_sym.proofs.Walked.{mirrored_walk_is, mirrored_placed, moved_nowhere}
+use Rattle.tce_tools.proofs.Apart.{false_not_true}
+use Rattle.std.proofs.lemmas.Result.{IfOk-from_err}
+use Rattle.tce_array.proofs.Answered.{rose_here, stayed}
 use Rattle.tce_sym.proofs.rows.read_mirrored.Goals as goal
 
 pub read_walk-requires-clause-places : goal.read_walk-requires-clause-places
@@ -42,7 +45,46 @@ pub returns-clause-same : goal.returns-clause-same
 returns-clause-same g c = c.in_ok-read_walk.ensures.same
 
 pub returns-clause-cause : goal.returns-clause-cause
-returns-clause-cause g c = record { later = c.in_ok-read_walk.ensures.cause.later; rose = λ e. absurd cc }
+returns-clause-cause g c = record { later = c.in_ok-read_walk.ensures.cause.later; rose = λ e. absurd (false_not_true e) }
 
 pub returns-clause-told : goal.returns-clause-told
-returns-clause-told g c = λ _. c.in_ok-read_walk.ensures.told (search rules)
+returns-clause-told g c = λ _. c.in_ok-read_walk.ensures.told false_not_true
+
+pub returns-then-is_empty-clause-lines : goal.returns-then-is_empty-clause-lines
+returns-then-is_empty-clause-lines g c = c.requires.lines
+
+pub returns-then-is_empty-clause-same : goal.returns-then-is_empty-clause-same
+returns-then-is_empty-clause-same g c = refl
+
+pub returns-then-is_empty-clause-cause : goal.returns-then-is_empty-clause-cause
+returns-then-is_empty-clause-cause g c = stayed (g.D.Disk.faults c.args.disk.now) (g.D.Disk.faults c.args.disk.now) _ refl false_not_true
+
+pub returns-then-is_empty-clause-told : goal.returns-then-is_empty-clause-told
+returns-then-is_empty-clause-told g c = λ fine. refl
+
+pub mirrored_walk-walk-requires-clause-triangles : goal.mirrored_walk-walk-requires-clause-triangles
+mirrored_walk-walk-requires-clause-triangles g c = c.requires.triangles
+
+pub read_walk-requires-clause-room : goal.read_walk-requires-clause-room
+read_walk-requires-clause-room g c = c.requires.room
+
+pub read_walk-requires-clause-few : goal.read_walk-requires-clause-few
+read_walk-requires-clause-few g c = c.requires.few
+
+pub read_walk-requires-clause-lines : goal.read_walk-requires-clause-lines
+read_walk-requires-clause-lines g c = c.requires.lines
+
+pub returns-in_err-read_walk-clause-read : goal.returns-in_err-read_walk-clause-read
+returns-in_err-read_walk-clause-read g c = IfOk-from_err c.from_residual.result _ c.from_residual.ensures.0
+
+pub returns-in_err-read_walk-clause-lines : goal.returns-in_err-read_walk-clause-lines
+returns-in_err-read_walk-clause-lines g c = IfOk-from_err c.from_residual.result _ c.from_residual.ensures.0
+
+pub returns-in_err-read_walk-clause-same : goal.returns-in_err-read_walk-clause-same
+returns-in_err-read_walk-clause-same g c = c.read_walk.ensures.same
+
+pub returns-in_err-read_walk-clause-cause : goal.returns-in_err-read_walk-clause-cause
+returns-in_err-read_walk-clause-cause g c = rose_here (g.D.Disk.faults c.args.disk.now) (g.D.Disk.faults c.args.disk.now) (g.D.Disk.faults c.read_walk.new.disk) _ refl c.in_err-read_walk.ensures.cause
+
+pub returns-in_err-read_walk-clause-told : goal.returns-in_err-read_walk-clause-told
+returns-in_err-read_walk-clause-told g c = λ fine. absurd (fine c.from_residual.ensures.0)

@@ -1,4 +1,4 @@
-use Rattle.std.proofs.Common.{◌≡◌, ◌∙◌, ◌+◌, ◌<◌, length, slice_index, sym, ap, subst, arith}
+use Rattle.std.proofs.Common.{◌≡◌, ◌∙◌, ◌+◌, ◌<◌, length, slice_index, sym, ap, subst, arith, refl}
 use Rattle.tce_outside.proofs.Files.{on_ok}
 use Rattle.tce_tools.specs.Flat.{contents}
 use Rattle.tce_sym.specs.declared.cells.Pair.{Pair}
@@ -6,6 +6,8 @@ use Rattle.tce_sym.specs.Storage.{stored_word}
 use Rattle.tce_sym.specs.Cells.{IsAmong, IsStoredPair, cell_of, moved_pair, pair_place}
 use Rattle.tce_sym.proofs.Pieces.{all_zeros}
 use Rattle.tce_sym.proofs.Walked.{joined_words, moved_on, moved_nowhere, stored_is, between_is}
+use Rattle.tce_tools.proofs.Apart.{false_not_true}
+use Rattle.tce_array.proofs.Answered.{stayed}
 use Rattle.tce_sym.proofs.rows.read_others.Goals as goal
 
 pub moved_row-behind-requires-clause-outer : goal.moved_row-behind-requires-clause-outer
@@ -66,3 +68,33 @@ returns-clause-cause g c = c.read_stored.ensures.cause
 
 pub returns-clause-told : goal.returns-clause-told
 returns-clause-told g c = c.read_stored.ensures.told
+
+pub returns-then-is_empty-clause-lines : goal.returns-then-is_empty-clause-lines
+returns-then-is_empty-clause-lines g c = c.requires.lines
+
+pub returns-then-is_empty-clause-same : goal.returns-then-is_empty-clause-same
+returns-then-is_empty-clause-same g c = refl
+
+pub returns-then-is_empty-clause-cause : goal.returns-then-is_empty-clause-cause
+returns-then-is_empty-clause-cause g c = stayed (g.D.Disk.faults c.args.disk.now) (g.D.Disk.faults c.args.disk.now) _ refl false_not_true
+
+pub returns-then-is_empty-clause-told : goal.returns-then-is_empty-clause-told
+returns-then-is_empty-clause-told g c = λ fine. refl
+
+pub diagonal_len-zeros-requires : goal.diagonal_len-zeros-requires
+diagonal_len-zeros-requires g c = c.requires.others
+
+pub split_at_mut-diagonal-requires : goal.split_at_mut-diagonal-requires
+split_at_mut-diagonal-requires g c = c.diagonal_len-zeros.ensures.within
+
+pub read_stored-requires-clause-triangles : goal.read_stored-requires-clause-triangles
+read_stored-requires-clause-triangles g c = c.requires.triangles
+
+pub read_stored-requires-clause-file : goal.read_stored-requires-clause-file
+read_stored-requires-clause-file g c = c.requires.file
+
+pub read_stored-requires-clause-room : goal.read_stored-requires-clause-room
+read_stored-requires-clause-room g c = c.requires.room
+
+pub read_stored-requires-clause-lines : goal.read_stored-requires-clause-lines
+read_stored-requires-clause-lines g c = c.requires.lines

@@ -1,4 +1,4 @@
-use Rattle.std.proofs.Common.{◌≡◌, ◌∙◌, ℕ, ◌+◌, length, sym, ap, subst, rules, arith}
+use Rattle.std.proofs.Common.{◌≡◌, ◌∙◌, ℕ, ◌+◌, length, sym, ap, subst, arith, refl}
 use Rattle.tce_outside.proofs.Files.{on_ok}
 use Rattle.tce_tools.specs.Flat.{contents}
 use Rattle.tce_sym.specs.declared.cells.Pair.{Pair}
@@ -6,6 +6,9 @@ use Rattle.tce_sym.specs.Lines.{HasRoom}
 use Rattle.tce_sym.specs.Cells.{IsAmong, IsUpper, cell_of, moved_pair}
 use Rattle.tce_sym.proofs.StoredReads.{caused_behind}
 use Rattle.tce_sym.proofs.Walked.{joined_words, moved_on, moved_nowhere, mirrored_is}
+use Rattle.tce_tools.proofs.Apart.{false_not_true}
+use Rattle.std.proofs.lemmas.Result.{IfOk-from_err}
+use Rattle.tce_array.proofs.Answered.{rose_here, stayed}
 use Rattle.tce_sym.proofs.rows.read_row.Goals as goal
 
 pub moved_row-behind-requires-clause-outer : goal.moved_row-behind-requires-clause-outer
@@ -76,4 +79,49 @@ pub returns-clause-cause : goal.returns-clause-cause
 returns-clause-cause g c = caused_behind _ (g.D.Disk.faults c.read_mirrored.new.disk) _ _ c.in_ok-read_mirrored.ensures.cause.later c.read_others.ensures.cause
 
 pub returns-clause-told : goal.returns-clause-told
-returns-clause-told g c = λ ok. c.read_others.ensures.told ok ∙ c.in_ok-read_mirrored.ensures.told (search rules)
+returns-clause-told g c = λ ok. c.read_others.ensures.told ok ∙ c.in_ok-read_mirrored.ensures.told false_not_true
+
+pub returns-then-is_empty-clause-lines : goal.returns-then-is_empty-clause-lines
+returns-then-is_empty-clause-lines g c = c.requires.lines
+
+pub returns-then-is_empty-clause-same : goal.returns-then-is_empty-clause-same
+returns-then-is_empty-clause-same g c = refl
+
+pub returns-then-is_empty-clause-cause : goal.returns-then-is_empty-clause-cause
+returns-then-is_empty-clause-cause g c = stayed (g.D.Disk.faults c.args.disk.now) (g.D.Disk.faults c.args.disk.now) _ refl false_not_true
+
+pub returns-then-is_empty-clause-told : goal.returns-then-is_empty-clause-told
+returns-then-is_empty-clause-told g c = λ fine. refl
+
+pub split_at_mut-mirrored-requires : goal.split_at_mut-mirrored-requires
+split_at_mut-mirrored-requires g c = c.mirrored_len-len.ensures.within
+
+pub read_mirrored-requires-clause-triangles : goal.read_mirrored-requires-clause-triangles
+read_mirrored-requires-clause-triangles g c = c.requires.triangles
+
+pub read_mirrored-requires-clause-file : goal.read_mirrored-requires-clause-file
+read_mirrored-requires-clause-file g c = c.requires.file
+
+pub read_mirrored-requires-clause-room : goal.read_mirrored-requires-clause-room
+read_mirrored-requires-clause-room g c = c.requires.room
+
+pub read_mirrored-requires-clause-lines : goal.read_mirrored-requires-clause-lines
+read_mirrored-requires-clause-lines g c = c.requires.lines
+
+pub returns-in_err-read_mirrored-clause-read : goal.returns-in_err-read_mirrored-clause-read
+returns-in_err-read_mirrored-clause-read g c = IfOk-from_err c.from_residual.result _ c.from_residual.ensures.0
+
+pub returns-in_err-read_mirrored-clause-lines : goal.returns-in_err-read_mirrored-clause-lines
+returns-in_err-read_mirrored-clause-lines g c = IfOk-from_err c.from_residual.result _ c.from_residual.ensures.0
+
+pub returns-in_err-read_mirrored-clause-same : goal.returns-in_err-read_mirrored-clause-same
+returns-in_err-read_mirrored-clause-same g c = c.read_mirrored.ensures.same
+
+pub returns-in_err-read_mirrored-clause-cause : goal.returns-in_err-read_mirrored-clause-cause
+returns-in_err-read_mirrored-clause-cause g c = rose_here (g.D.Disk.faults c.args.disk.now) (g.D.Disk.faults c.args.disk.now) (g.D.Disk.faults c.read_mirrored.new.disk) _ refl c.in_err-read_mirrored.ensures.cause
+
+pub returns-in_err-read_mirrored-clause-told : goal.returns-in_err-read_mirrored-clause-told
+returns-in_err-read_mirrored-clause-told g c = λ fine. absurd (fine c.from_residual.ensures.0)
+
+pub read_others-requires-clause-triangles : goal.read_others-requires-clause-triangles
+read_others-requires-clause-triangles g c = c.requires.triangles

@@ -1,4 +1,4 @@
-use Rattle.std.proofs.Common.{◌≡◌, ◌∙◌, ◌+◌, ◌*◌, List, ℕ, length, sym, ap, subst, arith}
+use Rattle.std.proofs.Common.{◌≡◌, ◌∙◌, ◌+◌, ◌*◌, List, ℕ, length, sym, ap, subst, arith, refl}
 use Rattle.std.specs.Option.{IsSomeAnd}
 use Rattle.tce_outside.specs.Files.{file}
 use Rattle.tce_outside.proofs.Files.{on_ok}
@@ -8,6 +8,8 @@ use Rattle.tce_sym.specs.Storage.{stored_word}
 use Rattle.tce_sym.specs.Cells.{IsAmong, IsStoredPair, moved_pair}
 use Rattle.tce_sym.proofs.FullCells.{pair_placed}
 use Rattle.tce_sym.proofs.Walked.{walk_is, moved_nowhere}
+use Rattle.tce_tools.proofs.Apart.{false_not_true}
+use Rattle.tce_array.proofs.Answered.{stayed}
 use Rattle.tce_sym.proofs.rows.read_stored.Goals as goal
 
 pub stored_walk-walk-requires-clause-among : goal.stored_walk-walk-requires-clause-among
@@ -49,3 +51,27 @@ returns-clause-cause g c = c.read_walk.ensures.cause
 
 pub returns-clause-told : goal.returns-clause-told
 returns-clause-told g c = c.read_walk.ensures.told
+
+pub returns-then-is_empty-clause-lines : goal.returns-then-is_empty-clause-lines
+returns-then-is_empty-clause-lines g c = c.requires.lines
+
+pub returns-then-is_empty-clause-same : goal.returns-then-is_empty-clause-same
+returns-then-is_empty-clause-same g c = refl
+
+pub returns-then-is_empty-clause-cause : goal.returns-then-is_empty-clause-cause
+returns-then-is_empty-clause-cause g c = stayed (g.D.Disk.faults c.args.disk.now) (g.D.Disk.faults c.args.disk.now) _ refl false_not_true
+
+pub returns-then-is_empty-clause-told : goal.returns-then-is_empty-clause-told
+returns-then-is_empty-clause-told g c = λ fine. refl
+
+pub stored_walk-walk-requires-clause-triangles : goal.stored_walk-walk-requires-clause-triangles
+stored_walk-walk-requires-clause-triangles g c = c.requires.triangles
+
+pub read_walk-requires-clause-room : goal.read_walk-requires-clause-room
+read_walk-requires-clause-room g c = c.requires.room
+
+pub read_walk-requires-clause-few : goal.read_walk-requires-clause-few
+read_walk-requires-clause-few g c = c.requires.few
+
+pub read_walk-requires-clause-lines : goal.read_walk-requires-clause-lines
+read_walk-requires-clause-lines g c = c.requires.lines

@@ -1,10 +1,13 @@
-use Rattle.std.proofs.Common.{◌≡◌, ◌∙◌, ◌<◌, ℕ, refl, sym, ap, subst, rules, arith}
+use Rattle.std.proofs.Common.{◌≡◌, ◌∙◌, ◌<◌, ℕ, refl, sym, ap, subst, arith}
 use Rattle.std.proofs.lemmas.List.{length-set}
 use Rattle.tce_tools.specs.Flat.{contents}
 use Rattle.tce_sym.specs.Storage.{stored_word}
 use Rattle.tce_sym.specs.Lines.{IsGrid, walk_place}
 use Rattle.tce_sym.proofs.Walked.{more}
 use Rattle.tce_sym.proofs.StoredReads.{place_small}
+use Rattle.tce_tools.proofs.Apart.{false_not_true}
+use Rattle.std.proofs.lemmas.Result.{IfOk-from_err}
+use Rattle.tce_array.proofs.Answered.{rose_here}
 use Rattle.tce_sym.proofs.walks.read_lines.Goals as goal
 
 pub loop-done-init : goal.loop-done-init
@@ -54,7 +57,7 @@ loop-done-preserved g c = record {
   lines = λ x told. c.in_ok-words.ensures.lines x (c.loop-done.invariant.files ∙ told);
   files = c.in_ok-words.ensures.same ∙ c.loop-done.invariant.files;
   later = omega (arith, c.in_ok-words.ensures.cause.later, c.loop-done.invariant.later);
-  counted = c.in_ok-words.ensures.told (search rules) ∙ c.loop-done.invariant.counted;
+  counted = c.in_ok-words.ensures.told false_not_true ∙ c.loop-done.invariant.counted;
 }
 
 pub returns-in_err-words-clause-same : goal.returns-in_err-words-clause-same
@@ -70,7 +73,58 @@ pub returns-clause-same : goal.returns-clause-same
 returns-clause-same g c = c.loop-done.invariant.files
 
 pub returns-clause-cause : goal.returns-clause-cause
-returns-clause-cause g c = record { later = c.loop-done.invariant.later; rose = λ e. absurd cc }
+returns-clause-cause g c = record { later = c.loop-done.invariant.later; rose = λ e. absurd (false_not_true e) }
 
 pub returns-clause-told : goal.returns-clause-told
 returns-clause-told g c = λ _. c.loop-done.invariant.counted
+
+pub held-done-requires-clause-grid : goal.held-done-requires-clause-grid
+held-done-requires-clause-grid g c = c.requires.grid
+
+pub held-done-requires-clause-count : goal.held-done-requires-clause-count
+held-done-requires-clause-count g c = c.requires.count
+
+pub held-done-requires-clause-places : goal.held-done-requires-clause-places
+held-done-requires-clause-places g c = c.requires.places
+
+pub held-done-requires-clause-few : goal.held-done-requires-clause-few
+held-done-requires-clause-few g c = c.requires.few
+
+pub held-done-requires-clause-from : goal.held-done-requires-clause-from
+held-done-requires-clause-from g c = omega arith
+
+pub wanted_at-wanted-requires-clause-line : goal.wanted_at-wanted-requires-clause-line
+wanted_at-wanted-requires-clause-line g c = c.requires.grid.short
+
+pub wanted_at-wanted-requires-clause-count : goal.wanted_at-wanted-requires-clause-count
+wanted_at-wanted-requires-clause-count g c = c.requires.count
+
+pub read_word-requires-clause-wanted : goal.read_word-requires-clause-wanted
+read_word-requires-clause-wanted g c = c.wanted_at-wanted.ensures.wanted
+
+pub returns-in_err-words-clause-read : goal.returns-in_err-words-clause-read
+returns-in_err-words-clause-read g c = IfOk-from_err c.from_residual.result _ c.from_residual.ensures.0
+
+pub returns-in_err-words-clause-lines : goal.returns-in_err-words-clause-lines
+returns-in_err-words-clause-lines g c = IfOk-from_err c.from_residual.result _ c.from_residual.ensures.0
+
+pub returns-in_err-words-clause-cause : goal.returns-in_err-words-clause-cause
+returns-in_err-words-clause-cause g c = rose_here (g.D.Disk.faults c.args.disk.now) (g.D.Disk.faults c.loop-done.disk) (g.D.Disk.faults c.read_word.new.disk) _ c.loop-done.invariant.counted c.in_err-words.ensures.cause
+
+pub returns-in_err-words-clause-told : goal.returns-in_err-words-clause-told
+returns-in_err-words-clause-told g c = λ fine. absurd (fine c.from_residual.ensures.0)
+
+pub bounds-words-done : goal.bounds-words-done
+bounds-words-done g c = omega (arith, c.loop-done-test.true)
+
+pub overflow_add-done : goal.overflow_add-done
+overflow_add-done g c = omega (arith, c.loop-done-test.true, c.loop-done.auto.words, c.requires.few)
+
+pub held-done-requires-in-loop-done-clause-count : goal.held-done-requires-in-loop-done-clause-count
+held-done-requires-in-loop-done-clause-count g c = c.requires.count
+
+pub held-done-requires-in-loop-done-clause-few : goal.held-done-requires-in-loop-done-clause-few
+held-done-requires-in-loop-done-clause-few g c = omega (arith, length-set c.loop-done.words c.loop-done.done c.in_ok-words.field-0, c.loop-done.auto.words, c.requires.few)
+
+pub held-done-requires-in-loop-done-clause-from : goal.held-done-requires-in-loop-done-clause-from
+held-done-requires-in-loop-done-clause-from g c = omega (arith, length-set c.loop-done.words c.loop-done.done c.in_ok-words.field-0, c.loop-done-test.true)

@@ -1,4 +1,4 @@
-use Rattle.std.proofs.Common.{◌∙◌, length, sym, subst, arith}
+use Rattle.std.proofs.Common.{◌∙◌, length, sym, subst, arith, refl}
 use Rattle.std.specs.Option.{ForSome}
 use Rattle.std.specs.Result.{OnOk}
 use Rattle.tce_outside.specs.Files.{Files}
@@ -6,6 +6,8 @@ use Rattle.tce_tools.specs.Flat.{contents}
 use Rattle.tce_sym.specs.declared.lines.Layout.{Layout}
 use Rattle.tce_sym.specs.Lines.{HasRoom, AreHeld, walk_place}
 use Rattle.tce_sym.proofs.Across.{across_held}
+use Rattle.tce_tools.proofs.Apart.{false_not_true}
+use Rattle.tce_array.proofs.Answered.{stayed}
 use Rattle.tce_sym.proofs.walks.read_walk.Goals as goal
 
 pub read_lines-requires-clause-grid : goal.read_lines-requires-clause-grid
@@ -54,3 +56,51 @@ returns-in-Across-clause-read g c = λ x told k l.
 
 pub returns-in-Across-clause-lines : goal.returns-in-Across-clause-lines
 returns-in-Across-clause-lines g c = c.requires.lines
+
+pub read_lines-requires-clause-count : goal.read_lines-requires-clause-count
+read_lines-requires-clause-count g c = c.requires.count
+
+pub read_lines-requires-clause-places : goal.read_lines-requires-clause-places
+read_lines-requires-clause-places g c = c.requires.places
+
+pub read_lines-requires-clause-few : goal.read_lines-requires-clause-few
+read_lines-requires-clause-few g c = c.requires.few
+
+pub gather-requires-clause-count : goal.gather-requires-clause-count
+gather-requires-clause-count g c = c.requires.count
+
+pub gather-requires-clause-places : goal.gather-requires-clause-places
+gather-requires-clause-places g c = c.requires.places
+
+pub gather-requires-clause-few : goal.gather-requires-clause-few
+gather-requires-clause-few g c = c.requires.few
+
+pub gather_across-requires-clause-count : goal.gather_across-requires-clause-count
+gather_across-requires-clause-count g c = c.requires.count
+
+pub gather_across-requires-clause-places : goal.gather_across-requires-clause-places
+gather_across-requires-clause-places g c = c.requires.places
+
+pub gather_across-requires-clause-few : goal.gather_across-requires-clause-few
+gather_across-requires-clause-few g c = c.requires.few
+
+pub read_lines-requires-clause-file : goal.read_lines-requires-clause-file
+read_lines-requires-clause-file g c = c.requires.file
+
+pub returns-in-Whole-clause-same : goal.returns-in-Whole-clause-same
+returns-in-Whole-clause-same g c = refl
+
+pub returns-in-Whole-clause-cause : goal.returns-in-Whole-clause-cause
+returns-in-Whole-clause-cause g c = stayed (g.D.Disk.faults c.args.disk.now) (g.D.Disk.faults c.args.disk.now) _ refl false_not_true
+
+pub returns-in-Whole-clause-told : goal.returns-in-Whole-clause-told
+returns-in-Whole-clause-told g c = λ fine. refl
+
+pub returns-in-Across-clause-same : goal.returns-in-Across-clause-same
+returns-in-Across-clause-same g c = refl
+
+pub returns-in-Across-clause-cause : goal.returns-in-Across-clause-cause
+returns-in-Across-clause-cause g c = stayed (g.D.Disk.faults c.args.disk.now) (g.D.Disk.faults c.args.disk.now) _ refl false_not_true
+
+pub returns-in-Across-clause-told : goal.returns-in-Across-clause-told
+returns-in-Across-clause-told g c = λ fine. refl

@@ -3,6 +3,7 @@ use Rattle.std.proofs.Math.Nat.{div-le_self}
 use Rattle.tce_sym.specs.Lines.{walk_place}
 use Rattle.tce_sym.proofs.Walked.{more, step_place}
 use Rattle.tce_sym.proofs.Across.{across, across_within, across_step}
+use Rattle.tce_sym.proofs.StoredReads.{place_small}
 use Rattle.tce_sym.proofs.whole.gather_across.Goals as goal
 
 some : (c : goal.Then-not-is_empty) → 0 < length c.args.words.now
@@ -44,3 +45,30 @@ loop-k-preserved c = record {
   done = more (λ j. slice_index c.args.lines.now (across c.args.grid.now (walk_place c.args.walk.now j))) c.loop-k.words c.loop-k.k _ (omega (arith, c.loop-k-test.true, c.loop-k.auto.k-end, c.loop-k.auto.words))
       (ap (slice_index c.args.lines.now) (c.across_at-in-loop-k.ensures ∙ ap (across c.args.grid.now) c.place_at.ensures)) c.loop-k.invariant.done;
 }
+
+pub across_at-requires-clause-some : goal.across_at-requires-clause-some
+across_at-requires-clause-some c = c.requires.room.some
+
+pub loop-k-init : goal.loop-k-init
+loop-k-init c = record { done = λ j l. absurd (omega (arith, l)) }
+
+pub place_at-requires-clause-small : goal.place_at-requires-clause-small
+place_at-requires-clause-small c = place_small _ c.args.grid.now.count (c.requires.places c.loop-k.k (omega (arith, c.loop-k-test.true, c.loop-k.auto.k-end, c.loop-k.auto.words))) c.requires.count
+
+pub place_at-requires-clause-few : goal.place_at-requires-clause-few
+place_at-requires-clause-few c = omega (arith, c.loop-k-test.true, c.loop-k.auto.k-end, c.loop-k.auto.words, c.requires.few)
+
+pub bounds-words-k : goal.bounds-words-k
+bounds-words-k c = omega (arith, c.loop-k-test.true, c.loop-k.auto.k-end, c.loop-k.auto.words)
+
+pub returns : goal.returns
+returns c = λ j l. c.loop-k.invariant.done j (omega (arith, l, c.loop-k-test.false, c.loop-k.auto.k-end, c.loop-k.auto.words))
+
+pub across_at-requires-in-loop-k-clause-some : goal.across_at-requires-in-loop-k-clause-some
+across_at-requires-in-loop-k-clause-some c = c.requires.room.some
+
+pub across_at-requires-in-loop-k-clause-place : goal.across_at-requires-in-loop-k-clause-place
+across_at-requires-in-loop-k-clause-place c = omega (arith, c.place_at.ensures, c.requires.places c.loop-k.k (omega (arith, c.loop-k-test.true, c.loop-k.auto.k-end, c.loop-k.auto.words)), c.requires.count)
+
+pub across_at-requires-in-loop-k-clause-outer : goal.across_at-requires-in-loop-k-clause-outer
+across_at-requires-in-loop-k-clause-outer c = omega (arith, div-le_self c.place_at.result c.args.grid.now.pairs, c.place_at.ensures, c.requires.places c.loop-k.k (omega (arith, c.loop-k-test.true, c.loop-k.auto.k-end, c.loop-k.auto.words)), c.requires.count)

@@ -1,4 +1,4 @@
-use Rattle.std.proofs.Common.{rules, ◌≡◌, ◌∙◌, ℕ, ◌+◌, ◌*◌, length, replicate, sym, subst, arith}
+use Rattle.std.proofs.Common.{◌≡◌, ◌∙◌, ℕ, ◌+◌, ◌*◌, length, replicate, sym, subst, arith}
 use Rattle.std.proofs.lemmas.List.{length-take-le, length-replicate}
 use Rattle.tce_outside.specs.Files.{file}
 use Rattle.tce_tools.specs.Flat.{contents}
@@ -6,6 +6,9 @@ use Rattle.tce_sym.specs.Lines.{IsAcross}
 use Rattle.tce_sym.proofs.StoredReads.{words_there, strip_there}
 use Rattle.tce_sym.proofs.HeldLines.{line_read}
 use Rattle.tce_sym.proofs.Across.{strip_more, strip_before, strip_all}
+use Rattle.tce_tools.proofs.Apart.{false_not_true}
+use Rattle.std.proofs.lemmas.Result.{IfOk-from_err}
+use Rattle.tce_array.proofs.Answered.{rose_here}
 use Rattle.tce_sym.proofs.whole.read_strip.Goals as goal
 
 pub loop-outer-preserved : goal.loop-outer-preserved
@@ -21,7 +24,7 @@ loop-outer-preserved g c =
           (c.loop-outer.invariant.read x told);
       files = c.in_ok-read_words.ensures.same ∙ c.loop-outer.invariant.files;
       later = omega (arith, c.in_ok-read_words.ensures.cause.later, c.loop-outer.invariant.later);
-      counted = c.in_ok-read_words.ensures.told (search rules) ∙ c.loop-outer.invariant.counted;
+      counted = c.in_ok-read_words.ensures.told false_not_true ∙ c.loop-outer.invariant.counted;
     }
 
 pub returns-clause-read : goal.returns-clause-read
@@ -72,7 +75,22 @@ pub returns-clause-same : goal.returns-clause-same
 returns-clause-same g c = c.loop-outer.invariant.files
 
 pub returns-clause-cause : goal.returns-clause-cause
-returns-clause-cause g c = record { later = c.loop-outer.invariant.later; rose = λ e. absurd cc }
+returns-clause-cause g c = record { later = c.loop-outer.invariant.later; rose = λ e. absurd (false_not_true e) }
 
 pub returns-clause-told : goal.returns-clause-told
 returns-clause-told g c = λ _. c.loop-outer.invariant.counted
+
+pub overflow_sub-grid : goal.overflow_sub-grid
+overflow_sub-grid g c = omega (arith, c.requires.from)
+
+pub returns-in_err-read_words-clause-some : goal.returns-in_err-read_words-clause-some
+returns-in_err-read_words-clause-some g c = IfOk-from_err c.from_residual.result _ c.from_residual.ensures.0
+
+pub returns-in_err-read_words-clause-read : goal.returns-in_err-read_words-clause-read
+returns-in_err-read_words-clause-read g c = IfOk-from_err c.from_residual.result _ c.from_residual.ensures.0
+
+pub returns-in_err-read_words-clause-cause : goal.returns-in_err-read_words-clause-cause
+returns-in_err-read_words-clause-cause g c = rose_here (g.D.Disk.faults c.args.disk.now) (g.D.Disk.faults c.loop-outer.disk) (g.D.Disk.faults c.read_words.new.disk) _ c.loop-outer.invariant.counted c.in_err-read_words.ensures.cause
+
+pub returns-in_err-read_words-clause-told : goal.returns-in_err-read_words-clause-told
+returns-in_err-read_words-clause-told g c = λ fine. absurd (fine c.from_residual.ensures.0)

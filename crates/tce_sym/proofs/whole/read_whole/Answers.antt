@@ -1,7 +1,10 @@
-use Rattle.std.proofs.Common.{rules, ◌≡◌, ◌∙◌, ℕ, ◌+◌, ◌-◌, length, take, drop, arith}
+use Rattle.std.proofs.Common.{◌≡◌, ◌∙◌, ℕ, ◌+◌, ◌-◌, length, take, drop, arith, refl}
 use Rattle.std.proofs.lemmas.List.{length-take-le, length-drop}
 use Rattle.tce_tools.specs.Flat.{contents}
 use Rattle.tce_sym.proofs.HeldLines.{line_read, words_more}
+use Rattle.tce_tools.proofs.Apart.{false_not_true}
+use Rattle.std.proofs.lemmas.Result.{IfOk-from_err}
+use Rattle.tce_array.proofs.Answered.{rose_here, stayed}
 use Rattle.tce_sym.proofs.whole.read_whole.Goals as goal
 
 pub loop-done-preserved : goal.loop-done-preserved
@@ -18,5 +21,35 @@ loop-done-preserved g c =
           (c.loop-done.invariant.read x told);
       files = c.in_ok-read_words.ensures.same ∙ c.loop-done.invariant.files;
       later = omega (arith, c.in_ok-read_words.ensures.cause.later, c.loop-done.invariant.later);
-      counted = c.in_ok-read_words.ensures.told (search rules) ∙ c.loop-done.invariant.counted;
+      counted = c.in_ok-read_words.ensures.told false_not_true ∙ c.loop-done.invariant.counted;
     }
+
+pub loop-done-init : goal.loop-done-init
+loop-done-init g c = record { done = omega arith; read = λ x told k l. absurd (omega (arith, l)); files = refl; later = omega arith; counted = refl }
+
+pub overflow_sub-grid : goal.overflow_sub-grid
+overflow_sub-grid g c = c.loop-done.invariant.done
+
+pub returns-in_err-read_words-clause-read : goal.returns-in_err-read_words-clause-read
+returns-in_err-read_words-clause-read g c = IfOk-from_err c.from_residual.result _ c.from_residual.ensures.0
+
+pub returns-in_err-read_words-clause-same : goal.returns-in_err-read_words-clause-same
+returns-in_err-read_words-clause-same g c = c.read_words.ensures.same ∙ c.loop-done.invariant.files
+
+pub returns-in_err-read_words-clause-cause : goal.returns-in_err-read_words-clause-cause
+returns-in_err-read_words-clause-cause g c = rose_here (g.D.Disk.faults c.args.disk.now) (g.D.Disk.faults c.loop-done.disk) (g.D.Disk.faults c.read_words.new.disk) _ c.loop-done.invariant.counted c.in_err-read_words.ensures.cause
+
+pub returns-in_err-read_words-clause-told : goal.returns-in_err-read_words-clause-told
+returns-in_err-read_words-clause-told g c = λ fine. absurd (fine c.from_residual.ensures.0)
+
+pub loop-done-smaller : goal.loop-done-smaller
+loop-done-smaller g c = omega (arith, c.min-len.ensures, c.loop-done-test.true)
+
+pub returns-clause-same : goal.returns-clause-same
+returns-clause-same g c = c.loop-done.invariant.files
+
+pub returns-clause-cause : goal.returns-clause-cause
+returns-clause-cause g c = stayed (g.D.Disk.faults c.args.disk.now) (g.D.Disk.faults c.loop-done.disk) _ c.loop-done.invariant.counted false_not_true
+
+pub returns-clause-told : goal.returns-clause-told
+returns-clause-told g c = λ _. c.loop-done.invariant.counted

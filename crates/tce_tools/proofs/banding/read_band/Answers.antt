@@ -1,4 +1,4 @@
-use Rattle.std.proofs.Common.{◌+◌, ◌*◌, ◌≤◌, ℕ, length, sym, subst, arith}
+use Rattle.std.proofs.Common.{◌+◌, ◌*◌, ◌≤◌, ℕ, length, sym, subst, arith, ◌∙◌, refl}
 use Rattle.tce_space.specs.Tiling.{Tiling}
 use Rattle.tce_outside.specs.Files.{file}
 use Rattle.tce_array.specs.declared.form.Form.TheVariants.{One}
@@ -10,6 +10,9 @@ use Rattle.tce_tools.specs.Runs.{AreElements}
 use Rattle.tce_tools.specs.Told.{HasStoredIn}
 use Rattle.tce_tools.proofs.PieceReads.{flat_read}
 use Rattle.tce_tools.proofs.PieceWrites.{words_there, buffer_fits}
+use Rattle.std.proofs.lemmas.Result.{IfOk-from_err}
+use Rattle.std.proofs.lemmas.List.{length-take-le}
+use Rattle.tce_array.proofs.Answered.{rose_here}
 use Rattle.tce_tools.proofs.banding.read_band.Goals as goal
 
 pub overflow_mul-band : goal.overflow_mul-band
@@ -59,3 +62,60 @@ read_pieces-requires-clause-band g c = c.requires.band
 
 pub flatten-requires-clause-band : goal.flatten-requires-clause-band
 flatten-requires-clause-band g c = c.requires.band
+
+pub returns-in_err-read_words-in-Flat-clause-read : goal.returns-in_err-read_words-in-Flat-clause-read
+returns-in_err-read_words-in-Flat-clause-read g c = IfOk-from_err c.from_residual.result _ c.from_residual.ensures.0
+
+pub returns-in_err-read_words-in-Flat-clause-len : goal.returns-in_err-read_words-in-Flat-clause-len
+returns-in_err-read_words-in-Flat-clause-len g c = c.read_words.auto.words ∙ c.requires.words
+
+pub returns-in_err-read_words-in-Flat-clause-cause : goal.returns-in_err-read_words-in-Flat-clause-cause
+returns-in_err-read_words-in-Flat-clause-cause g c = rose_here (g.D.Disk.faults c.args.disk.now) (g.D.Disk.faults c.args.disk.now) (g.D.Disk.faults c.read_words.new.disk) _ refl c.in_err-read_words-in-Flat.ensures.cause
+
+pub returns-in_err-read_words-in-Flat-clause-told : goal.returns-in_err-read_words-in-Flat-clause-told
+returns-in_err-read_words-in-Flat-clause-told g c = λ fine. absurd (fine c.from_residual.ensures.0)
+
+pub slice_bounds-pieces-end-in-Array : goal.slice_bounds-pieces-end-in-Array
+slice_bounds-pieces-end-in-Array g c = sym (length-take-le (c.args.band.pieces * c.args.band.piece_len) c.args.tiled.now (omega (arith, c.requires.band.small, c.requires.tiled)))
+
+pub read_pieces-requires-clause-buffer : goal.read_pieces-requires-clause-buffer
+read_pieces-requires-clause-buffer g c = c.requires.buffer
+
+pub read_pieces-requires-clause-tiled : goal.read_pieces-requires-clause-tiled
+read_pieces-requires-clause-tiled g c = length-take-le (c.args.band.pieces * c.args.band.piece_len) c.args.tiled.now (omega (arith, c.requires.band.small, c.requires.tiled))
+
+pub returns-in_err-read_pieces-in-Array-clause-read : goal.returns-in_err-read_pieces-in-Array-clause-read
+returns-in_err-read_pieces-in-Array-clause-read g c = IfOk-from_err c.from_residual-in_err-read_pieces-in-Array.result _ c.from_residual-in_err-read_pieces-in-Array.ensures.0
+
+pub returns-in_err-read_pieces-in-Array-clause-len : goal.returns-in_err-read_pieces-in-Array-clause-len
+returns-in_err-read_pieces-in-Array-clause-len g c = c.requires.words
+
+pub returns-in_err-read_pieces-in-Array-clause-cause : goal.returns-in_err-read_pieces-in-Array-clause-cause
+returns-in_err-read_pieces-in-Array-clause-cause g c = rose_here (g.D.Disk.faults c.args.disk.now) (g.D.Disk.faults c.args.disk.now) (g.D.Disk.faults c.read_pieces.new.disk) _ refl c.in_err-read_pieces-in-Array.ensures.cause
+
+pub returns-in_err-read_pieces-in-Array-clause-told : goal.returns-in_err-read_pieces-in-Array-clause-told
+returns-in_err-read_pieces-in-Array-clause-told g c = λ fine. absurd (fine c.from_residual-in_err-read_pieces-in-Array.ensures.0)
+
+pub flatten-requires-clause-tiled : goal.flatten-requires-clause-tiled
+flatten-requires-clause-tiled g c = c.read_pieces.auto.tiled ∙ length-take-le (c.args.band.pieces * c.args.band.piece_len) c.args.tiled.now (omega (arith, c.requires.band.small, c.requires.tiled))
+
+pub flatten-requires-clause-words : goal.flatten-requires-clause-words
+flatten-requires-clause-words g c = c.requires.words
+
+pub returns-in_ok-read_words-in-Flat-clause-len : goal.returns-in_ok-read_words-in-Flat-clause-len
+returns-in_ok-read_words-in-Flat-clause-len g c = c.read_words.auto.words ∙ c.requires.words
+
+pub returns-in_ok-read_words-in-Flat-clause-cause : goal.returns-in_ok-read_words-in-Flat-clause-cause
+returns-in_ok-read_words-in-Flat-clause-cause g c = c.in_ok-read_words-in-Flat.ensures.cause
+
+pub returns-in_ok-read_words-in-Flat-clause-told : goal.returns-in_ok-read_words-in-Flat-clause-told
+returns-in_ok-read_words-in-Flat-clause-told g c = c.in_ok-read_words-in-Flat.ensures.told
+
+pub returns-in_ok-read_pieces-in-Array-clause-len : goal.returns-in_ok-read_pieces-in-Array-clause-len
+returns-in_ok-read_pieces-in-Array-clause-len g c = c.flatten.auto.words ∙ c.requires.words
+
+pub returns-in_ok-read_pieces-in-Array-clause-cause : goal.returns-in_ok-read_pieces-in-Array-clause-cause
+returns-in_ok-read_pieces-in-Array-clause-cause g c = c.in_ok-read_pieces-in-Array.ensures.cause
+
+pub returns-in_ok-read_pieces-in-Array-clause-told : goal.returns-in_ok-read_pieces-in-Array-clause-told
+returns-in_ok-read_pieces-in-Array-clause-told g c = c.in_ok-read_pieces-in-Array.ensures.told

@@ -6,6 +6,7 @@ use Rattle.tce_tools.proofs.Apart.{false_not_true}
 use Rattle.tce_tools.proofs.PieceReads.{piece_read}
 use Rattle.tce_tools.proofs.PieceWrites.{piece_room, piece_copy, piece_fits, words_there, buffer_fits, index_below}
 use Rattle.tce_tools.proofs.Told.{failed_from}
+use Rattle.std.proofs.lemmas.Result.{IfOk-from_err}
 use Rattle.tce_tools.proofs.banding.read_pieces.Goals as goal
 
 pub overflow_mul-from : goal.overflow_mul-from
@@ -69,3 +70,6 @@ returns-in_err-read_words-clause-cause g c = failed_from _ (g.D.Disk.faults c.lo
 
 pub returns-in_err-read_words-clause-told : goal.returns-in_err-read_words-clause-told
 returns-in_err-read_words-clause-told g c = λ fine. absurd (fine c.from_residual.ensures.0)
+
+pub returns-in_err-read_words-clause-read : goal.returns-in_err-read_words-clause-read
+returns-in_err-read_words-clause-read g c = IfOk-from_err c.from_residual.result _ c.from_residual.ensures.0

@@ -11,6 +11,7 @@ use Rattle.tce_tools.proofs.Apart.{flat_not_array}
 use Rattle.tce_tools.proofs.Faults.{on_ok}
 use Rattle.tce_tools.proofs.Told.{held_written}
 use Rattle.tce_tools.proofs.PieceWrites.{flat_bare, words_there, buffer_fits}
+use Rattle.std.proofs.lemmas.List.{length-take-le}
 use Rattle.tce_tools.proofs.banding.write_band.Goals as goal
 
 pub overflow_mul-band : goal.overflow_mul-band
@@ -92,3 +93,12 @@ write_pieces-requires-clause-band g c = c.requires.band
 
 pub write_pieces-requires-clause-padding : goal.write_pieces-requires-clause-padding
 write_pieces-requires-clause-padding g c = c.tile.ensures.padding
+
+pub slice_bounds-pieces-end-in-Array : goal.slice_bounds-pieces-end-in-Array
+slice_bounds-pieces-end-in-Array g c = sym (length-take-le (c.args.band.pieces * c.args.band.piece_len) c.args.tiled.now (omega (arith, c.requires.band.small, c.requires.tiled)))
+
+pub tile-requires-clause-tiled : goal.tile-requires-clause-tiled
+tile-requires-clause-tiled g c = length-take-le (c.args.band.pieces * c.args.band.piece_len) c.args.tiled.now (omega (arith, c.requires.band.small, c.requires.tiled))
+
+pub write_pieces-requires-clause-buffer : goal.write_pieces-requires-clause-buffer
+write_pieces-requires-clause-buffer g c = c.requires.buffer

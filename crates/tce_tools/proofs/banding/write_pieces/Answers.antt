@@ -10,6 +10,7 @@ use Rattle.tce_tools.proofs.Apart.{false_not_true}
 use Rattle.tce_tools.proofs.Told.{failed_from, held_told, held_written}
 use Rattle.tce_tools.proofs.PieceWrites.{after_pieces, piece_bare, piece_room, piece_copy, piece_fits, piece_bytes_fit, words_there, buffer_fits, no_pieces, all_pieces, still_stored}
 use Rattle.tce_tools.proofs.NoHalf.{shorter_before}
+use Rattle.std.proofs.lemmas.Result.{IfOk-from_err}
 use Rattle.tce_tools.proofs.banding.write_pieces.Goals as goal
 
 pub loop-piece-init : goal.loop-piece-init
@@ -98,3 +99,6 @@ returns-in_err-write_words-clause-cause g c = failed_from _ (g.D.Disk.faults c.l
 
 pub returns-in_err-write_words-clause-told : goal.returns-in_err-write_words-clause-told
 returns-in_err-write_words-clause-told g c = λ fine. absurd (fine c.from_residual.ensures.0)
+
+pub returns-in_err-write_words-clause-written : goal.returns-in_err-write_words-clause-written
+returns-in_err-write_words-clause-written g c = IfOk-from_err c.from_residual.result _ c.from_residual.ensures.0

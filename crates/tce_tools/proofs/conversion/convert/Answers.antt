@@ -1,4 +1,4 @@
-use Rattle.std.proofs.Common.{◌∙◌, ap, refl, subst, List, ℕ, Option, Result, Err, rules, arith}
+use Rattle.std.proofs.Common.{sym, ◌∙◌, ap, refl, subst, List, ℕ, Option, Result, Err, rules, arith}
 use Rattle.tce_space.specs.Tiling.{Tiling}
 use Rattle.tce_outside.specs.Fault.{HasCause, TellsFaults}
 use Rattle.tce_outside.specs.Files.{Files, file, others}
@@ -10,10 +10,13 @@ use Rattle.tce_tools.specs.Flat.{contents, array_element}
 use Rattle.tce_tools.specs.Storage.{stored_bytes, element_in, holding_by, last_written}
 use Rattle.tce_tools.specs.Told.{Copies, Converts, KeepsFiles, IsDiskFault}
 use Rattle.tce_tools.proofs.Apart.{false_not_true, ok_not_err, array_not_disk, same_err}
-use Rattle.tce_tools.proofs.Faults.{not_opened, copied_or_not, on_ok, cause_behind}
-use Rattle.tce_tools.proofs.Forms.{opened_form, opened_fits, array_elements}
+use Rattle.tce_tools.proofs.Faults.{not_opened, copied_or_not, on_ok, cause_behind, refused_for}
+use Rattle.tce_tools.proofs.Forms.{opened_form, opened_fits, opened_is, form_stored, array_elements}
 use Rattle.tce_tools.proofs.NoHalf.{same_left, moved_left}
 use Rattle.tce_tools.proofs.Told.{held_told}
+use Rattle.std.proofs.lemmas.Result.{IfOk-from_err}
+use Rattle.tce_array.proofs.Answered.{rose_here}
+use Rattle.tce_tools.specs.declared.fault.ToolFault.TheVariants.{Disk}
 use Rattle.tce_tools.proofs.conversion.convert.Goals as goal
 
 pub returns-clause-converted : goal.returns-clause-converted
@@ -79,3 +82,55 @@ pub returns-in_err-found-clause-told : goal.returns-in_err-found-clause-told
 returns-in_err-found-clause-told g c =
     not_opened (λ (r : Result (Unit {0}) ToolFault). TellsFaults (g.D.Disk.faults c.args.disk.now) (g.D.Disk.faults c.open.new.disk) (IsDiskFault r)) c.from_residual.result c.in_err-found.field-0.0 c.from_residual.ensures.1
     (λ other fine. c.open.ensures.told (λ failed. other (same_err _ _ _ c.in_err-found.was failed))) (λ disk fine. absurd (fine refl))
+
+pub returns-in_err-found-clause-converted : goal.returns-in_err-found-clause-converted
+returns-in_err-found-clause-converted g c = IfOk-from_err c.from_residual.result _ c.from_residual.ensures.0
+
+pub returns-in_err-place-clause-converted : goal.returns-in_err-place-clause-converted
+returns-in_err-place-clause-converted g c = IfOk-from_err c.from_residual-in_err-place.result _ c.from_residual-in_err-place.ensures.0
+
+pub returns-in_err-place-clause-answer : goal.returns-in_err-place-clause-answer
+returns-in_err-place-clause-answer g c = λ x told. refused_for (λ (r : Result (Unit {0}) ToolFault). IsConvertAnswer c.args.form c.args.shape.now (file x c.args.array.now) r) c.from_residual-in_err-place.result Disk c.from_residual-in_err-place.ensures.1 tt
+
+pub returns-in_err-place-clause-own : goal.returns-in_err-place-clause-own
+returns-in_err-place-clause-own g c = refused_for (λ (r : Result (Unit {0}) ToolFault). IsOfConvert c.args.form r) c.from_residual-in_err-place.result Disk c.from_residual-in_err-place.ensures.1 tt
+
+pub returns-in_err-place-clause-refused : goal.returns-in_err-place-clause-refused
+returns-in_err-place-clause-refused g c =
+    refused_for (λ (r : Result (Unit {0}) ToolFault). KeepsFiles r (g.D.Disk.files c.args.disk.now) (g.D.Disk.files c.misfit_for.new.disk)) c.from_residual-in_err-place.result Disk c.from_residual-in_err-place.ensures.1 (λ other. c.misfit_for.ensures.same ∙ c.open.ensures.same)
+
+pub returns-in_err-place-clause-no_half : goal.returns-in_err-place-clause-no_half
+returns-in_err-place-clause-no_half g c = same_left c.args.to.now (last_written (Array c.args.form) c.args.shape.now) (λ fs. form_bytes c.args.form c.args.shape.now (array_element c.args.shape.now (contents fs c.args.array.now))) _ _ (c.misfit_for.ensures.same ∙ c.open.ensures.same)
+
+pub returns-in_err-place-clause-others : goal.returns-in_err-place-clause-others
+returns-in_err-place-clause-others g c = ap (others c.args.to.now) (c.misfit_for.ensures.same ∙ c.open.ensures.same)
+
+pub returns-in_err-place-clause-cause : goal.returns-in_err-place-clause-cause
+returns-in_err-place-clause-cause g c = rose_here (g.D.Disk.faults c.args.disk.now) (g.D.Disk.faults c.open.new.disk) (g.D.Disk.faults c.misfit_for.new.disk) _ (c.in_ok-found.ensures.told (λ e. ok_not_err e)) c.in_err-place.ensures.cause
+
+pub returns-in_err-place-clause-told : goal.returns-in_err-place-clause-told
+returns-in_err-place-clause-told g c = refused_for (λ (r : Result (Unit {0}) ToolFault). TellsFaults (g.D.Disk.faults c.args.disk.now) (g.D.Disk.faults c.misfit_for.new.disk) (IsDiskFault r)) c.from_residual-in_err-place.result Disk c.from_residual-in_err-place.ensures.1 (λ fine. absurd (fine refl))
+
+pub returns-in-Some-clause-refused : goal.returns-in-Some-clause-refused
+returns-in-Some-clause-refused g c = λ other. c.misfit_for.ensures.same ∙ c.open.ensures.same
+
+pub returns-in-Some-clause-no_half : goal.returns-in-Some-clause-no_half
+returns-in-Some-clause-no_half g c = same_left c.args.to.now (last_written (Array c.args.form) c.args.shape.now) (λ fs. form_bytes c.args.form c.args.shape.now (array_element c.args.shape.now (contents fs c.args.array.now))) _ _ (c.misfit_for.ensures.same ∙ c.open.ensures.same)
+
+pub returns-in-Some-clause-others : goal.returns-in-Some-clause-others
+returns-in-Some-clause-others g c = ap (others c.args.to.now) (c.misfit_for.ensures.same ∙ c.open.ensures.same)
+
+pub returns-in-Some-clause-told : goal.returns-in-Some-clause-told
+returns-in-Some-clause-told g c = λ fine. c.in_ok-place.ensures.told false_not_true ∙ c.in_ok-found.ensures.told (λ e. ok_not_err e)
+
+pub copy-requires-clause-names : goal.copy-requires-clause-names
+copy-requires-clause-names g c = c.requires
+
+pub misfit_for-requires : goal.misfit_for-requires
+misfit_for-requires g c = λ x told.
+    form_stored c.in_ok-found.found c.args.shape.now (file x c.args.array.now) (opened_is c.args.shape.now c.in_ok-found.found (file x c.args.array.now) (c.in_ok-found.ensures.form x (sym c.open.ensures.same ∙ told)))
+
+pub copy-requires-clause-source : goal.copy-requires-clause-source
+copy-requires-clause-source g c = λ x told.
+    form_stored c.in_ok-found.found c.args.shape.now (file x c.args.array.now)
+    (opened_is c.args.shape.now c.in_ok-found.found (file x c.args.array.now) (c.in_ok-found.ensures.form x (sym (c.misfit_for.ensures.same ∙ c.open.ensures.same) ∙ told)))

@@ -1,4 +1,4 @@
-use Rattle.std.proofs.Common.{◌≡◌, ◌∙◌, ◌+◌, refl, sym, ap, subst, is_err, arith, List, ℕ}
+use Rattle.std.proofs.Common.{◌≡◌, ◌∙◌, ◌+◌, refl, sym, ap, subst, is_err, arith, List, ℕ, ◌<◌}
 use Rattle.tce_space.specs.Tiling.{Tiling, elements}
 use Rattle.tce_array.specs.declared.form.Form.TheVariants.{Narrow}
 use Rattle.tce_tools.specs.declared.storage.Storage.TheVariants.{Array}
@@ -6,9 +6,10 @@ use Rattle.tce_tools.specs.Flat.{contents}
 use Rattle.tce_tools.specs.Storage.{element_in}
 use Rattle.tce_tools.specs.Runs.{AreElements}
 use Rattle.tce_tools.specs.Answers.{FitBefore, IsFirstMisfit}
-use Rattle.tce_tools.proofs.Apart.{false_not_true, none_not_some, same_some}
+use Rattle.tce_tools.proofs.Apart.{false_not_true, none_not_some, same_some, failed_not_ok}
 use Rattle.tce_tools.proofs.Told.{failed_from}
 use Rattle.tce_tools.proofs.Misfits.{fit_more, misfit_at}
+use Rattle.std.proofs.lemmas.List.{length-take-le}
 use Rattle.tce_tools.proofs.conversion.find_misfit.Goals as goal
 
 pub read_band-requires-clause-file : goal.read_band-requires-clause-file
@@ -86,3 +87,27 @@ returns-in-Some-clause-told g c = λ fine. c.in_ok-read_band.ensures.told false_
 
 pub returns-clause-some : goal.returns-clause-some
 returns-clause-some g c = λ k some. absurd (none_not_some _ _ refl some)
+
+pub loop-done-init : goal.loop-done-init
+loop-done-init g c = record { done = omega arith; fits = λ x told xs inside lt. absurd (omega (arith, lt)); files = refl; later = omega arith; counted = refl }
+
+pub band_at-band-requires : goal.band_at-band-requires
+band_at-band-requires g c = subst (λ n. c.loop-done.done < n) c.elements-elements.ensures.elements c.loop-done-test.true
+
+pub slice_bounds-buffer-end : goal.slice_bounds-buffer-end
+slice_bounds-buffer-end g c = omega (arith, c.band_at-band.array_long, c.band_at-band.ensures.band.short)
+
+pub slice_bounds-words-end : goal.slice_bounds-words-end
+slice_bounds-words-end g c = sym (length-take-le c.band_at-band.result.len c.loop-done.buffer (omega (arith, c.band_at-band.array_long, c.band_at-band.ensures.band.short)))
+
+pub read_band-requires-clause-words : goal.read_band-requires-clause-words
+read_band-requires-clause-words g c = length-take-le c.band_at-band.result.len c.loop-done.buffer (omega (arith, c.band_at-band.array_long, c.band_at-band.ensures.band.short))
+
+pub returns-in_err-read_band-clause-none : goal.returns-in_err-read_band-clause-none
+returns-in_err-read_band-clause-none g c = λ none. absurd (failed_not_ok _ _ c.from_residual.ensures.0 none)
+
+pub returns-in_err-read_band-clause-some : goal.returns-in_err-read_band-clause-some
+returns-in_err-read_band-clause-some g c = λ k some. absurd (failed_not_ok _ _ c.from_residual.ensures.0 some)
+
+pub loop-done-smaller : goal.loop-done-smaller
+loop-done-smaller g c = omega (arith, c.band_at-band.ensures.band.some, c.loop-done-test.true)

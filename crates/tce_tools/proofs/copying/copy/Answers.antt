@@ -5,10 +5,11 @@ use Rattle.tce_tools.specs.Answers.{IsOfCopy}
 use Rattle.tce_tools.specs.Flat.{contents}
 use Rattle.tce_tools.specs.Storage.{element_in}
 use Rattle.tce_tools.specs.Told.{KeepsFiles, IsDiskFault}
-use Rattle.tce_tools.proofs.Apart.{ok_not_err, failed_not_memory, memory_not_disk}
+use Rattle.tce_tools.proofs.Apart.{ok_not_err, failed_not_memory, memory_not_disk, false_not_true}
 use Rattle.tce_tools.proofs.Faults.{not_made}
 use Rattle.tce_tools.proofs.NoHalf.{bare_left, bare_stored}
 use Rattle.tce_tools.proofs.Told.{failed_from}
+use Rattle.std.proofs.lemmas.Result.{IfOk-from_err}
 use Rattle.tce_tools.proofs.copying.copy.Goals as goal
 
 pub write_start-requires : goal.write_start-requires
@@ -56,3 +57,30 @@ pub returns-in_err-copy_elements-clause-told : goal.returns-in_err-copy_elements
 returns-in_err-copy_elements-clause-told g c =
     not_made (λ (r : Result (Unit {0}) ToolFault). TellsFaults (g.D.Disk.faults c.args.disk.now) (g.D.Disk.faults c.copy_elements.new.disk) (IsDiskFault r)) c.from_residual.result c.in_err-copy_elements.field-0.0 c.from_residual.ensures.1
     (λ disk fine. absurd (fine refl)) (λ memory fine. c.copy_elements.ensures.told (λ failed. failed_not_memory _ failed (c.in_err-copy_elements.was ∙ ap Err memory)))
+
+pub copy_elements-requires-clause-names : goal.copy_elements-requires-clause-names
+copy_elements-requires-clause-names g c = c.requires.names
+
+pub copy_elements-requires-clause-source : goal.copy_elements-requires-clause-source
+copy_elements-requires-clause-source g c = c.requires.source
+
+pub returns-in_err-copy_elements-clause-copied : goal.returns-in_err-copy_elements-clause-copied
+returns-in_err-copy_elements-clause-copied g c = IfOk-from_err c.from_residual.result _ c.from_residual.ensures.0
+
+pub returns-in_err-copy_elements-clause-no_half : goal.returns-in_err-copy_elements-clause-no_half
+returns-in_err-copy_elements-clause-no_half g c = c.copy_elements.ensures.no_half
+
+pub returns-in_err-copy_elements-clause-others : goal.returns-in_err-copy_elements-clause-others
+returns-in_err-copy_elements-clause-others g c = c.copy_elements.ensures.others
+
+pub returns-in-Ok-clause-told : goal.returns-in-Ok-clause-told
+returns-in-Ok-clause-told g c = λ fine. c.in-Ok.ensures.told false_not_true ∙ c.in_ok-copy_elements.ensures.told (λ e. ok_not_err e)
+
+pub returns-in-Err-clause-own : goal.returns-in-Err-clause-own
+returns-in-Err-clause-own g c = inl refl
+
+pub returns-in-Err-clause-refused : goal.returns-in-Err-clause-refused
+returns-in-Err-clause-refused g c = λ other. absurd (other refl)
+
+pub returns-in-Err-clause-told : goal.returns-in-Err-clause-told
+returns-in-Err-clause-told g c = λ fine. absurd (fine refl)

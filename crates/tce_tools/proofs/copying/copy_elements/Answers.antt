@@ -1,4 +1,4 @@
-use Rattle.std.proofs.Common.{◌≡◌, ◌∙◌, ◌+◌, ◌*◌, refl, sym, ap, subst, arith, List, ℕ, Option, Some, is_err}
+use Rattle.std.proofs.Common.{◌≡◌, ◌∙◌, ◌+◌, ◌*◌, refl, sym, ap, subst, arith, List, ℕ, Option, Some, is_err, ◌<◌}
 use Rattle.tce_space.specs.Tiling.{Tiling}
 use Rattle.tce_outside.specs.Files.{Files, others, bytes_before, bytes_from}
 use Rattle.tce_tools.specs.declared.band.Band.{Band}
@@ -10,6 +10,10 @@ use Rattle.tce_tools.proofs.NoHalf.{some_elements, unmade_left, later_left, last
 use Rattle.tce_tools.proofs.PieceWrites.{keeps_outside, keeps_last, first_values, later_values}
 use Rattle.tce_tools.proofs.Stored.{no_later_elements}
 use Rattle.tce_tools.proofs.Told.{held, held_same, held_beside, failed_from}
+use Rattle.std.proofs.lemmas.Result.{IfOk-from_err}
+use Rattle.std.proofs.lemmas.List.{length-take-le}
+use Rattle.tce_outside.specs.declared.device.OutFault.TheVariants.{Failed, Memory}
+use Rattle.tce_tools.proofs.Faults.{making_failed, failed_making}
 use Rattle.tce_tools.proofs.copying.copy_elements.Goals as goal
 
 pub loop-done-init : goal.loop-done-init
@@ -189,3 +193,39 @@ returns-clause-memory g c = λ memory. absurd (ok_not_err memory)
 
 pub returns-clause-told : goal.returns-clause-told
 returns-clause-told g c = λ fine. c.in-Ok-write_band-2.ensures.told false_not_true ∙ c.in-Ok-read_band.ensures.told false_not_true ∙ c.loop-done.invariant.counted
+
+pub returns-in_err-make-clause-copied : goal.returns-in_err-make-clause-copied
+returns-in_err-make-clause-copied g c = IfOk-from_err c.from_residual.result _ c.from_residual.ensures.0
+
+pub returns-in_err-make-clause-memory : goal.returns-in_err-make-clause-memory
+returns-in_err-make-clause-memory g c = λ memory. c.make.ensures.memory (making_failed c.from_residual.result c.make.result c.in_err-make.field-0.0 Memory c.from_residual.ensures.1 c.in_err-make.was memory)
+
+pub returns-in_err-make-clause-cause : goal.returns-in_err-make-clause-cause
+returns-in_err-make-clause-cause g c = record { later = c.make.ensures.cause.later; rose = λ failed. c.make.ensures.cause.rose (making_failed c.from_residual.result c.make.result c.in_err-make.field-0.0 Failed c.from_residual.ensures.1 c.in_err-make.was failed) }
+
+pub returns-in_err-make-clause-told : goal.returns-in_err-make-clause-told
+returns-in_err-make-clause-told g c = λ fine. c.make.ensures.told (λ failed. fine (failed_making c.from_residual.result c.make.result c.in_err-make.field-0.0 Failed c.from_residual.ensures.1 c.in_err-make.was failed))
+
+pub band_at-band-requires : goal.band_at-band-requires
+band_at-band-requires g c = subst (λ n. c.loop-done.done < n) c.elements-elements.ensures.elements c.loop-done-test.true
+
+pub slice_bounds-buffer-end : goal.slice_bounds-buffer-end
+slice_bounds-buffer-end g c = omega (arith, c.band_at-band.array_long, c.band_at-band.ensures.band.short)
+
+pub slice_bounds-words-end : goal.slice_bounds-words-end
+slice_bounds-words-end g c = sym (length-take-le c.band_at-band.result.len c.loop-done.buffer (omega (arith, c.band_at-band.array_long, c.band_at-band.ensures.band.short)))
+
+pub read_band-requires-clause-words : goal.read_band-requires-clause-words
+read_band-requires-clause-words g c = length-take-le c.band_at-band.result.len c.loop-done.buffer (omega (arith, c.band_at-band.array_long, c.band_at-band.ensures.band.short))
+
+pub write_band-requires-clause-words : goal.write_band-requires-clause-words
+write_band-requires-clause-words g c = c.in-Ok.ensures.len
+
+pub overflow_add-done : goal.overflow_add-done
+overflow_add-done g c = omega (arith, c.band_at-band.ensures.band.inside, c.band_at-band.ensures.band.few, c.band_at-band.ensures.band.tiling.room, c.band_at-band.ensures.start)
+
+pub loop-done-smaller : goal.loop-done-smaller
+loop-done-smaller g c = omega (arith, c.band_at-band.ensures.band.some, c.loop-done-test.true)
+
+pub write_band-requires-2-clause-words : goal.write_band-requires-2-clause-words
+write_band-requires-2-clause-words g c = c.in-Ok-read_band.ensures.len

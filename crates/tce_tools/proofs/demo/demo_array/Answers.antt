@@ -2,9 +2,12 @@ use Rattle.std.proofs.Common.{◌∙◌, ap, refl, is_err, arith}
 use Rattle.tce_array.specs.declared.form.Form.TheVariants.{One}
 use Rattle.tce_tools.specs.declared.storage.Storage.TheVariants.{Array}
 use Rattle.tce_tools.specs.Demo.{demo_element}
-use Rattle.tce_tools.proofs.Apart.{ok_not_err, failed_not_memory}
+use Rattle.tce_tools.proofs.Apart.{ok_not_err, failed_not_memory, false_not_true}
 use Rattle.tce_tools.proofs.NoHalf.{bare_left, bare_stored}
 use Rattle.tce_tools.proofs.Told.{failed_from}
+use Rattle.std.proofs.lemmas.Result.{IfOk-from_err}
+use Rattle.tce_outside.specs.declared.device.OutFault.TheVariants.{Failed, Memory}
+use Rattle.tce_tools.proofs.Faults.{making_failed, failed_making}
 use Rattle.tce_tools.proofs.demo.demo_array.Goals as goal
 
 pub write_start-requires : goal.write_start-requires
@@ -53,3 +56,24 @@ returns-in-Err-clause-memory g c = λ memory. absurd (failed_not_memory _ refl m
 
 pub returns-in-Err-clause-told : goal.returns-in-Err-clause-told
 returns-in-Err-clause-told g c = λ fine. absurd (fine refl)
+
+pub returns-in_err-number-clause-made : goal.returns-in_err-number-clause-made
+returns-in_err-number-clause-made g c = IfOk-from_err c.from_residual.result _ c.from_residual.ensures.0
+
+pub returns-in_err-number-clause-last : goal.returns-in_err-number-clause-last
+returns-in_err-number-clause-last g c = IfOk-from_err c.from_residual.result _ c.from_residual.ensures.0
+
+pub returns-in_err-number-clause-memory : goal.returns-in_err-number-clause-memory
+returns-in_err-number-clause-memory g c = λ memory. c.demo_elements.ensures.memory (making_failed c.from_residual.result c.demo_elements.result c.in_err-number.field-0.0 Memory c.from_residual.ensures.1 c.in_err-number.was memory)
+
+pub returns-in_err-number-clause-cause : goal.returns-in_err-number-clause-cause
+returns-in_err-number-clause-cause g c = record { later = c.demo_elements.ensures.cause.later; rose = λ failed. c.demo_elements.ensures.cause.rose (making_failed c.from_residual.result c.demo_elements.result c.in_err-number.field-0.0 Failed c.from_residual.ensures.1 c.in_err-number.was failed) }
+
+pub returns-in_err-number-clause-told : goal.returns-in_err-number-clause-told
+returns-in_err-number-clause-told g c = λ fine. c.demo_elements.ensures.told (λ failed. fine (failed_making c.from_residual.result c.demo_elements.result c.in_err-number.field-0.0 Failed c.from_residual.ensures.1 c.in_err-number.was failed))
+
+pub returns-in-Ok-clause-last : goal.returns-in-Ok-clause-last
+returns-in-Ok-clause-last g c = c.in_ok-number.ensures.last
+
+pub returns-in-Ok-clause-told : goal.returns-in-Ok-clause-told
+returns-in-Ok-clause-told g c = λ fine. c.in-Ok.ensures.told false_not_true ∙ c.in_ok-number.ensures.told (λ e. ok_not_err e)

@@ -1,6 +1,6 @@
-use Rattle.std.proofs.Common.{◌≡◌, ◌∙◌, ◌+◌, refl, sym, ap, subst, arith, length, List, ℕ, Option, is_err}
+use Rattle.std.proofs.Common.{◌≡◌, ◌∙◌, ◌+◌, refl, sym, ap, subst, arith, length, List, ℕ, Option, is_err, ◌<◌}
 use Rattle.std.proofs.lemmas.List.{length-take-le}
-use Rattle.tce_space.specs.Tiling.{Tiling}
+use Rattle.tce_space.specs.Tiling.{Tiling, elements}
 use Rattle.tce_outside.specs.Files.{Files}
 use Rattle.tce_array.specs.declared.form.Form.TheVariants.{One}
 use Rattle.tce_array.specs.Forms.{array_bytes}
@@ -11,10 +11,13 @@ use Rattle.tce_tools.specs.Runs.{AreElements}
 use Rattle.tce_tools.specs.Demo.{drawn, demo_element}
 use Rattle.tce_tools.proofs.Apart.{false_not_true, ok_not_err, failed_not_memory}
 use Rattle.tce_tools.proofs.Draws.{drawn_none, drawn_more, digits_are_elements}
-use Rattle.tce_tools.proofs.NoHalf.{first_left, bare_left, bare_stored}
+use Rattle.tce_tools.proofs.NoHalf.{first_left, bare_left, bare_stored, unmade_left}
 use Rattle.tce_tools.proofs.PieceWrites.{keeps_outside, first_values}
 use Rattle.tce_tools.proofs.Stored.{no_elements, all_elements}
 use Rattle.tce_tools.proofs.Told.{held_same, failed_from}
+use Rattle.std.proofs.lemmas.Result.{IfOk-from_err}
+use Rattle.tce_outside.specs.declared.device.OutFault.TheVariants.{Failed, Memory}
+use Rattle.tce_tools.proofs.Faults.{making_failed, failed_making}
 use Rattle.tce_tools.proofs.demo.demo_elements.Goals as goal
 
 pub loop-done-init : goal.loop-done-init
@@ -98,3 +101,47 @@ returns-clause-others g c = c.loop-done.invariant.others
 
 pub write_band-requires-clause-band : goal.write_band-requires-clause-band
 write_band-requires-clause-band g c = c.band_at-band.ensures.band
+
+pub returns-in_err-make-clause-made : goal.returns-in_err-make-clause-made
+returns-in_err-make-clause-made g c = IfOk-from_err c.from_residual.result _ c.from_residual.ensures.0
+
+pub returns-in_err-make-clause-last : goal.returns-in_err-make-clause-last
+returns-in_err-make-clause-last g c = IfOk-from_err c.from_residual.result _ c.from_residual.ensures.0
+
+pub returns-in_err-make-clause-memory : goal.returns-in_err-make-clause-memory
+returns-in_err-make-clause-memory g c = λ memory. c.make.ensures.memory (making_failed c.from_residual.result c.make.result c.in_err-make.field-0.0 Memory c.from_residual.ensures.1 c.in_err-make.was memory)
+
+pub returns-in_err-make-clause-cause : goal.returns-in_err-make-clause-cause
+returns-in_err-make-clause-cause g c = record { later = c.make.ensures.cause.later; rose = λ failed. c.make.ensures.cause.rose (making_failed c.from_residual.result c.make.result c.in_err-make.field-0.0 Failed c.from_residual.ensures.1 c.in_err-make.was failed) }
+
+pub returns-in_err-make-clause-told : goal.returns-in_err-make-clause-told
+returns-in_err-make-clause-told g c = λ fine. c.make.ensures.told (λ failed. fine (failed_making c.from_residual.result c.make.result c.in_err-make.field-0.0 Failed c.from_residual.ensures.1 c.in_err-make.was failed))
+
+pub returns-in_err-make-clause-no_half : goal.returns-in_err-make-clause-no_half
+returns-in_err-make-clause-no_half g c = unmade_left c.args.array.now _ _ _ _ c.make.ensures.zeros
+
+pub band_at-band-requires : goal.band_at-band-requires
+band_at-band-requires g c = subst (λ n. c.loop-done.done < n) c.elements-elements.ensures.elements c.loop-done-test.true
+
+pub slice_bounds-buffer-end : goal.slice_bounds-buffer-end
+slice_bounds-buffer-end g c = omega (arith, c.band_at-band.array_long, c.band_at-band.ensures.band.short)
+
+pub slice_bounds-digits-end : goal.slice_bounds-digits-end
+slice_bounds-digits-end g c = sym (length-take-le c.band_at-band.result.len c.loop-done.buffer (omega (arith, c.band_at-band.array_long, c.band_at-band.ensures.band.short)))
+
+pub draw-number-requires : goal.draw-number-requires
+draw-number-requires g c = c.loop-done.invariant.small
+
+pub write_band-requires-clause-words : goal.write_band-requires-clause-words
+write_band-requires-clause-words g c = c.draw-number.ensures.len ∙ length-take-le c.band_at-band.result.len c.loop-done.buffer (omega (arith, c.band_at-band.array_long, c.band_at-band.ensures.band.short))
+
+pub overflow_add-done : goal.overflow_add-done
+overflow_add-done g c = omega (arith, c.band_at-band.ensures.band.inside, c.band_at-band.ensures.band.few, c.band_at-band.ensures.band.tiling.room, c.band_at-band.ensures.start)
+
+pub loop-done-smaller : goal.loop-done-smaller
+loop-done-smaller g c = omega (arith, c.band_at-band.ensures.band.some, c.loop-done-test.true)
+
+pub returns-clause-last : goal.returns-clause-last
+returns-clause-last g c =
+    let end : c.loop-done.done ≡ elements c.args.shape.now = omega (arith, c.loop-done.invariant.done, c.loop-done-test.false, c.elements-elements.ensures.elements) in
+    c.loop-done.invariant.number ∙ ap (drawn c.args.x) end

@@ -1,10 +1,14 @@
-use Rattle.std.proofs.Common.{◌∙◌, refl, ap, subst, is_err, arith, List, ℕ}
+use Rattle.std.proofs.Common.{◌∙◌, refl, ap, subst, is_err, arith, List, ℕ, ◌<◌, sym}
 use Rattle.tce_array.specs.Forms.{cell}
 use Rattle.tce_tools.specs.Flat.{contents}
 use Rattle.tce_tools.specs.Runs.{AreElements}
 use Rattle.tce_tools.proofs.Apart.{false_not_true}
+use Rattle.tce_outside.specs.Files.{file}
+use Rattle.tce_tools.proofs.Forms.{form_stored}
 use Rattle.tce_tools.proofs.Told.{failed_from}
 use Rattle.tce_tools.proofs.Sums.{sum_none, sum_of_run, sum_of_all}
+use Rattle.std.proofs.lemmas.Result.{IfOk-from_err}
+use Rattle.std.proofs.lemmas.List.{length-take-le}
 use Rattle.tce_tools.proofs.sum.cell_sum.Goals as goal
 
 pub loop-done-init : goal.loop-done-init
@@ -47,3 +51,27 @@ returns-clause-cause g c = record { later = c.loop-done.invariant.later; rose = 
 
 pub read_band-requires-clause-band : goal.read_band-requires-clause-band
 read_band-requires-clause-band g c = c.band_at-band.ensures.band
+
+pub band_at-band-requires : goal.band_at-band-requires
+band_at-band-requires g c = subst (λ n. c.loop-done.done < n) c.elements-elements.ensures.elements c.loop-done-test.true
+
+pub slice_bounds-buffer-end : goal.slice_bounds-buffer-end
+slice_bounds-buffer-end g c = omega (arith, c.band_at-band.array_long, c.band_at-band.ensures.band.short)
+
+pub slice_bounds-words-end : goal.slice_bounds-words-end
+slice_bounds-words-end g c = sym (length-take-le c.band_at-band.result.len c.loop-done.buffer (omega (arith, c.band_at-band.array_long, c.band_at-band.ensures.band.short)))
+
+pub read_band-requires-clause-words : goal.read_band-requires-clause-words
+read_band-requires-clause-words g c = length-take-le c.band_at-band.result.len c.loop-done.buffer (omega (arith, c.band_at-band.array_long, c.band_at-band.ensures.band.short))
+
+pub returns-in_err-read_band-clause-sum : goal.returns-in_err-read_band-clause-sum
+returns-in_err-read_band-clause-sum g c = IfOk-from_err c.from_residual.result _ c.from_residual.ensures.0
+
+pub overflow_add-done : goal.overflow_add-done
+overflow_add-done g c = omega (arith, c.band_at-band.ensures.band.inside, c.band_at-band.ensures.band.few, c.band_at-band.ensures.band.tiling.room, c.band_at-band.ensures.start)
+
+pub loop-done-smaller : goal.loop-done-smaller
+loop-done-smaller g c = omega (arith, c.band_at-band.ensures.band.some, c.loop-done-test.true)
+
+pub read_band-requires-clause-file : goal.read_band-requires-clause-file
+read_band-requires-clause-file g c = λ x told. form_stored c.args.form c.args.shape.now (file x c.args.array.now) (c.requires x (sym c.loop-done.invariant.files ∙ told))

@@ -1,4 +1,5 @@
-use Rattle.std.proofs.Common.{◌*◌, ap, length, arith}
+use Rattle.std.proofs.Common.{◌*◌, ap, length, arith, sym, ◌∙◌}
+use Rattle.std.proofs.lemmas.List.{length-take-le}
 use Rattle.tce_tools.proofs.transfer.write_words.Goals as goal
 
 pub overflow_mul-piece : goal.overflow_mul-piece
@@ -18,3 +19,9 @@ returns-clause-cause g c = c.write_at.ensures.cause
 
 pub returns-clause-told : goal.returns-clause-told
 returns-clause-told g c = c.write_at.ensures.told
+
+pub slice_bounds-piece-end-2 : goal.slice_bounds-piece-end-2
+slice_bounds-piece-end-2 g c = sym (length-take-le (c.width.result * length c.args.words.now) c.args.bytes.now (omega (arith, ap (λ m. m * length c.args.words.now) c.width.ensures, c.requires.buffer)))
+
+pub encode-requires : goal.encode-requires
+encode-requires g c = length-take-le (c.width.result * length c.args.words.now) c.args.bytes.now (omega (arith, ap (λ m. m * length c.args.words.now) c.width.ensures, c.requires.buffer)) ∙ ap (λ m. m * length c.args.words.now) c.width.ensures

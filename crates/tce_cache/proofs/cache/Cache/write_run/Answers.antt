@@ -1,12 +1,21 @@
 use Rattle.std.proofs.Common.{◌≡◌, ◌+◌, ◌*◌, ◌<◌, ◌≤◌, ◌∙◌, ap, sym, subst, true, length, arith}
+use Rattle.std.proofs.lemmas.Result.{IfOk-from_err}
 use Rattle.tce_space.specs.Tiling.{tile_words, tiles, padded_words}
 use Rattle.tce_outside.specs.Files.{others}
 use Rattle.tce_cache.specs.declared.array.ArrayRef.{ArrayRef}
 use Rattle.tce_cache.specs.Transfer.{HasFile}
 use Rattle.tce_cache.specs.Cache.{State, IsCache, words_of_tile}
-use Rattle.tce_cache.proofs.Tiles.{array_at, run_written, writes_differ}
+use Rattle.tce_cache.proofs.Counted.{cause_of_failure}
+use Rattle.tce_cache.proofs.Tiles.{array_low, array_at, run_written, writes_differ}
 use Rattle.tce_cache.proofs.Runs.{run_exists, run_writable, run_has_file, run_inside, run_low, run_room}
 use Rattle.tce_cache.proofs.cache.Cache.write_run.Goals as goal
+
+pub index-array-requires : goal.index-array-requires
+index-array-requires g c =
+    let is : IsCache c.args.self.now = subst IsCache c.self.view_is c.self.invariant.cache in
+    let low = array_low (λ (x : ArrayRef). c.args.run.tile < tiles x.shape) c.args.self.now.arrays c.args.run.array (run_exists c.args.self.now c.args.run is c.requires.run) in
+    let same : length c.self.inside.arrays.items ≡ length c.args.self.now.arrays = ap (λ (z : State). length z.arrays) c.self.view_is in
+    omega (arith, low, same)
 
 pub overflow_mul-span : goal.overflow_mul-span
 overflow_mul-span g c =
@@ -21,6 +30,9 @@ pub place-requires-clause-frame : goal.place-requires-clause-frame
 place-requires-clause-frame g c =
     let low = run_low c.args.self.now c.args.run (subst IsCache c.self.view_is c.self.invariant.cache) c.requires.run in
     omega (arith, low, c.requires.run.some)
+
+pub place-requires-clause-bounded : goal.place-requires-clause-bounded
+place-requires-clause-bounded g c = omega (arith, c.requires.room, c.requires.bounded)
 
 pub overflow_mul-span-2 : goal.overflow_mul-span-2
 overflow_mul-span-2 g c =
@@ -37,6 +49,12 @@ write_words-requires-clause-one g c =
     let a = c.index-array.result.now in
     let here = array_at (λ (x : ArrayRef). x.writable ≡ true) c.self.inside.arrays.items c.args.self.now.arrays c.args.run.array a (ap (λ (s : State). s.arrays) c.self.view_is) (run_writable c.args.self.now c.args.run is c.requires.run) c.index-array.ensures in
     is.arrays.form c.args.run.array a here.0 here.1
+
+pub write_words-requires-clause-limits : goal.write_words-requires-clause-limits
+write_words-requires-clause-limits g c = c.tile_words-n.ensures.limits
+
+pub write_words-requires-clause-bounded : goal.write_words-requires-clause-bounded
+write_words-requires-clause-bounded g c = c.requires.bounded
 
 pub write_words-requires-clause-inside : goal.write_words-requires-clause-inside
 write_words-requires-clause-inside g c =
@@ -85,3 +103,18 @@ returns-clause-others g c =
     let a = c.index-array.result.now in
     let here = array_at (λ (x : ArrayRef). x.writable ≡ true) c.self.inside.arrays.items now.arrays c.args.run.array a (ap (λ (s : State). s.arrays) c.self.view_is) (run_writable now c.args.run is c.requires.run) c.index-array.ensures in
     writes_differ now a c.args.run.array _ _ here.0 here.1 c.write_words.ensures.others c.write_words.ensures.begins
+
+pub returns-in_err-write_words-clause-written : goal.returns-in_err-write_words-clause-written
+returns-in_err-write_words-clause-written g c = IfOk-from_err c.from_residual.result _ c.from_residual.ensures.0
+
+pub returns-in_err-write_words-clause-cause : goal.returns-in_err-write_words-clause-cause
+returns-in_err-write_words-clause-cause g c = cause_of_failure (g.D.Disk.faults c.args.disk.now) (g.D.Disk.faults c.write_words.new.disk) _ c.in_err-write_words.ensures.cause
+
+pub returns-in_err-write_words-clause-told : goal.returns-in_err-write_words-clause-told
+returns-in_err-write_words-clause-told g c = λ none. absurd (none c.from_residual.ensures.0)
+
+pub returns-clause-cause : goal.returns-clause-cause
+returns-clause-cause g c = c.in_ok-write_words.ensures.cause
+
+pub returns-clause-told : goal.returns-clause-told
+returns-clause-told g c = c.in_ok-write_words.ensures.told
