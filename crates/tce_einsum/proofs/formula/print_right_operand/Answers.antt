@@ -1,7 +1,25 @@
 use Rattle.std.proofs.Common.{[], sym, ◌∙◌}
-use Rattle.std.proofs.lemmas.Result.{on_ok_weaker}
+use Rattle.std.proofs.lemmas.Result.{err_from_is_err_and, on_ok_weaker}
 use Rattle.tce_einsum.proofs.Tasks.{plain_done, grouped_done}
 use Rattle.tce_einsum.proofs.formula.print_right_operand.Goals as goal
+
+pub returns-in_err-push-clause-printed : goal.returns-in_err-push-clause-printed
+returns-in_err-push-clause-printed c = let p = err_from_is_err_and c.from_residual.result c.from_residual.ensures.1 in rw p.1 tt
+
+pub returns-in_err-push-clause-tasks : goal.returns-in_err-push-clause-tasks
+returns-in_err-push-clause-tasks c = let p = err_from_is_err_and c.from_residual.result c.from_residual.ensures.1 in rw p.1 tt
+
+pub returns-in_err-push-clause-less : goal.returns-in_err-push-clause-less
+returns-in_err-push-clause-less c = let p = err_from_is_err_and c.from_residual.result c.from_residual.ensures.1 in rw p.1 tt
+
+pub returns-in_err-push_symbol-clause-printed : goal.returns-in_err-push_symbol-clause-printed
+returns-in_err-push_symbol-clause-printed c = let p = err_from_is_err_and c.from_residual-in_err-push_symbol.result c.from_residual-in_err-push_symbol.ensures.1 in rw p.1 tt
+
+pub returns-in_err-push_symbol-clause-tasks : goal.returns-in_err-push_symbol-clause-tasks
+returns-in_err-push_symbol-clause-tasks c = let p = err_from_is_err_and c.from_residual-in_err-push_symbol.result c.from_residual-in_err-push_symbol.ensures.1 in rw p.1 tt
+
+pub returns-in_err-push_symbol-clause-less : goal.returns-in_err-push_symbol-clause-less
+returns-in_err-push_symbol-clause-less c = let p = err_from_is_err_and c.from_residual-in_err-push_symbol.result c.from_residual-in_err-push_symbol.ensures.1 in rw p.1 tt
 
 pub returns-then-not-is_product-clause-printed : goal.returns-then-not-is_product-clause-printed
 returns-then-not-is_product-clause-printed c = λ ss.
