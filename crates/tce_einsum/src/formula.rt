@@ -12,7 +12,7 @@ ghost use Rattle.tce_einsum.specs.ProducedCode.{task_tokens, pending, IsTask, Ar
 
 use crate::entries::Node;
 use crate::size::Size;
-use crate::words::{operand_name, push_bracketed, push_letters, push_symbol, push_word};
+use crate::words::{push_letters, push_operand_name, push_symbol, push_word};
 use std::alloc::{AllocError, Global};
 use tce_grammar::Printer;
 
@@ -51,21 +51,6 @@ fn letters_of(alloc: Global, sizes: &[Size], numbers: &[u8]) -> Result<Vec<u8>, 
     Ok(found)
 }
 
-/// Prints an operand with letters in brackets.
-fn push_lettered(
-    alloc: Global,
-    printer: &mut Printer,
-    operand: u64,
-    letters: &[u8],
-) -> Result<(), AllocError>
-    ensures { OnOk result (printer.new ≡ with_tokens printer.old (bracketed (produced.operand_name operand) (produced.letter_names letters.now))) }
-{
-    let name = operand_name(alloc, operand)?;
-    let pushed = push_bracketed(printer, name.as_str(), letters);
-    drop(name);
-    pushed
-}
-
 /// Prints an operand with its labels in brackets.
 fn push_operand(
     alloc: Global,
@@ -78,22 +63,10 @@ fn push_operand(
         (bracketed (produced.operand_name operand) (produced.label_names (code.sizes sizes.now) labels.now))) }
 {
     let letters = letters_of(alloc, sizes, labels)?;
-    let pushed = push_lettered(alloc, printer, operand, letters.as_slice());
-    drop(letters);
-    pushed
-}
-
-/// Prints the word of a sum and letters as its indexes, and opens its parenthesis.
-fn push_sum(printer: &mut Printer, letters: &[u8]) -> Result<(), AllocError>
-    ensures { OnOk result (printer.new ≡ with_tokens printer.old
-        (tokens.word (codes "sum") ∷ tokens.symbol 123
-        ∷ (listed (produced.letter_names letters.now) ++ tokens.symbol 125 ∷ tokens.symbol 40 ∷ []))) }
-{
-    push_word(printer, "sum")?;
-    push_symbol(printer, b'{')?;
-    push_letters(printer, letters)?;
-    push_symbol(printer, b'}')?;
-    push_symbol(printer, b'(')
+    push_operand_name(alloc, printer, operand)?;
+    push_symbol(printer, b'[')?;
+    push_letters(printer, letters.as_slice())?;
+    push_symbol(printer, b']')
 }
 
 /// Prints the word and the indexes of a sum, and opens its parenthesis.
@@ -108,9 +81,11 @@ fn push_summed(
         ∷ (listed (produced.label_names (code.sizes sizes.now) labels.now) ++ tokens.symbol 125 ∷ tokens.symbol 40 ∷ []))) }
 {
     let letters = letters_of(alloc, sizes, labels)?;
-    let pushed = push_sum(printer, letters.as_slice());
-    drop(letters);
-    pushed
+    push_word(printer, "sum")?;
+    push_symbol(printer, b'{')?;
+    push_letters(printer, letters.as_slice())?;
+    push_symbol(printer, b'}')?;
+    push_symbol(printer, b'(')
 }
 
 fn push_three(

@@ -15,7 +15,7 @@ ghost use Rattle.tce_einsum.specs.ProducedCode.{tiled, tileds};
 use crate::ranges::{Tiled, ranges_of_labels};
 use crate::size::Size;
 use crate::words::{
-    operand_name, push_letter, push_range_name, push_range_names, push_symbol, push_word,
+    push_letter, push_operand_name, push_range_name, push_range_names, push_symbol, push_word,
 };
 use std::alloc::{AllocError, Global};
 use tce_grammar::{Printer, Token};
@@ -64,42 +64,6 @@ pub(crate) fn print_ranges(
     Ok(())
 }
 
-/// Prints the line of a tensor over these ranges.
-fn print_tensor(
-    alloc: Global,
-    printer: &mut Printer,
-    name: &str,
-    ranges: &[usize],
-) -> Result<(), AllocError>
-    ensures { OnOk result (printer.new ≡ with_line printer.old (declaration name.now (map produced.range_name ranges.now))) }
-{
-    push_word(printer, "tensor")?;
-    push_word(printer, name)?;
-    push_symbol(printer, b'[')?;
-    push_range_names(alloc, printer, ranges)?;
-    push_symbol(printer, b']')?;
-    printer.end_line()
-}
-
-/// Prints the line of a tensor over the ranges of labels.
-fn print_labeled(
-    alloc: Global,
-    printer: &mut Printer,
-    name: &str,
-    sizes: &[Size],
-    numbers: &[usize],
-    labels: &[u8],
-) -> Result<(), AllocError>
-    requires { numbers.now ≡ produced.range_numbers (code.sizes sizes.now) }
-    ensures { OnOk result (printer.new ≡ with_line printer.old
-        (declaration name.now (produced.range_names (code.sizes sizes.now) labels.now))) }
-{
-    let ranges = ranges_of_labels(alloc, sizes, numbers, labels)?;
-    let printed = print_tensor(alloc, printer, name, ranges.as_slice());
-    drop(ranges);
-    printed
-}
-
 fn print_operand(
     alloc: Global,
     printer: &mut Printer,
@@ -111,10 +75,13 @@ fn print_operand(
     requires { numbers.now ≡ produced.range_numbers (code.sizes sizes.now) }
     ensures { OnOk result (printer.new ≡ with_line printer.old (produced.operand_statement (code.sizes sizes.now) operand labels.now)) }
 {
-    let name = operand_name(alloc, operand)?;
-    let printed = print_labeled(alloc, printer, name.as_str(), sizes, numbers, labels);
-    drop(name);
-    printed
+    let ranges = ranges_of_labels(alloc, sizes, numbers, labels)?;
+    push_word(printer, "tensor")?;
+    push_operand_name(alloc, printer, operand)?;
+    push_symbol(printer, b'[')?;
+    push_range_names(alloc, printer, ranges.as_slice())?;
+    push_symbol(printer, b']')?;
+    printer.end_line()
 }
 
 /// Prints a line for each operand.
@@ -151,7 +118,13 @@ pub(crate) fn print_result(
     ensures { OnOk result (printer.new ≡ with_line printer.old
         (declaration produced.result_name (produced.range_names (code.sizes sizes.now) labels.now))) }
 {
-    print_labeled(alloc, printer, "Y", sizes, numbers, labels)
+    let ranges = ranges_of_labels(alloc, sizes, numbers, labels)?;
+    push_word(printer, "tensor")?;
+    push_word(printer, "Y")?;
+    push_symbol(printer, b'[')?;
+    push_range_names(alloc, printer, ranges.as_slice())?;
+    push_symbol(printer, b']')?;
+    printer.end_line()
 }
 
 /// The end of the sizes from `first` on that are of its range.

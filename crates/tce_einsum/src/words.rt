@@ -1,7 +1,6 @@
 //! Names and lists of names, as they are printed.
 
-ghost use Rattle.std.specs.Prelude.{◌≡◌, ◌∷◌, ◌++◌, [], map, codes, OnOk, IfOk};
-ghost use Rattle.std.specs.String.{string_bytes};
+ghost use Rattle.std.specs.Prelude.{◌≡◌, ◌∷◌, ◌++◌, [], map, codes, OnOk};
 ghost use Rattle.std.specs.Fmt.{decimal};
 ghost use Rattle.tce_grammar.specs.Tokens as tokens;
 ghost use Rattle.tce_grammar.specs.Grammar.{listed, bracketed};
@@ -40,10 +39,15 @@ pub(crate) fn push_range_name(
     push_word(printer, name.as_str())
 }
 
-pub(crate) fn operand_name(alloc: Global, operand: u64) -> Result<String, AllocError>
-    ensures { IfOk result (λ name. string_bytes name ≡ operand_name operand) }
+pub(crate) fn push_operand_name(
+    alloc: Global,
+    printer: &mut Printer,
+    operand: u64,
+) -> Result<(), AllocError>
+    ensures { OnOk result (printer.new ≡ with_token printer.old (tokens.word (operand_name operand))) }
 {
-    format!(in alloc; "X{operand}")
+    let name = format!(in alloc; "X{operand}")?;
+    push_word(printer, name.as_str())
 }
 
 /// Prints a letter, and a comma if others stand behind it.
@@ -68,20 +72,6 @@ pub(crate) fn push_letters(printer: &mut Printer, letters: &[u8]) -> Result<(), 
         rest = behind;
     }
     Ok(())
-}
-
-/// Prints a name, and letters behind it in brackets.
-pub(crate) fn push_bracketed(
-    printer: &mut Printer,
-    name: &str,
-    letters: &[u8],
-) -> Result<(), AllocError>
-    ensures { OnOk result (printer.new ≡ with_tokens printer.old (bracketed name.now (letter_names letters.now))) }
-{
-    push_word(printer, name)?;
-    push_symbol(printer, b'[')?;
-    push_letters(printer, letters)?;
-    push_symbol(printer, b']')
 }
 
 /// Prints the name of a range, and a comma if others stand behind it.

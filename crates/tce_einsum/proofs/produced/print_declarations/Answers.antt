@@ -1,16 +1,31 @@
-use Rattle.std.proofs.Common.{◌++◌, ◌∙◌}
-use Rattle.tce_canonical.specs.Lines.{with_lines}
+use Rattle.std.proofs.Common.{List, ◌∙◌}
+use Rattle.tce_fields.specs.Reading.{texts}
+use Rattle.tce_canonical.specs.Lines.{with_line, with_lines}
 use Rattle.tce_einsum.specs.Text as text
 use Rattle.tce_einsum.specs.Code as code
-use Rattle.tce_einsum.specs.Produced.{range_statements, index_statements, tensor_statements}
-use Rattle.tce_einsum.proofs.ProducedLines.{lines_behind}
+use Rattle.tce_einsum.specs.Entries.{numbered}
+use Rattle.tce_einsum.specs.Produced.{range_statement, range_statements, index_statements, operand_statement, result_statement, range_names, result_name}
+use Rattle.tce_grammar.specs.Grammar.{declaration}
+use Rattle.tce_einsum.specs.ProducedCode.{tileds}
+use Rattle.tce_einsum.proofs.ProducedLines.{declared_lines}
 use Rattle.tce_einsum.proofs.Tasks.{on_ok}
 use Rattle.tce_einsum.proofs.produced.print_declarations.Goals as goal
 
 pub returns : goal.returns
 returns c =
     let x : text.Einsum = code.einsum c.args.whole.now in
-    on_ok c.print_labels-printed.result
-    (lines_behind c.args.printer.now c.print_sizes.new.printer c.print_labels-printed.new.printer (range_statements x.sizes) (index_statements x.sizes ++ tensor_statements x)
-    (c.in_ok-numbers.ensures.printed ∙ (λ i. with_lines c.args.printer.now (range_statements (code.sizes (c.as_slice.ensures.value i))))))
-    c.print_labels-printed.ensures
+    let ss : List text.Size = x.sizes in
+    let sizes = c.as_slice-sizes.ensures.value in
+    on_ok c.print_result.result
+    (λ printed.
+    declared_lines c.args.printer.now c.print_ranges.new.printer c.print_indexes.new.printer c.print_operands.new.printer c.print_result.new.printer
+    (range_statements ss) (index_statements ss) (numbered (operand_statement ss) 0 x.operands) (result_statement x)
+    (c.in_ok-print_ranges.ensures
+    ∙ (λ i. with_lines c.args.printer.now (numbered range_statement 0 (tileds (c.as_slice-2.ensures.value i))))
+    ∙ (λ i. with_lines c.args.printer.now (numbered range_statement 0 (c.in_ok-ranges.ensures i)))
+    ∙ (λ i. with_lines c.args.printer.now (range_statements (code.sizes (sizes i)))))
+    (c.in_ok-print_indexes.ensures ∙ (λ i. with_lines c.print_ranges.new.printer (index_statements (code.sizes (sizes i)))))
+    (c.in_ok-print_operands.ensures
+    ∙ (λ i. with_lines c.print_indexes.new.printer (numbered (operand_statement (code.sizes (sizes i))) 0 (texts (c.as_slice-3.ensures.value i)))))
+    (printed ∙ (λ i. with_line c.print_operands.new.printer (declaration result_name (range_names (code.sizes (sizes i)) x.output)))))
+    c.print_result.ensures

@@ -1,14 +1,20 @@
-use Rattle.std.proofs.Common.{List, ap, ◌∙◌}
-use Rattle.std.proofs.lemmas.Result.{IfOk-weaker}
-use Rattle.tce_tree.specs.ContractionTree.{ContractionTree}
-use Rattle.tce_grammar.specs.Canonical.{canonical_text}
+use Rattle.std.proofs.Common.{List, ◌∙◌}
+use Rattle.tce_canonical.specs.Lines.{with_line}
+use Rattle.tce_einsum.specs.Text as text
+use Rattle.tce_einsum.specs.Path as path
 use Rattle.tce_einsum.specs.Code as code
 use Rattle.tce_einsum.specs.Entries.{entry_at}
-use Rattle.tce_einsum.specs.Produced.{statements}
+use Rattle.tce_einsum.specs.Numbered.{contraction_of}
+use Rattle.tce_einsum.specs.Produced.{range_statements, index_statements, tensor_statements, formula_statement}
+use Rattle.tce_einsum.proofs.ProducedLines.{all_printed}
 use Rattle.tce_einsum.proofs.produced.print_produced.Goals as goal
 
 pub returns : goal.returns
 returns c =
-    IfOk-weaker c.print_left-text.result _ _
-    (λ text is. is ∙ ap (λ (trees : List ContractionTree). canonical_text (statements (code.einsum c.args.input.now.einsum) (entry_at trees 0))) c.in_ok-left.ensures.tree)
-    c.print_left-text.ensures
+    let x : text.Einsum = code.einsum c.args.input.now.einsum in
+    let items : List path.Item = code.items c.args.input.now.items.items in
+    c.into_text.ensures
+    ∙ all_printed c.new-printer.result c.print_declarations.new.printer c.print_formula.new.printer
+    (range_statements x.sizes) (index_statements x.sizes) (tensor_statements x) (formula_statement x (contraction_of x items))
+    c.new-printer.ensures c.in_ok-print_declarations.ensures
+    (c.in_ok-print_formula.ensures ∙ (λ i. with_line c.print_declarations.new.printer (formula_statement x (entry_at (c.in_ok-left.ensures.tree i) 0))))
