@@ -1,5 +1,5 @@
 -- Decimal texts and how they begin.
-use Rattle.std.proofs.Common.{◌≡◌, ◌≢◌, refl, sym, ◌∙◌, ap, subst, ℕ, zero, suc, ◌<◌, ◌^◌, true, List, [], ◌∷◌, length, get_or, arith, Result, Ok, Err, rules}
+use Rattle.std.proofs.Common.{◌≡◌, ◌≢◌, refl, sym, ◌∙◌, ap, subst, ℕ, zero, suc, ◌<◌, ◌^◌, Bool, true, false, List, [], ◌∷◌, length, get_or, arith, Result, Ok, Err, rules}
 use Rattle.std.specs.Fmt.{decimal}
 use Rattle.std.specs.Str.Parse.{AllDigits, digits_value, ParsesUnsigned}
 use Rattle.std.specs.Int.{IsInRange}
@@ -41,6 +41,13 @@ lead_alone : (ds : List ℕ) → starts_as_number ds ≡ true → get_or ds 0 0 
 lead_alone [] e first = cc
 lead_alone (b ∷ []) e first = refl
 lead_alone (b ∷ c ∷ bs) e first = let f : starts_as_number (48 ∷ c ∷ bs) ≡ true = subst (λ x. starts_as_number (x ∷ c ∷ bs) ≡ true) first e in absurd (cc)
+
+-- tests and answers have one value
+pub not_both : (b : Bool) → b ≡ true → b ≡ false → ⊥
+not_both b is_true is_false = cc
+
+pub not_read : {E : Type 0} (r : Result ℕ E) (value : ℕ) (fault : E) → r ≡ Ok value → r ≡ Err fault → ⊥
+not_read r value fault read failed = cc
 
 -- the text of a number that was parsed is its decimal text
 pub parsed_text : {E : Type 0} (ds : List ℕ) (value : ℕ) (r : Result ℕ E) → starts_as_number ds ≡ true → ParsesUnsigned 64 10 ds r → r ≡ Ok value → ds ≡ decimal value

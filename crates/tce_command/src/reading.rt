@@ -61,10 +61,19 @@ fn read_with_one<'a>(verb: &str, spec: &'a str, last: &'a str) -> Option<Command
     if verb == "expand" {
         return read_expand(spec, last);
     }
-    if !may_name_file(".cert", last) {
+    read_with_certificate(verb, spec, last)
+}
+
+fn read_with_certificate<'a>(verb: &str, spec: &'a str, cert: &'a str) -> Option<Command<'a>>
+    requires spec { NamesSpec spec.now }
+    requires run { verb.now ≢ codes "run" }
+    requires batch { verb.now ≢ codes "batch" }
+    requires expand { verb.now ≢ codes "expand" }
+    ensures { ReadsCommand (verb.now ∷ spec.now ∷ cert.now ∷ []) result }
+{
+    if !may_name_file(".cert", cert) {
         return None;
     }
-    let cert = last;
     if verb == "cert" {
         Some(Command::Cert { spec, cert })
     } else if verb == "check" {
@@ -109,8 +118,10 @@ fn read_with_three<'a>(
         read_einsum(first, second, last)
     } else if verb == "spill" {
         read_spill(first, second.as_bytes(), last.as_bytes())
+    } else if verb == "convert" {
+        read_convert(first, second, last)
     } else {
-        read_on_tensor(verb, first, second, last)
+        read_with_flat(verb, first, second, last)
     }
 }
 
@@ -147,28 +158,34 @@ fn read_spill<'a>(spec: &'a str, budget: &[u8], limit: &[u8]) -> Option<Command<
     })
 }
 
-fn read_on_tensor<'a>(
-    verb: &str,
-    spec: &'a str,
-    tensor: &'a str,
-    last: &'a str,
-) -> Option<Command<'a>>
-    requires demo { verb.now ≢ codes "demo" }
-    requires einsum { verb.now ≢ codes "einsum" }
-    requires spill { verb.now ≢ codes "spill" }
-    ensures { ReadsCommand (verb.now ∷ spec.now ∷ tensor.now ∷ last.now ∷ []) result }
+fn read_convert<'a>(spec: &'a str, tensor: &'a str, form: &str) -> Option<Command<'a>>
+    ensures { ReadsCommand (codes "convert" ∷ spec.now ∷ tensor.now ∷ form.now ∷ []) result }
 {
     if !may_name_file(".tce", spec) || !is_name(tensor.as_bytes()) {
         return None;
     }
-    if verb == "convert" {
-        let form = read_form(last)?;
-        return Some(Command::Convert { spec, tensor, form });
-    }
-    if !may_name_file(".flat", last) {
+    let form = read_form(form)?;
+    Some(Command::Convert { spec, tensor, form })
+}
+
+fn read_with_flat<'a>(
+    verb: &str,
+    spec: &'a str,
+    tensor: &'a str,
+    flat: &'a str,
+) -> Option<Command<'a>>
+    requires demo { verb.now ≢ codes "demo" }
+    requires einsum { verb.now ≢ codes "einsum" }
+    requires spill { verb.now ≢ codes "spill" }
+    requires convert { verb.now ≢ codes "convert" }
+    ensures { ReadsCommand (verb.now ∷ spec.now ∷ tensor.now ∷ flat.now ∷ []) result }
+{
+    if !may_name_file(".tce", spec) || !is_name(tensor.as_bytes()) {
         return None;
     }
-    let flat = last;
+    if !may_name_file(".flat", flat) {
+        return None;
+    }
     if verb == "pack" {
         Some(Command::Pack { spec, tensor, flat })
     } else if verb == "unpack" {

@@ -1,5 +1,6 @@
 // The lines of refused certificates. They take no memory.
-ghost use Rattle.std.specs.Prelude.{◌≡◌, ◌+◌, ◌*◌, ◌≤◌, ◌++◌, length, All};
+ghost use Rattle.std.specs.Prelude.{◌≡◌, ◌+◌, ◌*◌, ◌≤◌, ◌++◌, length, codes, All};
+ghost use Rattle.std.specs.Fmt.{decimal};
 ghost use Rattle.tce_space.specs.Limits.{max_loops};
 ghost use Rattle.tce_space.specs.Space.{IsDeclared};
 ghost use Rattle.tce_report.specs.NodeLine.{set_text};
@@ -41,28 +42,40 @@ fn push_flaw(line: &mut LongText, space: &Space, flaw: &CertFlaw)
     ensures room { length line.new.bytes ≤ 4690 }
 {
     match flaw {
-        CertFlaw::BadText(at) => {
-            line.push_str(numbered("line ", *at as u128, ": bad text").as_str())
-        }
+        CertFlaw::BadText(at) => push_numbered(line, "line ", *at as u128, ": bad text"),
         CertFlaw::WrongTree(at) => {
-            line.push_str(numbered("line ", *at as u128, ": does not fit the tree").as_str())
+            push_numbered(line, "line ", *at as u128, ": does not fit the tree")
         }
-        CertFlaw::NotLegal(v) => {
-            line.push_str(numbered("node ", *v as u128, ": fusion not legal").as_str())
-        }
-        CertFlaw::OrderWrong(v) => {
-            line.push_str(numbered("node ", *v as u128, ": loop order").as_str())
-        }
-        CertFlaw::SizeWrong(v, size) => {
-            line.push_str(numbered("node ", *v as u128, ": size ").as_str());
-            line.push_str(decimal_text(*size).as_str())
-        }
-        CertFlaw::TotalWrong(total) => line.push_str(numbered("memory ", *total, "").as_str()),
+        CertFlaw::NotLegal(v) => push_numbered(line, "node ", *v as u128, ": fusion not legal"),
+        CertFlaw::OrderWrong(v) => push_numbered(line, "node ", *v as u128, ": loop order"),
+        CertFlaw::SizeWrong(v, size) => push_size(line, *v, *size),
+        CertFlaw::TotalWrong(total) => push_numbered(line, "memory ", *total, ""),
         CertFlaw::NotCovered(v, fused, classes, cost) => {
             push_step(line, space, *v, *fused, classes, *cost)
         }
-        CertFlaw::BelowTotal(sum) => line.push_str(numbered("below total ", *sum, "").as_str()),
+        CertFlaw::BelowTotal(sum) => push_numbered(line, "below total ", *sum, ""),
     }
+}
+
+// Appends a number between two texts.
+fn push_numbered(line: &mut LongText, before: &str, number: u128, after: &str)
+    requires parts { length before.now + length after.now ≤ 216 }
+    requires room { length line.old.bytes + length before.now + 40 + length after.now ≤ 4700 }
+    ensures text { line.new.bytes ≡ line.old.bytes ++ (before.now ++ decimal number ++ after.now) }
+    ensures length { length line.new.bytes ≤ length line.old.bytes + length before.now + 40 + length after.now }
+{
+    line.push_str(numbered(before, number, after).as_str());
+}
+
+// The size that a node's array has.
+fn push_size(line: &mut LongText, v: u8, size: u128)
+    requires { length line.old.bytes ≤ 9 }
+    ensures text { line.new.bytes
+        ≡ line.old.bytes ++ (codes "node " ++ decimal v ++ codes ": size " ++ decimal size) }
+    ensures length { length line.new.bytes ≤ 200 }
+{
+    push_numbered(line, "node ", v as u128, ": size ");
+    line.push_str(decimal_text(size).as_str());
 }
 
 // The step for which no row stands.
@@ -81,11 +94,11 @@ fn push_step(
         ≡ line.old.bytes ++ reports.step_text space.now v fused classes.now cost }
     ensures room { length line.new.bytes ≤ 4690 }
 {
-    line.push_str(numbered("node ", v as u128, ": fused ").as_str());
+    push_numbered(line, "node ", v as u128, ": fused ");
     push_set(line, space, fused);
     line.push_str(" classes ");
     push_classes(line, space, classes.classes());
-    line.push_str(numbered(" cost ", cost, " not covered").as_str());
+    push_numbered(line, " cost ", cost, " not covered");
 }
 
 // Appends the classes with `/` between them, or `-` where there are none.

@@ -190,3 +190,37 @@ sum_done ss nodes stack after p p1 k o n d labels ordered inside e bound is task
       tasks = subst (AreTasks nodes) (sym pushed) (All-push (IsTask nodes) one (Whole o) (All-push (IsTask nodes) stack (Symbol 41) tasks tt) in_o);
       less = omega (arith, w, w2, w1, w0);
     }
+
+-- an operand on the right that is no product, and one that is
+pub plain_done : (ss : List text.Size) (nodes : List Node) (stack after : List Task) (p : Printing) (k : ℕ) → k < length nodes → AreTasks nodes stack → after ≡ stack ++ Whole k ∷ []
+    → false ≡ nat_le (level (written_at ss nodes k)) 2 → IsDone ss nodes stack after p p (task_tokens ss nodes (RightOperand k)) (weight nodes (RightOperand k))
+plain_done ss nodes stack after p k inside tasks pushed loose =
+    let w1 = weight_pushed nodes stack (Whole k) in
+    let w : stack_weight nodes after ≡ stack_weight nodes (stack ++ Whole k ∷ []) = ap (stack_weight nodes) pushed in
+    record {
+      printed = ap (λ (ts : List Task). with_tokens p (pending ss nodes ts)) pushed ∙ ap (with_tokens p) (pending_pushed ss nodes stack (Whole k))
+          ∙ ap (λ b. with_tokens p (spelling (grouped_if b (written_at ss nodes k)) ++ pending ss nodes stack)) loose;
+      tasks = subst (AreTasks nodes) (sym pushed) (All-push (IsTask nodes) stack (Whole k) tasks inside);
+      less = omega (arith, w, w1);
+    }
+
+pub grouped_done : (ss : List text.Size) (nodes : List Node) (stack after : List Task) (p p1 : Printing) (k : ℕ) → k < length nodes → AreTasks nodes stack
+    → p1 ≡ with_token p (symbol 40) → after ≡ (stack ++ Symbol 41 ∷ []) ++ Whole k ∷ [] → true ≡ nat_le (level (written_at ss nodes k)) 2
+    → IsDone ss nodes stack after p p1 (task_tokens ss nodes (RightOperand k)) (weight nodes (RightOperand k))
+grouped_done ss nodes stack after p p1 k inside tasks e1 pushed tight =
+    let so : List Token = spelling (written_at ss nodes k) in
+    let rest : List Token = pending ss nodes stack in
+    let one : List Task = stack ++ Symbol 41 ∷ [] in
+    let left_over : pending ss nodes (one ++ Whole k ∷ []) ≡ so ++ (symbol 41 ∷ rest) =
+    pending_pushed ss nodes one (Whole k) ∙ ap (λ (ts : List Token). so ++ ts) (pending_pushed ss nodes stack (Symbol 41)) in
+    let w2 = weight_pushed nodes one (Whole k) in
+    let w1 = weight_pushed nodes stack (Symbol 41) in
+    let w : stack_weight nodes after ≡ stack_weight nodes (one ++ Whole k ∷ []) = ap (stack_weight nodes) pushed in
+    record {
+      printed = ap (λ (ts : List Task). with_tokens p1 (pending ss nodes ts)) pushed ∙ ap (with_tokens p1) left_over
+          ∙ ap (λ q. with_tokens q (so ++ (symbol 41 ∷ rest))) e1
+          ∙ ap (λ (ts : List Token). with_tokens p (symbol 40 ∷ ts)) (sym (append_assoc so (symbol 41 ∷ []) rest))
+          ∙ ap (λ b. with_tokens p (spelling (grouped_if b (written_at ss nodes k)) ++ rest)) tight;
+      tasks = subst (AreTasks nodes) (sym pushed) (All-push (IsTask nodes) one (Whole k) (All-push (IsTask nodes) stack (Symbol 41) tasks tt) inside);
+      less = omega (arith, w, w2, w1);
+    }

@@ -1,5 +1,5 @@
 -- Node lines by their fields.
-use Rattle.std.proofs.Common.{◌≡◌, ℕ, ◌<◌, ◌≤◌, ◌↔◌, true, List, [], ◌∷◌, ◌++◌, length, get_or, drop, codes, Option, Some, None, refl, sym, ap, ap₂, subst, ◌∙◌, append_assoc, arith}
+use Rattle.std.proofs.Common.{◌≡◌, ◌≢◌, ℕ, ◌<◌, ◌≤◌, ◌↔◌, true, List, [], ◌∷◌, ◌++◌, length, get_or, drop, codes, Option, Some, None, refl, sym, ap, ap₂, subst, ◌∙◌, append_assoc, arith}
 use Rattle.std.specs.Borrow.{Bor}
 use Rattle.std.specs.Fmt.{decimal}
 use Rattle.std.specs.List.{list_all, join_with_byte}
@@ -101,13 +101,32 @@ no_size fs some few number value = ((λ e. absurd (none-some value e)), (λ is. 
 abbrev pub IsLine : List (Bor (List ℕ)) → Form → Type 0
 IsLine fs form = IsForm form × (texts fs ≡ form_fields form)
 
+record LineParts (fs : List (Bor (List ℕ))) (value : Form) : Type 0 where
+  node_word : field fs 0 ≡ codes "node"
+  number : IsNumber (field fs 1) value.node
+  kind : field fs 2 ≡ kind_word value.kind
+  loops_word : field fs 3 ≡ codes "loops"
+  order : AreListed 10 (field fs 4) value.order
+  array : IsArray (drop 5 fs) value.array
+
+line_parts : (fs : List (Bor (List ℕ))) (value : Form) → 5 ≤ length fs → IsLine fs value → LineParts fs value
+line_parts fs value some is =
+    let all = sym (five_fields fs some) ∙ is.1 in record {
+      node_word = ap (λ l. get_or l 0 []) all;
+      number = record { limit = is.0.node; text_is = ap (λ l. get_or l 1 []) all };
+      kind = ap (λ l. get_or l 2 []) all;
+      loops_word = ap (λ l. get_or l 3 []) all;
+      order = record { few = is.0.order.few; named = is.0.order.named; text_is = ap (λ l. get_or l 4 []) all };
+      array = (is.0.array, ap (drop 5) all);
+    }
+
 pub line_read : (fs rest : List (Bor (List ℕ))) (node : ℕ) (kind : Kind) (order : List (List ℕ)) (array : Option ArrayForm) → 5 ≤ length fs → rest ≡ drop 5 fs → field fs 0 ≡ codes "node" → field fs 3 ≡ codes "loops"
     → ((value : ℕ) → (Some node ≡ Some value) ↔ IsNumber (field fs 1) value) → ((value : Kind) → (Some kind ≡ Some value) ↔ (field fs 2 ≡ kind_word value))
     → ((value : List (List ℕ)) → (Some order ≡ Some value) ↔ AreListed 10 (field fs 4) value) → ((value : Option ArrayForm) → (Some array ≡ Some value) ↔ IsArray rest value)
     → (value : Form) → (Some (record { node = node; kind = kind; order = order; array = array }) ≡ Some value) ↔ IsLine fs value
 line_read fs rest node kind order array some behind node_word loops_word number word names ends value = (
   (λ e. subst (IsLine fs) (same_Some _ value e) here),
-  (λ is. ap (λ v. Some v) (same_form is.0 (sym (five_fields fs some) ∙ is.1))),
+  (λ is. ap (λ v. Some v) (same_form (line_parts fs value some is))),
 )
   where
     here : IsLine fs (record { node = node; kind = kind; order = order; array = array })
@@ -121,15 +140,43 @@ line_read fs rest node kind order array some behind node_word loops_word number 
               (ap₂ (λ a b. a ∷ b) loops_word (ap₂ (λ a b. a ∷ b) listed_are.text_is (ap texts (sym behind) ∙ array_is.1))))),
         )
 
-    same_form : IsForm value → field fs 0 ∷ field fs 1 ∷ field fs 2 ∷ field fs 3 ∷ field fs 4 ∷ texts (drop 5 fs) ≡ form_fields value
-        → record { node = node; kind = kind; order = order; array = array } ≡ value
-    same_form fits all =
-        let is_node : node ≡ value.node = same_Some node value.node ((number value.node).1 (record { limit = fits.node; text_is = ap (λ l. get_or l 1 []) all })) in
-        let is_kind : kind ≡ value.kind = same_Some kind value.kind ((word value.kind).1 (ap (λ l. get_or l 2 []) all)) in
-        let is_order : order ≡ value.order =
-        same_Some order value.order ((names value.order).1 (record { few = fits.order.few; named = fits.order.named; text_is = ap (λ l. get_or l 4 []) all })) in
-        let is_array : array ≡ value.array = same_Some array value.array ((ends value.array).1 (fits.array, ap texts behind ∙ ap (drop 5) all)) in
+    same_form : LineParts fs value → record { node = node; kind = kind; order = order; array = array } ≡ value
+    same_form parts =
+        let is_node : node ≡ value.node = same_Some node value.node ((number value.node).1 parts.number) in
+        let is_kind : kind ≡ value.kind = same_Some kind value.kind ((word value.kind).1 parts.kind) in
+        let is_order : order ≡ value.order = same_Some order value.order ((names value.order).1 parts.order) in
+        let is_array : array ≡ value.array = same_Some array value.array ((ends value.array).1 (subst (λ fields. IsArray fields value.array) (sym behind) parts.array)) in
         λ i. record { node = is_node i; kind = is_kind i; order = is_order i; array = is_array i }
+
+-- a line that lacks a part is none
+no_line : (fs : List (Bor (List ℕ))) → ((value : Form) → IsLine fs value → ⊥) → (value : Form) → (None ≡ Some value) ↔ IsLine fs value
+no_line fs none value = ((λ e. absurd (none-some value e)), (λ is. absurd (none value is)))
+
+missing : {A : Type 0} (Holds : A → Type 0) (x : A) → ((value : A) → (None ≡ Some value) ↔ Holds value) → Holds x → ⊥
+missing Holds x none holds = none-some x ((none x).1 holds)
+
+pub too_few : (fs : List (Bor (List ℕ))) → length fs < 5 → (value : Form) → (None ≡ Some value) ↔ IsLine fs value
+too_few fs few = no_line fs (λ value is. omega (arith, few, texts_long fs, ap length is.1))
+
+pub no_node_word : (fs : List (Bor (List ℕ))) → 5 ≤ length fs → field fs 0 ≢ codes "node" → (value : Form) → (None ≡ Some value) ↔ IsLine fs value
+no_node_word fs some other = no_line fs (λ value is. other (line_parts fs value some is).node_word)
+
+pub no_loops_word : (fs : List (Bor (List ℕ))) → 5 ≤ length fs → field fs 3 ≢ codes "loops" → (value : Form) → (None ≡ Some value) ↔ IsLine fs value
+no_loops_word fs some other = no_line fs (λ value is. other (line_parts fs value some is).loops_word)
+
+pub no_number : (fs : List (Bor (List ℕ))) → 5 ≤ length fs → ((value : ℕ) → (None ≡ Some value) ↔ IsNumber (field fs 1) value) → (value : Form) → (None ≡ Some value) ↔ IsLine fs value
+no_number fs some none = no_line fs (λ value is. missing (IsNumber (field fs 1)) value.node none (line_parts fs value some is).number)
+
+pub no_kind : (fs : List (Bor (List ℕ))) → 5 ≤ length fs → ((value : Kind) → (None ≡ Some value) ↔ (field fs 2 ≡ kind_word value)) → (value : Form) → (None ≡ Some value) ↔ IsLine fs value
+no_kind fs some none = no_line fs (λ value is. missing (λ kind. field fs 2 ≡ kind_word kind) value.kind none (line_parts fs value some is).kind)
+
+pub no_order : (fs : List (Bor (List ℕ))) → 5 ≤ length fs → ((value : List (List ℕ)) → (None ≡ Some value) ↔ AreListed 10 (field fs 4) value) → (value : Form) → (None ≡ Some value) ↔ IsLine fs value
+no_order fs some none = no_line fs (λ value is. missing (AreListed 10 (field fs 4)) value.order none (line_parts fs value some is).order)
+
+pub no_array : (fs rest : List (Bor (List ℕ))) → 5 ≤ length fs → rest ≡ drop 5 fs → ((value : Option ArrayForm) → (None ≡ Some value) ↔ IsArray rest value)
+    → (value : Form) → (None ≡ Some value) ↔ IsLine fs value
+no_array fs rest some behind none =
+    no_line fs (λ value is. missing (IsArray rest) value.array none (subst (λ fields. IsArray fields value.array) (sym behind) (line_parts fs value some is).array))
 
 -- the text of a form is its fields with a space between each two
 behind_six : (a b c d e f g : List ℕ) → (a ++ (b ++ (c ++ (d ++ (e ++ f))))) ++ g ≡ a ++ (b ++ (c ++ (d ++ (e ++ (f ++ g)))))

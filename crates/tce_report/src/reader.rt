@@ -17,7 +17,7 @@ use tce_space::{IndexSet, LoopOrder, MAX_LOOPS, Space};
 use tce_tree::{Tree, is_order_of};
 
 /// What the line of a node says of it.
-#[derive(Clone, PartialEq, Eq, Drop)]
+#[derive(Drop)]
 pub struct NodeLine {
     /// The loops of the node, outermost first.
     pub order: LoopOrder,
@@ -28,7 +28,7 @@ pub struct NodeLine {
 }
 
 /// Why a line is none of a node.
-#[derive(Clone, Copy, PartialEq, Eq)]
+#[derive(Clone, Copy)]
 pub enum LineFault {
     /// The line has neither of the two forms of a node line.
     BadText,

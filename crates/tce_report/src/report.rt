@@ -29,6 +29,27 @@ fn push_node_lines(
     Ok(())
 }
 
+// A head line, the lines of all nodes, and an end.
+fn text_between(
+    alloc: Global,
+    head: &[u8],
+    space: &Space,
+    tree: &Tree,
+    plan: &Plan,
+    end: &str,
+) -> Result<Vec<u8>, AllocError>
+    requires declared { IsDeclaredTree space.now tree.now }
+    requires fits { PlanFits tree.now plan.now }
+    ensures { IfOk result (λ text. text.items
+        ≡ head.now ++ (reports.plan_lines space.now tree.now plan.now ++ end.now)) }
+{
+    let mut text = Vec::new(alloc);
+    text.extend_from_slice(head)?;
+    push_node_lines(&mut text, space, tree, plan)?;
+    text.extend_from_slice(end.as_bytes())?;
+    Ok(text)
+}
+
 /// The report of a plan that fits the tree: a head line, the lines of all nodes, and the memory, in elements.
 pub fn plan_text(
     alloc: Global,
@@ -40,12 +61,10 @@ pub fn plan_text(
     requires fits { PlanFits tree.now plan.now }
     ensures { IfOk result (λ text. text.items ≡ reports.plan_report space.now tree.now plan.now) }
 {
-    let mut text = Vec::new(alloc);
-    text.extend_from_slice(b"tce plan 1\n")?;
-    push_node_lines(&mut text, space, tree, plan)?;
     let end = format!(in alloc; "memory {}\n", plan.memory)?;
-    text.extend_from_slice(end.as_str().as_bytes())?;
-    Ok(text)
+    let text = text_between(alloc, b"tce plan 1\n", space, tree, plan, end.as_str());
+    drop(end);
+    text
 }
 
 /// The report of a run by a plan that fits the tree: a head line, the lines of all nodes, the memory, in elements, the words that the run took for `tiles`, and the name and the length, in bytes, of the result's file.
@@ -63,13 +82,11 @@ pub fn run_text(
     ensures { IfOk result (λ text. text.items
         ≡ reports.run_report space.now tree.now plan.now tiles file.now.bytes bytes) }
 {
-    let mut text = Vec::new(alloc);
-    text.extend_from_slice(b"tce run 1\n")?;
-    push_node_lines(&mut text, space, tree, plan)?;
     let end = format!(in alloc;
         "memory {}\ntiles {tiles}\nwrote {file} {bytes}\n",
         plan.memory
     )?;
-    text.extend_from_slice(end.as_str().as_bytes())?;
-    Ok(text)
+    let text = text_between(alloc, b"tce run 1\n", space, tree, plan, end.as_str());
+    drop(end);
+    text
 }

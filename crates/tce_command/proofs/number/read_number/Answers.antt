@@ -1,17 +1,15 @@
-use Rattle.std.proofs.Common.{◌≡◌, sym, ◌∙◌, ap, subst, true, false}
+use Rattle.std.proofs.Common.{◌≡◌, sym, ◌∙◌, ap, subst, true}
 use Rattle.std.specs.Fmt.{decimal}
 use Rattle.tce_command.specs.Number.{starts_as_number}
 use Rattle.std.proofs.lemmas.Fmt.{parse-decimal, IsAscii-decimal}
 use Rattle.std.proofs.lemmas.Str.{IsUtf8-from_ascii}
 use Rattle.std.specs.Prelude.{IsUtf8}
-use Rattle.tce_command.proofs.Numbers.{decimal_start, parsed_text}
+use Rattle.tce_command.proofs.Numbers.{decimal_start, not_both, not_read, parsed_text}
 use Rattle.tce_command.proofs.number.read_number.Goals as goal
 
 pub returns-then-not-starts_as_number : goal.returns-then-not-starts_as_number
 returns-then-not-starts_as_number c = λ n small same.
-    let start = decimal_start n small in
-    let fails : starts_as_number (decimal n) ≡ false = ap starts_as_number (sym same) ∙ sym c.starts_as_number.ensures ∙ c.if-not-starts_as_number.true in
-    cc
+    not_both (starts_as_number (decimal n)) (decimal_start n small) (ap starts_as_number (sym same) ∙ sym c.starts_as_number.ensures ∙ c.if-not-starts_as_number.true)
 
 pub returns-in_default : goal.returns-in_default
 returns-in_default c = λ n small same.
@@ -25,5 +23,4 @@ returns-in-Ok-parse c =
 
 pub returns-in-Err : goal.returns-in-Err
 returns-in-Err c = λ n small same.
-    let h = parse-decimal 64 n c.in-Ok.text.now c.parse.result small small (c.in-Ok.ensures.cases.0 ∙ same) c.parse.ensures.value.0 in
-    cc
+    not_read c.parse.result n _ (parse-decimal 64 n c.in-Ok.text.now c.parse.result small small (c.in-Ok.ensures.cases.0 ∙ same) c.parse.ensures.value.0) c.in-Err.is
