@@ -19,3 +19,4 @@ pub mod Standing
 pub mod Steppings
 pub mod Stretching
 pub mod Thinning
+pub mod SetLists

@@ -1,5 +1,5 @@
 // Places of candidates in groups, so that few of them need be compared with a state.
-ghost use Rattle.std.specs.Prelude.{◌≡◌, ◌<◌, ◌≤◌, ◌+◌, ◌*◌, ◌%◌, ℕ, replicate, slice_index_or, [], length, IfOk, OnOk, OnErr, Contains};
+ghost use Rattle.std.specs.Prelude.{◌≡◌, ◌<◌, ◌≤◌, ◌+◌, ◌*◌, ◌%◌, ℕ, map, replicate, slice_index_or, [], length, IfOk, OnOk, OnErr, Contains};
 ghost use Rattle.tce_candidates.specs.Groups.{key_of, group_of, AreByCost, ArePut};
 ghost use Rattle.tce_candidates.specs.declared.groups.Entry.{Entry};
 
@@ -94,18 +94,26 @@ fn put(entries: &mut Vec<Entry>, entry: Entry) -> Result<(), AllocError>
     Ok(())
 }
 
+// So many lists without entries.
+fn no_entries(alloc: Global, count: usize) -> Result<Vec<Vec<Entry>>, AllocError>
+    ensures empty { IfOk result (λ lists. map (λ list. list.items) lists.items ≡ replicate count []) }
+    ensures count { IfOk result (λ lists. length lists.items ≡ count) }
+{
+    let mut lists = Vec::with_capacity(alloc, count)?;
+    for _ in 0..count {
+        lists.push(Vec::new(alloc))?;
+    }
+    Ok(lists)
+}
+
 impl Groups {
     /// So many groups without entries.
     pub(crate) fn new(alloc: Global, count: usize) -> Result<Groups, AllocError>
         requires { 0 < count }
         ensures { IfOk result (λ groups. groups ≡ replicate count []) }
     {
-        let mut lists = Vec::with_capacity(alloc, count)?;
-        let mut leasts = Vec::with_capacity(alloc, count)?;
-        for _ in 0..count {
-            lists.push(Vec::new(alloc))?;
-            leasts.push(u64::MAX)?;
-        }
+        let lists = no_entries(alloc, count)?;
+        let leasts = vec![in alloc; u64::MAX; count]?;
         Ok(Groups { lists, leasts })
     }
 

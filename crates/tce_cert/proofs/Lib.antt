@@ -15,3 +15,4 @@ pub mod Cuts
 pub mod Stated
 pub mod StatedClass
 pub mod StatedRows
+pub mod RowTexts

@@ -1,35 +1,30 @@
 -- Plans with one certificate are equal.
-use Rattle.std.proofs.Common.{◌≡◌, ◌≢◌, ℕ, zero, suc, ◌+◌, ◌-◌, ◌<◌, ◌≤◌, ◌^◌, Bool, true, false, List, [], ◌∷◌, ◌++◌, codes, length, map, get_or, Option, Some, None, refl, ap, ap₂, sym, ◌∙◌, subst, arith, append_assoc, append-nil, inl, inr}
+use Rattle.std.proofs.Common.{◌≡◌, ℕ, zero, suc, ◌+◌, ◌<◌, ◌≤◌, ◌^◌, true, List, [], ◌∷◌, ◌++◌, codes, length, map, refl, ap, ap₂, sym, ◌∙◌, subst, arith, append-nil, inl, inr}
 use Rattle.std.proofs.Math.Nat.{eq-or-lt_of_le}
-use Rattle.std.specs.Prelude.{slice_index}
 use Rattle.std.specs.Fmt.{decimal}
 use Rattle.std.specs.List.{All, list_all, flat_map, range_with_len}
 use Rattle.std.proofs.lemmas.Bool.{and_parts}
 use Rattle.std.proofs.lemmas.List.{length-map, ext_get_or}
-use Rattle.std.proofs.lemmas.List.FromFn.{length-range_with_len}
-use Rattle.std.proofs.lemmas.Option.{none-some, same_Some}
-use Rattle.tce_space.specs.IndexSet.{IsIndexSet, IsWithin, has}
+use Rattle.std.proofs.lemmas.Option.{same_Some}
 use Rattle.tce_space.specs.Space.{IndexSpace, IsSpace, IsDeclared}
 use Rattle.tce_space.specs.declared.loop_order.LoopOrder.{LoopOrder}
-use Rattle.tce_fields.specs.Fields.{AreParts, lacks}
+use Rattle.tce_fields.specs.Fields.{lacks}
 use Rattle.tce_tree.specs.ContractionTree.{ContractionTree, operations, node_dims}
-use Rattle.tce_tree.specs.FlatTree.{IsTree}
 use Rattle.tce_tree.specs.Orders.{lists_of}
-use Rattle.tce_tree.specs.WellFormed.{IsDeclaredTree}
 use Rattle.tce_tree.proofs.NamedIndexes.{node_dims_declared}
 use Rattle.tce_states.specs.Classes.{IsNesting}
 use Rattle.tce_states.specs.Row.{Row, rows_at}
-use Rattle.tce_nesting.specs.Plan.{PlanFits, RowFits, LiesWithin}
+use Rattle.tce_nesting.specs.Plan.{RowFits, LiesWithin}
 use Rattle.tce_nesting.specs.declared.plan.Plan.{Plan}
-use Rattle.tce_report.specs.NodeLine.{Said, MaySay, stated, said_of, node_line, line_saying, set_text}
-use Rattle.tce_cert.specs.Forms.{StatesClasses, StatesRow, StatesTable}
+use Rattle.tce_report.specs.NodeLine.{Said, stated, said_of, node_line, line_saying, set_text}
+use Rattle.tce_cert.specs.Forms.{StatesClasses}
 use Rattle.tce_cert.specs.Lines.{opening_line, memory_line, table_line, row_line, classes_text, end_line}
 use Rattle.tce_cert.proofs.Cuts.{cut_once}
 use Rattle.tce_cert.proofs.Stated.{cost_once}
 use Rattle.tce_cert.proofs.StatedClass.{set_declared, both}
 use Rattle.tce_cert.proofs.StatedRows.{none_stated, classes_parts, decimal_once}
 use Rattle.tce_cert.specs.Certificate.{text_of, table_lines, certificate, certificate_lines, nodes_lines, tables_lines}
-use Rattle.tce_cert.specs.Laws.{IsNestingRow, AreNestingRows, RowsAreNestings, PlansAreTheirCertificates}
+use Rattle.tce_cert.specs.Laws.{IsNestingRow, AreNestingRows, PlansAreTheirCertificates}
 use Rattle.tce_cert.proofs.NoFault.{Fit, to_lacks, saying_lacks, row_lacks, head_lacks, number_lacks, in_both, may_say}
 use Rattle.tce_cert.proofs.OneFault.{rows_once}
 use Rattle.tce_cert.proofs.OneSaid.{set_once, said_once, parts_once}

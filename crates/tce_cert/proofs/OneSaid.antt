@@ -1,25 +1,23 @@
 -- What the line of a node says, and the text of a set, is one thing.
-use Rattle.std.proofs.Common.{◌≡◌, ◌≢◌, ℕ, zero, suc, ◌+◌, ◌-◌, ◌<◌, ◌≤◌, ◌^◌, ◌==◌, Bool, true, false, List, [], ◌∷◌, ◌++◌, codes, length, map, get_or, drop, if◌then◌else◌, Option, Some, None, refl, ap, ap₂, sym, ◌∙◌, subst, arith, eq-eqb, inl, inr}
-use Rattle.std.specs.Prelude.{slice_index}
+use Rattle.std.proofs.Common.{◌≡◌, ℕ, suc, ◌+◌, ◌<◌, ◌==◌, Bool, true, false, List, [], ◌∷◌, length, get_or, drop, if◌then◌else◌, Option, Some, None, refl, ap, ap₂, sym, ◌∙◌, subst, arith}
 use Rattle.std.specs.Fmt.{decimal}
-use Rattle.std.specs.List.{All, Contains, list_all, flat_map, range_with_len}
-use Rattle.std.proofs.lemmas.Bool.{ne_eqb}
+use Rattle.std.specs.List.{All, Contains, list_all}
 use Rattle.std.proofs.lemmas.Option.{same_Some}
-use Rattle.tce_space.specs.IndexSet.{IsIndexSet, IsWithin, has, members, empty}
+use Rattle.tce_space.specs.IndexSet.{IsIndexSet, members}
 use Rattle.tce_space.specs.Name.{is_name}
 use Rattle.tce_space.specs.Space.{IndexSpace, IsSpace, IsDeclared, index_at, index_number}
 use Rattle.tce_space.proofs.Members.{sets_are_their_members}
-use Rattle.tce_fields.specs.Fields.{AreParts, lacks, listed}
+use Rattle.tce_fields.specs.Fields.{AreParts, listed}
 use Rattle.tce_fields.specs.Names.{names_of}
 use Rattle.tce_fields.proofs.Listing.{names_lack, only_none}
 use Rattle.tce_fields.proofs.Named.{index_found}
 use Rattle.tce_fields.proofs.Splitting.{parts_at, split_joined}
-use Rattle.tce_tree.specs.ContractionTree.{ContractionTree, operations, node, node_dims, node_loops}
-use Rattle.tce_tree.specs.FlatTree.{IsTree, kind_of}
+use Rattle.tce_tree.specs.ContractionTree.{ContractionTree, operations, node_dims}
+use Rattle.tce_tree.specs.FlatTree.{IsTree}
 use Rattle.tce_tree.specs.WellFormed.{IsDeclaredTree}
 use Rattle.tce_tree.proofs.Members.{node_dims_lt}
 use Rattle.tce_states.proofs.Choices.{parts_are_index_sets}
-use Rattle.tce_report.specs.NodeForm.{ArrayForm, Form, IsForm}
+use Rattle.tce_report.specs.NodeForm.{ArrayForm}
 use Rattle.tce_report.specs.NodeLine.{Said, MaySay, line_saying, set_text}
 use Rattle.tce_report.specs.ReadLine.{form_saying}
 use Rattle.tce_report.specs.Fields.{form_fields, array_fields}

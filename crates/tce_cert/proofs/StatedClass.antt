@@ -1,8 +1,7 @@
 -- What the text of a class states.
-use Rattle.std.proofs.Common.{◌≡◌, ◌≢◌, ℕ, zero, suc, ◌<◌, ◌≤◌, true, false, Bool, ◌&&◌, IsTrue, List, [], ◌∷◌, length, map, get_or, Option, Some, None, refl, ap, ap₂, sym, ◌∙◌, subst, arith}
-use Rattle.std.specs.Prelude.{◌↔◌}
+use Rattle.std.proofs.Common.{◌≡◌, ℕ, suc, ◌<◌, ◌≤◌, true, Bool, ◌&&◌, List, [], ◌∷◌, length, get_or, Option, Some, None, refl, ap, ap₂, sym, ◌∙◌, subst, arith}
 use Rattle.std.specs.Borrow.{Bor}
-use Rattle.std.specs.List.{All, list_all, filter, range_with_len}
+use Rattle.std.specs.List.{All, list_all, range_with_len}
 use Rattle.std.proofs.lemmas.List.{length-map}
 use Rattle.std.proofs.lemmas.List.Elements.{filter_passes}
 use Rattle.std.proofs.lemmas.List.FromFn.{length-range_with_len}
@@ -10,9 +9,9 @@ use Rattle.std.proofs.lemmas.List.Sums.{length-filter, count_by-le-length}
 use Rattle.std.proofs.lemmas.Option.{none-some, same_Some}
 use Rattle.tce_space.specs.IndexSet.{has, members, IsWithin}
 use Rattle.tce_space.specs.Name.{is_name}
-use Rattle.tce_space.specs.Space.{Index, IndexSpace, IsSpace, IsDeclared, index_at, no_index}
+use Rattle.tce_space.specs.Space.{IndexSpace, IsSpace, IsDeclared, index_at, no_index}
 use Rattle.tce_fields.specs.Fields.{AreListed, listed}
-use Rattle.tce_fields.specs.Names.{AreNamed, IsSetNamed, names_of}
+use Rattle.tce_fields.specs.Names.{IsSetNamed, names_of}
 use Rattle.tce_fields.specs.Reading.{GivesExactly, texts}
 use Rattle.tce_report.specs.NodeLine.{set_text}
 use Rattle.tce_cert.specs.Forms.{IsPart, StatesClass}

@@ -1,7 +1,8 @@
 -- First places where something fails, as loops find them, and that there is one at most.
-use Rattle.std.proofs.Common.{◌≡◌, ℕ, zero, suc, ◌+◌, ◌<◌, List, [], ◌∷◌, length, get_or, inl, inr, subst, arith, All}
+use Rattle.std.proofs.Common.{◌≡◌, ℕ, zero, suc, ◌+◌, ◌-◌, ◌<◌, ◌≤◌, false, List, [], ◌∷◌, length, get_or, inl, inr, subst, arith, All}
 use Rattle.std.specs.List.{AllWithin}
-use Rattle.std.proofs.lemmas.Bool.{cases_order}
+use Rattle.std.specs.Prelude.{IsTrue}
+use Rattle.std.proofs.lemmas.Bool.{cases_order, false≢true}
 use Rattle.std.proofs.lemmas.List.Elements.{All-head, All-tail, All-from_all_within, AllWithin-upto, AllWithin-more, at_read}
 use Rattle.tce_check.specs.First.{IsFirst, First, FirstPair}
 
@@ -20,6 +21,20 @@ all_read Holds xs k end before = All-from_all_within Holds xs (AllWithin-upto Ho
 pub one_more : {X : Type 0} (Holds : X → Type 0) (xs : List X) (k : ℕ) (x : X) → k < length xs → x ≡ get_or xs k x → AllWithin Holds xs 0 k → Holds x
     → AllWithin Holds xs 0 (k + 1)
 one_more Holds xs k x low is before here = AllWithin-more Holds xs 0 k before (at_read xs Holds k x low is here)
+
+pub all_passed : {X : Type 0} (Holds : X → Type 0) (xs : List X) (k : ℕ) → length xs ≤ k → AllWithin Holds xs 0 k → All Holds xs
+all_passed Holds xs k end before = All-from_all_within Holds xs (AllWithin-upto Holds xs 0 k (length xs) end before)
+
+-- fewer are left behind a later place
+pub fewer_left : (count place next : ℕ) → place < next → next ≤ count → count - next < count - place
+fewer_left count place next later inside = omega (arith, later, inside)
+
+pub one_less : (count place : ℕ) → place < count → count - (place + 1) < count - place
+one_less count place inside = omega (arith, inside)
+
+-- what is not told needs nothing
+pub untold : {P : Type 0} → IsTrue false → P
+untold told = absurd (false≢true told)
 
 -- no element fails where all hold
 pub first_not_all : {X : Type 0} (Holds Fails : X → Type 0) → ((x : X) → Holds x → Fails x → ⊥) → (xs : List X) → First Holds Fails xs → All Holds xs → ⊥

@@ -1,8 +1,8 @@
 -- From rows with one class to the steps for which they stand.
-use Rattle.std.proofs.Common.{◌≡◌, ℕ, Bool, true, not, ◌&&◌, ◌||◌, false, ◌+◌, ◌-◌, ◌^◌, ◌<◌, ◌≤◌, ◌⊎◌, inl, inr, refl, sym, subst, arith, List, [], ◌∷◌, All, length, get_or, min}
+use Rattle.std.proofs.Common.{◌≡◌, ℕ, Bool, true, not, ◌&&◌, ◌||◌, false, ◌+◌, ◌-◌, ◌^◌, ◌<◌, ◌≤◌, ◌⊎◌, inl, inr, refl, sym, subst, arith, List, [], ◌∷◌, All, length, get_or, min, Option, Some, None, unwrap_or}
 use Rattle.std.specs.Prelude.{IsTrue}
 use Rattle.std.specs.List.{Any, AllWithin}
-use Rattle.std.proofs.lemmas.Bool.{cases_Bool, cases_lt}
+use Rattle.std.proofs.lemmas.Bool.{cases_Bool, cases_lt, false≢true}
 use Rattle.std.proofs.lemmas.List.Elements.{All-contains}
 use Rattle.tce_space.specs.IndexSet.{IsWithin, has}
 use Rattle.tce_space.specs.Space.{IndexSpace}
@@ -16,7 +16,7 @@ use Rattle.tce_nesting.proofs.SubsetLists.{dims_within}
 use Rattle.tce_check.specs.declared.parts.PartCost.{PartCost}
 use Rattle.tce_check.specs.Joint.{IsJointOf}
 use Rattle.tce_check.specs.Tops.{AreTops}
-use Rattle.tce_check.specs.Reach.{IsCostOf, IsLowered, IsFloor, AreFloors, ReachesChoice, ReachesAll, IsReach, IsReached, IsNoCost}
+use Rattle.tce_check.specs.Reach.{IsCostOf, IsLowered, IsFloor, AreFloors, ReachesChoice, ReachesAll, IsReach, IsReached, IsNoCost, AreBoundFloors}
 use Rattle.tce_check.specs.Verdict.{StepCovered}
 use Rattle.tce_check.proofs.Joints.{choice_at, no_choice}
 
@@ -33,6 +33,14 @@ pub floor_next : (outer : ℕ) (rows : List Row) (floor next : PartCost) (k : �
 floor_next outer rows floor next k row low is so_far (inl same) = subst (λ (f : PartCost). IsFloor outer rows f.part f.cost) (sym same) so_far
 floor_next outer rows floor next k row low is so_far (inr (least, coarse)) =
     subst (λ (f : PartCost). IsFloor outer rows f.part f.cost) (sym least) (λ small. (k, row, low, sym is, record { coarser = coarse; cheap = omega arith }))
+
+-- the bound is a floor of each part
+pub bound_floors : (bound : Option ℕ) (cost : ℕ) (floors : List PartCost) → cost ≡ unwrap_or bound (2 ^ 128 - 1) → All (λ (floor : PartCost). floor.cost ≡ cost) floors
+    → AreBoundFloors bound floors
+bound_floors None cost floors is each outer rows bound k d low small = let at = each k d low in absurd (omega (arith, at, is, small))
+bound_floors (Some least) cost floors is each outer rows bound k d low small =
+    let at = each k d low in
+    (bound.0, bound.1, bound.2, bound.3, record { coarser = λ i j p q h. absurd (false≢true (bound.4.coarser i j p q h)); cheap = omega (arith, bound.4.cheap, at, is) })
 
 -- ---- what is left where a set is fused, above or below a part that is a top
 

@@ -52,13 +52,12 @@ pub(crate) struct Groups<'a> {
     pub(crate) kept: usize,
 }
 
-// A state for which a row is sought, its upper parts, the least first, and their marks.
-#[derive(Drop)]
+// A state for which a row is sought, and the marks of its upper parts.
+#[derive(Clone, Copy)]
 struct Sought<'a, 'b> {
     rows: &'a [Row],
     state: &'b Row,
     outer: IndexSet,
-    uppers: ArrayVec<IndexSet, MAX_LOOPS>,
     marks: u32,
 }
 
@@ -226,33 +225,70 @@ impl<'a> Groups<'a> {
         None
     }
 
+    // The place of a row whose two largest upper parts are these of the state's, where those below them are known.
+    fn place_below(
+        &self,
+        first: IndexSet,
+        second: IndexSet,
+        lower: &[IndexSet],
+        sought: &Sought,
+    ) -> Option<u32>
+        ensures { IfSome result (λ place. Any (StandsFor sought.now.outer (above
+            sought.now.state.now.classes) sought.now.state.now.cost) sought.now.rows.now) }
+    {
+        let two = Parts {
+            first,
+            second,
+            third: IndexSet::empty(),
+        };
+        if let Some(place) = self.place_with(&two, sought) {
+            return Some(place);
+        }
+        for third in lower {
+            let three = Parts {
+                first,
+                second,
+                third: *third,
+            };
+            if let Some(place) = self.place_with(&three, sought) {
+                return Some(place);
+            }
+        }
+        None
+    }
+
     // The place of a row whose largest upper part is this one of the state's, where those below it are known.
     fn place_under(&self, first: IndexSet, lower: &[IndexSet], sought: &Sought) -> Option<u32>
         ensures { IfSome result (λ place. Any (StandsFor sought.now.outer (above
             sought.now.state.now.classes) sought.now.state.now.cost) sought.now.rows.now) }
     {
-        let mut parts = Parts {
+        let one = Parts {
             first,
             second: IndexSet::empty(),
             third: IndexSet::empty(),
         };
-        if let Some(place) = self.place_with(&parts, sought) {
+        if let Some(place) = self.place_with(&one, sought) {
             return Some(place);
         }
-        for (count, second) in lower.iter().enumerate() {
-            parts.second = *second;
-            parts.third = IndexSet::empty();
-            if let Some(place) = self.place_with(&parts, sought) {
+        for count in 0..lower.len() {
+            if let Some(place) = self.place_below(first, lower[count], &lower[..count], sought) {
                 return Some(place);
-            }
-            for third in &lower[..count] {
-                parts.third = *third;
-                if let Some(place) = self.place_with(&parts, sought) {
-                    return Some(place);
-                }
             }
         }
         None
+    }
+
+    // The place of a row in the group of three of these upper parts, the least first. Most rows are found by the largest part, so that comes first.
+    fn place_among(&self, uppers: &[IndexSet], sought: &Sought) -> Option<u32>
+        ensures { IfSome result (λ place. Any (StandsFor sought.now.outer (above
+            sought.now.state.now.classes) sought.now.state.now.cost) sought.now.rows.now) }
+    {
+        for count in (0..uppers.len()).rev() {
+            if let Some(place) = self.place_under(uppers[count], &uppers[..count], sought) {
+                return Some(place);
+            }
+        }
+        self.place_with(&Parts::default(), sought)
     }
 
     // The place of a row in the group of three of the state's upper parts that stands for it.
@@ -261,22 +297,13 @@ impl<'a> Groups<'a> {
             state.now.cost) rows.now) }
     {
         let uppers = uppers_of(&state.classes, outer);
-        let marks = marks_of(uppers.as_slice());
         let sought = Sought {
             rows,
             state,
             outer,
-            uppers,
-            marks,
+            marks: marks_of(uppers.as_slice()),
         };
-        // Most rows are found by the largest part, so that comes first.
-        let uppers = sought.uppers.as_slice();
-        for count in (0..uppers.len()).rev() {
-            if let Some(place) = self.place_under(uppers[count], &uppers[..count], &sought) {
-                return Some(place);
-            }
-        }
-        self.place_with(&Parts::default(), &sought)
+        self.place_among(uppers.as_slice(), &sought)
     }
 
     // The place of a row with one class, which is a union of the state's first ones, that stands for it.

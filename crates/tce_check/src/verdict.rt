@@ -3,7 +3,7 @@ use tce_nesting::Nesting;
 use tce_space::IndexSet;
 
 /// What the check of a plan says: that it is accepted, or the first rule that it breaks.
-#[derive(Clone, PartialEq, Eq, Drop)]
+#[derive(PartialEq, Eq, Drop)]
 pub enum Verdict {
     /// The fusion is legal and no legal fusion of the tree takes less memory.
     Accepted,

@@ -86,6 +86,11 @@ first_told told part left e is = sym e ∙ ap (λ b. if b then Some part else No
 pub none_told : (told : Bool) (part : Part) (left : List Part) → (if told then Some part else None) ≡ slice_get left 0 → told ≡ false → slice_get left 0 ≡ None
 none_told told part left e is = sym e ∙ ap (λ b. if b then Some part else None) is
 
+-- fewer are left behind the first one
+pub one_left : (left : List Part) (part : Part) → slice_get left 0 ≡ Some part → length (drop 1 left) < length left
+one_left [] part is = absurd (cc)
+one_left (p ∷ rest) part is = omega arith
+
 pub is_block : (x y : Workspace) (tail : Tail) (a : Assignment) (left : List Part) (part : Part) → IsAlong x y tail a left → slice_get left 0 ≡ Some part → IsBlockOf x.places.space tail part
 is_block x y tail a left part along e =
     let first = first_is left part e in (

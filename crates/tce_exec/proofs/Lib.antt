@@ -19,3 +19,4 @@ pub mod Running
 pub mod Stepping
 pub mod Positions
 pub mod Plans
+pub mod Calls

@@ -1,5 +1,5 @@
 -- Windows of tiles that are touched, and of those that were touched before.
-use Rattle.std.proofs.Common.{◌≡◌, ℕ, ◌+◌, ◌*◌, ◌<◌, ◌≤◌, ◌∙◌, Bool, false, List, length, map, slice_get, Option, Some, None, sym, ap, subst, arith}
+use Rattle.std.proofs.Common.{◌≡◌, ℕ, ◌+◌, ◌*◌, ◌^◌, ◌<◌, ◌≤◌, ◌∙◌, Bool, false, List, length, map, slice_get, Option, Some, None, refl, sym, ap, subst, arith, Fits, w64}
 use Rattle.std.proofs.lemmas.List.{length-map}
 use Rattle.tce_space.specs.Box.{IsInside}
 use Rattle.tce_space.proofs.Boxes.{length_inside}
@@ -68,7 +68,7 @@ pub rank_of : (shape own : Tiling) (indexes : List ℕ) (first : Assignment) →
 rank_of shape own indexes first inside same = sym (length-map indexes first) ∙ length_inside shape.extents (map first indexes) inside ∙ ap (λ (s : Tiling). length s.extents) (sym same)
 
 -- the frame of a touched tile lies among the words
-pub touched_room : (c new : CacheState) (held : List Held) (touches array tile at n : ℕ) (write : Bool) (shape own : Tiling) → IsCache c → IsCache new → new ≡ with_held c held touches
+touched_room : (c new : CacheState) (held : List Held) (touches array tile at n : ℕ) (write : Bool) (shape own : Tiling) → IsCache c → IsCache new → new ≡ with_held c held touches
     → HasShape c array shape → own ≡ shape → IsTouched c new array tile write at → c.at + c.frames * c.frame_words ≤ n → at + tile_words own ≤ n
 touched_room c new held touches array tile at n write shape own cache whole same has is touched room =
     let now : IsHeldAt new array tile at write = touched_tiles_stay.held 1 new array tile at write whole (touched_tiles_stay.last c new array tile write at cache touched) in
@@ -77,6 +77,12 @@ touched_room c new held touches array tile at n write shape own cache whole same
     let fits : tile_words shape ≤ new.frame_words = tile_fits new array shape whole (subst (λ (d : CacheState). HasShape d array shape) (sym same) has) in
     let room_now : new.at + new.frames * new.frame_words ≤ n = subst (λ (d : CacheState). d.at + d.frames * d.frame_words ≤ n) (sym same) room in
     omega (arith, now.place_is, inside, fits, room_now, ap tile_words is)
+
+-- and so does each of its words
+pub touched_word : (c new : CacheState) (held : List Held) (touches array tile place at len : ℕ) (write : Bool) (shape : Tiling) → IsCache c → IsCache new → new ≡ with_held c held touches
+    → HasShape c array shape → IsTouched c new array tile write at → c.at + c.frames * c.frame_words ≤ len → len < 2 ^ 60 → place < tile_words shape → Fits w64 (at + place)
+touched_word c new held touches array tile place at len write shape cache whole same has touched room short within =
+    let inside = touched_room c new held touches array tile at len write shape shape cache whole same has refl touched room in omega (arith, inside, short, within)
 
 -- ---- tiles that were touched before
 
@@ -95,7 +101,7 @@ keeps_last_own c = λ n b u first marked few last. record {
   marked_is = last.marked_is;
 }
 
-pub operand_later : (n : ℕ) (x y : Workspace) (o : Operand) (first : Assignment) (w : Window) → n ≤ 2 → IsKept x y → KeepsLast x.cache y.cache → IsOperandWindow n x o first w
+operand_later : (n : ℕ) (x y : Workspace) (o : Operand) (first : Assignment) (w : Window) → n ≤ 2 → IsKept x y → KeepsLast x.cache y.cache → IsOperandWindow n x o first w
     → IsOperandWindow (n + 1) y o first w
 operand_later n x y o first w few kept keeps h = subst (λ (p : Places). IsOperandWindow (n + 1) (record y { places = p }) o first w) (sym kept.places) (by_operand o h)
   where
@@ -109,3 +115,9 @@ operand_later n x y o first w few kept keeps h = subst (λ (p : Places). IsOpera
     }
     by_operand (Constant k) h = h
     by_operand (Node v) h = h
+
+pub operand_once : (x y : Workspace) (o : Operand) (first : Assignment) (w : Window) → IsKept x y → KeepsLast x.cache y.cache → IsOperandWindow 1 x o first w → IsOperandWindow 2 y o first w
+operand_once x y o first w kept keeps h = operand_later 1 x y o first w (omega arith) kept keeps h
+
+pub operand_twice : (x y : Workspace) (o : Operand) (first : Assignment) (w : Window) → IsKept x y → KeepsLast x.cache y.cache → IsOperandWindow 2 x o first w → IsOperandWindow 3 y o first w
+operand_twice x y o first w kept keeps h = operand_later 2 x y o first w (omega arith) kept keeps h

@@ -200,8 +200,7 @@ pub(crate) fn sum_windows<D: Disk>(
     let _nodes = evaluation.tree.count();
     let left = evaluation.tree.left(v);
     operand_window(evaluation, store, left, first, &mut windows.left)?;
-    place_window(evaluation, store, v, first, &mut windows.out)?;
-    Ok(())
+    place_window(evaluation, store, v, first, &mut windows.out)
 }
 
 /// Finds the windows of both operands of node `v`, and of the places to which the results go, where the block begins at these
@@ -242,6 +241,5 @@ pub(crate) fn pair_windows<D: Disk>(
     let operand = evaluation.tree.left(v);
     operand_window(evaluation, store, operand, first, &mut windows.left)?;
     operand_window(evaluation, store, pairing.right, first, &mut windows.right)?;
-    place_window(evaluation, store, pairing.out, first, &mut windows.out)?;
-    Ok(())
+    place_window(evaluation, store, pairing.out, first, &mut windows.out)
 }

@@ -9,3 +9,4 @@ pub mod SubsetLists
 pub mod RunParts
 pub mod StretchParts
 pub mod Tops
+pub mod Outermost

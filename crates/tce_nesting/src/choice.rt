@@ -11,7 +11,7 @@ use tce_space::{IndexSet, Space};
 use tce_tree::Tree;
 
 /// A set that may be fused above a node, with the elements that the node then keeps.
-#[derive(Clone, Copy, Default, PartialEq, Eq)]
+#[derive(Clone, Copy, Default)]
 pub struct Choice {
     pub fused: IndexSet,
     pub size: u128,

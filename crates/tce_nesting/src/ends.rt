@@ -8,7 +8,7 @@ use crate::row::Row;
 use tce_space::IndexSet;
 
 /// Two parts of some loops that a row puts above all others of them: the least and the largest that is not all of the loops, each without members where there is none.
-#[derive(Clone, Copy, Default, PartialEq, Eq)]
+#[derive(Clone, Copy, Default)]
 pub struct Ends {
     pub least: IndexSet,
     pub largest: IndexSet,

@@ -7,7 +7,7 @@ use crate::row::Row;
 use tce_space::IndexSet;
 
 /// The ends of a row, which are those of all from it on up to a later place, and the least of their costs.
-#[derive(Clone, Copy, Default, PartialEq, Eq)]
+#[derive(Clone, Copy, Default)]
 pub struct Run {
     pub ends: Ends,
     pub cost: u128,

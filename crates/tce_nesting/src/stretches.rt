@@ -12,7 +12,7 @@ use tce_space::IndexSet;
 pub const MAX_CHOICES: usize = 1024;
 
 /// What all sets from a choice on up to a later place have in common, and what they have together.
-#[derive(Clone, Copy, Default, PartialEq, Eq)]
+#[derive(Clone, Copy, Default)]
 pub struct Stretch {
     pub common: IndexSet,
     pub all: IndexSet,

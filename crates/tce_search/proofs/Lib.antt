@@ -5,3 +5,4 @@ pub mod Joining
 pub mod Proving
 pub mod RowLists
 pub mod LastLimit
+pub mod Leasts

@@ -29,3 +29,13 @@ returns-clause-err c =
     passed c.args.space.now c.args.tree.now ending [] [] c.args.from.number c.in_ok-line.to.number c.args.from.rest.now c.in_ok-line.line.now c.in_ok-line.to.rest.now c.fault_of-2.result c.in_ok-line.ensures
     (c.is_end_line.ensures.0 c.if-not-is_end_line.false, refl)
     (behind_end c.args.space.now c.args.tree.now c.in_ok-line.to.number c.in_ok-behind.field-0-1.number c.in_ok-line.to.rest.now c.in_ok-behind.behind.now c.in_ok-behind.field-0-1.rest.now c.fault_of-2.result c.in_ok-behind.ensures c.fault_of-2.ensures)
+
+pub returns-in_err-line-clause-ok : goal.returns-in_err-line-clause-ok
+returns-in_err-line-clause-ok c =
+    let p = err_from_is_err_and c.from_residual.result c.from_residual.ensures.1 in
+    rw p.1 tt
+
+pub returns-in_err-behind-clause-ok : goal.returns-in_err-behind-clause-ok
+returns-in_err-behind-clause-ok c =
+    let p = err_from_is_err_and c.from_residual-in_err-behind.result c.from_residual-in_err-behind.ensures.1 in
+    rw p.1 tt

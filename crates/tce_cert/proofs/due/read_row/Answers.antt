@@ -24,3 +24,8 @@ returns-in-None-clause-err c ds =
     not_due c.args.space.now c.args.tree.now (row c.args.v) ds c.args.from.number c.in_ok-line.to.number c.args.from.rest.now c.in_ok-line.line.now c.in_ok-line.to.rest.now c.fault_of.result c.in_ok-line.ensures
     (no_row c.args.space.now c.args.tree.now c.args.v c.in_ok-line.line.now
     (subst (λ dims. GivesExactly None (StatesRow c.args.space.now dims c.in_ok-line.line.now)) c.dims.ensures c.in-None.ensures)) c.fault_of.ensures
+
+pub returns-in_err-line-clause-ok : goal.returns-in_err-line-clause-ok
+returns-in_err-line-clause-ok c =
+    let p = err_from_is_err_and c.from_residual.result c.from_residual.ensures.1 in
+    rw p.1 tt

@@ -27,3 +27,8 @@ returns-clause-ok c = record {
   reads = c.in_ok-line.ensures;
   holds = subst (λ k. StatesTable c.in_ok-line.line.now k c.in-Some.rows) c.if-of_node-v.false ((c.in-Some.ensures (c.in-Some.of_node, c.in-Some.rows)).0 refl);
 }
+
+pub returns-in_err-line-clause-ok : goal.returns-in_err-line-clause-ok
+returns-in_err-line-clause-ok c =
+    let p = err_from_is_err_and c.from_residual.result c.from_residual.ensures.1 in
+    rw p.1 tt

@@ -1,4 +1,3 @@
-use Rattle.tce_cert.specs.Forms.{StatesMemory}
 use Rattle.tce_cert.proofs.Stated.{some_told}
 use Rattle.tce_cert.proofs.forms.has_memory_form.Goals as goal
 

@@ -1,6 +1,3 @@
-use Rattle.std.proofs.Common.{ℕ, List, sym, subst, Option}
-use Rattle.std.specs.Prelude.{MatchOption}
-use Rattle.tce_cert.specs.Forms.{BeginsWithCost}
 use Rattle.tce_cert.proofs.Stated.{costs_without, costs_refused, costs_given}
 use Rattle.tce_cert.proofs.forms.read_cost.Goals as goal
 

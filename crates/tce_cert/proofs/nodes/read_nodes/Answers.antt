@@ -57,3 +57,33 @@ returns-clause-on c =
     let last : c.count-root.result - 1 + 1 ≡ operations c.args.tree.now = omega (arith, c.count-root.ensures.value, c.count-root.ensures.positive) in
     keeps_root c.args.space.now c.args.tree.now c.loop-v.v root c.args.from.number c.loop-v.at.number c.in_ok-of_root.behind.number
     c.args.from.rest.now c.loop-v.at.rest.now c.in_ok-of_root.behind.rest.now (said c.in_ok-of_root.of_root) same last c.loop-v.invariant.keeps c.in_ok-of_root.ensures.ok
+
+pub returns-in_err-said-clause-sizes : goal.returns-in_err-said-clause-sizes
+returns-in_err-said-clause-sizes c =
+    let p = err_from_is_err_and c.from_residual.result c.from_residual.ensures.1 in
+    rw p.1 tt
+
+pub returns-in_err-said-clause-ok : goal.returns-in_err-said-clause-ok
+returns-in_err-said-clause-ok c =
+    let p = err_from_is_err_and c.from_residual.result c.from_residual.ensures.1 in
+    rw p.1 tt
+
+pub returns-in_err-said-clause-on : goal.returns-in_err-said-clause-on
+returns-in_err-said-clause-on c =
+    let p = err_from_is_err_and c.from_residual.result c.from_residual.ensures.1 in
+    rw p.1 tt
+
+pub returns-in_err-of_root-clause-sizes : goal.returns-in_err-of_root-clause-sizes
+returns-in_err-of_root-clause-sizes c =
+    let p = err_from_is_err_and c.from_residual-in_err-of_root.result c.from_residual-in_err-of_root.ensures.1 in
+    rw p.1 tt
+
+pub returns-in_err-of_root-clause-ok : goal.returns-in_err-of_root-clause-ok
+returns-in_err-of_root-clause-ok c =
+    let p = err_from_is_err_and c.from_residual-in_err-of_root.result c.from_residual-in_err-of_root.ensures.1 in
+    rw p.1 tt
+
+pub returns-in_err-of_root-clause-on : goal.returns-in_err-of_root-clause-on
+returns-in_err-of_root-clause-on c =
+    let p = err_from_is_err_and c.from_residual-in_err-of_root.result c.from_residual-in_err-of_root.ensures.1 in
+    rw p.1 tt

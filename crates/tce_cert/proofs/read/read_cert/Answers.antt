@@ -80,3 +80,28 @@ pub returns-in_err-read_end-clause-exact : goal.returns-in_err-read_end-clause-e
 returns-in_err-read_end-clause-exact c plan fits nestings whole =
     refused c.from_residual-in_err-read_end.result c.args.space.now c.args.tree.now c.args.bytes.now plan c.index_count-declared.ensures.limits c.count-count.ensures.kept c.requires fits nestings whole
     (returns-in_err-read_end-clause-fault c)
+
+pub returns-in_err-first-clause-ok : goal.returns-in_err-first-clause-ok
+returns-in_err-first-clause-ok c =
+    let p = err_from_is_err_and c.from_residual.result c.from_residual.ensures.1 in
+    rw p.1 tt
+
+pub returns-in_err-nodes-clause-ok : goal.returns-in_err-nodes-clause-ok
+returns-in_err-nodes-clause-ok c =
+    let p = err_from_is_err_and c.from_residual-in_err-nodes.result c.from_residual-in_err-nodes.ensures.1 in
+    rw p.1 tt
+
+pub returns-in_err-memory-clause-ok : goal.returns-in_err-memory-clause-ok
+returns-in_err-memory-clause-ok c =
+    let p = err_from_is_err_and c.from_residual-in_err-memory.result c.from_residual-in_err-memory.ensures.1 in
+    rw p.1 tt
+
+pub returns-in_err-tables-clause-ok : goal.returns-in_err-tables-clause-ok
+returns-in_err-tables-clause-ok c =
+    let p = err_from_is_err_and c.from_residual-in_err-tables.result c.from_residual-in_err-tables.ensures.1 in
+    rw p.1 tt
+
+pub returns-in_err-read_end-clause-ok : goal.returns-in_err-read_end-clause-ok
+returns-in_err-read_end-clause-ok c =
+    let p = err_from_is_err_and c.from_residual-in_err-read_end.result c.from_residual-in_err-read_end.ensures.1 in
+    rw p.1 tt

@@ -1,4 +1,4 @@
-use Rattle.std.proofs.Common.{◌≡◌, false, true, Some, None, List, ℕ, sym, ◌∙◌, subst, codes}
+use Rattle.std.proofs.Common.{◌≡◌, false, true, Some, List, ℕ, sym, ◌∙◌, subst}
 use Rattle.tce_fields.specs.Reading.{GivesExactly, texts}
 use Rattle.tce_cert.specs.Forms.{AreClasses, StatesClasses}
 use Rattle.tce_cert.proofs.StatedRows.{none_stated, classes_unsplit, classes_split}

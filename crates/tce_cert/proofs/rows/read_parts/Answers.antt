@@ -1,9 +1,9 @@
-use Rattle.std.proofs.Common.{◌≡◌, ◌+◌, false, true, Some, None, length, refl, sym, ◌∙◌, subst, arith}
+use Rattle.std.proofs.Common.{◌≡◌, ◌+◌, false, true, Some, None, refl, sym, ◌∙◌, subst, arith}
 use Rattle.std.proofs.lemmas.List.{length-map}
 use Rattle.std.specs.Borrow.{Bor}
 use Rattle.tce_fields.specs.Reading.{GivesExactly, texts}
 use Rattle.tce_cert.specs.Forms.{AreClasses}
-use Rattle.tce_cert.proofs.StatedRows.{AreRead, none_read, one_read, all_read, reading_stops, reading_meets, moved_part, text_inside}
+use Rattle.tce_cert.proofs.StatedRows.{AreRead, one_read, all_read, reading_stops, reading_meets, moved_part, text_inside}
 use Rattle.tce_cert.proofs.rows.read_parts.Goals as goal
 
 pub returns-in_err-class : goal.returns-in_err-class

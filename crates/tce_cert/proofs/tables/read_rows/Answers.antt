@@ -20,3 +20,23 @@ loop-preserved c = record {
       c.args.from.rest.now c.loop.at.rest.now c.in_ok-row.next.rest.now c.in_ok-row.row c.loop-test.true c.loop.invariant.keeps c.in_ok-row.ensures.ok;
   listed = ap length c.in_ok-push.ensures.added ∙ length-set c.loop.tables c.args.v _ ∙ c.loop.invariant.listed;
 }
+
+pub returns-in_err-row-clause-ok : goal.returns-in_err-row-clause-ok
+returns-in_err-row-clause-ok c =
+    let p = err_from_is_err_and c.from_residual.result c.from_residual.ensures.1 in
+    rw p.1 tt
+
+pub returns-in_err-row-clause-on : goal.returns-in_err-row-clause-on
+returns-in_err-row-clause-on c =
+    let p = err_from_is_err_and c.from_residual.result c.from_residual.ensures.1 in
+    rw p.1 tt
+
+pub returns-in_err-push-clause-ok : goal.returns-in_err-push-clause-ok
+returns-in_err-push-clause-ok c =
+    let p = err_from_is_err_and c.from_residual-in_err-push.result c.from_residual-in_err-push.ensures.1 in
+    rw p.1 tt
+
+pub returns-in_err-push-clause-on : goal.returns-in_err-push-clause-on
+returns-in_err-push-clause-on c =
+    let p = err_from_is_err_and c.from_residual-in_err-push.result c.from_residual-in_err-push.ensures.1 in
+    rw p.1 tt

@@ -46,3 +46,48 @@ loop-v-preserved c =
           (opened c.args.space.now c.args.tree.now table c.loop-v.v count (map table (range_with_len 0 count)) c.args.from.number c.loop-v.at.number c.args.from.rest.now c.loop-v.at.rest.now inside c.loop-v.invariant.keeps)
           c.in_ok-rows.ensures.ok c.in_ok-at.ensures.on;
     }
+
+pub returns-in_err-tables-clause-each : goal.returns-in_err-tables-clause-each
+returns-in_err-tables-clause-each c =
+    let p = err_from_is_err_and c.from_residual.result c.from_residual.ensures.1 in
+    rw p.1 tt
+
+pub returns-in_err-tables-clause-ok : goal.returns-in_err-tables-clause-ok
+returns-in_err-tables-clause-ok c =
+    let p = err_from_is_err_and c.from_residual.result c.from_residual.ensures.1 in
+    rw p.1 tt
+
+pub returns-in_err-tables-clause-on : goal.returns-in_err-tables-clause-on
+returns-in_err-tables-clause-on c =
+    let p = err_from_is_err_and c.from_residual.result c.from_residual.ensures.1 in
+    rw p.1 tt
+
+pub returns-in_err-rows-clause-each : goal.returns-in_err-rows-clause-each
+returns-in_err-rows-clause-each c =
+    let p = err_from_is_err_and c.from_residual-in_err-rows.result c.from_residual-in_err-rows.ensures.1 in
+    rw p.1 tt
+
+pub returns-in_err-rows-clause-ok : goal.returns-in_err-rows-clause-ok
+returns-in_err-rows-clause-ok c =
+    let p = err_from_is_err_and c.from_residual-in_err-rows.result c.from_residual-in_err-rows.ensures.1 in
+    rw p.1 tt
+
+pub returns-in_err-rows-clause-on : goal.returns-in_err-rows-clause-on
+returns-in_err-rows-clause-on c =
+    let p = err_from_is_err_and c.from_residual-in_err-rows.result c.from_residual-in_err-rows.ensures.1 in
+    rw p.1 tt
+
+pub returns-in_err-at-clause-each : goal.returns-in_err-at-clause-each
+returns-in_err-at-clause-each c =
+    let p = err_from_is_err_and c.from_residual-in_err-at.result c.from_residual-in_err-at.ensures.1 in
+    rw p.1 tt
+
+pub returns-in_err-at-clause-ok : goal.returns-in_err-at-clause-ok
+returns-in_err-at-clause-ok c =
+    let p = err_from_is_err_and c.from_residual-in_err-at.result c.from_residual-in_err-at.ensures.1 in
+    rw p.1 tt
+
+pub returns-in_err-at-clause-on : goal.returns-in_err-at-clause-on
+returns-in_err-at-clause-on c =
+    let p = err_from_is_err_and c.from_residual-in_err-at.result c.from_residual-in_err-at.ensures.1 in
+    rw p.1 tt

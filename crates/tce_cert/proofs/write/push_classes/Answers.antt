@@ -1,3 +1,4 @@
+use Rattle.std.proofs.lemmas.Result.{err_from_is_err_and}
 use Rattle.std.proofs.Common.{get_or, subst, sym}
 use Rattle.tce_space.specs.Space.{IsDeclared}
 use Rattle.tce_cert.proofs.Sets.{class_pushed, holds_of_tail}
@@ -13,3 +14,23 @@ pub loop-class-preserved : goal.loop-class-preserved
 loop-class-preserved c =
     class_pushed c.args.space.now (get_or c.args.classes.now 0 0) c.in-Some.rest.now c.loop-class.class-index c.class-item.result c.args.text.now.items _ _ _ c.loop-class-test.true c.class-item.is
     c.loop-class.invariant c.in_ok-push-2.ensures.items c.in_ok-push_set-2.ensures
+
+pub returns-in_err-push : goal.returns-in_err-push
+returns-in_err-push c =
+    let p = err_from_is_err_and c.from_residual.result c.from_residual.ensures.1 in
+    rw p.1 tt
+
+pub returns-in_err-push_set : goal.returns-in_err-push_set
+returns-in_err-push_set c =
+    let p = err_from_is_err_and c.from_residual-in_err-push_set.result c.from_residual-in_err-push_set.ensures.1 in
+    rw p.1 tt
+
+pub returns-in_err-push-2 : goal.returns-in_err-push-2
+returns-in_err-push-2 c =
+    let p = err_from_is_err_and c.from_residual-in_err-push-2.result c.from_residual-in_err-push-2.ensures.1 in
+    rw p.1 tt
+
+pub returns-in_err-push_set-2 : goal.returns-in_err-push_set-2
+returns-in_err-push_set-2 c =
+    let p = err_from_is_err_and c.from_residual-in_err-push_set-2.result c.from_residual-in_err-push_set-2.ensures.1 in
+    rw p.1 tt

@@ -1,3 +1,4 @@
+use Rattle.std.proofs.lemmas.Result.{err_from_is_err_and}
 use Rattle.std.proofs.Common.{◌≡◌, ◌++◌, ap, ◌∙◌, arith}
 use Rattle.tce_tree.specs.ContractionTree.{operations}
 use Rattle.tce_report.specs.NodeLine.{node_line, stated}
@@ -14,3 +15,13 @@ pub returns : goal.returns
 returns c =
     let all : c.loop-v.v ≡ operations c.args.tree.now = omega (arith, c.count-v-end.ensures.value) in
     c.loop-v.invariant ∙ ap (λ n. c.args.text.now.items ++ text_of (nodes_lines c.args.space.now c.args.tree.now c.args.plan.now n)) all
+
+pub returns-in_err-extend_from_slice : goal.returns-in_err-extend_from_slice
+returns-in_err-extend_from_slice c =
+    let p = err_from_is_err_and c.from_residual.result c.from_residual.ensures.1 in
+    rw p.1 tt
+
+pub returns-in_err-push : goal.returns-in_err-push
+returns-in_err-push c =
+    let p = err_from_is_err_and c.from_residual-in_err-push.result c.from_residual-in_err-push.ensures.1 in
+    rw p.1 tt

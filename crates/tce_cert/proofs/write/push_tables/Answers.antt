@@ -1,3 +1,4 @@
+use Rattle.std.proofs.lemmas.Result.{err_from_is_err_and}
 use Rattle.std.proofs.Common.{◌≡◌, ◌++◌, ◌∷◌, length, ap, sym, ◌∙◌, arith, map}
 use Rattle.tce_cert.specs.Lines.{table_line, row_line}
 use Rattle.tce_cert.specs.Certificate.{text_of, tables_lines, table_lines}
@@ -23,3 +24,33 @@ pub returns-clause-text : goal.returns-clause-text
 returns-clause-text c =
     let all : c.loop-v.v-counter ≡ length c.args.tables.now = omega (arith, c.lists-v-end.ensures.value) in
     c.loop-v.invariant.text ∙ ap (λ n. c.args.text.now.items ++ text_of (tables_lines c.args.space.now c.args.tables.now n)) all
+
+pub returns-in_err-head-clause-text : goal.returns-in_err-head-clause-text
+returns-in_err-head-clause-text c =
+    let p = err_from_is_err_and c.from_residual.result c.from_residual.ensures.1 in
+    rw p.1 tt
+
+pub returns-in_err-head-clause-nestings : goal.returns-in_err-head-clause-nestings
+returns-in_err-head-clause-nestings c =
+    let p = err_from_is_err_and c.from_residual.result c.from_residual.ensures.1 in
+    rw p.1 tt
+
+pub returns-in_err-extend_from_slice-clause-text : goal.returns-in_err-extend_from_slice-clause-text
+returns-in_err-extend_from_slice-clause-text c =
+    let p = err_from_is_err_and c.from_residual-in_err-extend_from_slice.result c.from_residual-in_err-extend_from_slice.ensures.1 in
+    rw p.1 tt
+
+pub returns-in_err-extend_from_slice-clause-nestings : goal.returns-in_err-extend_from_slice-clause-nestings
+returns-in_err-extend_from_slice-clause-nestings c =
+    let p = err_from_is_err_and c.from_residual-in_err-extend_from_slice.result c.from_residual-in_err-extend_from_slice.ensures.1 in
+    rw p.1 tt
+
+pub returns-in_err-push_rows-clause-text : goal.returns-in_err-push_rows-clause-text
+returns-in_err-push_rows-clause-text c =
+    let p = err_from_is_err_and c.from_residual-in_err-push_rows.result c.from_residual-in_err-push_rows.ensures.1 in
+    rw p.1 tt
+
+pub returns-in_err-push_rows-clause-nestings : goal.returns-in_err-push_rows-clause-nestings
+returns-in_err-push_rows-clause-nestings c =
+    let p = err_from_is_err_and c.from_residual-in_err-push_rows.result c.from_residual-in_err-push_rows.ensures.1 in
+    rw p.1 tt

@@ -1,3 +1,4 @@
+use Rattle.tce_exec.proofs.Calls.{none_given, cause_of, told_of}
 use Rattle.std.proofs.Common.{slice_index, sym, ◌∙◌, arith}
 use Rattle.tce_tree.specs.Value.{Assignment}
 use Rattle.tce_block.specs.Cuts.{part_of}
@@ -153,3 +154,48 @@ pair_windows-requires-clause-out_steps g c = (c.requires.nest.steps_are.joined_a
 pub node_window-requires-clause-steps : goal.node_window-requires-clause-steps
 node_window-requires-clause-steps g c =
     c.in_ok-pair_windows.ensures.steps.own_same ∙ (c.requires.nest.steps_are.joined_are c.args.pairing.now.right.now c.args.pairing.now.out c.requires.right c.requires.joined).1
+
+pub returns-in_err-pair_windows-clause-changed : goal.returns-in_err-pair_windows-clause-changed
+returns-in_err-pair_windows-clause-changed g c = none_given _ _ c.from_residual.result c.from_residual.ensures.1
+
+pub returns-in_err-pair_windows-clause-nest : goal.returns-in_err-pair_windows-clause-nest
+returns-in_err-pair_windows-clause-nest g c = none_given _ _ c.from_residual.result c.from_residual.ensures.1
+
+pub returns-in_err-pair_windows-clause-kept : goal.returns-in_err-pair_windows-clause-kept
+returns-in_err-pair_windows-clause-kept g c = c.in_err-pair_windows.ensures.kept
+
+pub returns-in_err-pair_windows-clause-same : goal.returns-in_err-pair_windows-clause-same
+returns-in_err-pair_windows-clause-same g c = c.in_err-pair_windows.ensures.same
+
+pub returns-in_err-pair_windows-clause-cause : goal.returns-in_err-pair_windows-clause-cause
+returns-in_err-pair_windows-clause-cause g c = cause_of _ _ c.in_err-pair_windows.ensures.cause
+
+pub returns-in_err-pair_windows-clause-told : goal.returns-in_err-pair_windows-clause-told
+returns-in_err-pair_windows-clause-told g c = told_of _ _ _ c.from_residual.result c.from_residual.ensures.1
+
+pub returns-clause-same : goal.returns-clause-same
+returns-clause-same g c = c.in_ok-pair_windows.ensures.same
+
+pub returns-clause-cause : goal.returns-clause-cause
+returns-clause-cause g c = c.in_ok-pair_windows.ensures.cause
+
+pub returns-clause-told : goal.returns-clause-told
+returns-clause-told g c = c.in_ok-pair_windows.ensures.told
+
+pub pair_windows-requires-clause-prepared : goal.pair_windows-requires-clause-prepared
+pair_windows-requires-clause-prepared g c = c.requires.at.prepared
+
+pub pair_windows-requires-clause-position : goal.pair_windows-requires-clause-position
+pair_windows-requires-clause-position g c = c.requires.position
+
+pub pair_windows-requires-clause-left_steps : goal.pair_windows-requires-clause-left_steps
+pair_windows-requires-clause-left_steps g c = c.requires.nest.steps_are.left_are
+
+pub pair_windows-requires-clause-few : goal.pair_windows-requires-clause-few
+pair_windows-requires-clause-few g c = c.requires.few
+
+pub pair_windows-requires-clause-right : goal.pair_windows-requires-clause-right
+pair_windows-requires-clause-right g c = c.requires.right
+
+pub join_turns-requires-clause-sequence : goal.join_turns-requires-clause-sequence
+join_turns-requires-clause-sequence g c = c.requires.nest.sequence_is

@@ -1,3 +1,4 @@
+use Rattle.tce_exec.proofs.Calls.{none_given, cause_of, told_of, fewer}
 use Rattle.std.proofs.Common.{slice_index}
 use Rattle.tce_tree.specs.Value.{Assignment}
 use Rattle.tce_block.specs.Cuts.{part_of}
@@ -96,3 +97,45 @@ returns-clause-nest g c =
 
 pub sum_windows-requires-clause-out_steps : goal.sum_windows-requires-clause-out_steps
 sum_windows-requires-clause-out_steps g c = c.requires.nest.steps_are.sum_are c.requires.sum
+
+pub returns-in_err-sum_windows-clause-changed : goal.returns-in_err-sum_windows-clause-changed
+returns-in_err-sum_windows-clause-changed g c = none_given _ _ c.from_residual.result c.from_residual.ensures.1
+
+pub returns-in_err-sum_windows-clause-nest : goal.returns-in_err-sum_windows-clause-nest
+returns-in_err-sum_windows-clause-nest g c = none_given _ _ c.from_residual.result c.from_residual.ensures.1
+
+pub returns-in_err-sum_windows-clause-kept : goal.returns-in_err-sum_windows-clause-kept
+returns-in_err-sum_windows-clause-kept g c = c.in_err-sum_windows.ensures.kept
+
+pub returns-in_err-sum_windows-clause-same : goal.returns-in_err-sum_windows-clause-same
+returns-in_err-sum_windows-clause-same g c = c.in_err-sum_windows.ensures.same
+
+pub returns-in_err-sum_windows-clause-cause : goal.returns-in_err-sum_windows-clause-cause
+returns-in_err-sum_windows-clause-cause g c = cause_of _ _ c.in_err-sum_windows.ensures.cause
+
+pub returns-in_err-sum_windows-clause-told : goal.returns-in_err-sum_windows-clause-told
+returns-in_err-sum_windows-clause-told g c = told_of _ _ _ c.from_residual.result c.from_residual.ensures.1
+
+pub returns-clause-same : goal.returns-clause-same
+returns-clause-same g c = c.in_ok-sum_windows.ensures.same
+
+pub returns-clause-cause : goal.returns-clause-cause
+returns-clause-cause g c = c.in_ok-sum_windows.ensures.cause
+
+pub returns-clause-told : goal.returns-clause-told
+returns-clause-told g c = c.in_ok-sum_windows.ensures.told
+
+pub sum_windows-requires-clause-prepared : goal.sum_windows-requires-clause-prepared
+sum_windows-requires-clause-prepared g c = c.requires.at.prepared
+
+pub sum_windows-requires-clause-position : goal.sum_windows-requires-clause-position
+sum_windows-requires-clause-position g c = c.requires.position
+
+pub sum_windows-requires-clause-left_steps : goal.sum_windows-requires-clause-left_steps
+sum_windows-requires-clause-left_steps g c = c.requires.nest.steps_are.left_are
+
+pub sum_windows-requires-clause-few : goal.sum_windows-requires-clause-few
+sum_windows-requires-clause-few g c = fewer c.args.store.now.cache.now.touches 2 1 _ c.requires.few
+
+pub grow_turns-requires-clause-sequence : goal.grow_turns-requires-clause-sequence
+grow_turns-requires-clause-sequence g c = c.requires.nest.sequence_is

@@ -1,4 +1,6 @@
-use Rattle.std.proofs.Common.{◌≡◌, map, slice_index, refl, sym, ap, ap₂, ◌∙◌, subst, rules}
+use Rattle.tce_exec.proofs.Calls.{none_given, cause_of, told_of, cause_behind, no_cause}
+use Rattle.std.proofs.Common.{◌≡◌, ◌<◌, length, map, slice_index, refl, sym, ap, ap₂, ◌∙◌, subst}
+use Rattle.std.proofs.lemmas.Bool.{false≢true}
 use Rattle.tce_block.specs.Parts.{blocks}
 use Rattle.tce_block.specs.Cuts.{part_of}
 use Rattle.tce_workspace.specs.Workspace.{Workspace}
@@ -9,7 +11,7 @@ use Rattle.tce_walk.specs.declared.machine.Tail.{Tail}
 use Rattle.tce_exec.specs.Blocks.{blocks_of, loops_of}
 use Rattle.tce_exec.specs.Along.{IsAlong}
 use Rattle.tce_exec.specs.Plans.{IsNest}
-use Rattle.tce_exec.proofs.Along.{begun, is_block, few_left, stepped, has_turns, ended, first_told, none_told}
+use Rattle.tce_exec.proofs.Along.{begun, is_block, few_left, stepped, has_turns, ended, first_told, none_told, tail_now, one_left}
 use Rattle.tce_exec.proofs.tail.run_blocks.Goals as goal
 
 pub loop-plan-init : goal.loop-plan-init
@@ -59,7 +61,7 @@ loop-plan-preserved g c =
       made = c.loop-plan.invariant.made;
       tail_is = c.loop-plan.invariant.tail_is;
       cuts_are = c.loop-plan.invariant.cuts_are;
-      counted = e.told (search rules) ∙ c.loop-plan.invariant.counted;
+      counted = e.told false≢true ∙ c.loop-plan.invariant.counted;
     }
 
 pub returns-in_err-run_block-clause-kept : goal.returns-in_err-run_block-clause-kept
@@ -75,3 +77,59 @@ returns-clause-changed g c =
     let y : Workspace = work_of g.D.Disk.files c.args.evaluation.now c.loop-plan.store in
     ended x y c.args.tail.now (slice_index c.args.numbers.now) c.loop-plan.plan.blocks c.index_count-indexes.ensures.limits (has_turns x.places.space c.index_count-indexes.ensures.limits)
     c.requires.prepared c.len-len.ensures.words c.requires.tail c.loop-plan.invariant.along (none_told c.next_in.result (part_of c.next_in.new.block) c.loop-plan.plan.blocks c.next_in.ensures.block c.loop-plan-test.false)
+
+pub returns-in_err-run_block-clause-changed : goal.returns-in_err-run_block-clause-changed
+returns-in_err-run_block-clause-changed g c = none_given _ _ c.from_residual.result c.from_residual.ensures.1
+
+pub returns-in_err-run_block-clause-position : goal.returns-in_err-run_block-clause-position
+returns-in_err-run_block-clause-position g c = none_given _ _ c.from_residual.result c.from_residual.ensures.1
+
+pub returns-in_err-run_block-clause-plan : goal.returns-in_err-run_block-clause-plan
+returns-in_err-run_block-clause-plan g c = none_given _ _ c.from_residual.result c.from_residual.ensures.1
+
+pub returns-in_err-run_block-clause-same : goal.returns-in_err-run_block-clause-same
+returns-in_err-run_block-clause-same g c = same_on c.args.store.now c.loop-plan.store c.run_block.new.store c.loop-plan.invariant.same c.in_err-run_block.ensures.same
+
+pub returns-in_err-run_block-clause-cause : goal.returns-in_err-run_block-clause-cause
+returns-in_err-run_block-clause-cause g c = cause_behind _ _ _ c.loop-plan.invariant.counted (cause_of _ _ c.in_err-run_block.ensures.cause)
+
+pub returns-in_err-run_block-clause-told : goal.returns-in_err-run_block-clause-told
+returns-in_err-run_block-clause-told g c = told_of _ _ _ c.from_residual.result c.from_residual.ensures.1
+
+pub returns-clause-kept : goal.returns-clause-kept
+returns-clause-kept g c = c.loop-plan.invariant.along.kept
+
+pub returns-clause-position : goal.returns-clause-position
+returns-clause-position g c = c.loop-plan.invariant.position
+
+pub returns-clause-same : goal.returns-clause-same
+returns-clause-same g c = c.loop-plan.invariant.same
+
+pub returns-clause-cause : goal.returns-clause-cause
+returns-clause-cause g c = no_cause _ _ c.loop-plan.invariant.counted
+
+pub returns-clause-told : goal.returns-clause-told
+returns-clause-told g c = λ fine. c.loop-plan.invariant.counted
+
+pub run_block-requires-clause-prepared : goal.run_block-requires-clause-prepared
+run_block-requires-clause-prepared g c = c.loop-plan.invariant.along.changed.prepared
+
+pub run_block-requires-clause-position : goal.run_block-requires-clause-position
+run_block-requires-clause-position g c = c.loop-plan.invariant.position
+
+pub run_block-requires-clause-tail : goal.run_block-requires-clause-tail
+run_block-requires-clause-tail g c =
+    let x : Workspace = work_of g.D.Disk.files c.args.evaluation.now c.args.store.now in
+    let y : Workspace = work_of g.D.Disk.files c.args.evaluation.now c.loop-plan.store in
+    tail_now x y c.args.tail.now (slice_index c.args.numbers.now) c.requires.prepared c.loop-plan.invariant.along.kept c.requires.tail
+
+pub run_block-requires-clause-others : goal.run_block-requires-clause-others
+run_block-requires-clause-others g c = c.loop-plan.invariant.others
+
+pub run_block-requires-clause-nest : goal.run_block-requires-clause-nest
+run_block-requires-clause-nest g c = c.loop-plan.invariant.nest
+
+pub loop-plan-smaller : goal.loop-plan-smaller
+loop-plan-smaller g c =
+    subst (λ blocks. length blocks < length c.loop-plan.plan.blocks) (sym c.next_in.ensures.rest)
+    (one_left c.loop-plan.plan.blocks (part_of c.next_in.new.block) (first_told c.next_in.result (part_of c.next_in.new.block) c.loop-plan.plan.blocks c.next_in.ensures.block c.loop-plan-test.true))

@@ -1,3 +1,4 @@
+use Rattle.tce_exec.proofs.Calls.{none_given, cause_of, told_of}
 use Rattle.std.proofs.Common.{◌%◌, slice_index, IsTrue}
 use Rattle.std.proofs.lemmas.List.Elements.{All-set}
 use Rattle.tce_workspace.specs.Storages.{work_of}
@@ -29,3 +30,54 @@ returns-clause-right g c = record {
   plans = All-set (λ (plan : Plan). IsTrue plan.made → IsPlan (places_of c.args.evaluation.now) plan) c.args.kept.now.plans (c.args.tail.now.node % 8) _
       (λ made. c.in_ok-run_blocks.ensures.plan.is) c.requires.right.plans;
 }
+
+pub returns-in_err-run_blocks-clause-changed : goal.returns-in_err-run_blocks-clause-changed
+returns-in_err-run_blocks-clause-changed g c = none_given _ _ c.from_residual.result c.from_residual.ensures.1
+
+pub returns-in_err-run_blocks-clause-right : goal.returns-in_err-run_blocks-clause-right
+returns-in_err-run_blocks-clause-right g c = none_given _ _ c.from_residual.result c.from_residual.ensures.1
+
+pub returns-in_err-run_blocks-clause-kept : goal.returns-in_err-run_blocks-clause-kept
+returns-in_err-run_blocks-clause-kept g c = c.in_err-run_blocks.ensures.kept
+
+pub returns-in_err-run_blocks-clause-same : goal.returns-in_err-run_blocks-clause-same
+returns-in_err-run_blocks-clause-same g c = c.in_err-run_blocks.ensures.same
+
+pub returns-in_err-run_blocks-clause-cause : goal.returns-in_err-run_blocks-clause-cause
+returns-in_err-run_blocks-clause-cause g c = cause_of _ _ c.in_err-run_blocks.ensures.cause
+
+pub returns-in_err-run_blocks-clause-told : goal.returns-in_err-run_blocks-clause-told
+returns-in_err-run_blocks-clause-told g c = told_of _ _ _ c.from_residual.result c.from_residual.ensures.1
+
+pub returns-clause-changed : goal.returns-clause-changed
+returns-clause-changed g c = c.in_ok-run_blocks.ensures.changed
+
+pub returns-clause-kept : goal.returns-clause-kept
+returns-clause-kept g c = c.in_ok-run_blocks.ensures.kept
+
+pub returns-clause-same : goal.returns-clause-same
+returns-clause-same g c = c.in_ok-run_blocks.ensures.same
+
+pub returns-clause-cause : goal.returns-clause-cause
+returns-clause-cause g c = c.in_ok-run_blocks.ensures.cause
+
+pub returns-clause-told : goal.returns-clause-told
+returns-clause-told g c = c.in_ok-run_blocks.ensures.told
+
+pub run_blocks-requires-clause-prepared : goal.run_blocks-requires-clause-prepared
+run_blocks-requires-clause-prepared g c = c.requires.prepared
+
+pub run_blocks-requires-clause-tail : goal.run_blocks-requires-clause-tail
+run_blocks-requires-clause-tail g c = c.requires.tail
+
+pub run_blocks-requires-clause-few : goal.run_blocks-requires-clause-few
+run_blocks-requires-clause-few g c = c.requires.few
+
+pub run_blocks-requires-clause-position : goal.run_blocks-requires-clause-position
+run_blocks-requires-clause-position g c = c.go_to.ensures.position
+
+pub run_blocks-requires-clause-outside : goal.run_blocks-requires-clause-outside
+run_blocks-requires-clause-outside g c = c.go_to.ensures.numbers
+
+pub run_blocks-requires-clause-plan : goal.run_blocks-requires-clause-plan
+run_blocks-requires-clause-plan g c = c.turn_to.ensures
