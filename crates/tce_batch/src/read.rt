@@ -6,7 +6,7 @@ ghost use Rattle.tce_grammar.specs.Lines.{lines};
 ghost use Rattle.tce_declarations.specs.FaultCode.{Shows};
 ghost use Rattle.tce_declarations.specs.TextCode.{AnswersFault};
 ghost use Rattle.tce_spec.specs.SpecCode.{IsKept};
-ghost use Rattle.tce_spec.specs.OutcomeCode.{HasNames};
+ghost use Rattle.tce_spec.specs.OutcomeCode.{FormulaHasNames};
 ghost use Rattle.tce_batch.specs.Reading.{as_list};
 ghost use Rattle.tce_batch.specs.BatchCode.{behind_fault, further_fault, AnswersBatch, ReadsFurther, ReadsLines, LinesShow};
 
@@ -76,7 +76,7 @@ fn read_further(
 
 /// What the formula lines of a text compute, of which the first stands in its head.
 fn read_lines(alloc: Global, head: &Head) -> Result<Vec<Contraction>, SpecFault>
-    requires names { HasNames head.now }
+    requires names { FormulaHasNames head.now }
     requires few { head.now.line + length head.now.rest.now ≤ max_spec_bytes }
     ensures some { IfOk result (λ cs. 0 < length cs.items) }
     ensures kept { IfOk result (λ cs. All (IsKept head.now.declarations) cs.items) }

@@ -1,11 +1,11 @@
 -- The parts of the fault of a formula line.
-use Rattle.std.proofs.Common.{◌≡◌, ℕ, ◌≤◌, List, [], ◌∷◌, length, Bool, true, false, not, ◌==◌, Option, Some, None, refl, sym, ap, subst, ◌∙◌, nat_lt, arith}
+use Rattle.std.proofs.Common.{◌≡◌, ℕ, ◌≤◌, List, [], ◌∷◌, length, Bool, true, false, not, ◌==◌, Option, Some, None, refl, sym, ap, ap₂, subst, ◌∙◌, nat_lt, arith}
 use Rattle.std.specs.Prelude.{option_map, is_none}
 use Rattle.std.specs.Option.{option_or}
 use Rattle.std.specs.List.{list_all}
 use Rattle.tce_space.specs.IndexSet.{set_of}
 use Rattle.tce_grammar.specs.Formula.{Formula, operations}
-use Rattle.tce_tree.specs.ContractionTree.{dims, operations as node_count}
+use Rattle.tce_tree.specs.ContractionTree.{ContractionTree, dims, operations as node_count}
 use Rattle.tce_tree.specs.WellFormed.{indexes_below, sums_distinct}
 use Rattle.tce_tree.specs.Faults.{fault_of}
 use Rattle.tce_declarations.specs.Declarations.{Declarations, IsDeclarations, tensor_number}
@@ -165,3 +165,34 @@ pub too_many : (line : ℕ) (d : Declarations) (result : List ℕ) (indexes : Li
 too_many line d result indexes f many =
     fault_parts line d result indexes f
     ∙ ap (λ b. option_or (fault_if b (too_many_nodes line)) (option_or (places_fault line d result indexes f) (tree_fault line d indexes f))) many
+
+-- the fault of a tree that is built of what the formula means, and of its indexes
+
+pub tree_shown : (line : ℕ) (d : Declarations) (indexes : List (List ℕ)) (f : Formula) (t : ContractionTree) (fault : SpecFault) → t ≡ meaning d f
+    → Shows (option_map (tree line) (fault_of d.space t)) fault → Shows (tree_fault line d indexes f) fault
+tree_shown line d indexes f t fault same shown =
+    shown_1 (option_map (tree line) (fault_of d.space (meaning d f))) _ fault
+    (subst (λ (u : ContractionTree). Shows (option_map (tree line) (fault_of d.space u)) fault) same shown)
+
+-- whether these indexes are those of the tree, as the code tests it
+pub record IsTested (d : Declarations) (indexes : List (List ℕ)) (f : Formula) (test : Bool) : Type 0 where
+  pub faultless : fault_of d.space (meaning d f) ≡ None
+  pub same : (set_of (indexes_of d.space indexes) == dims (meaning d f)) ≡ test
+
+pub tested : (d : Declarations) (indexes : List (List ℕ)) (f : Formula) (t : ContractionTree) (numbers : List ℕ) (result test : Bool) → t ≡ meaning d f
+    → fault_of d.space t ≡ None → numbers ≡ indexes_of d.space indexes → result ≡ (set_of numbers == dims t) → result ≡ test → IsTested d indexes f test
+tested d indexes f t numbers result test tree_is none numbers_are is found = record {
+  faultless = subst (λ (u : ContractionTree). fault_of d.space u ≡ None) tree_is none;
+  same = sym (ap₂ (λ (ns : List ℕ) (u : ContractionTree). set_of ns == dims u) numbers_are tree_is) ∙ sym is ∙ found;
+}
+
+fault_tested : (line : ℕ) (d : Declarations) (indexes : List (List ℕ)) (f : Formula) (test : Bool) → IsTested d indexes f test
+    → tree_fault line d indexes f ≡ fault_if (not test) (result_indices line)
+fault_tested line d indexes f true t = rw (t.faultless, t.same) refl
+fault_tested line d indexes f false t = rw (t.faultless, t.same) refl
+
+pub tree_good : (line : ℕ) (d : Declarations) (indexes : List (List ℕ)) (f : Formula) → IsTested d indexes f true → tree_fault line d indexes f ≡ None
+tree_good line d indexes f t = fault_tested line d indexes f true t
+
+pub indexes_shown : (line : ℕ) (d : Declarations) (indexes : List (List ℕ)) (f : Formula) → IsTested d indexes f false → tree_fault line d indexes f ≡ Some (result_indices line)
+indexes_shown line d indexes f t = fault_tested line d indexes f false t

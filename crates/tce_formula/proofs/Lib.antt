@@ -1,3 +1,4 @@
+pub mod FirstNames
 pub mod Joined
 pub mod KnownNames
 pub mod Nothing

@@ -1,10 +1,11 @@
 -- The first fault of several, and what the program answers.
-use Rattle.std.proofs.Common.{◌≡◌, Option, Some, None, Result, Ok, Err, sym, subst}
+use Rattle.std.proofs.Common.{◌≡◌, ℕ, Bool, false, not, Option, Some, None, Result, Ok, Err, refl, sym, ap, subst}
+use Rattle.std.proofs.lemmas.Result.{IfErr-weaker, on_ok_weaker}
 use Rattle.std.specs.Prelude.{OnOk, IfErr}
 use Rattle.std.specs.Option.{option_or}
 use Rattle.std.specs.Result.{IsErr, IsErrAnd}
 use Rattle.tce_tree.specs.declared.fault.TreeFault.TheVariants as tree_faults
-use Rattle.tce_declarations.specs.Faults.{Fault}
+use Rattle.tce_declarations.specs.Faults.{Fault, fault_if, bad_number}
 use Rattle.tce_declarations.specs.FaultCode.{Shows}
 use Rattle.tce_declarations.specs.declared.fault.SpecFault.{SpecFault}
 use Rattle.tce_declarations.specs.declared.fault.SpecFault.TheVariants.{TooLong, BadText, TooManyNodes, NameTwice, UnknownName, BadNumber, LimitPassed, RankDiffers, RangeDiffers, IndexTwice, ResultIsOperand, Tree, ResultIndices, Memory}
@@ -53,3 +54,18 @@ shown_4 a b c d rest fault na nb nc shown = shown_behind a _ fault na (shown_3 b
 pub shown_5 : (a b c d e rest : Option Fault) (fault : SpecFault) → a ≡ None → b ≡ None → c ≡ None → d ≡ None → Shows e fault
     → Shows (option_or a (option_or b (option_or c (option_or d (option_or e rest))))) fault
 shown_5 a b c d e rest fault na nb nc nd shown = shown_behind a _ fault na (shown_4 b c d e rest fault nb nc nd shown)
+
+-- the last of six columns decides where those before it have none
+pub all_kept : {T : Type 0} (r : Result T SpecFault) (a b c d e g : Option Fault) → a ≡ None → b ≡ None → c ≡ None → d ≡ None → e ≡ None → OnOk r (g ≡ None)
+    → OnOk r (option_or a (option_or b (option_or c (option_or d (option_or e (option_or g None))))) ≡ None)
+all_kept r a b c d e g na nb nc nd ne kept = rw (na, nb, nc, nd, ne) (on_ok_weaker r (λ none. ap (λ (o : Option Fault). option_or o None) none) kept)
+
+pub last_shown : {T : Type 0} (r : Result T SpecFault) (a b c d e g : Option Fault) → a ≡ None → b ≡ None → c ≡ None → d ≡ None → e ≡ None → IfErr r (Shows g)
+    → IfErr r (Shows (option_or a (option_or b (option_or c (option_or d (option_or e (option_or g None)))))))
+last_shown r a b c d e g na nb nc nd ne shown =
+    IfErr-weaker r (Shows g) _
+    (λ fault is. shown_behind a _ fault na (shown_5 b c d e g None fault nb nc nd ne is)) shown
+
+-- a number that is no constant, where the column before has none
+pub number_shown : (a rest : Option Fault) (good : Bool) (line : ℕ) → a ≡ None → good ≡ false → option_or a (option_or (fault_if (not good) (bad_number line)) rest) ≡ Some (bad_number line)
+number_shown a rest good line none bad = rw (none, bad) refl

@@ -145,13 +145,20 @@ fn contraction_of(
     ensures fault { IfErr result (BadTree line declarations.now indexes.now written.now) }
 {
     let _space = declarations.space();
-    let result = leaf_of(declarations, name, indexes);
     let expr = expression_of(alloc, declarations, written)?;
     let tree = build_tree(alloc, line, declarations, &expr)?;
-    if !has_indexes(declarations, &tree, result.indexes.as_slice()) {
-        return Err(SpecFault::ResultIndices(line));
+    let result = leaf_of(declarations, name, indexes);
+    let contraction = Contraction { result, expr, tree };
+    if has_indexes(
+        declarations,
+        &contraction.tree,
+        contraction.result.indexes.as_slice(),
+    ) {
+        Ok(contraction)
+    } else {
+        drop(contraction);
+        Err(SpecFault::ResultIndices(line))
     }
-    Ok(Contraction { result, expr, tree })
 }
 
 /// Reads a formula line over its declarations: what `NAME[INDEX,INDEX,..] = FORMULA` computes, with its tree.

@@ -11,7 +11,7 @@ map_none : {A B : Type 0} (f : A → B) (m : Option A) → option_map f m ≡ No
 map_none f None e = refl
 map_none f (Some x) e = cc
 
-some_map : {A B : Type 0} (f : A → B) (m : Option A) (y : B) → option_map f m ≡ Some y → (x : A) × (m ≡ Some x) × (f x ≡ y)
+pub some_map : {A B : Type 0} (f : A → B) (m : Option A) (y : B) → option_map f m ≡ Some y → (x : A) × (m ≡ Some x) × (f x ≡ y)
 some_map f None y e = cc
 some_map f (Some x) y e = (x, refl, cc)
 

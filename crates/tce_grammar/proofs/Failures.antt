@@ -57,3 +57,6 @@ symbol_found (Some rest') x rest read is ok same = let e : rest' ≡ rest = cc i
 
 pub names_memory : (r : Result (Vec (Bor (List ℕ)) Global × Bor (List Token)) ReadError) (read : Reads (List (List ℕ))) → IsErrAnd r (λ y. y ≡ Memory) → GivesNames r read
 names_memory r read is = gives_memory (λ (r : Vec (Bor (List ℕ)) Global × Bor (List Token)). (names r.0.items, map token r.1.now)) r read is
+
+pub alone_memory : (r : Result (Vec (Bor (List ℕ)) Global) ReadError) (read : Option (List (List ℕ))) → IsErrAnd r (λ y. y ≡ Memory) → Gives (λ (v : Vec (Bor (List ℕ)) Global). names v.items) r read
+alone_memory r read is = gives_memory (λ (v : Vec (Bor (List ℕ)) Global). names v.items) r read is

@@ -4,6 +4,7 @@ pub mod Sound
 pub mod Statements
 pub mod OneReading
 pub mod Lists
+pub mod Declared
 pub mod Chains
 pub mod Pieces
 pub mod FirstLines

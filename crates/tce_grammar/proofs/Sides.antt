@@ -1,6 +1,6 @@
 -- The two sides of a formula.
 use Rattle.std.proofs.Common.{◌≡◌, ℕ, Bool, true, false, List, [], ◌∷◌, length, map, Option, Some, None, Result, Err, Vec, Bor, Global, refl, ap, ◌∙◌, arith}
-use Rattle.std.proofs.lemmas.Grind.{common_steps}
+use Rattle.std.proofs.lemmas.Bool.{eqb-true}
 use Rattle.std.specs.Prelude.{◌==◌, if◌then◌else◌, option_map}
 use Rattle.std.specs.Result.{IsErrAnd}
 use Rattle.tce_space.specs.Name.{is_name}
@@ -14,16 +14,13 @@ use Rattle.tce_grammar.specs.declared.token.Token.{Token}
 use Rattle.tce_grammar.specs.declared.formula.Formula.{Formula}
 use Rattle.tce_grammar.specs.declared.statement.Statement.{Statement}
 use Rattle.tce_grammar.specs.declared.read_error.ReadError.{ReadError}
-use Rattle.tce_grammar.proofs.Failures.{gives_failed, gives_none}
+use Rattle.tce_grammar.proofs.Failures.{gives_failed}
 
 pub side_missing : (ts : List tokens.Token) → behind 61 ts ≡ None → right_side_of ts ≡ None
 side_missing ts e = ap (λ (m : Option (List tokens.Token)). m >>= λ rest. whole (formula_within 64 rest)) e
 
 pub side_behind : (ts rest : List tokens.Token) → behind 61 ts ≡ Some rest → right_side_of ts ≡ whole (formula_within 64 rest)
 side_behind ts rest e = ap (λ (m : Option (List tokens.Token)). m >>= λ rest. whole (formula_within 64 rest)) e
-
-pub side_none : (r : Result Formula ReadError) (e : ReadError) (read : Option formulas.Formula) → IsErrAnd r (λ y. y ≡ e) → read ≡ None → Gives formula r read
-side_none r e read is none = gives_none formula r e read is none
 
 pub side_failed : (r : Result Formula ReadError) (e : ReadError) (read : Reads formulas.Formula) (read' : Option formulas.Formula)
     → IsErrAnd r (λ y. y ≡ e) → GivesFormula (Err e) read → (read ≡ None → read' ≡ None) → Gives formula r read'
@@ -51,15 +48,19 @@ pub left_failed : (r : Result Statement ReadError) (e : ReadError) (read : Reads
     → IsErrAnd r (λ y. y ≡ e) → GivesNames (Err e) read → (read ≡ None → read' ≡ None) → Gives statement r read'
 left_failed r e read read' is given none = gives_failed (λ (r : Vec (Bor (List ℕ)) Global × Bor (List Token)). (names r.0.items, map token r.1.now)) statement r e read read' is given none
 
+pub names_failed : (r : Result Statement ReadError) (e : ReadError) (read : Option (List (List ℕ))) (read' : Option grammar.Statement)
+    → IsErrAnd r (λ y. y ≡ e) → Gives (λ (v : Vec (Bor (List ℕ)) Global). names v.items) (Err e) read → (read ≡ None → read' ≡ None) → Gives statement r read'
+names_failed r e read read' is given none = gives_failed (λ (v : Vec (Bor (List ℕ)) Global). names v.items) statement r e read read' is given none
+
 pub right_failed : (r : Result Statement ReadError) (e : ReadError) (read : Option formulas.Formula) (read' : Option grammar.Statement)
     → IsErrAnd r (λ y. y ≡ e) → Gives formula (Err e) read → (read ≡ None → read' ≡ None) → Gives statement r read'
 right_failed r e read read' is given none = gives_failed formula statement r e read read' is given none
 
--- an expression is the whole right side where no token stands behind it
-pub whole_ended : (m : Reads formulas.Formula) (f : formulas.Formula) (rest : List Token) → m ≡ Some (f, map token rest) → (length rest == 0) ≡ true → whole m ≡ Some f
+-- what is read is the whole where no token stands behind it
+pub whole_ended : {A : Type 0} (m : Reads A) (f : A) (rest : List Token) → m ≡ Some (f, map token rest) → (length rest == 0) ≡ true → whole m ≡ Some f
 whole_ended m f [] e is = ap whole e
-whole_ended m f (t ∷ ts) e is = grind (arith, common_steps)
+whole_ended m f (t ∷ ts) e is = absurd (omega (arith, eqb-true (length (t ∷ ts)) 0 is))
 
-pub whole_further : (m : Reads formulas.Formula) (f : formulas.Formula) (rest : List Token) → m ≡ Some (f, map token rest) → (length rest == 0) ≡ false → whole m ≡ None
+pub whole_further : {A : Type 0} (m : Reads A) (f : A) (rest : List Token) → m ≡ Some (f, map token rest) → (length rest == 0) ≡ false → whole m ≡ None
 whole_further m f [] e is = cc
 whole_further m f (t ∷ ts) e is = ap whole e

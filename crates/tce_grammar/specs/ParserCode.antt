@@ -15,6 +15,10 @@ use Rattle.tce_grammar.specs.declared.formula.Formula.{Formula}
 abbrev pub tokens_if_some : Option (Bor (List Token)) → Option (List tokens.Token)
 tokens_if_some answer = option_map (λ (rest : Bor (List Token)). map token rest.now) answer
 
+-- the name and the tokens behind it, where there is one
+abbrev pub name_if_some : Option (Bor (List ℕ) × Bor (List Token)) → Reads (List ℕ)
+name_if_some answer = option_map (λ (r : Bor (List ℕ) × Bor (List Token)). (r.0.now, map token r.1.now)) answer
+
 -- the operator and the tokens behind it, where there is one
 abbrev pub operator_if_some : Option (Arithmetic × Bor (List Token)) → Option (Arithmetic × List tokens.Token)
 operator_if_some answer = option_map (λ (r : Arithmetic × Bor (List Token)). (r.0, map token r.1.now)) answer

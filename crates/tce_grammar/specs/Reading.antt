@@ -30,6 +30,25 @@ behind c (word w ∷ ts) = None
 behind c (number d ∷ ts) = None
 behind c (symbol b ∷ ts) = if b == c then Some ts else None
 
+-- the name that a token is
+abbrev pub name_in : Token → Option (List ℕ)
+name_in (word w) = if is_name w then Some w else None
+name_in (number d) = None
+name_in (symbol b) = None
+
+-- a name at the front, and the tokens behind it
+abbrev pub name_ahead : List Token → Reads (List ℕ)
+name_ahead [] = None
+name_ahead (t ∷ ts) = option_map (λ name. (name, ts)) (name_in t)
+
+-- a name at the front with this symbol behind it
+abbrev pub name_before : ℕ → List Token → Option (List ℕ)
+name_before c [] = None
+name_before c (t ∷ []) = None
+name_before c (t ∷ word v ∷ ts) = None
+name_before c (t ∷ number d ∷ ts) = None
+name_before c (t ∷ symbol b ∷ ts) = if b == c then name_in t else None
+
 abbrev pub with_first : List ℕ → Reads (List (List ℕ)) → Reads (List (List ℕ))
 with_first name None = None
 with_first name (Some r) = Some (name ∷ r.0, r.1)

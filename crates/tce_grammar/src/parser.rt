@@ -1,9 +1,9 @@
 //! Formulas, read from the tokens of a line.
 
-ghost use Rattle.std.specs.Prelude.{◌≡◌, ◌≢◌, ◌<◌, ◌+◌, ◌*◌, ℕ, length, map, IfOk, IfSome};
-ghost use Rattle.tce_grammar.specs.Code.{token, IsJoined};
-ghost use Rattle.tce_grammar.specs.Reading.{ahead, behind, names_at, brackets_at, times_of, plus_of, chain_at, summed_at, sum_at, tensor_at, factor_within, formula_within, enclosed_within, product_within};
-ghost use Rattle.tce_grammar.specs.ParserCode.{GivesFormula, GivesNames, operator_if_some, tokens_if_some};
+ghost use Rattle.std.specs.Prelude.{◌≡◌, ◌≢◌, ◌<◌, ◌≤◌, ◌+◌, ◌*◌, ℕ, length, map, IfOk, IfSome};
+ghost use Rattle.tce_grammar.specs.Code.{token, text_if_some, IsJoined};
+ghost use Rattle.tce_grammar.specs.Reading.{ahead, behind, name_in, name_ahead, name_before, names_at, brackets_at, times_of, plus_of, chain_at, summed_at, sum_at, tensor_at, factor_within, formula_within, enclosed_within, product_within};
+ghost use Rattle.tce_grammar.specs.ParserCode.{GivesFormula, GivesNames, operator_if_some, tokens_if_some, name_if_some};
 
 use crate::formula::Formula;
 use crate::name::SUM;
@@ -46,6 +46,37 @@ fn plus_ahead<'a, 'b>(tokens: &'b [Token<'a>]) -> Option<(Arithmetic, &'b [Token
     }
 }
 
+/// The name that a token is.
+pub(crate) fn name_in<'a>(first: &Token<'a>) -> Option<&'a [u8]>
+    ensures { text_if_some result ≡ name_in (token first.now) }
+{
+    match first {
+        Token::Word(name) if is_name(*name) => Some(*name),
+        _ => None,
+    }
+}
+
+/// A name at the front, and the tokens behind it.
+pub(crate) fn name_ahead<'a, 'b>(tokens: &'b [Token<'a>]) -> Option<(&'a [u8], &'b [Token<'a>])>
+    ensures { name_if_some result ≡ name_ahead (map token tokens.now) }
+{
+    let [first, rest @ ..] = tokens else {
+        return None;
+    };
+    Some((name_in(first)?, rest))
+}
+
+/// A name at the front with this symbol behind it.
+fn name_before<'a>(symbol: u8, tokens: &[Token<'a>]) -> Option<&'a [u8]>
+    ensures read { text_if_some result ≡ name_before symbol (map token tokens.now) }
+    ensures both { IfSome result (λ name. 2 ≤ length tokens.now) }
+{
+    match tokens {
+        [first, Token::Symbol(second), ..] if *second == symbol => name_in(first),
+        _ => None,
+    }
+}
+
 /// One or more names with commas between them, up to the closing symbol.
 fn names_up_to<'a, 'b>(
     alloc: Global,
@@ -57,21 +88,15 @@ fn names_up_to<'a, 'b>(
 {
     let mut found = Vec::new(alloc);
     let mut rest = tokens;
-    while let [Token::Word(name), Token::Symbol(symbol), behind @ ..] = rest {
-        if !is_name(name) {
-            return Err(ReadError::Form);
-        }
-        found.push(*name)?;
-        rest = behind;
-        if *symbol != b',' {
-            return if *symbol == close {
-                Ok((found, rest))
-            } else {
-                Err(ReadError::Form)
-            };
-        }
+    while let Some(name) = name_before(b',', rest) {
+        found.push(name)?;
+        rest = &rest[2..];
     }
-    Err(ReadError::Form)
+    let Some(last) = name_before(close, rest) else {
+        return Err(ReadError::Form);
+    };
+    found.push(last)?;
+    Ok((found, &rest[2..]))
 }
 
 /// Names in brackets, or none.
@@ -82,7 +107,9 @@ pub(crate) fn brackets<'a, 'b>(
     ensures read { GivesNames result (brackets_at (map token tokens.now)) }
     ensures shorter { IfOk result (λ r. length r.1.now < length tokens.now) }
 {
-    let inner = behind(b'[', tokens).ok_or(ReadError::Form)?;
+    let Some(inner) = behind(b'[', tokens) else {
+        return Err(ReadError::Form);
+    };
     match behind(b']', inner) {
         Some(rest) => Ok((Vec::new(alloc), rest)),
         None => names_up_to(alloc, b']', inner),
@@ -172,10 +199,14 @@ fn summed<'a, 'b>(
     ensures read { GivesNames result (summed_at (map token tokens.now)) }
     ensures shorter { IfOk result (λ r. length r.1.now < length tokens.now) }
 {
-    let list = behind(b'{', tokens).ok_or(ReadError::Form)?;
+    let Some(list) = behind(b'{', tokens) else {
+        return Err(ReadError::Form);
+    };
     let (indexes, rest) = names_up_to(alloc, b'}', list)?;
-    let operand = behind(b'(', rest).ok_or(ReadError::Form)?;
-    Ok((indexes, operand))
+    match behind(b'(', rest) {
+        Some(operand) => Ok((indexes, operand)),
+        None => Err(ReadError::Form),
+    }
 }
 
 /// A sum, behind its first word.

@@ -7,7 +7,7 @@ ghost use Rattle.tce_grammar.specs.Tokens.{word};
 
 use crate::formula::Formula;
 use crate::name::{INDEX, RANGE, TENSOR, TILE};
-use crate::parser::{behind, brackets, expression};
+use crate::parser::{behind, brackets, expression, name_ahead, name_in};
 use crate::read_error::ReadError;
 use crate::token::Token;
 use std::alloc::Global;
@@ -78,10 +78,10 @@ fn all_names<'a>(alloc: Global, tokens: &[Token<'a>]) -> Result<Vec<&'a [u8]>, R
     let mut found = Vec::new(alloc);
     let mut rest = tokens;
     while let [first, behind @ ..] = rest {
-        match first {
-            Token::Word(name) if is_name(*name) => found.push(*name)?,
-            _ => return Err(ReadError::Form),
-        }
+        let Some(name) = name_in(first) else {
+            return Err(ReadError::Form);
+        };
+        found.push(name)?;
         rest = behind;
     }
     Ok(found)
@@ -91,13 +91,11 @@ fn all_names<'a>(alloc: Global, tokens: &[Token<'a>]) -> Result<Vec<&'a [u8]>, R
 fn read_index<'a>(alloc: Global, tokens: &[Token<'a>]) -> Result<Statement<'a>, ReadError>
     ensures { Gives statement result (index_of (map token tokens.now)) }
 {
-    match tokens {
-        [Token::Word(range), rest @ ..] if is_name(*range) && !rest.is_empty() => {
-            Ok(Statement::Index {
-                range: *range,
-                indexes: all_names(alloc, rest)?,
-            })
-        }
+    match name_ahead(tokens) {
+        Some((range, rest)) if !rest.is_empty() => Ok(Statement::Index {
+            range,
+            indexes: all_names(alloc, rest)?,
+        }),
         _ => Err(ReadError::Form),
     }
 }
@@ -106,19 +104,14 @@ fn read_index<'a>(alloc: Global, tokens: &[Token<'a>]) -> Result<Statement<'a>, 
 fn read_tensor<'a>(alloc: Global, tokens: &[Token<'a>]) -> Result<Statement<'a>, ReadError>
     ensures { Gives statement result (declaration_of (map token tokens.now)) }
 {
-    match tokens {
-        [Token::Word(name), rest @ ..] if is_name(*name) => {
-            let (ranges, rest) = brackets(alloc, rest)?;
-            if rest.is_empty() {
-                Ok(Statement::Tensor {
-                    name: *name,
-                    ranges,
-                })
-            } else {
-                Err(ReadError::Form)
-            }
-        }
-        _ => Err(ReadError::Form),
+    let Some((name, rest)) = name_ahead(tokens) else {
+        return Err(ReadError::Form);
+    };
+    let (ranges, rest) = brackets(alloc, rest)?;
+    if rest.is_empty() {
+        Ok(Statement::Tensor { name, ranges })
+    } else {
+        Err(ReadError::Form)
     }
 }
 
@@ -126,7 +119,9 @@ fn read_tensor<'a>(alloc: Global, tokens: &[Token<'a>]) -> Result<Statement<'a>,
 fn right_side<'a>(alloc: Global, tokens: &[Token<'a>]) -> Result<Formula<'a>, ReadError>
     ensures { Gives formula result (right_side_of (map token tokens.now)) }
 {
-    let tokens = behind(b'=', tokens).ok_or(ReadError::Form)?;
+    let Some(tokens) = behind(b'=', tokens) else {
+        return Err(ReadError::Form);
+    };
     let (formula, rest) = expression(alloc, OPEN_LIMIT, tokens)?;
     if rest.is_empty() {
         Ok(formula)

@@ -26,8 +26,8 @@ abbrev pub AnswersText : List ℕ → Result Specification SpecFault → Type 0
 AnswersText text result = (found : Result Specification Fault) → IsOutcome text found → Answers found result
 
 -- the formula line of a head has names
-abbrev pub HasNames : Head → Type 0
-HasNames h = IsTrue (is_name h.result.now) × AreNames (names h.indexes.items) × IsNamed (formula h.formula)
+abbrev pub FormulaHasNames : Head → Type 0
+FormulaHasNames h = IsTrue (is_name h.result.now) × AreNames (names h.indexes.items) × IsNamed (formula h.formula)
 
 -- a text has this head, and the lines of its rest behind it
 abbrev pub HasHead : List ℕ → Head → Type 0

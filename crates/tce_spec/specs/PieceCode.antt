@@ -52,6 +52,10 @@ with_operands (constant number) left right = binary subtract left right
 with_operands (binary op own other) left right = binary op left right
 with_operands (sum indexes operand) left right = binary subtract left right
 
+-- an expression of these operands in place of those of the node
+abbrev pub IsJoined : Expr → Expr → Expr → Expr → Type 0
+IsJoined node left right own = tree_of own ≡ with_operands (tree_of node) (tree_of left) (tree_of right)
+
 -- an expression of what is left of a part of the tree, whose nodes are numbered from `first` on
 abbrev pub IsRestOf : ℕ → ℕ → ℕ → Expr → Expr → Type 0
 IsRestOf cuts root first part rest = tree_of rest ≡ rest_of (cuts_below cuts root) first (tree_of part)

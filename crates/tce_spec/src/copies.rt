@@ -11,9 +11,22 @@ pub(crate) fn copied_space(alloc: Global, space: &Space) -> Result<Space, AllocE
     ensures { IfOk result (λ copy. copy ≡ space.now) }
 {
     let mut copy = Space::new(alloc)?;
-    copy_ranges(&mut copy, space)?;
-    copy_indexes(&mut copy, space)?;
-    Ok(copy)
+    match copy_declarations(&mut copy, space) {
+        Ok(()) => Ok(copy),
+        Err(error) => {
+            drop(copy);
+            Err(error)
+        }
+    }
+}
+
+// Declares what a space declares in a space without declarations.
+fn copy_declarations(copy: &mut Space, space: &Space) -> Result<(), AllocError>
+    requires { copy.old ≡ no_declarations }
+    ensures { OnOk result (copy.new ≡ space.now) }
+{
+    copy_ranges(copy, space)?;
+    copy_indexes(copy, space)
 }
 
 // Declares the ranges of a space in a space without declarations.

@@ -6,13 +6,13 @@ ghost use Rattle.std.specs.Fmt.{decimal};
 ghost use Rattle.tce_space.specs.Limits.{max_nodes, max_rank, max_tensors};
 ghost use Rattle.tce_space.specs.IndexSet.{has, count, members};
 ghost use Rattle.tce_tree.specs.Expr.{tree_of};
-ghost use Rattle.tce_tree.specs.ContractionTree.{operations, node, node_dims};
+ghost use Rattle.tce_tree.specs.ContractionTree.{leaf, sum, operations, node, node_dims};
 ghost use Rattle.tce_tree.specs.Measure.{IsMeasured};
 ghost use Rattle.tce_declarations.specs.Declarations.{HaveNames, IsTensor, tensor_number};
 ghost use Rattle.tce_pieces.specs.Pieces as model;
 ghost use Rattle.tce_pieces.specs.Storable.{ranges_of_node};
 ghost use Rattle.tce_spec.specs.PieceSpecification.{CanCut, piece_of, renumbered, place_in, source, target_indexes, declared_of};
-ghost use Rattle.tce_spec.specs.PieceCode.{StandsAt, HaveRank, IsSource, CanDeclare, target_number, cuts_below, IsRestOf, IsRenumbered, with_operands, specification_to};
+ghost use Rattle.tce_spec.specs.PieceCode.{StandsAt, HaveRank, IsSource, CanDeclare, target_number, cuts_below, IsRestOf, IsRenumbered, IsJoined, with_operands, specification_to};
 ghost use Rattle.tce_spec.specs.Specification.{ConstantsAreWords};
 ghost use Rattle.tce_formula.specs.Contraction.{IsContraction};
 ghost use Rattle.tce_tree.specs.WellFormed.{sums_distinct};
@@ -27,7 +27,7 @@ use std::boxed::Box;
 use tce_declarations::Declarations;
 use tce_fields::{decimal_text, members_of};
 use tce_formula::Contraction;
-use tce_space::{MAX_NODES, MAX_RANK, MAX_TENSORS, Name, Space};
+use tce_space::{MAX_INDEXES, MAX_NODES, MAX_RANK, MAX_TENSORS, Name, Space};
 use tce_tree::{Expr, Leaf, Tree};
 
 /// The array of node `v` stands behind all tensors that may be declared, as number `FIRST_ARRAY + v`.
@@ -130,6 +130,37 @@ fn with_operands(node: &Expr, left: Box<Expr>, right: Box<Expr>) -> Expr
     }
 }
 
+// The same of operands without boxes.
+fn joined(alloc: Global, node: &Expr, left: Expr, right: Expr) -> Result<Expr, AllocError>
+    ensures { IfOk result (IsJoined node.now left right) }
+{
+    let left = Box::new(alloc, left)?;
+    let right = Box::new(alloc, right)?;
+    Ok(with_operands(node, left, right))
+}
+
+// A tensor at these indexes.
+fn leaf_at(tensor: u8, indexes: &ArrayVec<u8, MAX_RANK>) -> Result<Expr, AllocError>
+    ensures { IfOk result (λ own. tree_of own ≡ leaf tensor indexes.now.items) }
+{
+    Ok(Expr::Leaf(Leaf {
+        tensor,
+        indexes: indexes.clone()?,
+    }))
+}
+
+// The sum of an operand over these indexes.
+fn summed(
+    alloc: Global,
+    indexes: &ArrayVec<u8, MAX_INDEXES>,
+    operand: Expr,
+) -> Result<Expr, AllocError>
+    ensures { IfOk result (λ own. tree_of own ≡ sum indexes.now.items (tree_of operand)) }
+{
+    let operand = Box::new(alloc, operand)?;
+    Ok(Expr::Sum(indexes.clone()?, operand))
+}
+
 // What is left of a part of the tree whose nodes are numbered from `first` on.
 fn rest_of(
     alloc: Global,
@@ -149,20 +180,22 @@ fn rest_of(
         return Ok(reference_to(tree, first + nodes - 1));
     }
     match part {
-        Expr::Leaf(leaf) => Ok(Expr::Leaf(Leaf {
-            tensor: leaf.tensor,
-            indexes: leaf.indexes.clone()?,
-        })),
+        Expr::Leaf(leaf) => leaf_at(leaf.tensor, &leaf.indexes),
         Expr::Constant(number) => Ok(Expr::Constant(*number)),
         Expr::Product(left, right) | Expr::Add(left, right) | Expr::Sub(left, right) => {
             let behind = first + left.operations() as u8;
-            let left = Box::new(alloc, rest_of(alloc, tree, cut, first, left)?)?;
-            let right = Box::new(alloc, rest_of(alloc, tree, cut, behind, right)?)?;
-            Ok(with_operands(part, left, right))
+            let left = rest_of(alloc, tree, cut, first, left)?;
+            match rest_of(alloc, tree, cut, behind, right) {
+                Ok(right) => joined(alloc, part, left, right),
+                Err(error) => {
+                    drop(left);
+                    Err(error)
+                }
+            }
         }
         Expr::Sum(indexes, operand) => {
-            let rest = Box::new(alloc, rest_of(alloc, tree, cut, first, operand)?)?;
-            Ok(Expr::Sum(indexes.clone()?, rest))
+            let rest = rest_of(alloc, tree, cut, first, operand)?;
+            summed(alloc, indexes, rest)
         }
     }
 }
@@ -191,19 +224,21 @@ fn renumbered(alloc: Global, expr: &Expr, numbers: &[u8]) -> Result<Expr, AllocE
     ensures { IfOk result (IsRenumbered numbers.now expr.now) }
 {
     match expr {
-        Expr::Leaf(leaf) => Ok(Expr::Leaf(Leaf {
-            tensor: place_of(numbers, leaf.tensor),
-            indexes: leaf.indexes.clone()?,
-        })),
+        Expr::Leaf(leaf) => leaf_at(place_of(numbers, leaf.tensor), &leaf.indexes),
         Expr::Constant(number) => Ok(Expr::Constant(*number)),
         Expr::Product(left, right) | Expr::Add(left, right) | Expr::Sub(left, right) => {
-            let left = Box::new(alloc, renumbered(alloc, left, numbers)?)?;
-            let right = Box::new(alloc, renumbered(alloc, right, numbers)?)?;
-            Ok(with_operands(expr, left, right))
+            let left = renumbered(alloc, left, numbers)?;
+            match renumbered(alloc, right, numbers) {
+                Ok(right) => joined(alloc, expr, left, right),
+                Err(error) => {
+                    drop(left);
+                    Err(error)
+                }
+            }
         }
         Expr::Sum(indexes, operand) => {
-            let own = Box::new(alloc, renumbered(alloc, operand, numbers)?)?;
-            Ok(Expr::Sum(indexes.clone()?, own))
+            let own = renumbered(alloc, operand, numbers)?;
+            summed(alloc, indexes, own)
         }
     }
 }
@@ -367,7 +402,11 @@ fn specified(
                 tree,
             },
         )),
-        Err(_) => Err(AllocError),
+        Err(_) => {
+            drop(expr);
+            drop(declarations);
+            Err(AllocError)
+        }
     }
 }
 

@@ -7,7 +7,7 @@ ghost use Rattle.tce_tree.specs.Expr.{tree_of};
 ghost use Rattle.tce_declarations.specs.Declarations.{HaveNames, tensor_number, tensor_at};
 ghost use Rattle.tce_spec.specs.Specification.{IsSpecification};
 ghost use Rattle.tce_spec.specs.Operands.{operands, largest_tile, shape_of};
-ghost use Rattle.tce_spec.specs.OutcomeCode.{HasNames, SpecifiesAs, HasFault, AnswersText};
+ghost use Rattle.tce_spec.specs.OutcomeCode.{FormulaHasNames, SpecifiesAs, HasFault, AnswersText};
 ghost use Rattle.tce_spec.specs.SpecCode.{specification_of, IsKept};
 
 use crate::operands::add_operands;
@@ -151,7 +151,7 @@ impl Spec {
 
 /// What the formula of a head means, with nothing but skipped lines behind it.
 fn read_contraction(alloc: Global, head: &Head) -> Result<Contraction, SpecFault>
-    requires names { HasNames head.now }
+    requires names { FormulaHasNames head.now }
     requires few { head.now.line + length head.now.rest.now ≤ max_spec_bytes }
     ensures kept { IfOk result (IsKept head.now.declarations) }
     ensures specified { IfOk result (SpecifiesAs head.now) }

@@ -6,8 +6,8 @@ use Rattle.tce_declarations.specs.Faults.{fault_if, bad_number}
 use Rattle.tce_formula.specs.Places.{constants}
 use Rattle.tce_formula.specs.FormulaFaults.{is_constant}
 use Rattle.tce_formula.specs.Rules.{column}
-use Rattle.tce_formula.specs.declared.rule.Rule.TheVariants.{Declared, SameRank, SameRanges, ListedOnce}
-use Rattle.tce_formula.proofs.ShownFaults.{ok_of_err, err_shows, shown_1, shown_3, shown_4, shown_5}
+use Rattle.tce_formula.specs.declared.rule.Rule.TheVariants.{Declared, SameRank, SameRanges, ListedOnce, NotNamed}
+use Rattle.tce_formula.proofs.ShownFaults.{ok_of_err, err_shows, shown_1, shown_3, shown_4, shown_5, number_shown, all_kept, last_shown}
 use Rattle.tce_formula.proofs.read.check_places.Goals as goal
 
 pub keep-requires-clause-name : goal.keep-requires-clause-name
@@ -111,3 +111,40 @@ returns-in_err-keep-4-clause-fault c =
     c.in_ok-keep-2.ensures.ok
     c.in_ok-keep-3.ensures.ok
     c.in_err-keep-4.ensures.fault)
+
+pub returns-then-not-has_good_constants-clause-fault : goal.returns-then-not-has_good_constants-clause-fault
+returns-then-not-has_good_constants-clause-fault c =
+    number_shown (column Declared c.args.line c.args.declarations.now c.args.name.now (names c.args.indexes.now) (formula c.args.written.now)) _
+    (list_all is_constant (constants (formula c.args.written.now))) c.args.line c.in_ok-keep.ensures.ok (sym c.has_good_constants.ensures ∙ c.if-not-has_good_constants.true)
+
+pub returns-clause-ok : goal.returns-clause-ok
+returns-clause-ok c =
+    all_kept c.keep-5.result
+    (column Declared c.args.line c.args.declarations.now c.args.name.now (names c.args.indexes.now) (formula c.args.written.now))
+    (fault_if (not (list_all is_constant (constants (formula c.args.written.now)))) (bad_number c.args.line))
+    (column SameRank c.args.line c.args.declarations.now c.args.name.now (names c.args.indexes.now) (formula c.args.written.now))
+    (column SameRanges c.args.line c.args.declarations.now c.args.name.now (names c.args.indexes.now) (formula c.args.written.now))
+    (column ListedOnce c.args.line c.args.declarations.now c.args.name.now (names c.args.indexes.now) (formula c.args.written.now))
+    (column (NotNamed c.args.name) c.args.line c.args.declarations.now c.args.name.now (names c.args.indexes.now) (formula c.args.written.now))
+    c.in_ok-keep.ensures.ok
+    (ap (λ (good : Bool). fault_if (not good) (bad_number c.args.line)) (sym c.has_good_constants.ensures ∙ c.if-not-has_good_constants.false))
+    c.in_ok-keep-2.ensures.ok
+    c.in_ok-keep-3.ensures.ok
+    c.in_ok-keep-4.ensures.ok
+    c.keep-5.ensures.ok
+
+pub returns-clause-fault : goal.returns-clause-fault
+returns-clause-fault c =
+    last_shown c.keep-5.result
+    (column Declared c.args.line c.args.declarations.now c.args.name.now (names c.args.indexes.now) (formula c.args.written.now))
+    (fault_if (not (list_all is_constant (constants (formula c.args.written.now)))) (bad_number c.args.line))
+    (column SameRank c.args.line c.args.declarations.now c.args.name.now (names c.args.indexes.now) (formula c.args.written.now))
+    (column SameRanges c.args.line c.args.declarations.now c.args.name.now (names c.args.indexes.now) (formula c.args.written.now))
+    (column ListedOnce c.args.line c.args.declarations.now c.args.name.now (names c.args.indexes.now) (formula c.args.written.now))
+    (column (NotNamed c.args.name) c.args.line c.args.declarations.now c.args.name.now (names c.args.indexes.now) (formula c.args.written.now))
+    c.in_ok-keep.ensures.ok
+    (ap (λ (good : Bool). fault_if (not good) (bad_number c.args.line)) (sym c.has_good_constants.ensures ∙ c.if-not-has_good_constants.false))
+    c.in_ok-keep-2.ensures.ok
+    c.in_ok-keep-3.ensures.ok
+    c.in_ok-keep-4.ensures.ok
+    c.keep-5.ensures.fault

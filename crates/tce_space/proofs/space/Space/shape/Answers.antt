@@ -1,5 +1,5 @@
 use Rattle.std.proofs.Common.{◌≡◌, ◌+◌, ◌<◌, ◌≤◌, ◌↔◌, ◌^◌, Err, ℕ, List, [], ◌∷◌, ◌++◌, All, get_or, length, map, take, IfOk, ap, sym, subst, ◌∙◌, arith}
-use Rattle.std.proofs.lemmas.List.{take_all, take_more, map-append}
+use Rattle.std.proofs.lemmas.List.{length-map, take_all, take_more, map-append, length-take-le}
 use Rattle.std.proofs.lemmas.List.Elements.{All-push}
 use Rattle.tce_space.specs.Space.{range_at, tiling_of}
 use Rattle.tce_space.specs.Tiling.{Tiling, ArePositive, tile_words, padded_words}
@@ -50,3 +50,33 @@ returns-clause-tile_words c = subst (λ (s : Tiling). (c.shape_of.result ≡ Err
 pub returns-clause-array_words : goal.returns-clause-array_words
 returns-clause-array_words c =
     subst (λ (s : Tiling). (c.shape_of.result ≡ Err ArrayWords) ↔ ((tile_words s ≤ 2 ^ 20) × (2 ^ 48 < padded_words s))) (is c) c.shape_of.ensures.array_words
+
+pub shape_of-requires-clause-same_rank : goal.shape_of-requires-clause-same_rank
+shape_of-requires-clause-same_rank c =
+    let taken : List ℕ = take c.loop-range.range-index c.as_slice-range-items.result.now in
+    ap length c.loop-range.invariant.edges ∙ length-map taken (λ (r : ℕ). (range_at c.args.self.now r).edge)
+    ∙ sym (ap length c.loop-range.invariant.extents ∙ length-map taken (λ (r : ℕ). (range_at c.args.self.now r).extent))
+
+pub shape_of-requires-clause-sizes : goal.shape_of-requires-clause-sizes
+shape_of-requires-clause-sizes c = c.loop-range.invariant.sizes
+
+pub shape_of-requires-clause-positive : goal.shape_of-requires-clause-positive
+shape_of-requires-clause-positive c = c.loop-range.invariant.positive
+
+-- an entry for each range so far, and there is room for one more
+few : (f : ℕ → ℕ) (xs ys : List ℕ) (i n : ℕ) → ys ≡ map f (take i xs) → i < length xs → length xs ≤ n → length ys < n
+few f xs ys i n are low room = omega (arith, ap length are, length-map (take i xs) f, length-take-le i xs (omega (arith, low)), low, room)
+
+pub push-requires : goal.push-requires
+push-requires c = (
+  omega arith,
+  few (λ (r : ℕ). (range_at c.args.self.now r).extent) c.as_slice-range-items.result.now c.loop-range.extents.items c.loop-range.range-index 8 c.loop-range.invariant.extents c.loop-range-test.true
+      c.as_slice-range-items.ensures.fits,
+)
+
+pub push-requires-in-loop-range : goal.push-requires-in-loop-range
+push-requires-in-loop-range c = (
+  omega arith,
+  few (λ (r : ℕ). (range_at c.args.self.now r).edge) c.as_slice-range-items.result.now c.loop-range.edges.items c.loop-range.range-index 8 c.loop-range.invariant.edges c.loop-range-test.true
+      c.as_slice-range-items.ensures.fits,
+)
