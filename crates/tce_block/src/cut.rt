@@ -3,7 +3,7 @@ use arrayvec::ArrayVec;
 use tce_space::MAX_LOOPS;
 
 /// One loop of a box: its index, how many numbers it runs through, and the edge of the tiles at which it is cut.
-#[derive(Clone, Copy, Default, PartialEq, Eq)]
+#[derive(Clone, Copy, Default)]
 pub struct Cut {
     /// The number of the loop's index, which no block depends on.
     pub index: u8,

@@ -8,7 +8,7 @@ use arrayvec::ArrayVec;
 use tce_space::{MAX_RANK, Numbers, Shape};
 
 /// Where an element of an array stands.
-#[derive(Clone, Copy, PartialEq, Eq)]
+#[derive(Clone, Copy)]
 pub struct ElementPlace {
     /// The number of its tile.
     pub tile: u64,

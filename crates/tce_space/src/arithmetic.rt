@@ -1,5 +1,5 @@
 /// What is computed of two numbers: 64-bit words, modulo 2^64.
-#[derive(Clone, Copy, PartialEq, Eq)]
+#[derive(Clone, Copy)]
 pub enum Arithmetic {
     /// The product.
     Multiply,

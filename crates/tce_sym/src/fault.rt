@@ -2,7 +2,7 @@
 use thiserror::Error;
 
 /// Why a file of stored elements is refused.
-#[derive(Clone, Copy, Debug, PartialEq, Eq, Error)]
+#[derive(Clone, Copy, Debug, Error)]
 pub enum SymFault {
     /// There is no such file.
     #[error("there is no such file")]

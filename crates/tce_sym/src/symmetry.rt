@@ -10,7 +10,7 @@ use arrayvec::ArrayVec;
 use tce_space::{MAX_RANK, Shape, place};
 
 /// Which two coordinates of a tensor may be exchanged, and whether its elements then turn their sign.
-#[derive(Clone, Copy, PartialEq, Eq)]
+#[derive(Clone, Copy)]
 pub struct Symmetry {
     /// The position of the first of the two dimensions, counted from 0.
     pub first: u8,

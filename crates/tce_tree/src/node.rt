@@ -7,7 +7,7 @@ use arrayvec::ArrayVec;
 use tce_space::{Arithmetic, IndexSet, MAX_INDEXES};
 
 /// What a node computes.
-#[derive(Clone, Copy, PartialEq, Eq)]
+#[derive(Clone, Copy)]
 pub enum Kind {
     Product,
     Sum,
