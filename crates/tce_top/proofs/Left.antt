@@ -1,5 +1,5 @@
 -- What commands leave, by how they end.
-use Rattle.std.proofs.Common.{◌≡◌, refl, sym, ap, subst, ◌∙◌, ◌⊎◌, inl, inr, ℕ, List, [], ◌++◌, Option, Some, Result, Err}
+use Rattle.std.proofs.Common.{◌≡◌, refl, sym, ap, subst, ◌∙◌, ◌⊎◌, inl, inr, ℕ, List, [], ◌++◌, Option, Some}
 use Rattle.std.specs.Option.{ForSome, IsSomeAnd, option_map}
 use Rattle.tce_outside.specs.Files.{Files, holding, with_file}
 use Rattle.tce_outside.specs.Fault.{Rose}
@@ -91,11 +91,8 @@ disk_told : (r : CommandRefusal) (status : Status) → Kept r status → r ≡ C
 disk_told r status (inl kept) failed = kept ∙ ap ending_of failed
 disk_told r status (inr memory) failed = absurd (memory.1 (ap ending_of failed))
 
-pub no_failure : {A : Type 0} (answer : Result A CommandRefusal) (r : CommandRefusal) (status : Status) → answer ≡ Err r → Kept r status → (status ≡ DiskFault → ⊥) → answer ≡ Err (Common Disk) → ⊥
-no_failure answer r status is kept none failed =
-    let same : Err r ≡ Err (Common Disk) = sym is ∙ failed in
-    let refusal : r ≡ Common Disk = cc in
-    none (disk_told r status kept refusal)
+pub no_failure : (r : CommandRefusal) (status : Status) → Kept r status → (status ≡ DiskFault → ⊥) → r ≡ Common Disk → ⊥
+no_failure r status kept none failed = none (disk_told r status kept failed)
 
 -- several formulas without memory: the first of them are run, or no file changed
 batch_memory : (words : List (List ℕ)) (spec : List ℕ) (budget : ℕ) (r : CommandRefusal) (status : Status) (before after : Option Files) → IsCommand words (batch spec budget) → Kept r status → status ≡ WantOfMemory

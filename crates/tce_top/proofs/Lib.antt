@@ -1,7 +1,7 @@
 pub mod Joined
-pub mod Demonstrations
 pub mod Left
 pub mod Expansions
-pub mod Batches
-pub mod Spills
 pub mod Written
+pub mod Carried
+pub mod Calls
+pub mod Runs

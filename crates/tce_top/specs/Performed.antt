@@ -1,6 +1,7 @@
 -- What each command needs, why it is refused, and what it leaves, by cases over the commands.
-use Rattle.std.specs.Prelude.{◌≡◌, ◌⊎◌, ⊤, ℕ, List, Option}
+use Rattle.std.specs.Prelude.{◌≡◌, ◌⊎◌, ⊤, ℕ, List, Option, Result, Ok, Err}
 use Rattle.std.specs.Option.{ForSome}
+use Rattle.tce_outside.specs.Fault.{HasCause, TellsFaults}
 use Rattle.tce_outside.specs.Files.{Files, others}
 use Rattle.tce_space.specs.Space.{IndexSpace}
 use Rattle.tce_spec.specs.Specification.{Specification}
@@ -150,3 +151,38 @@ abbrev pub NamesItsIndexes : Command → Option Files → CommandRefusal → Typ
 NamesItsIndexes command told (Certificate flaw line) =
     (space : IndexSpace) × ForSome told (λ files. HasIndexes files command space) × (line.text.bytes ≡ cert_line space (trouble_of flaw))
 NamesItsIndexes command told (Common refusal) = ⊤
+
+-- what is seen at one moment: the files, where the disk tells them, the count of its faults, and the takings
+pub record Seen : Type 0 where
+  pub files : Option Files
+  pub faults : ℕ
+  pub takings : List (ℕ × ℕ)
+
+abbrev pub seen : Option Files → ℕ → List (ℕ × ℕ) → Seen
+seen files faults takings = record { files = files; faults = faults; takings = takings }
+
+-- the command is done, with this report, and the disk did not fail
+pub record Finishes (command : Command) (before after : Seen) (report : List ℕ) : Type 0 where
+  pub done : IsDone command before.files after.files before.takings after.takings report
+  pub no_half : LeavesNoHalf command before.files after.files
+  pub others : OthersStay command before.files after.files
+  pub faults : after.faults ≡ before.faults
+
+-- the command is refused: why, with which line, and what it leaves; the disk failed exactly where that is the refusal
+pub record Refuses (command : Command) (before after : Seen) (refusal : CommandRefusal) : Type 0 where
+  pub refused : ForSome before.files (λ files. IsCommandRefusal files command refusal)
+  pub line : NamesItsIndexes command before.files refusal
+  pub unchanged : MayLeaveOther command refusal ⊎ (after.files ≡ before.files)
+  pub left : LeavesInTurn command refusal before.files after.files
+  pub takings : MayTake command before.files before.takings after.takings
+  pub untaken : MayReplace refusal ⊎ KeepsRoom command before.files before.takings after.takings
+  pub no_half : LeavesNoHalf command before.files after.files
+  pub others : OthersStay command before.files after.files
+  pub cause : HasCause before.faults after.faults (refusal ≡ Common Disk)
+  pub told : TellsFaults before.faults after.faults (refusal ≡ Common Disk)
+
+-- what a command calls answers with a report or a refusal, and the command with the same bytes, or with that refusal as one of commands
+abbrev pub Carries : {T S E : Type 0} → (T → List ℕ) → (S → List ℕ) → (E → CommandRefusal) → Result T E → Result S CommandRefusal → Type 0
+Carries bytes items told (Ok text) (Ok report) = items report ≡ bytes text
+Carries bytes items told (Err cause) (Err refusal) = refusal ≡ told cause
+Carries bytes items told given answer = ⊥

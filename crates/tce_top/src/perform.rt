@@ -1,11 +1,8 @@
 // What a command does.
-ghost use Rattle.std.specs.Prelude.{◌≡◌, ◌⊎◌, Err, IfOk, IfErr};
-ghost use Rattle.std.specs.Option.{ForSome};
-ghost use Rattle.tce_outside.specs.Fault.{HasCause, TellsFaults};
+ghost use Rattle.std.specs.Prelude.{IfOk, IfErr, string_bytes, vec_items};
 ghost use Rattle.tce_command.specs.Command.{KeepsRules};
 ghost use Rattle.tce_command.specs.CommandCode.{command_of};
-ghost use Rattle.tce_command.specs.CommandRefusals.{MayReplace};
-ghost use Rattle.tce_top.specs.Performed.{IsCommandRefusal, IsDone, KeepsRoom, LeavesInTurn, LeavesNoHalf, MayLeaveOther, MayTake, NamesItsIndexes, OthersStay};
+ghost use Rattle.tce_top.specs.Performed.{Carries, Finishes, Refuses, seen};
 
 use std::alloc::Global;
 use tce_certify::{certify, write_einsum};
@@ -27,42 +24,63 @@ pub fn perform<D: Disk, R: Room>(
     room: &mut R,
 ) -> Result<Vec<u8>, CommandRefusal>
     requires { KeepsRules (command_of command) }
-    ensures done { IfOk result (λ report. IsDone (command_of command.entry) (D.files disk.old) (D.files disk.new) (R.takings room.old) (R.takings room.new) report.items) }
-    ensures refused { IfErr result (λ refusal. ForSome (D.files disk.old) (λ files. IsCommandRefusal files (command_of command.entry) refusal)) }
-    ensures line { IfErr result (NamesItsIndexes (command_of command.entry) (D.files disk.old)) }
-    ensures unchanged { IfErr result (λ refusal. MayLeaveOther (command_of command.entry) refusal ⊎ (D.files disk.new ≡ D.files disk.old)) }
-    ensures left { IfErr result (λ refusal. LeavesInTurn (command_of command.entry) refusal (D.files disk.old) (D.files disk.new)) }
-    ensures takings { IfErr result (λ refusal. MayTake (command_of command.entry) (D.files disk.old) (R.takings room.old) (R.takings room.new)) }
-    ensures untaken { IfErr result (λ refusal. MayReplace refusal ⊎ KeepsRoom (command_of command.entry) (D.files disk.old) (R.takings room.old) (R.takings room.new)) }
-    ensures no_half { LeavesNoHalf (command_of command.entry) (D.files disk.old) (D.files disk.new) }
-    ensures others { OthersStay (command_of command.entry) (D.files disk.old) (D.files disk.new) }
-    ensures cause { HasCause (D.faults disk.old) (D.faults disk.new) (result ≡ Err (CommandRefusal.Common Refusal.Disk)) }
-    ensures told { TellsFaults (D.faults disk.old) (D.faults disk.new) (result ≡ Err (CommandRefusal.Common Refusal.Disk)) }
+    ensures done { IfOk result (λ report. Finishes (command_of command.entry)
+        (seen (D.files disk.old) (D.faults disk.old) (R.takings room.old))
+        (seen (D.files disk.new) (D.faults disk.new) (R.takings room.new)) report.items) }
+    ensures refused { IfErr result (Refuses (command_of command.entry)
+        (seen (D.files disk.old) (D.faults disk.old) (R.takings room.old))
+        (seen (D.files disk.new) (D.faults disk.new) (R.takings room.new))) }
 {
     match command {
-        Command::Run { spec, budget } => Ok(run(alloc, spec, budget, disk, room)?),
-        Command::Batch { spec, budget } => Ok(run_all(alloc, spec, budget, disk, room)?),
+        Command::Run { spec, budget } => of_report(run(alloc, spec, budget, disk, room)),
+        Command::Batch { spec, budget } => of_report(run_all(alloc, spec, budget, disk, room)),
         Command::Spill {
             spec,
             budget,
             limit,
-        } => Ok(spill(alloc, spec, budget, limit, disk, room)?),
-        Command::Plan { spec } => Ok(plan(alloc, spec, disk)?),
-        Command::Cert { spec, cert } => Ok(certify(alloc, spec, cert, disk)?.into_bytes()),
-        Command::Check { spec, cert } => Ok(verify(alloc, spec, cert, disk)?.into_bytes()),
-        Command::Pack { spec, tensor, flat } => Ok(pack(
-            alloc, spec, tensor, flat, disk,
-        )?.into_bytes()),
-        Command::Unpack { spec, tensor, flat } => Ok(unpack(
-            alloc, spec, tensor, flat, disk,
-        )?.into_bytes()),
-        Command::Convert { spec, tensor, form } => Ok(convert(
+        } => of_report(spill(alloc, spec, budget, limit, disk, room)),
+        Command::Plan { spec } => of_report(plan(alloc, spec, disk)),
+        Command::Cert { spec, cert } => of_text(certify(alloc, spec, cert, disk)),
+        Command::Check { spec, cert } => of_verdict(verify(alloc, spec, cert, disk)),
+        Command::Pack { spec, tensor, flat } => of_text(pack(alloc, spec, tensor, flat, disk)),
+        Command::Unpack { spec, tensor, flat } => of_text(unpack(alloc, spec, tensor, flat, disk)),
+        Command::Convert { spec, tensor, form } => of_text(convert(
             alloc, spec, tensor, form, disk,
-        )?.into_bytes()),
-        Command::Expand { spec, tensor } => Ok(expand(alloc, spec, tensor, disk)?.into_bytes()),
-        Command::Einsum { text, path, spec } => Ok(write_einsum(
+        )),
+        Command::Expand { spec, tensor } => of_text(expand(alloc, spec, tensor, disk)),
+        Command::Einsum { text, path, spec } => of_text(write_einsum(
             alloc, text, path, spec, disk,
-        )?.into_bytes()),
-        Command::Demo { seed, v, o } => Ok(demo(alloc, seed, v, o, disk, room)?.into_bytes()),
+        )),
+        Command::Demo { seed, v, o } => of_text(demo(alloc, seed, v, o, disk, room)),
+    }
+}
+
+// The answer of a command whose report is bytes.
+fn of_report(done: Result<Vec<u8>, Refusal>) -> Result<Vec<u8>, CommandRefusal>
+    ensures { Carries vec_items vec_items CommandRefusal.Common done result }
+{
+    match done {
+        Ok(report) => Ok(report),
+        Err(refusal) => Err(CommandRefusal::Common(refusal)),
+    }
+}
+
+// The answer of a command whose report is a text.
+fn of_text(done: Result<String, Refusal>) -> Result<Vec<u8>, CommandRefusal>
+    ensures { Carries string_bytes vec_items CommandRefusal.Common done result }
+{
+    match done {
+        Ok(report) => Ok(report.into_bytes()),
+        Err(refusal) => Err(CommandRefusal::Common(refusal)),
+    }
+}
+
+// The answer of a command that may refuse a certificate.
+fn of_verdict(done: Result<String, CommandRefusal>) -> Result<Vec<u8>, CommandRefusal>
+    ensures { Carries string_bytes vec_items (λ refusal. refusal) done result }
+{
+    match done {
+        Ok(report) => Ok(report.into_bytes()),
+        Err(refusal) => Err(refusal),
     }
 }

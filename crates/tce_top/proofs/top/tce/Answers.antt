@@ -1,4 +1,4 @@
-use Rattle.std.proofs.Common.{refl, inl, sym, subst, rules}
+use Rattle.std.proofs.Common.{refl, sym, subst, rules}
 use Rattle.tce_command.specs.Command.{batch, einsum, run, spill}
 use Rattle.tce_command.specs.Outcome.{Grew}
 use Rattle.tce_command.proofs.Commands.{one_command}
@@ -23,7 +23,7 @@ returns-in-Ok-clause-run g c = λ done spec budget is files put told sink.
     left.whole_run spec budget files put _ _ _ _ _ _ _
     (subst
     (λ k. IsDone k (g.D.Disk.files c.args.disk.now) (g.D.Disk.files c.perform.new.disk) (g.R.Room.takings c.args.room.now) (g.R.Room.takings c.perform.new.room) c.in-Ok.report.items)
-    (sym same) c.in-Ok.ensures.done)
+    (sym same) c.in-Ok.ensures.done.done)
     grew told sink
 
 pub returns-in-Ok-clause-batch : goal.returns-in-Ok-clause-batch
@@ -33,7 +33,7 @@ returns-in-Ok-clause-batch g c = λ done spec budget is files put told sink.
     left.whole_batch spec budget files put _ _ _ _ _ _ _
     (subst
     (λ k. IsDone k (g.D.Disk.files c.args.disk.now) (g.D.Disk.files c.perform.new.disk) (g.R.Room.takings c.args.room.now) (g.R.Room.takings c.perform.new.room) c.in-Ok.report.items)
-    (sym same) c.in-Ok.ensures.done)
+    (sym same) c.in-Ok.ensures.done.done)
     grew told sink
 
 pub returns-in-Ok-clause-spill : goal.returns-in-Ok-clause-spill
@@ -43,7 +43,7 @@ returns-in-Ok-clause-spill g c = λ done spec budget limit is files put told sin
     left.whole_spill spec budget limit files put _ _ _ _ _ _ _
     (subst
     (λ k. IsDone k (g.D.Disk.files c.args.disk.now) (g.D.Disk.files c.perform.new.disk) (g.R.Room.takings c.args.room.now) (g.R.Room.takings c.perform.new.room) c.in-Ok.report.items)
-    (sym same) c.in-Ok.ensures.done)
+    (sym same) c.in-Ok.ensures.done.done)
     grew told sink
 
 pub returns-in-Ok-clause-einsum : goal.returns-in-Ok-clause-einsum
@@ -52,90 +52,90 @@ returns-in-Ok-clause-einsum g c = λ done text path spec is files told.
     left.whole_einsum text path spec files _ _ _ _ _
     (subst
     (λ k. IsDone k (g.D.Disk.files c.args.disk.now) (g.D.Disk.files c.perform.new.disk) (g.R.Room.takings c.args.room.now) (g.R.Room.takings c.perform.new.room) c.in-Ok.report.items)
-    (sym same) c.in-Ok.ensures.done)
+    (sym same) c.in-Ok.ensures.done.done)
     told
 
 pub returns-in-Ok-clause-cause : goal.returns-in-Ok-clause-cause
 returns-in-Ok-clause-cause g c = λ command is files told.
     let same = one_command _ _ command c.in-Some.ensures is in
-    let can = done_can _ _ _ _ _ _ c.in-Ok.ensures.done files told in
+    let can = done_can _ _ _ _ _ _ c.in-Ok.ensures.done.done files told in
     done_cause files command c.finish.result c.finish.ensures.cases (subst (CanDo files) (sym same) can)
 
 pub returns-in-Ok-clause-exactly : goal.returns-in-Ok-clause-exactly
 returns-in-Ok-clause-exactly g c = λ command is files told due free cause.
     let same = one_command _ _ command c.in-Some.ensures is in
-    let can = done_can _ _ _ _ _ _ c.in-Ok.ensures.done files told in
+    let can = done_can _ _ _ _ _ _ c.in-Ok.ensures.done.done files told in
     done_answers files command c.finish.result due is.rules c.finish.ensures.cases (subst (CanDo files) (sym same) can) free cause
 
 pub returns-in-Ok-clause-takings : goal.returns-in-Ok-clause-takings
 returns-in-Ok-clause-takings g c = λ command is.
     let same = one_command _ _ command c.in-Some.ensures is in
-    subst (λ k. MayTake k (g.D.Disk.files c.args.disk.now) (g.R.Room.takings c.args.room.now) (g.R.Room.takings c.perform.new.room)) (sym same) (done_takes _ _ _ _ _ _ c.in-Ok.ensures.done)
+    subst (λ k. MayTake k (g.D.Disk.files c.args.disk.now) (g.R.Room.takings c.args.room.now) (g.R.Room.takings c.perform.new.room)) (sym same) (done_takes _ _ _ _ _ _ c.in-Ok.ensures.done.done)
 
 pub returns-in-Ok-clause-others : goal.returns-in-Ok-clause-others
 returns-in-Ok-clause-others g c = λ command is.
     let same = one_command _ _ command c.in-Some.ensures is in
-    subst (λ k. OthersStay k (g.D.Disk.files c.args.disk.now) (g.D.Disk.files c.perform.new.disk)) (sym same) c.perform.ensures.others
+    subst (λ k. OthersStay k (g.D.Disk.files c.args.disk.now) (g.D.Disk.files c.perform.new.disk)) (sym same) c.in-Ok.ensures.done.others
 
 pub returns-in-Err-clause-cause : goal.returns-in-Err-clause-cause
 returns-in-Err-clause-cause g c = λ command is files told.
     let same = one_command _ _ command c.in-Some.ensures is in
     refused_cause files command c.in-Err.refusal c.refuse.result c.refuse.ensures.kept
-    (subst (λ k. IsCommandRefusal files k c.in-Err.refusal) (sym same) (c.in-Err.ensures.refused files told))
+    (subst (λ k. IsCommandRefusal files k c.in-Err.refusal) (sym same) (c.in-Err.ensures.refused.refused files told))
 
 pub returns-in-Err-clause-exactly : goal.returns-in-Err-clause-exactly
 returns-in-Err-clause-exactly g c = λ command is files told due free cause.
     let same = one_command _ _ command c.in-Some.ensures is in
     refused_answers files command c.in-Err.refusal c.refuse.result due is.rules c.refuse.ensures.kept
-    (subst (λ k. IsCommandRefusal files k c.in-Err.refusal) (sym same) (c.in-Err.ensures.refused files told)) free cause
+    (subst (λ k. IsCommandRefusal files k c.in-Err.refusal) (sym same) (c.in-Err.ensures.refused.refused files told)) free cause
 
 pub returns-in-Err-clause-unchanged : goal.returns-in-Err-clause-unchanged
 returns-in-Err-clause-unchanged g c = λ refused. (
-  left.unchanged _ c.in-Err.refusal c.refuse.result _ c.refuse.ensures.kept refused c.in-Err.ensures.unchanged,
+  left.unchanged _ c.in-Err.refusal c.refuse.result _ c.refuse.ensures.kept refused c.in-Err.ensures.refused.unchanged,
   λ command is. subst (λ k. KeepsRoom k (g.D.Disk.files c.args.disk.now) (g.R.Room.takings c.args.room.now) (g.R.Room.takings c.perform.new.room)) (sym (one_command _ _ command c.in-Some.ensures is))
-      (left.untaken c.in-Err.refusal c.refuse.result _ c.refuse.ensures.kept refused c.in-Err.ensures.untaken),
+      (left.untaken c.in-Err.refusal c.refuse.result _ c.refuse.ensures.kept refused c.in-Err.ensures.refused.untaken),
 )
 
 pub returns-in-Err-clause-cut_off : goal.returns-in-Err-clause-cut_off
 returns-in-Err-clause-cut_off g c = λ failed command is.
     let same = one_command _ _ command c.in-Some.ensures is in
     left.cut_off command c.in-Err.refusal c.refuse.result (g.D.Disk.files c.args.disk.now) (g.D.Disk.files c.perform.new.disk) c.refuse.ensures.kept failed
-    (subst (λ k. LeavesInTurn k c.in-Err.refusal (g.D.Disk.files c.args.disk.now) (g.D.Disk.files c.perform.new.disk)) (sym same) c.in-Err.ensures.left)
+    (subst (λ k. LeavesInTurn k c.in-Err.refusal (g.D.Disk.files c.args.disk.now) (g.D.Disk.files c.perform.new.disk)) (sym same) c.in-Err.ensures.refused.left)
 
 pub returns-in-Err-clause-no_memory : goal.returns-in-Err-clause-no_memory
 returns-in-Err-clause-no_memory g c = λ memory.
-    left.or_part _ _ _ (left.without_memory _ _ c.in-Err.refusal c.refuse.result _ _ c.in-Some.ensures c.refuse.ensures.kept memory c.in-Err.ensures.left c.in-Err.ensures.unchanged)
+    left.or_part _ _ _ (left.without_memory _ _ c.in-Err.refusal c.refuse.result _ _ c.in-Some.ensures c.refuse.ensures.kept memory c.in-Err.ensures.refused.left c.in-Err.ensures.refused.unchanged)
 
 pub returns-in-Err-clause-takings : goal.returns-in-Err-clause-takings
 returns-in-Err-clause-takings g c = λ command is.
     let same = one_command _ _ command c.in-Some.ensures is in
-    subst (λ k. MayTake k (g.D.Disk.files c.args.disk.now) (g.R.Room.takings c.args.room.now) (g.R.Room.takings c.perform.new.room)) (sym same) c.in-Err.ensures.takings
+    subst (λ k. MayTake k (g.D.Disk.files c.args.disk.now) (g.R.Room.takings c.args.room.now) (g.R.Room.takings c.perform.new.room)) (sym same) c.in-Err.ensures.refused.takings
 
 pub returns-in-Err-clause-others : goal.returns-in-Err-clause-others
 returns-in-Err-clause-others g c = λ command is.
     let same = one_command _ _ command c.in-Some.ensures is in
-    subst (λ k. OthersStay k (g.D.Disk.files c.args.disk.now) (g.D.Disk.files c.perform.new.disk)) (sym same) c.perform.ensures.others
+    subst (λ k. OthersStay k (g.D.Disk.files c.args.disk.now) (g.D.Disk.files c.perform.new.disk)) (sym same) c.in-Err.ensures.refused.others
 
 pub returns-in-Err-clause-line : goal.returns-in-Err-clause-line
-returns-in-Err-clause-line g c = λ has plain. left.plain_line _ _ _ c.in-Err.refusal c.refuse.result _ _ _ _ c.in-Some.ensures c.in-Err.ensures.refused c.in-Err.ensures.line c.refuse.ensures.line plain c.refuse.ensures.kept
+returns-in-Err-clause-line g c = λ has plain. left.plain_line _ _ _ c.in-Err.refusal c.refuse.result _ _ _ _ c.in-Some.ensures c.in-Err.ensures.refused.refused c.in-Err.ensures.refused.line c.refuse.ensures.line plain c.refuse.ensures.kept
 
 pub returns-in-Err-clause-cert_line : goal.returns-in-Err-clause-cert_line
 returns-in-Err-clause-cert_line g c = λ trouble e.
     left.named_line _ _ _ _ _ _ _ _ c.in-Some.ensures
-    (left.cert_lines _ _ c.in-Err.refusal c.refuse.result trouble _ _ _ _ c.in-Err.ensures.line c.refuse.ensures.line c.refuse.ensures.kept e)
+    (left.cert_lines _ _ c.in-Err.refusal c.refuse.result trouble _ _ _ _ c.in-Err.ensures.refused.line c.refuse.ensures.line c.refuse.ensures.kept e)
 
 pub returns-in-Ok-clause-disk_told : goal.returns-in-Ok-clause-disk_told
-returns-in-Ok-clause-disk_told g c = λ none. c.in-Ok.ensures.told (search rules)
+returns-in-Ok-clause-disk_told g c = λ none. c.in-Ok.ensures.done.faults
 
 pub returns-in-Err-clause-disk_told : goal.returns-in-Err-clause-disk_told
-returns-in-Err-clause-disk_told g c = λ none. c.in-Err.ensures.told (left.no_failure _ c.in-Err.refusal c.refuse.result refl c.refuse.ensures.kept none)
+returns-in-Err-clause-disk_told g c = λ none. c.in-Err.ensures.refused.told (left.no_failure c.in-Err.refusal c.refuse.result c.refuse.ensures.kept none)
 
 pub returns-in-Ok-clause-no_half : goal.returns-in-Ok-clause-no_half
 returns-in-Ok-clause-no_half g c = λ command is.
     let same = one_command _ _ command c.in-Some.ensures is in
-    subst (λ k. LeavesNoHalf k (g.D.Disk.files c.args.disk.now) (g.D.Disk.files c.perform.new.disk)) (sym same) c.perform.ensures.no_half
+    subst (λ k. LeavesNoHalf k (g.D.Disk.files c.args.disk.now) (g.D.Disk.files c.perform.new.disk)) (sym same) c.in-Ok.ensures.done.no_half
 
 pub returns-in-Err-clause-no_half : goal.returns-in-Err-clause-no_half
 returns-in-Err-clause-no_half g c = λ command is.
     let same = one_command _ _ command c.in-Some.ensures is in
-    subst (λ k. LeavesNoHalf k (g.D.Disk.files c.args.disk.now) (g.D.Disk.files c.perform.new.disk)) (sym same) c.perform.ensures.no_half
+    subst (λ k. LeavesNoHalf k (g.D.Disk.files c.args.disk.now) (g.D.Disk.files c.perform.new.disk)) (sym same) c.in-Err.ensures.refused.no_half
