@@ -26,7 +26,7 @@ returns-in-None c =
     (record {
       over = record { few = c.index_count-declared.ensures.limits.index_limit; declared = c.requires.declared; inside = c.requires.inside };
       node_is = c.if-line-v.false;
-      kind_is = same_true the_type (search rules) _ _ (not_false _ c.if-ne.ensures) ∙ c.kind.ensures;
+      kind_is = c.if-line-kind.false ∙ c.kind.ensures;
       order_is = λ i. texts c.args.line.now.order.items;
       exact = order_exact c.args.space.now (Some c.in-Some.order.0.items) _ _ _ _ c.loops.ensures.value c.as_slice.ensures.value c.in-Some.ensures;
     })
@@ -39,7 +39,7 @@ returns-in-Some-read_fused c =
     (record {
       over = record { few = c.index_count-declared.ensures.limits.index_limit; declared = c.requires.declared; inside = c.requires.inside };
       node_is = c.if-line-v.false;
-      kind_is = same_true the_type (search rules) _ _ (not_false _ c.if-ne.ensures) ∙ c.kind.ensures;
+      kind_is = c.if-line-kind.false ∙ c.kind.ensures;
       order_is = λ i. texts c.args.line.now.order.items;
       exact = order_exact c.args.space.now (Some c.in-Some.order.0.items) _ _ _ _ c.loops.ensures.value c.as_slice.ensures.value c.in-Some.ensures;
     })
