@@ -1,5 +1,5 @@
 -- What a written line says of a node.
-use Rattle.std.proofs.Common.{◌≡◌, ℕ, ◌+◌, ◌<◌, ◌≤◌, ◌==◌, ◌^◌, ◌↔◌, if◌then◌else◌, Bool, true, false, List, [], ◌∷◌, ◌++◌, length, get_or, codes, All, Option, Some, None, refl, sym, ap, subst, ◌∙◌, arith, eq-eqb, suc, ◌&&◌, not}
+use Rattle.std.proofs.Common.{◌≡◌, ℕ, ◌+◌, ◌<◌, ◌≤◌, ◌==◌, ◌^◌, ◌↔◌, if◌then◌else◌, Bool, true, false, List, [], ◌∷◌, ◌++◌, length, get_or, codes, All, Option, Some, None, refl, sym, ap, subst, ◌∙◌, arith, eq-eqb, suc, ◌&&◌}
 use Rattle.std.specs.Fmt.{decimal}
 use Rattle.std.proofs.lemmas.Bool.{ne_eqb, false≢true}
 use Rattle.std.proofs.lemmas.List.FromFn.{length-range_with_len}
@@ -277,7 +277,3 @@ pub fused_exact : (space : IndexSpace) (answer : Option ℕ) (dims all : ℕ) (n
 fused_exact space answer dims all names listed e f exact value =
     subst (λ d. (answer ≡ Some value) ↔ (IsWithin value d × IsSetNamed space (texts listed) value)) e
     (subst (λ ns. (answer ≡ Some value) ↔ (IsWithin value dims × IsSetNamed space (texts ns) value)) f (exact value))
-
-pub not_false : (b : Bool) → false ≡ not b → b ≡ true
-not_false true e = refl
-not_false false e = cc

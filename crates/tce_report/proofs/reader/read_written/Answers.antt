@@ -2,9 +2,9 @@ use Rattle.std.proofs.Common.{Some, None, sym, ◌∙◌, ap, rules, subst}
 use Rattle.tce_report.specs.NodeForm.{IsArrayForm}
 use Rattle.tce_fields.specs.Reading.{texts}
 use Rattle.tce_tree.specs.contracts.node.Kind.{the_type}
-use denote.Enum.Bare.{same_true}
+use denote.Enum.Bare.{differs_false}
 use Rattle.tce_report.specs.FormCode.{form, array_form}
-use Rattle.tce_report.proofs.Reading.{order_refused, root_found, inner_found, fused_refused, order_exact, fused_exact, not_false}
+use Rattle.tce_report.proofs.Reading.{order_refused, root_found, inner_found, fused_refused, order_exact, fused_exact}
 use Rattle.tce_report.proofs.reader.read_written.Goals as goal
 
 pub returns-in_default : goal.returns-in_default
@@ -26,7 +26,7 @@ returns-in-None c =
     (record {
       over = record { few = c.index_count-declared.ensures.limits.index_limit; declared = c.requires.declared; inside = c.requires.inside };
       node_is = c.if-line-v.false;
-      kind_is = c.if-line-kind.false ∙ c.kind.ensures;
+      kind_is = differs_false the_type (search rules) _ _ c.if-line-kind.false ∙ c.kind.ensures;
       order_is = λ i. texts c.args.line.now.order.items;
       exact = order_exact c.args.space.now (Some c.in-Some.order.0.items) _ _ _ _ c.loops.ensures.value c.as_slice.ensures.value c.in-Some.ensures;
     })
@@ -39,7 +39,7 @@ returns-in-Some-read_fused c =
     (record {
       over = record { few = c.index_count-declared.ensures.limits.index_limit; declared = c.requires.declared; inside = c.requires.inside };
       node_is = c.if-line-v.false;
-      kind_is = c.if-line-kind.false ∙ c.kind.ensures;
+      kind_is = differs_false the_type (search rules) _ _ c.if-line-kind.false ∙ c.kind.ensures;
       order_is = λ i. texts c.args.line.now.order.items;
       exact = order_exact c.args.space.now (Some c.in-Some.order.0.items) _ _ _ _ c.loops.ensures.value c.as_slice.ensures.value c.in-Some.ensures;
     })
