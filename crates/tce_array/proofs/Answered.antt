@@ -1,5 +1,5 @@
 -- What an answer to opening a file rests on: the counts of faults, and what the calls before it told.
-use Rattle.std.proofs.Common.{◌≡◌, ◌≢◌, ◌∙◌, ℕ, ◌+◌, ◌≤◌, List, length, Option, Some, None, Ok, Err, true, false, take, unwrap_or, [], refl, sym, ap, subst, arith}
+use Rattle.std.proofs.Common.{◌≡◌, ◌≢◌, ◌∙◌, ℕ, ◌+◌, ◌≤◌, List, length, Option, Some, None, Ok, Err, true, take, unwrap_or, [], refl, sym, ap, subst, arith}
 use Rattle.std.proofs.lemmas.List.{length-take-le}
 use Rattle.std.specs.Option.{IsSomeAnd, option_map}
 use Rattle.tce_space.specs.Tiling.{Tiling}
@@ -8,10 +8,6 @@ use Rattle.tce_array.specs.declared.form.Form.{Form}
 use Rattle.tce_array.specs.declared.fault.ArrayFault.TheVariants.{NoFile, BadLength, BadHeader}
 use Rattle.tce_array.specs.Forms.{form_of, form_len, head, head_len, IsArray}
 use Rattle.tce_array.specs.Faults.{IsFault, IsDiskFault, DifferFirst}
-
--- the answer of a call that went well is no failure
-pub no_error : false ≡ true → ⊥
-no_error e = cc
 
 -- a call failed before which the count had stayed
 pub rose_here : (before kept now : ℕ) (failed : Type 0) → kept ≡ before → HasCause kept now (true ≡ true) → HasCause before now failed

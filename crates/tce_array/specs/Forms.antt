@@ -4,7 +4,7 @@ use Rattle.std.specs.List.{flat_map}
 use Rattle.std.specs.Str.{bytes_eq}
 use Rattle.tce_base.specs.Word.{word_bytes, word_of_bytes, widened}
 use Rattle.tce_space.specs.Box.{places, is_inside}
-use Rattle.tce_space.specs.Tiling.{Tiling, tile_counts, tile_words, padded_words, joined, word_number}
+use Rattle.tce_space.specs.Tiling.{Tiling, tile_counts, padded_words, joined, word_number}
 use Rattle.tce_array.specs.declared.form.Form.{Form}
 use Rattle.tce_array.specs.declared.form.Form.TheVariants.{One, Narrow, Wide}
 
@@ -88,10 +88,6 @@ word_at form s bytes k = word_in form (drop (word_place form s k) bytes)
 
 abbrev pub cell : Form → Tiling → List ℕ → List ℕ → ℕ
 cell form s bytes xs = word_at form s bytes (word_number s xs)
-
--- a word of a tile
-abbrev pub tile_word : Form → Tiling → List ℕ → ℕ → ℕ → ℕ
-tile_word form s bytes tile k = word_at form s bytes (tile_words s * tile + k)
 
 -- the word can be stored in this form
 abbrev pub Fits : Form → ℕ → Type 0

@@ -1,5 +1,5 @@
 -- Words and their bytes.
-use Rattle.std.proofs.Common.{◌≡◌, ℕ, zero, suc, ◌+◌, ◌*◌, ◌^◌, ◌<◌, ◌≤◌, List, [], ◌∷◌, ◌++◌, length, slice_index, inl, inr, take, drop, sym, refl, ◌∙◌, ap, arith, w64, get_or, length-append}
+use Rattle.std.proofs.Common.{◌≡◌, ℕ, zero, suc, ◌+◌, ◌*◌, ◌^◌, ◌<◌, ◌≤◌, List, [], ◌∷◌, ◌++◌, length, slice_index, inl, inr, take, drop, sym, refl, ◌∙◌, ap, arith, w64, length-append}
 use Rattle.std.specs.List.{flat_map}
 use Rattle.std.specs.Int.{from_le_bytes, bytes_low_first}
 use Rattle.std.proofs.lemmas.List.{length-take-le, get_or-take, get_or_past, drop_at, drop-drop, drop_all}

@@ -1,14 +1,13 @@
 -- The lines behind a formula, and what they specify.
-use Rattle.std.proofs.Common.{zero, suc, ◌≡◌, ℕ, ◌+◌, ◌<◌, arith, length, true, false, List, [], ◌∷◌, ◌++◌, map, Option, Some, None, Result, Ok, Err, refl, sym, subst, ◌∙◌, ap}
+use Rattle.std.proofs.Common.{zero, suc, ◌≡◌, ℕ, ◌+◌, ◌<◌, arith, length, List, [], ◌∷◌, ◌++◌, map, Option, Some, None, Result, Ok, Err, refl, sym, subst, ◌∙◌, ap}
 use Rattle.std.specs.Prelude.{IfSome, All, eqb, ◌==◌, ◌||◌, take}
 use Rattle.std.specs.List.{list_any}
 use Rattle.std.proofs.lemmas.List.{length-map}
 use Rattle.std.proofs.lemmas.List.Elements.{All-push, All-cons, All-nil}
 use Rattle.tce_grammar.specs.Grammar.{Line, skipped, bad, says, range, index, declaration, formula}
 use Rattle.tce_declarations.specs.Declarations.{Declarations}
-use Rattle.tce_declarations.specs.Faults.{Fault, bad_text}
+use Rattle.tce_declarations.specs.Faults.{Fault}
 use Rattle.tce_declarations.specs.FaultCode.{Shows}
-use Rattle.tce_declarations.specs.Text.{closing_fault}
 use Rattle.tce_declarations.specs.TextCode.{fault_in}
 use Rattle.tce_declarations.specs.declared.fault.SpecFault.{SpecFault}
 use Rattle.tce_declarations.specs.declared.fault.SpecFault.TheVariants.{Memory, Tree}
@@ -17,25 +16,8 @@ use Rattle.tce_formula.specs.declared.read.Contraction.{Contraction}
 use Rattle.tce_spec.specs.Specification.{Specification, IsSpecification}
 use Rattle.tce_batch.specs.BatchCode.{AreKept, IsBatch, specifications_of, results_before}
 use Rattle.tce_batch.specs.Outcome.{together, with_first}
-use Rattle.tce_batch.specs.Reading.{may_follow, without_formulas, specified_by, of_line, of_lines, as_found, as_list}
+use Rattle.tce_batch.specs.Reading.{specified_by, of_line, of_lines, as_found, as_list}
 use Rattle.tce_spec.specs.SpecCode.{specification_of, IsKept}
-
--- a line that may follow has no fault
-pub follows : (n : ℕ) (l : Line) (ls : List Line) → may_follow l ≡ true → closing_fault n (without_formulas (l ∷ ls)) ≡ closing_fault (n + 1) (without_formulas ls)
-follows n skipped ls may = refl
-follows n bad ls may = cc
-follows n (says (range name extent edge)) ls may = cc
-follows n (says (index of_range names)) ls may = cc
-follows n (says (declaration name ranges)) ls may = cc
-follows n (says (formula result indexes f)) ls may = refl
-
-pub stops : (n : ℕ) (l : Line) (ls : List Line) → may_follow l ≡ false → closing_fault n (without_formulas (l ∷ ls)) ≡ Some (bad_text n)
-stops n skipped ls may = cc
-stops n bad ls may = refl
-stops n (says (range name extent edge)) ls may = refl
-stops n (says (index of_range names)) ls may = refl
-stops n (says (declaration name ranges)) ls may = refl
-stops n (says (formula result indexes f)) ls may = cc
 
 -- where nothing is found, the program can only answer want of memory
 pub shows_none : (o : Option Fault) (f : SpecFault) → Shows None f → Shows o f
@@ -82,10 +64,6 @@ pub next_read : (d : Declarations) (cs : List Contraction) (n : ℕ) (l : Line) 
     → as_found d cs ++ of_lines n d (l ∷ ls) ≡ as_found d (cs ++ as_list read) ++ of_lines (n + 1) d ls
 next_read d [] n l ls read is = ap (λ (xs : List (Result Specification Fault)). xs ++ of_lines (n + 1) d ls) is
 next_read d (c ∷ cs) n l ls read is = ap (λ (xs : List (Result Specification Fault)). Ok (specification_of d c) ∷ xs) (next_read d cs n l ls read is)
-
-pub end_read : (d : Declarations) (cs : List Contraction) → as_found d cs ++ [] ≡ as_found d cs
-end_read d [] = refl
-end_read d (c ∷ cs) = ap (λ (xs : List (Result Specification Fault)). Ok (specification_of d c) ∷ xs) (end_read d cs)
 
 none_behind : (cs : List Contraction) → cs ++ [] ≡ cs
 none_behind [] = refl

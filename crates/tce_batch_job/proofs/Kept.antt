@@ -42,9 +42,6 @@ one_more batch number s before after at h = record {
   added = h.added;
 }
 
-pub none_kept : (batch : List Specification) → AreKept batch 0 []
-none_kept batch = record { count_is = refl; each = λ k kept at. absurd (omega (arith, slice_get_within [] k kept at)) }
-
 -- the plan at a place is that of the formula there
 pub kept_place : (batch : List Specification) (plans : List KeptPlan) (number : ℕ) (kept : KeptPlan) (s : Specification) → AreKept batch (length batch) plans → number < length batch → kept ≡ get_or plans number kept
     → slice_get batch number ≡ Some s → slice_get batch kept.number ≡ Some s

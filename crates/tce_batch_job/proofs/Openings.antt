@@ -1,32 +1,20 @@
 -- The files of the operands that are no earlier result.
-use Rattle.std.proofs.Common.{inl, inr, ◌⊎◌, ◌≡◌, ℕ, ◌+◌, ◌<◌, ◌≤◌, List, length, Option, Some, refl, sym, ◌∙◌, subst, arith}
+use Rattle.std.proofs.Common.{inl, inr, ◌⊎◌, ◌≡◌, ℕ, ◌<◌, List, length, Option, Some, sym, ◌∙◌, subst, arith}
 use Rattle.std.specs.Prelude.{slice_get}
 use Rattle.std.specs.Option.{ForSome}
-use Rattle.std.proofs.lemmas.Bool.{cases_lt}
 use Rattle.tce_outside.specs.Files.{Files}
 use Rattle.tce_array.specs.Faults.{IsFault}
 use Rattle.tce_outside.specs.Files.{file}
 use Rattle.tce_spec.specs.Specification.{Specification}
 use Rattle.tce_spec.specs.Operands.{shape_of}
 use Rattle.tce_tensors.specs.TensorFiles.{file_of}
-use Rattle.tce_tensors.specs.Opened.{operand, operand_count, HasArray}
+use Rattle.tce_tensors.specs.Opened.{operand, operand_count}
 use Rattle.tce_job.specs.declared.fault.JobFault.{JobFault}
 use Rattle.tce_job.specs.declared.fault.JobFault.TheVariants.{BudgetTooSmall, IntermediatesTooLarge, Array, Disk, Memory}
 use Rattle.tce_job.specs.Refusals.{IsFree}
 use Rattle.tce_batch.specs.BatchCode.{results_before}
 use Rattle.tce_batch_job.specs.Refusals.{AffordableBelow, IsNamed, IsCauseAt, IsSource, HasSources, SourcesBelow, IsOperandFault, IsSourceFault}
 use Rattle.tce_batch_job.proofs.Afforded.{some_at, told_of_first}
-
--- one operand more
-pub sources_more : (files : Files) (s : Specification) (made : List ℕ) (k t : ℕ) → t ≡ operand s k → HasSources files s made k → (IsSource made t → HasArray files s t) → HasSources files s made (k + 1)
-sources_more files s made k t is before here d less source = by_place (cases_lt d k)
-  where
-    by_place : (d < k) ⊎ (k ≤ d) → HasArray files s (operand s d)
-    by_place (inl first) = before d first source
-    by_place (inr last) =
-        let at : d ≡ k = omega (arith, less, last) in
-        let same : t ≡ operand s d = is ∙ subst (λ (n : ℕ). operand s n ≡ operand s d) at refl in
-        subst (HasArray files s) same (here (subst (IsSource made) (sym same) source))
 
 -- an operand that is refused is the first
 pub source_fault : (told : Option Files) (s : Specification) (made : List ℕ) (k t : ℕ) (f : JobFault) → t ≡ operand s k → k < operand_count s → t < length s.declarations.tensors → IsSource made t

@@ -1,5 +1,5 @@
 -- A touch is counted before anything else is done, and the count is no part of what a cache is asked for.
-use Rattle.std.proofs.Common.{◌≡◌, ◌∙◌, ℕ, ◌+◌, ◌*◌, ◌<◌, ◌≤◌, ◌^◌, List, Option, None, Some, true, false, unwrap_or, refl, sym, ap, subst, arith}
+use Rattle.std.proofs.Common.{◌≡◌, ◌∙◌, ℕ, ◌+◌, ◌*◌, ◌<◌, ◌≤◌, ◌^◌, List, Option, None, Some, true, unwrap_or, refl, sym, ap, subst, arith}
 use Rattle.std.specs.Option.{IsSome}
 use Rattle.tce_outside.specs.Files.{Files, file}
 use Rattle.tce_outside.specs.Fault.{HasCause}
@@ -39,9 +39,6 @@ no_others c told =
 
 pub no_cause : (n : ℕ) (failed : Type 0) → (failed → ⊥) → HasCause n n failed
 no_cause n failed none = record { later = omega arith; rose = λ f. absurd (none f) }
-
-pub no_error : false ≡ true → ⊥
-no_error e = cc
 
 -- a failure that is handed on
 pub cause_of_failure : (before now : ℕ) (failed : Type 0) → HasCause before now (true ≡ true) → HasCause before now failed

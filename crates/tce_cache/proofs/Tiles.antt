@@ -185,15 +185,6 @@ writes_differ c a array old new here writable same begins = record {
       (λ e. not array a here writable (sym e));
 }
 
-pub nothing_differs : (c : State) (old new : Option Files) → new ≡ old → OnlyWritableDiffers c old new
-nothing_differs c old new same = record {
-  tells = ap is_some same;
-  begins = λ name. ap (bytes_before name 8) same;
-  same = λ name not before told after now.
-      let both : Some after ≡ Some before = sym now ∙ same ∙ told in
-      ap (λ o. file (unwrap_or o before) name) both;
-}
-
 pub both_differ : (c : State) (old middle new : Option Files) → OnlyWritableDiffers c old middle → OnlyWritableDiffers c middle new → OnlyWritableDiffers c old new
 both_differ c old middle new first second = record {
   tells = second.tells ∙ first.tells;

@@ -22,20 +22,6 @@ pub record IsBeyond (outer : ℕ) (rest : List ℕ) (reached part : ℕ) : Type 
   pub within : IsWithin reached part
   pub upper : (i j : ℕ) → IsTrue (has part i) → has reached i ≡ false → IsTrue (has outer j) → has part j ≡ false → IsTrue (above rest i j)
 
-pub reached_none : (outer : ℕ) (classes : List ℕ) → ((i : ℕ) → has 0 i ≡ false) → IsReachedPart outer classes classes 0
-reached_none outer classes none = record {
-  number = omega arith;
-  within = λ i h. absurd (both_ways (has 0 i) (none i) h);
-  upper = λ i j p q low. ap (λ b. b || above classes i j) (sym (none i));
-  proper = λ _. refl;
-}
-
-pub beyond_none : (outer : ℕ) (classes : List ℕ) (part : ℕ) → ((i : ℕ) → has 0 i ≡ false) → IsUpperPart outer (above classes) part → IsBeyond outer classes 0 part
-beyond_none outer classes part none is = record {
-  within = λ i h. absurd (both_ways (has 0 i) (none i) h);
-  upper = λ i j p q r s. is.upper i j p r s;
-}
-
 -- what is reached is an upper part
 pub reached_is_upper : (outer : ℕ) (classes rest : List ℕ) (reached : ℕ) → IsReachedPart outer classes rest reached → IsUpperPart outer (above classes) reached
 reached_is_upper outer classes rest reached is = record {
@@ -157,9 +143,6 @@ AreAll outer classes parts = (part : ℕ) → IsUpperPart outer (above classes) 
 
 contains_same : (parts : List ℕ) (a b : ℕ) → a ≡ b → Contains parts b → Contains parts a
 contains_same parts a b same inn = subst (Contains parts) (sym same) inn
-
-pub seen_none : (outer : ℕ) (classes parts : List ℕ) → ((i : ℕ) → has 0 i ≡ false) → AreSeen outer classes classes 0 parts
-seen_none outer classes parts none part is = inr (beyond_none outer classes part none is)
 
 pub seen_further : (outer c reached wider : ℕ) (classes rest parts more : List ℕ) → IsIndexSet reached → ((i : ℕ) → has wider i ≡ (has reached i || (has c i && has outer i))) → more ≡ parts ++ wider ∷ []
     → Contains parts reached → AreSeen outer classes (c ∷ rest) reached parts → AreSeen outer classes rest wider more

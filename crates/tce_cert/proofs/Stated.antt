@@ -97,12 +97,6 @@ costs_given text first second cost cut is_cost =
     let n = (is_cost cost).0 refl in
     record { limit = n.limit; text_is = cut.text_is ∙ ap (λ t. t ++ 32 ∷ second) n.text_is }
 
-pub cost_behind : (line text : List ℕ) → line ≡ codes "row " ++ text → (cost : ℕ) (classes : List ℕ) → BeginsWithCost text cost classes ↔ StatesCost line cost classes
-cost_behind line text is cost classes = (
-  (λ n. record { limit = n.limit; text_is = is ∙ ap (λ t. codes "row " ++ t) n.text_is }),
-  (λ s. record { limit = s.limit; text_is = let e = sym is ∙ s.text_is in cc }),
-)
-
 -- a line of a row states one cost, and classes written in one way
 pub cost_once : (line : List ℕ) (a b : ℕ) (x y : List ℕ) → StatesCost line a x → StatesCost line b y → (decimal a ≡ decimal b) × (x ≡ y)
 cost_once line a b x y s r =

@@ -82,9 +82,6 @@ part_stated space dims parts value i s l =
       text_is = ap (λ ts. get_or ts i []) s.texts_are ∙ get_or-map (set_text space) value i 0 [] inside;
     }
 
-pub none_read : (space : IndexSpace) (dims : ℕ) (parts : List (List ℕ)) → AreRead space dims parts 0 []
-none_read space dims parts = record { texts_are = refl; within = λ k d l. absurd (omega arith); only = λ value s. refl }
-
 same_class : (space : IndexSpace) (dims : ℕ) (parts : List (List ℕ)) (i class : ℕ) (value : List ℕ) → i < length parts
     → GivesExactly (Some class) (StatesClass space dims (get_or parts i [])) → AreClasses space dims parts value → get_or value i 0 ≡ class
 same_class space dims parts i class value l given s =

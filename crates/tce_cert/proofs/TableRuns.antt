@@ -101,14 +101,6 @@ text_line line more text at rest is_text is_at =
 abbrev pub EmptyFrom : ℕ → List (List Row) → Type 0
 EmptyFrom v tables = (w : ℕ) → v ≤ w → rows_at tables w ≡ []
 
-pub all_empty : (n : ℕ) (tables : List (List Row)) → tables ≡ replicate n [] → EmptyFrom 0 tables
-all_empty n tables e w l = ap (λ ts. rows_at ts w) e ∙ one n w
-  where
-    one : (n w : ℕ) → rows_at (replicate n []) w ≡ []
-    one zero w = refl
-    one (suc n) zero = refl
-    one (suc n) (suc w) = one n w
-
 pub set_elsewhere : (tables : List (List Row)) (v w : ℕ) (rows : List Row) (new : List (List Row)) → new ≡ slice_set tables v rows → (w ≡ v → ⊥) → rows_at new w ≡ rows_at tables w
 set_elsewhere tables v w rows new e other = ap (λ ts. rows_at ts w) e ∙ get_or-set_other tables v w rows [] other
 

@@ -1,16 +1,13 @@
 -- Lines as they are pushed.
-use Rattle.std.proofs.Common.{◌≡◌, ℕ, ◌+◌, ◌<◌, List, codes, [], ◌∷◌, ◌++◌, length, get_or, take, map, ap, sym, ◌∙◌, append_assoc, zero-add}
+use Rattle.std.proofs.Common.{◌≡◌, ℕ, ◌+◌, List, codes, [], ◌∷◌, ◌++◌, map, ap, sym, ◌∙◌, append_assoc, zero-add}
 use Rattle.std.specs.List.{flat_map, range_with_len}
-use Rattle.std.proofs.lemmas.List.{map_more, flat_map_more}
+use Rattle.std.proofs.lemmas.List.{flat_map_more}
 use Rattle.std.proofs.lemmas.List.FromFn.{map-range_with_len_more}
 use Rattle.std.proofs.lemmas.Grind.{flat_map-append}
 use Rattle.tce_fields.proofs.Ranges.{range_next}
 use Rattle.std.specs.Fmt.{decimal}
 use Rattle.tce_cert.specs.Lines.{table_line}
 use Rattle.tce_cert.specs.Certificate.{text_of}
-
-feed : List ℕ → List ℕ
-feed line = line ++ 10 ∷ []
 
 pub text_of-append : (xs ys : List (List ℕ)) → text_of (xs ++ ys) ≡ text_of xs ++ text_of ys
 text_of-append xs ys = flat_map-append (λ (line : List ℕ). line ++ 10 ∷ []) xs ys
@@ -26,9 +23,6 @@ lines_pushed old text new lines more is_text is_new =
 
 pub range_lines_more : (f : ℕ → List ℕ) (v : ℕ) → map f (range_with_len 0 v) ++ f v ∷ [] ≡ map f (range_with_len 0 (v + 1))
 range_lines_more f v = sym (map-range_with_len_more f 0 v v (zero-add v))
-
-pub row_lines_more : {A : Type 0} (f : A → List ℕ) (rows : List A) (i : ℕ) (d : A) → i < length rows → map f (take i rows) ++ f (get_or rows i d) ∷ [] ≡ map f (take (i + 1) rows)
-row_lines_more f rows i d inside = sym (map_more f rows i d inside)
 
 -- the parts of a certificate one behind the other
 pub certificate_pushed : (t0 t1 t2 t3 t4 t5 first last memory : List ℕ) (nodes tables : List (List ℕ))
@@ -51,13 +45,6 @@ pub node_pushed : (f : ℕ → List ℕ) (old text with_line with_feed line : Li
 node_pushed f old text with_line with_feed line v is_text is_line e1 e2 =
     line_pushed old text with_feed (f v) (map f (range_with_len 0 v)) is_text (fed text with_line with_feed (f v) (e1 ∙ ap (λ l. text ++ l) is_line) e2)
     ∙ ap (λ ls. old ++ text_of ls) (range_lines_more f v)
-
-pub row_pushed : {A : Type 0} (f : A → List ℕ) (old text new : List ℕ) (rows : List A) (i : ℕ) (d : A) → i < length rows
-    → text ≡ old ++ text_of (map f (take i rows)) → new ≡ text ++ (f (get_or rows i d) ++ 10 ∷ [])
-    → new ≡ old ++ text_of (map f (take (i + 1) rows))
-row_pushed f old text new rows i d inside is_text is_new =
-    line_pushed old text new (f (get_or rows i d)) (map f (take i rows)) is_text is_new
-    ∙ ap (λ ls. old ++ text_of ls) (row_lines_more f rows i d inside)
 
 -- one more table: its head line and the lines of its rows
 pub table_pushed : (f : ℕ → List (List ℕ)) (old text head new first : List ℕ) (rest : List (List ℕ)) (v : ℕ)

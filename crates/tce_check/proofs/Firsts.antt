@@ -65,10 +65,6 @@ pair_meets {X} Holds Fails Breaks p q both lefts rights =
     (λ x all bad. first_not_all (Holds x) (Breaks x) (q x) rights bad all)
     (λ x bad broken. first_meets (Holds x) (Fails x) (Breaks x) (p x) (q x) (both x) rights bad broken) lefts
 
--- a number where something fails is none where all below the count hold
-pub number_not_all : (count : ℕ) (Holds Fails : ℕ → Type 0) → ((v : ℕ) → Holds v → Fails v → ⊥) → (v : ℕ) → IsFirst count Holds Fails v → ((w : ℕ) → w < count → Holds w) → ⊥
-number_not_all count Holds Fails apart v first all = apart v (all v first.inside) first.fails
-
 pub number_meets : (count : ℕ) (Holds Fails Breaks : ℕ → Type 0) → ((v : ℕ) → Holds v → Fails v → ⊥) → ((v : ℕ) → Holds v → Breaks v → ⊥)
     → (v w : ℕ) → IsFirst count Holds Fails v → IsFirst count Holds Breaks w → v ≡ w
 number_meets count Holds Fails Breaks p q v w first other = elim (cases_order v w) [

@@ -7,8 +7,8 @@ use Rattle.std.proofs.lemmas.Bool.{true≢false, cases_lt, cases_eq}
 use Rattle.std.proofs.lemmas.List.{length-map, get_or-map}
 use Rattle.std.proofs.lemmas.List.Elements.{All-contains}
 use Rattle.std.proofs.lemmas.List.Kept.{AllPairs-from_increasing}
-use Rattle.tce_space.specs.IndexSet.{IsWithin, minus}
-use Rattle.tce_space.specs.Space.{IndexSpace, volume_of}
+use Rattle.tce_space.specs.IndexSet.{IsWithin}
+use Rattle.tce_space.specs.Space.{IndexSpace}
 use Rattle.tce_tree.specs.ContractionTree.{ContractionTree, operations, node_dims, node_loops}
 use Rattle.tce_states.specs.Relation.{Relation, above, none, IsCoarser, HasNoConflict}
 use Rattle.tce_states.specs.Row.{Row, StandsFor, step_relation, step_cost, rows_joined}
@@ -46,10 +46,6 @@ pub bound_next : (outer : ℕ) (rows : List Row) (bound next : Option ℕ) (k : 
 bound_next outer rows bound next k row low is so_far (inl same) = subst (IsBound outer rows) (sym same) so_far
 bound_next outer rows bound next k row low is so_far (inr (least, coarse)) =
     subst (IsBound outer rows) (sym least) (k, row, low, sym is, record { coarser = coarse; cheap = omega arith })
-
--- the elements that the node keeps where a set is fused
-abbrev pub left_over : IndexSpace → ContractionTree → ℕ → ℕ → ℕ
-left_over space tree v fused = volume_of space (minus (node_dims tree v) fused)
 
 -- the cost of a choice's step is that of the step of its set
 cost_of_choice : (space : IndexSpace) (tree : ContractionTree) (v : ℕ) (left right joint : Row) (choice : Choice) → IsJointOf (node_loops tree v) left right joint

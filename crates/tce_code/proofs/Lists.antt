@@ -1,5 +1,5 @@
 -- Lists without repetition, and what stands in their first part.
-use Rattle.std.proofs.Common.{◌≡◌, ℕ, zero, suc, ◌<◌, ◌≤◌, ◌⊎◌, true, false, eqb, List, [], ◌∷◌, length, drop, take, sym, ap, ◌∙◌, inl, inr, arith}
+use Rattle.std.proofs.Common.{◌≡◌, ℕ, zero, suc, ◌≤◌, ◌⊎◌, true, false, eqb, List, [], ◌∷◌, length, drop, take, sym, ap, ◌∙◌, inl, inr, arith}
 use Rattle.std.proofs.lemmas.Bool.{or_cases, or_left, or_right, true≢false, false≢true, eqb-true}
 use Rattle.tce_tree.specs.WellFormed.{among, is_distinct}
 use Rattle.tce_tree.proofs.Lists.{distinct_first, distinct_later}
@@ -12,15 +12,6 @@ among-take_more (suc m) (suc n) (x ∷ xs) i l h =
     elim (or_cases (eqb x i) (among (take m xs) i) h) [
       | inl e ↦ or_left (eqb x i) _ e
       | inr e ↦ or_right (eqb x i) _ (among-take_more m n xs i (omega arith) e)
-    ]
-
-pub among-take : (n : ℕ) (xs : List ℕ) (i : ℕ) → among (take n xs) i ≡ true → among xs i ≡ true
-among-take zero xs i h = absurd (false≢true h)
-among-take (suc n) [] i h = absurd (false≢true h)
-among-take (suc n) (x ∷ xs) i h =
-    elim (or_cases (eqb x i) (among (take n xs) i) h) [
-      | inl e ↦ or_left (eqb x i) _ e
-      | inr e ↦ or_right (eqb x i) _ (among-take n xs i e)
     ]
 
 pub among-drop : (n : ℕ) (xs : List ℕ) (i : ℕ) → among (drop n xs) i ≡ true → among xs i ≡ true
@@ -80,12 +71,6 @@ among-take_next (suc n) (x ∷ xs) i rest j h k =
         | inr q ↦ inr q
       ]
     ]
-
-pub drop-length : (n : ℕ) (xs : List ℕ) (i : ℕ) (rest : List ℕ) → drop n xs ≡ i ∷ rest → n < length xs
-drop-length zero [] i rest h = absurd (let k : ⊥ = cc in k)
-drop-length zero (x ∷ xs) i rest h = omega arith
-drop-length (suc n) [] i rest h = absurd (let k : ⊥ = cc in k)
-drop-length (suc n) (x ∷ xs) i rest h = omega (arith, drop-length n xs i rest h)
 
 pub drop-end : (n : ℕ) (xs : List ℕ) → drop n xs ≡ [] → length xs ≤ n
 drop-end zero [] h = omega arith

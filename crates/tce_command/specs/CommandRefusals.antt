@@ -1,11 +1,11 @@
 -- Refusals of commands, those of certificates among them.
-use Rattle.std.specs.Prelude.{◌≡◌, ⊤, ℕ, List, Option, Result, Err}
+use Rattle.std.specs.Prelude.{◌≡◌, ⊤, ℕ, List, Option}
 use Rattle.tce_space.specs.Space.{IndexSpace}
 use Rattle.tce_command.specs.Refusals.{IsFree}
 use Rattle.tce_command.specs.Report.{LineNames, cert_line, code_of, ending_of, line_over, trouble_of}
 use Rattle.tce_command.specs.declared.trouble.CertFlaw.{CertFlaw}
 use Rattle.tce_command.specs.declared.refusal.Refusal.{Refusal}
-use Rattle.tce_command.specs.declared.refusal.Refusal.TheVariants.{Symmetry, Disk}
+use Rattle.tce_command.specs.declared.refusal.Refusal.TheVariants.{Symmetry}
 use Rattle.tce_command.specs.declared.command_refusal.CommandRefusal.{CommandRefusal}
 use Rattle.tce_command.specs.declared.command_refusal.CommandRefusal.TheVariants.{Common, Certificate}
 use Rattle.tce_command.specs.declared.status.Status.{Status}
@@ -45,7 +45,3 @@ EndsAlike a b = (code_of (ending_of a) ≡ code_of (ending_of b)) × ((names : L
 abbrev pub PutsRefusal : {K : Type 0} → CommandRefusal → Status → (K → Option (List ℕ)) → (K → ℕ) → K → K → Type 0
 PutsRefusal refusal status bytes faults before after =
     (names : LineNames) → HasNames names refusal → HasErrorLine names status (bytes before) (bytes after) (faults before) (faults after)
-
--- the command answers that the disk failed
-abbrev pub IsDiskFailure : {A : Type 0} → Result A CommandRefusal → Type 0
-IsDiskFailure result = result ≡ Err (Common Disk)

@@ -25,11 +25,6 @@ abbrev pub IsRefusedAs : {A : Type 0} → Refusal → Result A Refusal → Type 
 IsRefusedAs due (Ok answer) = ⊥
 IsRefusedAs due (Err refusal) = IsFree refusal ⊎ SameRefusal refusal due
 
--- the answer is no refusal, or a free one
-abbrev pub IsGranted : {A : Type 0} → Result A Refusal → Type 0
-IsGranted (Ok answer) = ⊤
-IsGranted (Err refusal) = IsFree refusal
-
 -- the files are as they were, unless the disk failed; or it is known which of the two is so
 abbrev pub SameUnlessDisk : Option Files → Option Files → Refusal → Type 0
 SameUnlessDisk before after refusal = refusal ≢ Disk → after ≡ before

@@ -15,7 +15,7 @@ use Rattle.tce_space.specs.Space.{Range, IndexSpace, IsSpace, range_at, range_nu
 use Rattle.tce_space.specs.SpaceEntries.{names_of}
 use Rattle.tce_space.specs.Tiling.{Tiling, tile_words, padded_words}
 use Rattle.tce_declarations.specs.Declarations as model
-use Rattle.tce_declarations.specs.Declarations.{Declarations, IsDeclarations, IsTensor, no_tensor, tensor_number, tensor_at}
+use Rattle.tce_declarations.specs.Declarations.{Declarations, IsTensor, no_tensor, tensor_number}
 use Rattle.tce_declarations.specs.DeclarationsCode.{tensor_of, IsEntry, AreKept}
 use Rattle.tce_declarations.specs.DeclarationLines.{number_of_range, numbers_of_ranges, tensor_fault}
 use Rattle.tce_declarations.specs.Faults.{Fault, fault_if}

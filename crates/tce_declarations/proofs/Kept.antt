@@ -7,7 +7,7 @@ use Rattle.tce_space.specs.Space.{IndexSpace}
 use Rattle.tce_space.specs.SpaceEntries.{names_of, entry_number}
 use Rattle.tce_space.proofs.Declarations.{position_along, name_shown_at}
 use Rattle.tce_declarations.specs.Declarations as model
-use Rattle.tce_declarations.specs.Declarations.{IsDeclarations, IsTensor, no_tensor, tensor_number, tensor_at}
+use Rattle.tce_declarations.specs.Declarations.{no_tensor, tensor_number}
 use Rattle.tce_declarations.specs.DeclarationsCode.{tensor_of, IsEntry, AreKept}
 use Rattle.tce_declarations.specs.declared.declarations.Tensor.{Tensor}
 

@@ -20,16 +20,6 @@ told_free s (faults.Array t fault) a told free = absurd free
 told_free s faults.Disk a told free = subst IsFree (sym told) tt
 told_free s faults.Memory a told free = subst IsFree (sym told) tt
 
--- a free refusal tells a free fault
-free_of_run : (s : Specification) (a : Refusal) → IsFree a → IsOfRun s a
-free_of_run s refusals.Disk free = (faults.Disk, refl)
-free_of_run s refusals.Memory free = (faults.Memory, refl)
-free_of_run s a free = absurd free
-
-pub all_of_run : {A : Type 0} (answer : Result A Refusal) (s : Specification) → IfErr answer IsFree → IfErr answer (IsOfRun s)
-all_of_run (Ok x) s free = tt
-all_of_run (Err a) s free = free_of_run s a free
-
 -- of the example, which is made for these extents
 pub all_of_demo : {A : Type 0} (answer : Result A Refusal) (s : Specification) (v o : ℕ) → s ≡ demo_specification v o → IsExtent v → IsExtent o → IfErr answer (IsOfRun s) → IfErr answer (IsDemoRefusal v o)
 all_of_demo (Ok x) s v o is hv ho p = tt

@@ -1,9 +1,8 @@
 -- What a run of a demonstration answers.
-use Rattle.std.proofs.Common.{◌≡◌, ◌∙◌, ℕ, List, ◌⊎◌, inl, inr, Option, Some, None, Result, Ok, Err, IfOk, IfErr, ◌≤◌, ◌<◌, refl, sym, ap, subst, arith}
+use Rattle.std.proofs.Common.{◌≡◌, ◌∙◌, ℕ, List, ◌⊎◌, inl, inr, Option, Some, None, Result, Ok, Err, IfOk, IfErr, ◌<◌, refl, sym, ap, subst, arith}
 use Rattle.std.specs.Option.{ForSome, option_map}
 use Rattle.tce_base.specs.Word.{wrapping_sum}
 use Rattle.tce_outside.specs.Files.{Files, others}
-use Rattle.tce_outside.specs.Fault.{Rose, HasCause}
 use Rattle.tce_space.specs.Tiling.{Tiling}
 use Rattle.tce_array.specs.declared.form.Form.TheVariants.{One}
 use Rattle.tce_array.specs.Forms.{cell}
@@ -52,18 +51,6 @@ summed answer told s shape name shaped named sum =
     subst (λ (m : List ℕ). IfOk answer (λ n. ForSome told (λ files. n ≡ wrapping_sum (in_order (shape_of s s.result) (cell One (shape_of s s.result) (contents files m)))))) named
     (subst (λ (u : Tiling). IfOk answer (λ n. ForSome told (λ files. n ≡ wrapping_sum (in_order u (cell One u (contents files name)))))) shaped sum)
 
--- what holds of all that is told behind a change holds of all that was told before it
-pub told_first : {X Y : Type 0} (f : X → Y) (before : Option X) (after : Option Y) (P : Type 0) → after ≡ option_map f before → ForSome after (λ _. P) → ForSome before (λ _. P)
-told_first f before after P made h x told = h (f x) (made ∙ ap (option_map f) told)
-
--- a failure behind calls that did not fail
-pub failed_later : (first then last : ℕ) (P Q : Type 0) → first ≤ then → HasCause then last P → (Q → P) → HasCause first last Q
-failed_later first then last P Q before cause due = record { later = omega (arith, cause.later); rose = λ q. rose_from (cause.rose (due q)) }
-  where
-    rose_from : Rose then last → Rose first last
-    rose_from (inl rose) = inl (omega arith)
-    rose_from (inr full) = inr full
-
 -- only the result's file changes in the run
 pub result_stays : (s : Specification) → IsDemo s → (before after : Option Files) → others (file_of s s.result) after ≡ others (file_of s s.result) before → DemoOthersStay before after
 result_stays s d before after same = tensor_stays s d s.result (below (ap (λ (x : Specification). x.result) d.is)) before after same
@@ -91,9 +78,6 @@ demonstrated s d seed text before after takings takings_after run sum report wri
   summed = summed;
   reported = is ∙ ap (λ n. report_text n run.tiles sum) told.report_is.memory ∙ ap (λ n. report_text told.plan.memory n sum) told.report_is.tiles;
 }
-
-pub has_taken : (s : Specification) (takings takings_after : List (ℕ × ℕ)) (run : RunReport) → IsReported s demo_budget takings takings_after run → HasTaken s demo_budget takings takings_after
-has_taken s takings takings_after run told = record { plan = told.plan; least = told.least; taken = told.taken }
 
 pub all_stay : (s : Specification) → IsDemo s → (before input ran after : Option Files) → DemoOthersStay before input → others (file_of s s.result) ran ≡ others (file_of s s.result) input → after ≡ ran
     → DemoOthersStay before after

@@ -13,7 +13,7 @@ use Rattle.tce_einsum.specs.declared.entries.Node.{Node}
 use Rattle.tce_einsum.specs.declared.entries.Node.TheVariants.{Product}
 use Rattle.tce_einsum.specs.declared.entries.Entry.{Entry}
 use Rattle.tce_einsum.specs.Entries as list
-use Rattle.tce_einsum.specs.Entries.{Labels, is_free, entry_at, labels_to_sum, with_entry}
+use Rattle.tce_einsum.specs.Entries.{Labels, is_free, entry_at, labels_to_sum}
 use Rattle.tce_einsum.specs.EntriesCode.{tree_of_node, with_node, trees_of, tree_in, IsEntry, IsBehind, AreOrdered, Keeps}
 use Rattle.tce_einsum.proofs.Contractions.{filtered_same}
 

@@ -1,9 +1,8 @@
 -- The steps of a tile, dimension by dimension.
-use Rattle.std.proofs.Common.{◌≡◌, ℕ, zero, suc, ◌+◌, ◌-◌, ◌*◌, ◌<◌, ◌≤◌, ◌^◌, eqb, if◌then◌else◌, List, [], ◌∷◌, length, drop, slice_index, slice_set, refl, sym, ap, ◌∙◌, subst, inl, inr, arith, le_trans, length-set, get_or-set_same, get_or-set_other}
+use Rattle.std.proofs.Common.{◌≡◌, ℕ, zero, suc, ◌+◌, ◌-◌, ◌*◌, ◌<◌, ◌≤◌, ◌^◌, eqb, if◌then◌else◌, List, [], ◌∷◌, length, drop, slice_index, sym, ap, ◌∙◌, subst, inl, inr, arith, le_trans}
 use Rattle.std.proofs.Math.Nat.{mul-le-mul_left, mul-le-mul_right}
 use Rattle.std.proofs.Math.Seq.{drop-cons}
-use Rattle.std.proofs.lemmas.Bool.{cases_eq, cases_Bool, eq-eqb, ne_eqb}
-use Rattle.std.proofs.lemmas.List.{drop_all}
+use Rattle.std.proofs.lemmas.Bool.{cases_Bool}
 use Rattle.tce_space.specs.Box.{product}
 use Rattle.tce_space.specs.Tiling.{Tiling, IsTiling, ArePositive}
 use Rattle.tce_space.proofs.Products.{le_times}
@@ -13,58 +12,6 @@ use Rattle.tce_exec.specs.OperandWindows.{tile_step, AreTileSteps}
 pub record AreStepsFrom (edges indexes : List ℕ) (behind : ℕ) (steps : List ℕ) : Type 0 where
   pub behind_is : behind ≡ product edges
   pub are : AreTileSteps edges indexes steps
-
-one_dimension : (es xs steps : List ℕ) (e x behind : ℕ) → x < 24 → AreStepsFrom es xs behind steps
-    → AreStepsFrom (e ∷ es) (x ∷ xs) (behind * e) (slice_set steps x (slice_index steps x + behind))
-one_dimension es xs steps e x behind l so_far = record {
-  behind_is = ap (λ n. n * e) so_far.behind_is ∙ turned (product es) e;
-  are = record {
-    each = length-set steps x (slice_index steps x + behind) ∙ so_far.are.each;
-    steps_are = λ i k. elim (cases_eq i x) [
-      | inl q ↦
-          ap (slice_index (slice_set steps x (slice_index steps x + behind))) q
-          ∙ get_or-set_same steps x (slice_index steps x + behind) 0 (omega (arith, so_far.are.each))
-          ∙ together (slice_index steps x) (tile_step es xs x) behind (product es) (so_far.are.steps_are x l) so_far.behind_is
-          ∙ ap (λ j. product es + tile_step es xs j) (sym q)
-          ∙ sym (ap (λ b. (if b then product es else 0) + tile_step es xs i) (eq-eqb x i (sym q)))
-      | inr n ↦
-          get_or-set_other steps x i (slice_index steps x + behind) 0 n
-          ∙ so_far.are.steps_are i k
-          ∙ nothing (tile_step es xs i)
-          ∙ sym (ap (λ b. (if b then product es else 0) + tile_step es xs i) (ne_eqb x i (λ q. n (sym q))))
-    ];
-  };
-}
-  where
-    turned : (m n : ℕ) → m * n ≡ n * m
-    turned m n = omega arith
-
-    together : (s t b p : ℕ) → s ≡ t → b ≡ p → s + b ≡ p + t
-    together s t b p e f = omega arith
-
-    nothing : (n : ℕ) → n ≡ 0 + n
-    nothing n = omega arith
-
-pub no_dimension : (edges indexes steps : List ℕ) (n : ℕ) → length steps ≡ 24 → ((i : ℕ) → slice_index steps i ≡ 0) → length edges ≤ n → AreStepsFrom (drop n edges) (drop n indexes) 1 steps
-no_dimension edges indexes steps n each zeros past =
-    subst (λ es. AreStepsFrom es (drop n indexes) 1 steps) (sym (drop_all n edges past)) (record {
-      behind_is = refl;
-      are = record { each = each; steps_are = λ i l. zeros i };
-    })
-
--- the dimension in front of those from `d` on
-pub next_dimension : (edges indexes steps : List ℕ) (d behind : ℕ) → 0 < d → d ≤ length indexes → length indexes ≡ length edges → slice_index indexes (d - 1) < 24
-    → AreStepsFrom (drop d edges) (drop d indexes) behind steps
-    → AreStepsFrom (drop (d - 1) edges) (drop (d - 1) indexes) (behind * slice_index edges (d - 1)) (slice_set steps (slice_index indexes (d - 1)) (slice_index steps (slice_index indexes (d - 1)) + behind))
-next_dimension edges indexes steps d behind some low each known so_far =
-    let back : suc (d - 1) ≡ d = omega arith in
-    let edge : drop (d - 1) edges ≡ slice_index edges (d - 1) ∷ drop d edges = drop-cons edges (d - 1) 0 (omega arith) ∙ ap (λ n. slice_index edges (d - 1) ∷ drop n edges) back in
-    let index : drop (d - 1) indexes ≡ slice_index indexes (d - 1) ∷ drop d indexes = drop-cons indexes (d - 1) 0 (omega arith) ∙ ap (λ n. slice_index indexes (d - 1) ∷ drop n indexes) back in
-    let b : ℕ = behind * slice_index edges (d - 1) in
-    let after : List ℕ = slice_set steps (slice_index indexes (d - 1)) (slice_index steps (slice_index indexes (d - 1)) + behind) in
-    subst (λ es. AreStepsFrom es (drop (d - 1) indexes) b after) (sym edge)
-    (subst (λ is. AreStepsFrom (slice_index edges (d - 1) ∷ drop d edges) is b after) (sym index)
-    (one_dimension (drop d edges) (drop d indexes) steps (slice_index edges (d - 1)) (slice_index indexes (d - 1)) behind known so_far))
 
 -- ---- bounds
 

@@ -1,8 +1,5 @@
 -- Windows of tiles that are touched, and of those that were touched before.
-use Rattle.std.proofs.Common.{◌≡◌, ℕ, ◌+◌, ◌*◌, ◌^◌, ◌<◌, ◌≤◌, ◌∙◌, Bool, false, List, length, map, slice_get, Option, Some, None, refl, sym, ap, subst, arith, Fits, w64}
-use Rattle.std.proofs.lemmas.List.{length-map}
-use Rattle.tce_space.specs.Box.{IsInside}
-use Rattle.tce_space.proofs.Boxes.{length_inside}
+use Rattle.std.proofs.Common.{◌≡◌, ℕ, ◌+◌, ◌*◌, ◌^◌, ◌<◌, ◌≤◌, Bool, false, List, map, slice_get, Option, Some, None, refl, sym, ap, subst, arith, Fits, w64}
 use Rattle.std.specs.List.{All}
 use Rattle.std.specs.Option.{IsSomeAnd}
 use Rattle.tce_space.specs.Tiling.{Tiling, IsTiling, tile_words, tile_number}
@@ -31,13 +28,6 @@ use Rattle.tce_exec.specs.Windows.{IsTouchedTile, IsOperandWindow, KeepsLast}
 pub shape_is : (arrays : List ArrayRef) (array : ℕ) (a : ArrayRef) (shape : Tiling) → slice_get arrays array ≡ Some a → IsArrayAt arrays array (λ b. b.shape ≡ shape) → a.shape ≡ shape
 shape_is arrays array a shape at h = subst (λ o. IsSomeAnd o (λ b. b.shape ≡ shape)) at h
 
-array_after : (c new : CacheState) (held : List Held) (touches array : ℕ) (a : ArrayRef) → new ≡ with_held c held touches → slice_get new.arrays array ≡ Some a → slice_get c.arrays array ≡ Some a
-array_after c new held touches array a same at = subst (λ (d : CacheState). slice_get d.arrays array ≡ Some a) same at
-
-pub shape_after : (c new : CacheState) (held : List Held) (touches array : ℕ) (a : ArrayRef) (shape : Tiling) → new ≡ with_held c held touches → slice_get new.arrays array ≡ Some a
-    → HasShape c array shape → a.shape ≡ shape
-shape_after c new held touches array a shape same at h = shape_is c.arrays array a shape (array_after c new held touches array a same at) h
-
 -- the touched tile is that of the element
 tile_of : (o : Option ArrayRef) (shape : Tiling) (xs : List ℕ) (tile place : ℕ) → IsSomeAnd o (λ a. a.shape ≡ shape) → IsSomeAnd o (λ a. IsElementAt a.shape xs tile place) → tile ≡ tile_number shape xs
 tile_of None shape xs tile place h e = absurd h
@@ -62,10 +52,6 @@ element_in (Some a) shape xs tile place h e = subst (λ s. IsElementAt s xs tile
 
 pub element_of : (c : CacheState) (array tile place : ℕ) (shape : Tiling) (xs : List ℕ) → HasShape c array shape → IsElementAt shape xs tile place → IsArrayAt c.arrays array (λ a. IsElementAt a.shape xs tile place)
 element_of c array tile place shape xs has element = element_in (slice_get c.arrays array) shape xs tile place has element
-
--- an index for each dimension
-pub rank_of : (shape own : Tiling) (indexes : List ℕ) (first : Assignment) → IsInside shape.extents (map first indexes) → own ≡ shape → length indexes ≡ length own.extents
-rank_of shape own indexes first inside same = sym (length-map indexes first) ∙ length_inside shape.extents (map first indexes) inside ∙ ap (λ (s : Tiling). length s.extents) (sym same)
 
 -- the frame of a touched tile lies among the words
 touched_room : (c new : CacheState) (held : List Held) (touches array tile at n : ℕ) (write : Bool) (shape own : Tiling) → IsCache c → IsCache new → new ≡ with_held c held touches

@@ -188,8 +188,3 @@ out_of_order space names indexes other exact value = (
       let same : indexes ≡ members value = same_Some indexes (members value) ((exact (members value)).1 named.named) in
       absurd (other (ap (λ is. members (set_of is)) same ∙ ap members (set_of_members value named.is_set) ∙ sym same))),
 )
-
-pub no_indexes : (space : IndexSpace) (names : List (List ℕ)) → ((value : List ℕ) → (None ≡ Some value) ↔ AreNamed space names value)
-    → (value : ℕ) → (None ≡ Some value) ↔ IsSetNamed space names value
-no_indexes space names exact value =
-    ((λ e. absurd (none-some value e)), (λ named. absurd (none-some (members value) ((exact (members value)).1 named.named))))

@@ -1,5 +1,5 @@
 -- The parts of a text are what was joined.
-use Rattle.std.proofs.Common.{◌≡◌, ◌≢◌, ℕ, ◌<◌, ◌≤◌, ◌==◌, ◌↔◌, Bool, true, false, not, List, [], ◌∷◌, ◌++◌, length, take, drop, ◌+◌, ◌-◌, append_assoc, length-drop, length-append, take_all, Some, None, refl, sym, ap, subst, ◌∙◌, arith, eq-eqb, nat_lt}
+use Rattle.std.proofs.Common.{◌≡◌, ◌≢◌, ℕ, ◌<◌, ◌≤◌, ◌==◌, ◌↔◌, Bool, true, false, not, List, [], ◌∷◌, ◌++◌, length, take, drop, ◌+◌, ◌-◌, length-drop, length-append, take_all, Some, None, refl, sym, ap, subst, ◌∙◌, arith, eq-eqb, nat_lt}
 use Rattle.std.specs.List.{list_all, join_with_byte, slice_split, onto_first, position, position_or_len}
 use Rattle.std.proofs.lemmas.Bool.{and_parts, ltb-true, ltb-false}
 use Rattle.std.proofs.lemmas.List.Splits.{slice_split-cons_yes, slice_split-cons_no, slice_split_first, slice_split_none, join_with_byte-slice_split}
@@ -109,12 +109,6 @@ pub cut_at : (c : ℕ) (text : List ℕ) (end : ℕ) → position (λ b. b == c)
 cut_at c text end is =
     (first_part c text end is).1
     ∙ ap (λ rest. take end text ∷ parts_at c rest) (sym (take_all (length text - (end + 1)) (drop (end + 1) text) (omega (arith, length-drop (end + 1) text))))
-
--- a part more is found
-pub part_found : (all found rest : List (List ℕ)) (part : List ℕ) (now behind : List (List ℕ))
-    → all ≡ found ++ rest → rest ≡ part ∷ behind → now ≡ found ++ part ∷ [] → all ≡ now ++ behind
-part_found all found rest part now behind whole front pushed =
-    whole ∙ ap (λ r. found ++ r) front ∙ sym (append_assoc found (part ∷ []) behind) ∙ ap (λ f. f ++ behind) (sym pushed)
 
 -- where the parts that are found fill the limit and one more follows, there are too many
 pub too_many : (c limit : ℕ) (text rest : List ℕ) (found : List (List ℕ)) → parts_at c text ≡ found ++ parts_at c rest → length found ≡ limit → limit < length (parts_at c text)

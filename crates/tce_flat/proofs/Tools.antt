@@ -1,5 +1,5 @@
 -- What the tools answer, as refusals.
-use Rattle.std.proofs.Common.{◌≡◌, ◌≢◌, refl, sym, subst, ◌∙◌, ◌⊎◌, inl, inr, ℕ, List, Option, None, Result, Ok, Err, IfOk, IfErr, String, Global, arith}
+use Rattle.std.proofs.Common.{◌≡◌, ◌≢◌, refl, subst, ◌∙◌, ◌⊎◌, inl, inr, ℕ, List, Option, Result, Ok, Err, IfOk, IfErr, String, Global, arith}
 use Rattle.std.specs.String.{string_bytes}
 use Rattle.tce_flat.specs.Done.{report_text, IsPacking, IsUnpacking, IsConverting, IsPacked, IsUnpacked, IsConverted}
 use Rattle.std.specs.Option.{ForSome}
@@ -7,127 +7,13 @@ use Rattle.tce_outside.specs.Fault.{HasCause, Rose}
 use Rattle.tce_outside.specs.Files.{Files, file}
 use Rattle.tce_space.specs.Tiling.{Tiling}
 use Rattle.tce_array.specs.declared.form.Form.{Form}
-use Rattle.tce_array.specs.declared.fault.ArrayFault.{ArrayFault}
-use Rattle.tce_array.specs.declared.fault.ArrayFault.TheVariants as array_fault
 use Rattle.tce_spec.specs.Specification.{Specification as Specified}
 use Rattle.tce_source.specs.Source.{HasSpecification}
-use Rattle.tce_tools.specs.Answers.{IsPackAnswer, IsUnpackAnswer, IsConvertAnswer, IsRefused}
-use Rattle.tce_tools.specs.declared.fault.ToolFault.{ToolFault}
-use Rattle.tce_tools.specs.declared.fault.ToolFault.TheVariants as tool
 use Rattle.tce_command.specs.declared.refusal.Refusal.{Refusal}
 use Rattle.tce_command.specs.declared.refusal.Refusal.TheVariants.{Specification, Missing, Array, Budget, Intermediates, Flat, Tensor, Misfit, Einsum, Spill, Symmetry, Disk, Memory}
-use Rattle.tce_command.specs.Report.{fault_of}
-use Rattle.tce_command.specs.Refusals.{IsFree, NamesFile}
-use Rattle.tce_flat.specs.Tensors.{DeclaresTensor, HasTensor, array_file}
-use Rattle.tce_flat.specs.Refusals.{Refuses, IsUndeclared, IsTensorRefusal, IsFlatRefusal, IsArrayRefusal, IsFormRefusal, IsRefusedFor}
-use Rattle.tce_flat.specs.Tools.{Stands, KeepsFault}
-
--- the file that a refusal names is missing
-gone_flat : (files : Files) (flat : List ℕ) (shape : Tiling) (a : Refusal) → NamesFile flat a → file files flat ≡ None → IsFlatRefusal files flat shape a
-gone_flat files flat shape (Missing name) p gone = (p, gone)
-gone_flat files flat shape (Specification x) p gone = absurd p
-gone_flat files flat shape (Array x u) p gone = absurd p
-gone_flat files flat shape (Budget x) p gone = absurd p
-gone_flat files flat shape (Intermediates x) p gone = absurd p
-gone_flat files flat shape (Flat x) p gone = absurd p
-gone_flat files flat shape (Tensor x) p gone = absurd p
-gone_flat files flat shape (Misfit x) p gone = absurd p
-gone_flat files flat shape (Einsum x) p gone = absurd p
-gone_flat files flat shape (Spill x) p gone = absurd p
-gone_flat files flat shape (Symmetry x u) p gone = absurd p
-gone_flat files flat shape Disk p gone = absurd p
-gone_flat files flat shape Memory p gone = absurd p
-
-gone_array : (files : Files) (tensor : List ℕ) (shape : Tiling) (a : Refusal) → NamesFile (array_file tensor) a → file files (array_file tensor) ≡ None → IsArrayRefusal files tensor shape a
-gone_array files tensor shape (Missing name) p gone = (p, gone)
-gone_array files tensor shape (Specification x) p gone = absurd p
-gone_array files tensor shape (Array x u) p gone = absurd p
-gone_array files tensor shape (Budget x) p gone = absurd p
-gone_array files tensor shape (Intermediates x) p gone = absurd p
-gone_array files tensor shape (Flat x) p gone = absurd p
-gone_array files tensor shape (Tensor x) p gone = absurd p
-gone_array files tensor shape (Misfit x) p gone = absurd p
-gone_array files tensor shape (Einsum x) p gone = absurd p
-gone_array files tensor shape (Spill x) p gone = absurd p
-gone_array files tensor shape (Symmetry x u) p gone = absurd p
-gone_array files tensor shape Disk p gone = absurd p
-gone_array files tensor shape Memory p gone = absurd p
-
--- the refusal keeps the fault of an array file
-kept_array : (files : Files) (tensor : List ℕ) (shape : Tiling) (fault : ArrayFault) (a : Refusal) → KeepsFault tensor (tool.Array fault) a
-    → IsRefused shape (file files (array_file tensor)) fault → IsArrayRefusal files tensor shape a
-kept_array files tensor shape fault (Array name kept) p wrong =
-    let e : fault ≡ fault_of kept = let f = p.0 in cc in
-    (p.1, subst (IsRefused shape (file files (array_file tensor))) e wrong)
-kept_array files tensor shape fault (Missing x) p wrong = absurd p
-kept_array files tensor shape fault (Specification x) p wrong = absurd p
-kept_array files tensor shape fault (Budget x) p wrong = absurd p
-kept_array files tensor shape fault (Intermediates x) p wrong = absurd p
-kept_array files tensor shape fault (Flat x) p wrong = absurd p
-kept_array files tensor shape fault (Tensor x) p wrong = absurd p
-kept_array files tensor shape fault (Misfit x) p wrong = absurd p
-kept_array files tensor shape fault (Einsum x) p wrong = absurd p
-kept_array files tensor shape fault (Spill x) p wrong = absurd p
-kept_array files tensor shape fault (Symmetry x u) p wrong = absurd p
-kept_array files tensor shape fault Disk p wrong = absurd p
-kept_array files tensor shape fault Memory p wrong = absurd p
-
--- an array file is refused as the tools say
-array_refusal : (files : Files) (tensor : List ℕ) (shape : Tiling) (fault : ArrayFault) (a : Refusal)
-    → Stands tensor (array_file tensor) (tool.Array fault) a → IsRefused shape (file files (array_file tensor)) fault → IsArrayRefusal files tensor shape a
-array_refusal files tensor shape array_fault.NoFile a stands p = gone_array files tensor shape a stands p.0
-array_refusal files tensor shape (array_fault.BadLength n) a stands p = kept_array files tensor shape (array_fault.BadLength n) a stands p
-array_refusal files tensor shape (array_fault.BadHeader n) a stands p = kept_array files tensor shape (array_fault.BadHeader n) a stands p
-array_refusal files tensor shape array_fault.Disk a stands p = absurd (p.1 refl)
-
-free_disk : (a : Refusal) → a ≡ Disk → IsFree a
-free_disk a e = subst IsFree (sym e) tt
-
-free_memory : (a : Refusal) → a ≡ Memory → IsFree a
-free_memory a e = subst IsFree (sym e) tt
-
-pub pack_refusal : (files : Files) (tensor flat : List ℕ) (shape : Tiling) (fault : ToolFault) (a : Refusal)
-    → IsPackAnswer shape (file files flat) (Err fault) → Stands tensor flat fault a → IsFree a ⊎ IsFlatRefusal files flat shape a
-pack_refusal files tensor flat shape tool.NoFlat a p stands = inr (gone_flat files flat shape a stands p)
-pack_refusal files tensor flat shape (tool.FlatLength n) a p stands = inr (subst (IsFlatRefusal files flat shape) (sym stands) p)
-pack_refusal files tensor flat shape (tool.Array fault) a p stands = absurd p
-pack_refusal files tensor flat shape (tool.DoesNotFit k) a p stands = absurd p
-pack_refusal files tensor flat shape tool.Disk a p stands = inl (free_disk a stands)
-pack_refusal files tensor flat shape tool.Memory a p stands = inl (free_memory a stands)
-
-pub unpack_refusal : (files : Files) (tensor : List ℕ) (shape : Tiling) (fault : ToolFault) (a : Refusal)
-    → IsUnpackAnswer shape (file files (array_file tensor)) (Err fault) → Stands tensor (array_file tensor) fault a → IsFree a ⊎ IsArrayRefusal files tensor shape a
-unpack_refusal files tensor shape tool.NoFlat a p stands = absurd p
-unpack_refusal files tensor shape (tool.FlatLength n) a p stands = absurd p
-unpack_refusal files tensor shape (tool.Array fault) a p stands = inr (array_refusal files tensor shape fault a stands p)
-unpack_refusal files tensor shape (tool.DoesNotFit k) a p stands = absurd p
-unpack_refusal files tensor shape tool.Disk a p stands = inl (free_disk a stands)
-unpack_refusal files tensor shape tool.Memory a p stands = inl (free_memory a stands)
-
--- a refusal of an array is one of its conversion
-form_refusal : (files : Files) (tensor : List ℕ) (form : Form) (shape : Tiling) (a : Refusal) → IsArrayRefusal files tensor shape a → IsFormRefusal files tensor form shape a
-form_refusal files tensor form shape (Missing x) p = p
-form_refusal files tensor form shape (Array x u) p = p
-form_refusal files tensor form shape (Flat x) p = absurd p
-form_refusal files tensor form shape (Specification x) p = absurd p
-form_refusal files tensor form shape (Budget x) p = absurd p
-form_refusal files tensor form shape (Intermediates x) p = absurd p
-form_refusal files tensor form shape (Tensor x) p = absurd p
-form_refusal files tensor form shape (Misfit x) p = absurd p
-form_refusal files tensor form shape (Einsum x) p = absurd p
-form_refusal files tensor form shape (Spill x) p = absurd p
-form_refusal files tensor form shape (Symmetry x u) p = absurd p
-form_refusal files tensor form shape Disk p = absurd p
-form_refusal files tensor form shape Memory p = absurd p
-
-pub convert_refusal : (files : Files) (tensor : List ℕ) (form : Form) (shape : Tiling) (fault : ToolFault) (a : Refusal)
-    → IsConvertAnswer form shape (file files (array_file tensor)) (Err fault) → Stands tensor (array_file tensor) fault a → IsFree a ⊎ IsFormRefusal files tensor form shape a
-convert_refusal files tensor form shape tool.NoFlat a p stands = absurd p
-convert_refusal files tensor form shape (tool.FlatLength n) a p stands = absurd p
-convert_refusal files tensor form shape (tool.Array fault) a p stands = inr (form_refusal files tensor form shape a (array_refusal files tensor shape fault a stands p))
-convert_refusal files tensor form shape (tool.DoesNotFit k) a p stands = inr (subst (IsFormRefusal files tensor form shape) (sym stands) p)
-convert_refusal files tensor form shape tool.Disk a p stands = inl (free_disk a stands)
-convert_refusal files tensor form shape tool.Memory a p stands = inl (free_memory a stands)
+use Rattle.tce_command.specs.Refusals.{IsFree}
+use Rattle.tce_flat.specs.Tensors.{DeclaresTensor, HasTensor}
+use Rattle.tce_flat.specs.Refusals.{Refuses, IsUndeclared, IsTensorRefusal, IsRefusedFor}
 
 -- why a tensor's input is refused, or a free refusal, is why the command is
 pub found_refusal : (refuses : Refuses) (files : Files) (spec tensor : List ℕ) (shape : Tiling) (a : Refusal) → HasTensor files spec tensor shape → IsFree a ⊎ refuses shape a → IsRefusedFor refuses files spec tensor a

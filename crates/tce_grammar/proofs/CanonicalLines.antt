@@ -156,13 +156,6 @@ canonical_line_says s is = (
   canonical_says s is,
 )
 
--- lines that are joined
-
-return_kept : (text : List ℕ) (d : Bool) → (get_or text (length text - 1) 0 == 13) ≡ d → d ≡ false
-    → (if d then take (length text - 1) text else text) ≡ text
-return_kept text true e none = cc
-return_kept text false e none = refl
-
 no_return : (text : List ℕ) → (get_or text (length text - 1) 0 == 13) ≡ false → without_return text ≡ text
 no_return text none = rw none refl
 

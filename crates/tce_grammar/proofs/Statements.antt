@@ -9,6 +9,7 @@ use Rattle.tce_grammar.specs.Tokens.{Token, word, number, symbol}
 use Rattle.tce_grammar.specs.Formula.{Formula}
 use Rattle.tce_grammar.specs.Grammar.{Written, listed, bracketed, spelling, meaning, IsWritten, depth, AreNames, AreSome, Statement, range, index, declaration, formula, Says}
 use Rattle.tce_grammar.specs.Reading.{Reads, ◌>>=◌, behind, brackets_at, formula_within, whole, edge_of, range_of, all_names, index_of, declaration_of, formula_of, statement_of}
+use Rattle.tce_grammar.proofs.Chains.{some_map}
 use Rattle.tce_grammar.proofs.Formulas.{no_word, brackets_read, formula_read}
 use Rattle.tce_grammar.proofs.Sound.{bind_some, chosen, behind_some, AreBracketed, brackets_sound, IsSpelled, formula_sound}
 
@@ -42,10 +43,6 @@ said_read (formula name indexes f) ts h =
     ∙ rw (n.0, n.2, n.3) (formula_of_read name indexes h.2.0 h.0 h.1 h.2.1 h.2.2 ∙ ap (λ (g : Formula). Some (formula name indexes g)) h.2.3)
 
 -- what is read is said
-
-some_map : {A B : Type 0} (f : A → B) (m : Option A) (y : B) → option_map f m ≡ Some y → (x : A) × (m ≡ Some x) × (f x ≡ y)
-some_map f None y e = cc
-some_map f (Some x) y e = (x, refl, cc)
 
 whole_some : {A : Type 0} (m : Reads A) (x : A) → whole m ≡ Some x → m ≡ Some (x, [])
 whole_some None x e = cc

@@ -1,6 +1,5 @@
 -- Pieces of a file, and the bytes in them.
-use Rattle.std.proofs.Common.{◌≡◌, ◌⊎◌, ℕ, zero, suc, ◌+◌, ◌-◌, ◌/◌, ◌<◌, ◌≤◌, Bool, true, false, List, [], ◌∷◌, Some, inl, inr, arith}
-use Rattle.std.proofs.Math.ListN.{set}
+use Rattle.std.proofs.Common.{◌≡◌, ◌⊎◌, ℕ, ◌+◌, ◌-◌, ◌/◌, ◌<◌, ◌≤◌, Bool, false, List, Some, inl, inr, arith}
 use Rattle.std.proofs.Math.Nat.{div-mul-le_self}
 use Rattle.std.proofs.lemmas.Nat.{le-div}
 use Rattle.std.proofs.lemmas.Bool.{cases_lt}
@@ -9,16 +8,6 @@ use Rattle.std.specs.List.{slice_get}
 -- a later byte lies in no earlier piece
 in_order : (u a b : ℕ) → 0 < u → a ≤ b → a / u ≤ b / u
 in_order u a b some le = le-div (a / u) b u some (omega (arith, div-mul-le_self a u))
-
--- a piece that is written is no hole any more, and the others are what they were
-pub set_at : (w : List Bool) (k j : ℕ) → slice_get (set w k true) j ≡ Some false → (slice_get w j ≡ Some false) × ((j < k) ⊎ (k < j))
-set_at [] k j e = absurd (cc)
-set_at (x ∷ xs) zero zero e = absurd (cc)
-set_at (x ∷ xs) zero (suc j) e = (e, inr (omega arith))
-set_at (x ∷ xs) (suc k) zero e = (e, inl (omega arith))
-set_at (x ∷ xs) (suc k) (suc j) e =
-    let r = set_at xs k j e in
-    (r.0, elim r.1 [ inl low ↦ inl (omega arith) | inr high ↦ inr (omega arith) ])
 
 -- a byte between two others lies in a piece between theirs
 pub covered : (w : List Bool) (from unit at n end p : ℕ) → 0 < unit → end ≡ at + n → from ≤ at → at ≤ p → p < at + n

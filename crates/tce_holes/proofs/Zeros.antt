@@ -1,14 +1,14 @@
 -- What lies in holes stays 0.
-use Rattle.std.proofs.Common.{◌≡◌, ◌∙◌, ◌⊎◌, ℕ, zero, suc, ◌+◌, ◌<◌, ◌≤◌, List, [], ◌∷◌, ◌++◌, ◌-◌, cond, length, take, drop, replicate, slice_index, Option, Some, None, unwrap_or, ap, sym, refl, inl, inr, arith, drop-cons, length-append, length-drop}
+use Rattle.std.proofs.Common.{◌≡◌, ◌∙◌, ◌⊎◌, ℕ, ◌+◌, ◌<◌, ◌≤◌, List, [], ◌++◌, ◌-◌, cond, length, take, drop, replicate, slice_index, Option, Some, None, unwrap_or, ap, sym, refl, inl, inr, arith, length-append, length-drop}
 use Rattle.std.proofs.lemmas.List.{get_or-replicate, length-replicate, length-take-le, get_or_append_left, get_or-append_right, get_or-take, get_or-drop}
 use Rattle.std.proofs.lemmas.Cmp.{nat_list_cmp_total}
 use Rattle.std.proofs.lemmas.Option.{none-some}
 use Rattle.std.specs.Option.{ForSome, IsSomeAnd}
 use Rattle.std.specs.FinMap.{get-insert}
-use Rattle.tce_outside.specs.Files.{Files, file, with_file, with_part, overwritten, HasPart, part, holding, written}
+use Rattle.tce_outside.specs.Files.{Files, file, with_file, with_part, overwritten, HasPart, holding, written}
 use Rattle.tce_outside.proofs.Places.{tied_decides}
 use Rattle.tce_holes.specs.declared.holes.Holes.{Holes}
-use Rattle.tce_holes.specs.Holes.{IsHole, AreHoles, AreZeros}
+use Rattle.tce_holes.specs.Holes.{IsHole, AreZeros}
 
 file_with : (files : Files) (name bytes : List ℕ) → file (with_file files name bytes) name ≡ Some bytes
 file_with files name bytes =
@@ -31,25 +31,6 @@ made_zeros (Some files) told' known name h n e same = λ fs is bytes there p low
     ap (λ xs. slice_index xs p) (sym is_bytes) ∙ get_or-replicate n p 0 0 (simp length-replicate at below)
 
 -- ---- a read of a hole
-zeros : (n at : ℕ) (xs : List ℕ) → at + n ≤ length xs → ((p : ℕ) → at ≤ p → p < at + n → slice_index xs p ≡ 0) → replicate n 0 ≡ take n (drop at xs)
-zeros zero at xs h z = refl
-zeros (suc n) at xs h z =
-    let first : slice_index xs at ≡ 0 = z at (omega arith) (omega arith) in
-    let rest : replicate n 0 ≡ take n (drop (suc at) xs) = zeros n (suc at) xs (omega arith) (λ p low high. z p (omega arith) (omega arith)) in
-    ap (λ l. 0 ∷ l) rest
-    ∙ ap (λ x. x ∷ take n (drop (suc at) xs)) (sym first)
-    ∙ ap (take (suc n)) (sym (drop-cons xs at 0 (omega arith)))
-
-read_in : (files : Files) (known name : List ℕ) (h : Holes) (at n : ℕ) (o : Option (List ℕ)) → file files name ≡ o → IsSomeAnd o (λ bytes. at + n ≤ length bytes) → known ≡ name → AreHoles h at n
-    → ((bytes : List ℕ) → file files known ≡ Some bytes → (p : ℕ) → p < length bytes → IsHole h p → slice_index bytes p ≡ 0)
-    → replicate n 0 ≡ take n (drop at (unwrap_or o []))
-read_in files known name h at n None e inside same holes still = absurd inside
-read_in files known name h at n (Some bytes) e inside same holes still =
-    zeros n at bytes inside (λ p low high. still bytes (ap (file files) same ∙ e) p (omega arith) (holes p low high))
-
-pub read_zeros : (told : Option Files) (known name : List ℕ) (h : Holes) (at n : ℕ) → AreZeros told known h → (known ≡ name) × AreHoles h at n → ForSome told (λ fs. HasPart fs name at n)
-    → ForSome told (λ fs. replicate n 0 ≡ part fs name at n)
-read_zeros told known name h at n still holes has = λ fs is. read_in fs known name h at n (file fs name) refl (has fs is) holes.0 holes.1 (still fs is)
 
 -- ---- a write
 length-overwritten : (old : List ℕ) (at : ℕ) (bs : List ℕ) → at + length bs ≤ length old → length (overwritten old at bs) ≡ length old

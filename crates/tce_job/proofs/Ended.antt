@@ -372,13 +372,6 @@ whole_is_no_half s before after is fs told gs here =
     let now : gs ≡ with_result s fs = cc in
     inr (inr (ap (λ (f : Files). option_map (λ bytes. drop n bytes) (file f name)) now ∙ ap (option_map (λ bytes. drop n bytes)) (file-with_file fs name (result_bytes s fs))))
 
-pub zeros_are_no_half : (s : Specification) (before after : Option Files) → after ≡ holding (file_of s s.result) (made_result s) before → LeavesNoHalfResult s before after
-zeros_are_no_half s before after is fs told gs here =
-    let name : List ℕ = file_of s s.result in
-    let both : Some gs ≡ Some (with_file fs name (made_result s)) = sym here ∙ is ∙ ap (holding name (made_result s)) told in
-    let now : gs ≡ with_file fs name (made_result s) = cc in
-    inr (inl (subst (λ o. IfSome o BeginsWithZeros) (sym (ap (λ (f : Files). file f name) now ∙ file-with_file fs name (made_result s))) (λ i low. zeros_at (form_len One (shape_of s s.result)) i)))
-
 zeros_or_same : (s : Specification) (whole : List ℕ) (old new : Option (List ℕ)) → (new ≡ old) ⊎ IfSome new (λ bytes. bytes ≡ replicate (length bytes) 0) → LeavesNoHalf (head_len One (shape_of s s.result)) whole old new
 zeros_or_same s whole old new (inl same) = inl same
 zeros_or_same s whole old None (inr zeros) = inr (inl zeros)
@@ -392,7 +385,3 @@ same_is_no_half s before after same fs told gs here =
     let both : Some gs ≡ Some fs = sym here ∙ same ∙ told in
     let now : gs ≡ fs = cc in
     inl (ap (λ (f : Files). file f (file_of s s.result)) now)
-
--- what is left of later files that are the same as the earlier ones
-pub no_half_since : (s : Specification) (before middle after : Option Files) → middle ≡ before → LeavesNoHalfResult s middle after → LeavesNoHalfResult s before after
-no_half_since s before middle after same is = subst (λ o. LeavesNoHalfResult s o after) same is

@@ -7,9 +7,6 @@ use Rattle.std.proofs.lemmas.Simd.{length-chunk}
 use Rattle.std.proofs.Math.Seq.{take-add}
 use Rattle.tce_base.specs.Word.{wrapping_add, wrapping_sum}
 
-add_congruent : (k a b : ℕ) → a % 2 ^ 64 ≡ b % 2 ^ 64 → (k + a) % 2 ^ 64 ≡ (k + b) % 2 ^ 64
-add_congruent k a b same = omega (arith, same)
-
 -- the sum of two rows of lanes
 pub sum-zip2 : (xs ys : List ℕ) → length xs ≡ length ys → wrapping_sum (zip2 wrapping_add xs ys) ≡ (sum xs + sum ys) % 2 ^ 64
 unfolding wrapping_add wrapping_sum

@@ -6,7 +6,7 @@ use Rattle.std.proofs.lemmas.Bool.{cases_Bool, false≢true, both_ways, or_cases
 use Rattle.tce_space.specs.IndexSet.{IsIndexSet, has}
 use Rattle.tce_states.specs.Relation.{Relation, above, IsCoarser}
 use Rattle.tce_states.specs.Classes.{in_class, IsNesting, IsInhabited}
-use Rattle.tce_nesting.specs.Classes.{AllAbove, AllowsSet}
+use Rattle.tce_nesting.specs.Classes.{AllAbove}
 
 -- what is above, at the first class
 pub above-cons : (c : ℕ) (cs : List ℕ) (i j : ℕ) → IsTrue (above (c ∷ cs) i j) → (has c j ≡ false) × ((IsTrue (has c i)) ⊎ IsTrue (above cs i j))
@@ -34,9 +34,6 @@ both_false x y p q = or_from x y p q
 -- no index outside the fused set is above one inside that is not reached yet
 abbrev pub AllowsBeyond : ℕ → ℕ → List ℕ → Type 0
 AllowsBeyond fused reached cs = (i j : ℕ) → has fused i ≡ false → IsTrue (has fused j) → has reached j ≡ false → IsTrue (above cs i j) → ⊥
-
-pub allows_from_none : (fused reached : ℕ) (cs : List ℕ) → ((i : ℕ) → has reached i ≡ false) → AllowsSet (above cs) fused ↔ AllowsBeyond fused reached cs
-allows_from_none fused reached cs none = (λ h i j out inn far x. h i j out inn x, λ h i j out inn x. h i j out inn (none j) x)
 
 pub allows_further : (fused reached wider c : ℕ) (cs : List ℕ) → ((i : ℕ) → has wider i ≡ (has reached i || has c i)) → ((i : ℕ) → IsTrue (has c i) → IsTrue (has fused i)) → AllowsBeyond fused reached (c ∷ cs) ↔ AllowsBeyond fused wider cs
 allows_further fused reached wider c cs union within = (λ h. forth h, λ h. back h)
@@ -72,9 +69,6 @@ allows_stop fused reached wider c cs union beyond = (λ h. forth h, λ h. back h
             | inr out ↦ absurd (h i j out inn (false_left (has reached j) (has c j) near) (above-first c cs i j (false_right (has reached j) (has c j) near) ci))
           ]))
     ]
-
-pub allows_end : (fused reached : ℕ) → AllowsBeyond fused reached []
-allows_end fused reached i j out inn far x = false≢true x
 
 -- ---- all above
 

@@ -3,14 +3,13 @@ use Rattle.std.proofs.Common.{◌≡◌, ℕ, Bool, ◌&&◌, ◌||◌, true, fa
 use Rattle.std.specs.List.{AllWithin}
 use Rattle.std.proofs.lemmas.Bool.{cases_Bool, both_ways, cases_lt, cases_eq}
 use Rattle.std.proofs.lemmas.List.{get_or-set_same, get_or-set_other}
-use Rattle.std.proofs.lemmas.List.Elements.{at_read}
 use Rattle.tce_space.specs.IndexSet.{IsWithin, has}
 use Rattle.tce_states.specs.Relation.{above}
 use Rattle.tce_nesting.specs.declared.choice.Choice.{Choice}
 use Rattle.tce_nesting.specs.declared.stretches.Stretch.{Stretch}
 use Rattle.tce_nesting.specs.Classes.{AllowsSet}
 use Rattle.tce_nesting.specs.Ends.{IsTopOf}
-use Rattle.tce_nesting.specs.Stretches.{LiesBetween, IsStretch, AreStretches, IsTogether, AllowsNone}
+use Rattle.tce_nesting.specs.Stretches.{IsStretch, IsTogether, AllowsNone}
 
 -- what holds of each choice whose set is not allowed, where a stretch has no other ones
 pub stretch_passed : (P : Choice → Type 0) (place : ℕ) (classes : List ℕ) (choices : List Choice) (stretch : Stretch) → IsStretch choices place stretch
@@ -22,23 +21,6 @@ stretch_passed P place classes choices stretch is none holds before k d from low
       let between = is.each k d later low in
       holds (get_or choices k d) (λ allowed. none (get_or choices k d).fused between.lower between.upper allowed)
 ]
-
--- the stretch at a place
-pub stretch_at : (k : ℕ) (choices : List Choice) (stretches : List Stretch) (stretch : Stretch) → AreStretches choices stretches → k < length choices
-    → stretch ≡ get_or stretches k stretch → IsStretch choices k stretch
-stretch_at k choices stretches stretch all low is = subst (IsStretch choices k) (sym is) (all.each k stretch low)
-
--- the stretch of one choice alone
-pub stretch_alone : (k : ℕ) (choices : List Choice) (x : Choice) → k < length choices → x ≡ get_or choices k x
-    → IsStretch choices k (record { common = x.fused; all = x.fused; until = k + 1 })
-stretch_alone k choices x low is = record {
-  later = omega arith;
-  inside = omega (arith, low);
-  each = λ j y from before.
-      let at : k ≡ j = omega (arith, from, before) in
-      let here : LiesBetween x.fused x.fused x = record { lower = λ i h. h; upper = λ i h. h } in
-      subst (λ n. LiesBetween x.fused x.fused (get_or choices n y)) at (at_read choices (LiesBetween x.fused x.fused) k x low is here y);
-}
 
 -- two stretches, one behind the other
 pub stretches_together : (first next : Stretch) (common all : ℕ) → ((i : ℕ) → has common i ≡ (has first.common i && has next.common i))

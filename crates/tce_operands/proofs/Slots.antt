@@ -1,11 +1,11 @@
 -- The words of slots are those of places.
-use Rattle.std.proofs.Common.{◌≡◌, ℕ, zero, suc, ◌+◌, ◌*◌, ◌<◌, ◌≤◌, true, List, [], ◌∷◌, map, slice_index, sum_by, sym, ap, ◌∙◌, subst, inl, inr, arith}
+use Rattle.std.proofs.Common.{◌≡◌, ℕ, zero, suc, ◌+◌, ◌*◌, ◌<◌, ◌≤◌, true, List, [], ◌∷◌, map, slice_index, sum_by, sym, ap, ◌∙◌, inl, inr, arith}
 use Rattle.std.specs.List.{range_with_len}
 use Rattle.std.proofs.lemmas.Bool.{cases_eq}
 use Rattle.std.proofs.lemmas.List.Sums.{sum_by_push}
 use Rattle.tce_space.specs.Box.{place, product, IsInside}
 use Rattle.tce_space.specs.IndexSet.{has, members}
-use Rattle.tce_space.specs.Space.{IndexSpace, extent_at, volume_of}
+use Rattle.tce_space.specs.Space.{IndexSpace, extent_at}
 use Rattle.tce_space.proofs.Boxes.{place-lt}
 use Rattle.tce_space.proofs.VolumeLaws.{range_next}
 use Rattle.tce_tree.specs.ContractionTree.{ContractionTree, operations}

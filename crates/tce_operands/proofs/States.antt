@@ -2,14 +2,14 @@
 use Rattle.std.proofs.Common.{◌≡◌, ◌⊎◌, ℕ, ◌+◌, ◌-◌, ◌*◌, ◌<◌, ◌≤◌, Bool, true, false, eqb, ltb, ◌&&◌, if◌then◌else◌, Option, Some, None, List, [], ◌∷◌, map, length, slice_index, slice_set, slice_get, bytes_eq, refl, sym, ap, ap₂, ◌∙◌, subst, inl, inr, arith, ltb-true, lt-ltb}
 use mathlib.Core.Path.{fun_ext}
 use Rattle.std.specs.Option.{IsSomeAnd}
-use Rattle.std.proofs.lemmas.Bool.{cases_Bool, cases_order, cases_lt, and_parts, eq-eqb, ne_eqb, eqb-true, false≢true, true≢false}
+use Rattle.std.proofs.lemmas.Bool.{cases_Bool, cases_order, and_parts, eq-eqb, eqb-true, false≢true, true≢false}
 use Rattle.std.proofs.lemmas.List.{get_or-set_same, get_or-set_other}
 use Rattle.std.proofs.lemmas.Slice.Eq.{bytes_eq-Decides}
 use Rattle.tce_outside.specs.Files.{Files}
 use Rattle.tce_space.specs.Box.{IsInside}
 use Rattle.tce_space.specs.IndexSet.{IsIndexSet, members}
 use Rattle.tce_space.specs.Space.{extent_at}
-use Rattle.tce_space.specs.Tiling.{Tiling, IsTiling, tile_words, tile_number, place_in_tile, word_number}
+use Rattle.tce_space.specs.Tiling.{Tiling, IsTiling, tile_words, tile_number, place_in_tile}
 use Rattle.tce_space.proofs.Boxes.{length_inside}
 use Rattle.tce_space.proofs.IndexSetLaws.{minus_lt}
 use Rattle.tce_space.proofs.Tilings.{place_in_tile-lt, word_number_injective}
@@ -17,12 +17,12 @@ use Rattle.tce_frames.specs.Held.{Held, look_up}
 use Rattle.tce_frames.specs.Current.{place, current}
 use Rattle.tce_frames.proofs.Current.{current_held, put_other, set_outside, clean_stay, below_found}
 use Rattle.tce_cache.specs.declared.array.ArrayRef.{ArrayRef}
-use Rattle.tce_cache.specs.Cache.{State as CacheState, IsCache, IsReady, HasRoom, IsSameOutsideFrames, layout, stored, words_of_tile}
-use Rattle.tce_cache.specs.Touch.{IsSameArrays, with_held}
+use Rattle.tce_cache.specs.Cache.{State as CacheState, IsCache, HasRoom, layout, stored, words_of_tile}
+use Rattle.tce_cache.specs.Touch.{with_held}
 use Rattle.tce_cache.proofs.Tiles.{frame_room}
 use Rattle.tce_tree.specs.ContractionTree.{operations, node_dims}
 use Rattle.tce_tree.specs.Fusion.{kept_dims, fused_at}
-use Rattle.tce_tree.specs.Memory.{memory, size_before}
+use Rattle.tce_tree.specs.Memory.{size_before}
 use Rattle.tce_tree.specs.Value.{Assignment, assignment}
 use Rattle.tce_tree.specs.WellFormed.{among}
 use Rattle.tce_tree.proofs.Members.{node_dims_lt}
@@ -33,9 +33,9 @@ use Rattle.tce_layout.specs.Layout.{slot_at, IsLayout}
 use Rattle.tce_layout.specs.Places.{kept_extents, word_at, IsPlace}
 use Rattle.tce_layout.proofs.Filling.{places_fill}
 use Rattle.tce_layout.proofs.Slots.{before_le}
-use Rattle.tce_operands.specs.Slots.{slot_word, IsSlotAt}
+use Rattle.tce_operands.specs.Slots.{slot_word}
 use Rattle.tce_operands.specs.NodeStates.{Places, are_inside, node_word, root, root_dims, result_coordinates, root_word, state_of, current_cell, IsResult}
-use Rattle.tce_operands.specs.Laws.{HasShape, StandsBefore, IsRootAt, ChangesRootPlace, PutsChangeOnePlace, ClearedSlotsAreCleared, TilePutsChangeOnePlace, TouchesKeepStates, PlacesHaveTheirWords, TouchedTilesShowElements}
+use Rattle.tce_operands.specs.Laws.{HasShape, StandsBefore, IsRootAt, PutsChangeOnePlace, ClearedSlotsAreCleared, TilePutsChangeOnePlace, TouchesKeepStates, PlacesHaveTheirWords, TouchedTilesShowElements}
 use Rattle.tce_operands.proofs.Assignments.{are_inside-true, are_inside-holds, assignment-at, map-assignment, assignment_inside, same_at}
 use Rattle.tce_operands.proofs.Slots.{numbers_inside, members_has, is_place, stands_between, slot_ends}
 

@@ -1,5 +1,5 @@
 -- What a word that is put, a slot that is cleared, and a tile that is touched do to the state of the nodes.
-use Rattle.std.specs.Prelude.{◌≡◌, ◌≢◌, ◌⊎◌, ℕ, ◌+◌, ◌<◌, ◌≤◌, true, IsTrue, List, map, length, slice_index, slice_set, Some}
+use Rattle.std.specs.Prelude.{◌≡◌, ◌⊎◌, ℕ, ◌+◌, ◌<◌, ◌≤◌, true, IsTrue, List, map, length, slice_index, slice_set, Some}
 use Rattle.tce_outside.specs.Files.{Files}
 use Rattle.tce_space.specs.Box.{IsInside}
 use Rattle.tce_space.specs.IndexSet.{has}

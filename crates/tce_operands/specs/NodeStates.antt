@@ -1,5 +1,5 @@
 -- The words of the nodes' places: those of the inner nodes stand among the words of a run, and those of the root are elements of the result.
-use Rattle.std.specs.Prelude.{◌≡◌, ℕ, ◌+◌, ◌-◌, ◌<◌, ◌==◌, ◌&&◌, nat_lt, IsTrue, Bool, List, map, length, slice_index, if◌then◌else◌}
+use Rattle.std.specs.Prelude.{◌≡◌, ℕ, ◌+◌, ◌-◌, ◌==◌, ◌&&◌, nat_lt, Bool, List, map, length, slice_index, if◌then◌else◌}
 use Rattle.tce_outside.specs.Files.{Files}
 use Rattle.tce_space.specs.Box.{is_inside}
 use Rattle.tce_space.specs.IndexSet.{has, members}
@@ -8,7 +8,7 @@ use Rattle.tce_space.specs.Tiling.{Tiling, tile_number, place_in_tile}
 use Rattle.tce_cache.specs.Cache.{State as CacheState, current_word}
 use Rattle.tce_tree.specs.ContractionTree.{ContractionTree, operations}
 use Rattle.tce_tree.specs.Fusion.{kept_dims}
-use Rattle.tce_tree.specs.Value.{Assignment, assignment}
+use Rattle.tce_tree.specs.Value.{assignment}
 use Rattle.tce_tree.specs.WellFormed.{among}
 use Rattle.tce_code.specs.Execution.{State}
 use Rattle.tce_layout.specs.Places.{kept_extents, word_at}

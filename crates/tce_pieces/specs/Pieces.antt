@@ -34,9 +34,6 @@ rest_of cut first (sum indexes operand) = unless_cut cut (first + operations ope
 abbrev pub except : Cuts → ℕ → Cuts
 except cut v u = cut u && not (u == v)
 
-abbrev pub with_cut : Cuts → ℕ → Cuts
-with_cut cut v u = cut u || u == v
-
 -- the piece whose root is node `v`: its subtree, where each other cut node is its array
 unfoldable pub piece : ContractionTree → Cuts → ℕ → ContractionTree
 piece tree cut v = rest_of (except cut v) (first_number_of tree v) (node tree v)

@@ -12,7 +12,6 @@ use Rattle.tce_grammar.specs.Grammar.{Line, says}
 use Rattle.tce_declarations.specs.Declarations.{Declarations, Tensor, IsTensor}
 use Rattle.tce_declarations.specs.DeclarationLines.{statement_fault, with_statement, number_of_range, numbers_of_ranges}
 use Rattle.tce_declarations.specs.Faults as faults
-use Rattle.tce_declarations.specs.Faults.{Fault, fault_if}
 use Rattle.tce_declarations.specs.Numbers.{is_range_size}
 use Rattle.tce_declarations.specs.Text.{head_of, unless}
 use Rattle.tce_canonical.specs.Statements.{Group, groups, in_group, range_statement, index_statement, tensor_statement, range_names, edge_digits}

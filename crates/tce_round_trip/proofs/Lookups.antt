@@ -16,10 +16,6 @@ pub all_joined : {A : Type 0} (P : A → Type 0) (xs ys : List A) → AllByRecur
 all_joined P [] ys a b = b
 all_joined P (x ∷ xs) ys a b = (a.0, all_joined P xs ys a.1 b)
 
-pub all_mapped : {A B : Type 0} (P : B → Type 0) (f : A → B) (xs : List A) → AllByRecursion (λ x. P (f x)) xs → AllByRecursion P (map f xs)
-all_mapped P f [] are = tt
-all_mapped P f (x ∷ xs) are = (are.0, all_mapped P f xs are.1)
-
 -- an element differs from a later one
 apart_at : {A : Type 0} (name : A → List ℕ) (n : List ℕ) (xs : List A) (i : ℕ) (d : A) → AllByRecursion (λ y. bytes_eq n y ≡ false) (map name xs) → i < length xs
     → bytes_eq n (name (get_or xs i d)) ≡ false

@@ -17,7 +17,7 @@ use Rattle.tce_grammar.specs.Formula.{operations}
 use Rattle.tce_declarations.specs.Declarations.{Declarations, IsDeclarations, Tensor, tensor_at, no_tensor}
 use Rattle.tce_declarations.specs.DeclarationLines.{twice_after}
 use Rattle.tce_declarations.specs.Faults as faults
-use Rattle.tce_declarations.specs.Faults.{Fault, first, fault_if}
+use Rattle.tce_declarations.specs.Faults.{Fault, fault_if}
 use Rattle.tce_formula.specs.Contraction.{FitsTensor, LeavesFit, IsContraction, has_tensor}
 use Rattle.tce_formula.specs.FormulaFaults.{formula_fault, is_constant}
 use Rattle.tce_formula.specs.Meaning.{meaning, indexes_of}

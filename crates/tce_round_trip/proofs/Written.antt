@@ -8,7 +8,6 @@ use Rattle.tce_tree.specs.Faults.{fault_of, nodes_fault, no_operation}
 use Rattle.tce_tree.proofs.FaultLaws.{is_measured}
 use Rattle.tce_grammar.specs.Lines.{lines}
 use Rattle.tce_grammar.specs.Formula as formulas
-use Rattle.tce_grammar.specs.Formula.{Formula}
 use Rattle.tce_grammar.specs.Grammar.{Line, IsLine, skipped, bad, says, range, index, declaration, formula}
 use Rattle.tce_grammar.specs.Reading.{line_of}
 use Rattle.tce_grammar.proofs.OneReading.{line_is}

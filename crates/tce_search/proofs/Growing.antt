@@ -69,6 +69,3 @@ found_kept space tree found all v low = (all v low).kept
 -- no list is any node's
 pub none_kept : (space : IndexSpace) (tree : ContractionTree) (least : ℕ) → AreKept space tree (record { least = least; lists = [] })
 none_kept space tree least v low = absurd (omega (arith, low))
-
-pub none_found : (space : IndexSpace) (tree : ContractionTree) (least : ℕ) → AreFound space tree (record { least = least; lists = [] })
-none_found space tree least v low = absurd (omega (arith, low))

@@ -13,7 +13,7 @@ use Rattle.tce_states.specs.Relation.{HasNoConflict}
 use Rattle.tce_states.specs.Row.{Row, rows_joined}
 use Rattle.tce_states.specs.Cover.{NodesCovered, RootBelow, ArePruned}
 use Rattle.tce_states.specs.Reached as reached
-use Rattle.tce_states.specs.Reached.{left_below, right_below, IsLegalWith, sets_of_step}
+use Rattle.tce_states.specs.Reached.{left_below, right_below, IsLegalWith}
 use Rattle.tce_states.proofs.Covers.{total_is_bound}
 use Rattle.tce_states.proofs.Reached.{root_is_reached}
 use Rattle.tce_states.proofs.Unfused.{some_rows_join}

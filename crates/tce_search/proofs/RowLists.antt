@@ -1,16 +1,11 @@
 -- Tables that are filled row by row.
-use Rattle.std.proofs.Common.{◌≡◌, ◌≢◌, ℕ, ◌+◌, ◌<◌, ◌≤◌, List, [], ◌∷◌, ◌++◌, map, take, set, length, get_or, sym, ap, ◌∙◌, inl, inr, arith, length-set}
-use Rattle.std.proofs.lemmas.Bool.{cases_eq}
-use Rattle.std.proofs.lemmas.List.{append-nil, append_assoc, length-map, get_or-set_same, get_or-set_other, set-set, set-get_or, map_more, ext_get_or}
+use Rattle.std.proofs.Common.{◌≡◌, ℕ, ◌+◌, ◌<◌, ◌≤◌, List, [], ◌∷◌, ◌++◌, map, take, set, length, get_or, sym, ap, ◌∙◌, arith}
+use Rattle.std.proofs.lemmas.List.{append_assoc, length-map, get_or-set_same, set-set, map_more, ext_get_or}
 use Rattle.tce_states.specs.Row.{Row, rows_at}
 use Rattle.tce_candidates.specs.declared.candidate.Candidate.{Candidate}
 use Rattle.tce_candidates.specs.Laws.{rows_of}
 use Rattle.tce_search.specs.CandidateLists.{candidates_at, tables_of}
 use Rattle.tce_search.proofs.Operands.{tables-at}
-
--- no rows more
-pub rows_none : (tables : List (List Row)) (v : ℕ) (candidates : List Candidate) → tables ≡ set tables v (rows_at tables v ++ rows_of (take 0 candidates))
-rows_none tables v candidates = sym (ap (set tables v) (append-nil (rows_at tables v)) ∙ set-get_or tables v [])
 
 -- one row more
 pub rows_more : (tables filled new : List (List Row)) (v k : ℕ) (candidates : List Candidate) (candidate : Candidate) → v < length tables → k < length candidates → candidate ≡ get_or candidates k candidate
@@ -31,21 +26,6 @@ pub record AreFilled (found : List (List Candidate)) (tables : List (List Row)) 
   pub count : length tables ≡ length found
   pub done : (u : ℕ) → u < v → rows_at tables u ≡ rows_of (candidates_at found u)
   pub rest : (u : ℕ) → v ≤ u → rows_at tables u ≡ []
-
-pub filled_more : (found : List (List Candidate)) (tables new : List (List Row)) (v : ℕ) (candidates : List Candidate) → v < length tables → AreFilled found tables v → candidates ≡ candidates_at found v
-    → new ≡ set tables v (rows_at tables v ++ rows_of candidates) → AreFilled found new (v + 1)
-filled_more found tables new v candidates inside filled are is = record {
-  count = ap length is ∙ length-set tables v (rows_at tables v ++ rows_of candidates) ∙ filled.count;
-  done = λ u low. elim (cases_eq u v) [
-    | inl same ↦
-        rw (is, same) (get_or-set_same tables v (rows_at tables v ++ rows_of candidates) [] inside
-        ∙ ap (λ xs. xs ++ rows_of candidates) (filled.rest v (omega arith)) ∙ ap rows_of are)
-    | inr other ↦ rw is (get_or-set_other tables v u (rows_at tables v ++ rows_of candidates) [] other ∙ filled.done u (omega (arith, low, other)))
-  ];
-  rest = λ u high.
-      let other : u ≢ v = omega (arith, high) in
-      rw is (get_or-set_other tables v u (rows_at tables v ++ rows_of candidates) [] other ∙ filled.rest u (omega (arith, high)));
-}
 
 pub all_filled : (found : List (List Candidate)) (tables : List (List Row)) (v : ℕ) → length found ≤ v → AreFilled found tables v → tables ≡ tables_of found
 all_filled found tables v all filled =

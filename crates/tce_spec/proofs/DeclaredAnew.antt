@@ -6,7 +6,7 @@ use Rattle.std.proofs.lemmas.Bool.{false≢true}
 use Rattle.std.proofs.lemmas.List.{map-append, take_more, take_all, length-map, length-take, get_or-map, get_or-take}
 use Rattle.std.proofs.lemmas.List.Quantifiers.{position-Some}
 use Rattle.std.proofs.lemmas.Map.Keys.{apart_from_distinct}
-use Rattle.tce_space.specs.Space.{IndexSpace, Range, Index, AddsRange, AddsIndex, range_at, index_at, no_range, no_index}
+use Rattle.tce_space.specs.Space.{IndexSpace}
 use Rattle.tce_declarations.specs.Declarations.{Declarations, Tensor, tensor_number, no_tensor}
 use Rattle.tce_spec.specs.Specification.{Specification}
 use Rattle.tce_spec.specs.PieceSpecification.{source}
@@ -17,36 +17,6 @@ first_ranges space k = record { ranges = take k space.ranges; indexes = [] }
 
 abbrev pub first_indexes : IndexSpace → ℕ → IndexSpace
 first_indexes space k = record { ranges = space.ranges; indexes = take k space.indexes }
-
-pub range_more : (space copy new : IndexSpace) (k number : ℕ) (range : Range) → k < length space.ranges → copy ≡ first_ranges space k → AddsRange copy new range number → range ≡ range_at space k
-    → new ≡ first_ranges space (k + 1)
-range_more space copy new k number range inside so_far added is =
-    let ranges : new.ranges ≡ take (k + 1) space.ranges =
-    added.ranges ∙ ap₂ (λ (c : IndexSpace) (r : Range). c.ranges ++ r ∷ []) so_far is ∙ sym (take_more space.ranges k no_range inside) in
-    let indexes : new.indexes ≡ [] = added.indexes ∙ ap (λ (c : IndexSpace). c.indexes) so_far in
-    λ i. record { ranges = ranges i; indexes = indexes i }
-
-pub index_more : (space copy new : IndexSpace) (k number : ℕ) (index : Index) → k < length space.indexes → copy ≡ first_indexes space k → AddsIndex copy new index number → index ≡ index_at space k
-    → new ≡ first_indexes space (k + 1)
-index_more space copy new k number index inside so_far added is =
-    let ranges : new.ranges ≡ space.ranges = added.ranges ∙ ap (λ (c : IndexSpace). c.ranges) so_far in
-    let indexes : new.indexes ≡ take (k + 1) space.indexes =
-    added.indexes ∙ ap₂ (λ (c : IndexSpace) (x : Index). c.indexes ++ x ∷ []) so_far is ∙ sym (take_more space.indexes k no_index inside) in
-    λ i. record { ranges = ranges i; indexes = indexes i }
-
-pub all_ranges : (space copy : IndexSpace) (k : ℕ) → length space.ranges ≤ k → copy ≡ first_ranges space k → copy ≡ record { ranges = space.ranges; indexes = [] }
-all_ranges space copy k all so_far = so_far ∙ ap (λ (rs : List Range). record { ranges = rs; indexes = [] }) (take_all k space.ranges all)
-
-pub all_indexes : (space copy : IndexSpace) (k : ℕ) → length space.indexes ≤ k → copy ≡ first_indexes space k → copy ≡ space
-all_indexes space copy k all so_far = so_far ∙ ap (λ (xs : List Index). record { ranges = space.ranges; indexes = xs }) (take_all k space.indexes all)
-
-pub range_is : (space : IndexSpace) (k : ℕ) (name : List ℕ) (extent edge : ℕ) → name ≡ (range_at space k).name → extent ≡ (range_at space k).extent → edge ≡ (range_at space k).edge
-    → record { name = name; extent = extent; edge = edge } ≡ range_at space k
-range_is space k name extent edge a b c = λ i. record { name = a i; extent = b i; edge = c i }
-
-pub index_is : (space : IndexSpace) (k : ℕ) (name : List ℕ) (range : ℕ) → name ≡ (index_at space k).name → range ≡ (index_at space k).of_range
-    → record { name = name; of_range = range } ≡ index_at space k
-index_is space k name range a b = λ i. record { name = a i; of_range = b i }
 
 -- ---- tensors
 

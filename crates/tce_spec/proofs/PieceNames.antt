@@ -32,9 +32,6 @@ use Rattle.tce_spec.proofs.PieceSources.{source_stored, source_declared}
 abbrev pub IsTensorOrArray : Specification → ℕ → Type 0
 IsTensorOrArray s t = (t < length s.declarations.tensors) ⊎ ((32 ≤ t) × (t - 32 < 32))
 
-name_of : Specification → ℕ → List ℕ
-name_of s t = (source s t).name
-
 -- a declared name has no hyphen, and that of an array has one
 array_has : (v : ℕ) → lacks 45 (codes "spill-" ++ decimal v) ≡ false
 array_has v = refl

@@ -23,10 +23,6 @@ pub each_append : (p : ℕ → Type 0) (xs ys : List ℕ) → AllByRecursion p x
 each_append p [] ys a b = b
 each_append p (x ∷ xs) ys a b = (a.0, each_append p xs ys a.1 b)
 
-pub each_weaker : (p q : ℕ → Type 0) → ((t : ℕ) → p t → q t) → (xs : List ℕ) → AllByRecursion p xs → AllByRecursion q xs
-each_weaker p q h [] a = tt
-each_weaker p q h (x ∷ xs) a = (h x a.0, each_weaker p q h xs a.1)
-
 each_new : (p : ℕ → Type 0) (seen : List ℕ) (t : ℕ) → AllByRecursion p seen → p t → AllByRecursion p (with_new seen t)
 each_new p seen t a one = by_test (list_any (eqb t) seen)
   where

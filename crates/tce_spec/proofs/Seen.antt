@@ -80,13 +80,6 @@ below_more n m (x ∷ xs) le all = by_test (nat_lt x n) refl all (λ h. below_mo
     by_test true e h later = rw (less x m (grind (arith, e, le)), later h) refl
     by_test false e h later = cc
 
-pub both_below : (n : ℕ) (xs ys : List ℕ) → list_all (λ t. nat_lt t n) (xs ++ ys) ≡ true → (list_all (λ t. nat_lt t n) xs ≡ true) × (list_all (λ t. nat_lt t n) ys ≡ true)
-both_below n xs ys h = of_and (list_all (λ t. nat_lt t n) xs) (list_all (λ t. nat_lt t n) ys) (sym (list_all-append (λ t. nat_lt t n) xs ys) ∙ h)
-  where
-    of_and : (a b : Bool) → a && b ≡ true → (a ≡ true) × (b ≡ true)
-    of_and true b h = (refl, h)
-    of_and false b h = cc
-
 -- at the start
 pub seen_none : (n : ℕ) (xs : List ℕ) → xs ≡ [] → AreSeen n xs
 unfolding IsDistinct

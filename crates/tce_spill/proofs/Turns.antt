@@ -201,14 +201,6 @@ large_is_one space tree limit v n w m one other =
 
 -- ---- the pieces one after the other
 
-pub fit_on : (space : IndexSpace) (tree : ContractionTree) (cut : Cuts) (limit n : ℕ) → FitBefore space tree cut limit n → is_root tree cut n ≡ false
-    → FitBefore space tree cut limit (n + 1)
-fit_on space tree cut limit n so_far apart r low root =
-    elim (cases_lt r n) [
-      | inl x ↦ so_far r x root
-      | inr x ↦ let is : r ≡ n = omega (arith, low, x) in absurd (both_ways (is_root tree cut r) (ap (is_root tree cut) is ∙ apart) root)
-    ]
-
 pub fit_more : (space : IndexSpace) (tree : ContractionTree) (cut : Cuts) (limit n m : ℕ) → FitBefore space tree cut limit n → HasLeastMemory space (piece tree cut n) m → m ≤ limit
     → FitBefore space tree cut limit (n + 1)
 fit_more space tree cut limit n m so_far least small r low root =

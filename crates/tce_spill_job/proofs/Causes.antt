@@ -1,5 +1,5 @@
 -- The pieces are not run for one reason.
-use Rattle.std.proofs.Common.{inl, inr, ◌⊎◌, ◌≡◌, ◌≢◌, ℕ, zero, suc, ◌*◌, ◌<◌, ◌≤◌, Bool, max, cond, List, length, Option, Some, None, Ok, Err, refl, sym, subst, ◌∙◌, ap, ap₂, arith}
+use Rattle.std.proofs.Common.{inl, inr, ◌⊎◌, ◌≡◌, ◌≢◌, ℕ, zero, suc, ◌*◌, ◌<◌, ◌≤◌, max, cond, List, length, Option, Some, None, Ok, Err, refl, sym, subst, ◌∙◌, ap, ap₂, arith}
 use Rattle.std.specs.Prelude.{⊤, IsSomeAnd}
 use Rattle.std.specs.Option.{ForSome}
 use Rattle.std.proofs.lemmas.Bool.{cases_lt, true≢false}
@@ -65,9 +65,6 @@ none_refused files s r has (d, p) real = no_array files s d r p real (has d p.on
 
 -- ---- the largest tile is one
 
-tile_at : (s : Specification) (v : ℕ) → Bool → ℕ
-tile_at s v b = cond b (tile_words (shape_of_node s.declarations.space s.tree v)) 0
-
 largest_same : (s : Specification) (cut other : Cuts) (n : ℕ) → n ≤ operations s.tree → ((v : ℕ) → v < operations s.tree → cut v ≡ other v) → largest_below s cut n ≡ largest_below s other n
 largest_same s cut other zero within same = refl
 largest_same s cut other (suc n) within same =
@@ -77,14 +74,6 @@ one_largest : (s : Specification) (limit : ℕ) (cut other : Cuts) → AreCut s 
 one_largest s limit cut other a b = largest_same s cut other (operations s.tree) (omega arith) (cuts_are_one s.declarations.space s.tree limit cut other a.cuts b.cuts)
 
 -- ---- where there are no cuts
-
-pub cut_cause : (told : Option Files) (s : Specification) (budget limit : ℕ) (f : SpillFault) → IsCutFault s limit f → IsSpillCause told s budget limit f
-cut_cause told s budget limit TooManyTensors why = why
-cut_cause told s budget limit (LimitTooSmall v n) why = why
-cut_cause told s budget limit (BudgetTooSmall n) why = absurd why
-cut_cause told s budget limit (Array name fault) why = absurd why
-cut_cause told s budget limit Disk why = absurd why
-cut_cause told s budget limit Memory why = tt
 
 -- a fault but those of arrays is the same where it is equal
 as_same : (s : Specification) (limit : ℕ) (f due : SpillFault) → IsCutFault s limit f → (f ≡ due) ⊎ IsFree f → IsSameFault f due ⊎ IsFree f

@@ -4,8 +4,7 @@ use Rattle.std.specs.List.{AllByRecursion}
 use Rattle.std.proofs.lemmas.Bool.{cases_Bool}
 use Rattle.std.proofs.lemmas.List.{append_assoc, append-nil}
 use Rattle.std.proofs.lemmas.List.Elements.{All-from_recursion}
-use Rattle.tce_space.specs.Space.{IndexSpace}
-use Rattle.tce_tree.specs.ContractionTree.{ContractionTree, operations}
+use Rattle.tce_tree.specs.ContractionTree.{operations}
 use Rattle.tce_nesting.specs.declared.plan.Plan.{Plan}
 use Rattle.tce_search.specs.LeastPlan.{IsLeastPlan}
 use Rattle.tce_pieces.specs.Pieces.{Cuts, piece, is_root}
@@ -88,9 +87,6 @@ run_same s cut n budget before now text root front = record {
   told = front.told ∙ ap (λ vs. codes "tce spill 1\n" ++ lines_of s cut budget vs front.plans) (sym (roots_same s.tree cut n root));
 }
 
-pub none_reported : (s : Specification) (cut : Cuts) (budget : ℕ) (before : List (ℕ × ℕ)) (text : List ℕ) → text ≡ codes "tce spill 1\n" → HasRun s cut 0 budget before before text
-none_reported s cut budget before text is = record { plans = []; least = tt; taken = sym (append-nil before); told = is ∙ sym (append-nil (codes "tce spill 1\n")) }
-
 -- what was run took its takings
 pub run_taken : (s : Specification) (cut : Cuts) (n budget : ℕ) (before after : List (ℕ × ℕ)) (text : List ℕ) → HasRun s cut n budget before after text → HasTakenEach (pieces_below s cut n) budget before after
 run_taken s cut n budget before after text run = record { plans = run.plans; least = run.least; taken = run.taken }
@@ -144,8 +140,3 @@ is_reported s cut budget limit before after text meet run = record {
   taken = run.taken;
   told = run.told;
 }
-
--- a least plan over the parts of a specification is one of it
-pub least_of : (s : Specification) (space : IndexSpace) (tree : ContractionTree) (plan : Plan) → space ≡ s.declarations.space → tree ≡ s.tree → IsLeastPlan space tree plan → IsLeastPlan s.declarations.space s.tree plan
-least_of s space tree plan spaces trees least =
-    subst (λ (k : IndexSpace). IsLeastPlan k s.tree plan) spaces (subst (λ (t : ContractionTree). IsLeastPlan space t plan) trees least)

@@ -14,7 +14,7 @@ use Rattle.tce_spill_job.specs.Values.{HasRunTo, IsSpilled}
 use Rattle.tce_spill_job.specs.Refusals.{CanSpill}
 use Rattle.tce_spill_job.specs.Left.{files_at}
 use Rattle.tce_spill_job.proofs.Roots.{pieces_more, pieces_same}
-use Rattle.tce_spill_job.proofs.Values.{step, step_same, none_run, all_run}
+use Rattle.tce_spill_job.proofs.Values.{step, step_same, all_run}
 use Rattle.tce_spill_job.proofs.Afforded.{allowed_at, is_piece, has_operands}
 
 -- what holds of the files that the pieces in front leave holds of those that are told
@@ -25,9 +25,6 @@ at_told P (Some start) now s cut n is h = λ files eq. subst P (ap (λ (o : Opti
 -- the pieces in front were run
 abbrev pub AreHeld : Option Files → Specification → Cuts → ℕ → Type 0
 AreHeld before s cut n = ForSome before (λ start. HasRunTo start (files_after (pieces_below s cut n) start) s cut n)
-
-pub none_held : (before : Option Files) (s : Specification) (cut : Cuts) → 0 < operations s.tree → AreHeld before s cut 0
-none_held before s cut some = λ start eq. none_run start s cut some
 
 pub held_more : (before : Option Files) (s : Specification) (cut : Cuts) (budget n : ℕ) → IsSpecification s → CanSpill s cut budget → n < operations s.tree → is_root s.tree cut n ≡ true → AreHeld before s cut n → AreHeld before s cut (n + 1)
 held_more before s cut budget n rules can inside root held = λ start eq.

@@ -358,14 +358,6 @@ module _ (start : Files) (s : Specification) (cut : Cuts) (rules : IsSpecificati
               | inr apart ↦ omega (arith, before, apart)
             ]
 
-pub none_run : (start : Files) (s : Specification) (cut : Cuts) → 0 < operations s.tree → HasRunTo start start s cut 0
-none_run start s cut some = record {
-  operands = λ t used. refl;
-  arrays = λ v before inside is_cut. absurd (omega (arith, before));
-  others = λ name none. refl;
-  result = λ last. absurd (omega (arith, last, some));
-}
-
 pub all_run : (start after : Files) (s : Specification) (cut : Cuts) → HasRunTo start after s cut (operations s.tree) → IsSpilled start after s cut
 all_run start after s cut run = record {
   result = run.result refl;

@@ -7,9 +7,6 @@ use Rattle.tce_states.specs.Relation.{Relation, none, above, joined, HasNoConfli
 use Rattle.tce_states.specs.Row.{Row, leaf_row, StandsFor, rows_joined}
 use Rattle.tce_states.specs.Laws.{StandTogether}
 
-pub coarser_itself : (loops : ℕ) (r : Relation) → IsCoarser loops r r
-coarser_itself loops r i j p q h = h
-
 pub coarser_through : (loops : ℕ) (r s t : Relation) → IsCoarser loops r s → IsCoarser loops s t → IsCoarser loops r t
 coarser_through loops r s t first second i j p q h = second i j p q (first i j p q h)
 

@@ -9,7 +9,7 @@ use Rattle.std.proofs.lemmas.Simd.{zip2-map}
 use Rattle.std.proofs.lemmas.List.{get_or-set_other, get_or-set_same, length-set}
 use Rattle.tce_base.specs.Word.{wrapping_add, wrapping_mul, wrapping_sum}
 use Rattle.tce_space.specs.Box.{places}
-use Rattle.tce_words.specs.Run.{IsWithin, AreApart as RunsAreApart, IsDistinct, IsRun, word_along, words_along}
+use Rattle.tce_words.specs.Run.{IsWithin, AreApart as RunsAreApart, IsRun, word_along, words_along}
 use Rattle.tce_strides.specs.Places.{word_place, AreWithin, AreApart}
 use Rattle.tce_space.specs.declared.arithmetic.Arithmetic.{Arithmetic}
 use Rattle.tce_strides.specs.Turns.{IsMade, word_after, grown, grown_by_products, operate, computed}
@@ -30,9 +30,6 @@ moves base step s t some ne same =
       | inl below ↦ let more : (s + 1) * step ≤ t * step = mul-le-mul_right step (omega arith) in omega (arith, more, same)
       | inr above ↦ let past : t + 1 ≤ s = omega (arith, ne) in let more : (t + 1) * step ≤ s * step = mul-le-mul_right step past in omega (arith, more, same)
     ]
-
-pub run_distinct : (base step n : ℕ) → 0 < step → IsDistinct base step n
-run_distinct base step n some = λ s t low lt. moves base step s t some (omega arith)
 
 -- whether a run has a place
 met : (base step k n : ℕ) → ((t : ℕ) × (t < n) × (base + t * step ≡ k)) ⊎ ((t : ℕ) → t < n → k ≢ base + t * step)

@@ -1,5 +1,5 @@
 -- The turns of an outer loop.
-use Rattle.std.proofs.Common.{◌≡◌, ◌≢◌, ◌∙◌, refl, sym, ap, ℕ, ◌+◌, ◌*◌, ◌<◌, eqb, if◌then◌else◌, List, [], ◌∷◌, ◌++◌, map, length, slice_index, arith, add-one}
+use Rattle.std.proofs.Common.{◌≡◌, ◌≢◌, ◌∙◌, sym, ap, ℕ, ◌+◌, ◌*◌, ◌<◌, eqb, if◌then◌else◌, List, [], ◌∷◌, ◌++◌, map, length, slice_index, arith, add-one}
 use Rattle.std.proofs.lemmas.List.Sums.{fold-append}
 use Rattle.tce_space.specs.Box.{places, IsInside}
 use Rattle.tce_space.specs.Tiling.{ArePositive}
@@ -28,9 +28,6 @@ pub base_within : (count n base step x : ℕ) (ns steps : List ℕ) → ArePosit
 base_within count n base step x ns steps some h lt =
     let first = first_place ns some in
     omega (arith, h (x ∷ first.0) (lt, first.1))
-
-pub none_made : (word : ℕ → List ℕ → ℕ) (place : List ℕ → ℕ) (old : List ℕ) → IsMade word place [] old old
-none_made word place old = record { same_length = refl; made = λ k lt. refl }
 
 -- the operand's words are still as they were
 pub kept : (word : ℕ → List ℕ → ℕ) (place other : List ℕ → ℕ) (n : ℕ) (ns : List ℕ) (x : ℕ) (old now xs : List ℕ) → IsMade word place (turns_before ns x) old now → x < n

@@ -40,9 +40,6 @@ cut s xs h l =
       middle = length-take-le k (drop (s.first + 1) xs) (omega (arith, length-drop (s.first + 1) xs));
     }
 
-pub others_are : (s : Symmetry) (xs : List ℕ) → at_others s xs ≡ before s xs ++ (between s xs ++ behind s xs)
-others_are s xs = refl
-
 -- a box is inside where its parts are
 pub inside_parts : (ns ms xs ys : List ℕ) → length xs ≡ length ns → IsInside (ns ++ ms) (xs ++ ys) → IsInside ns xs × IsInside ms ys
 inside_parts [] ms [] ys e h = (tt, h)

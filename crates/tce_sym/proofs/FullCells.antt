@@ -14,10 +14,6 @@ pub pair_of_less : (negated : Bool) (a b : ℕ) → a < b → IsPair negated a b
 pair_of_less true a b h = h
 pair_of_less false a b h = omega arith
 
-pub pair_of_same : (negated : Bool) (a b : ℕ) → negated ≡ false → a ≤ b → IsPair negated a b
-pair_of_same true a b e h = absurd (cc)
-pair_of_same false a b e h = h
-
 pub cell_below : (negated : Bool) (a b word mirrored : ℕ) → a < b → word ≡ cell_by negated a b word mirrored
 cell_below negated a b word mirrored h =
     let below : nat_lt a b ≡ true = grind (arith, h) in

@@ -4,10 +4,8 @@ use Rattle.std.proofs.Math.Nat.{mul-le-mul_left}
 use Rattle.std.proofs.lemmas.List.{get_or-take, length-take-le}
 use Rattle.std.specs.Option.{IsSomeAnd}
 use Rattle.tce_space.specs.Limits.{max_array_words}
-use Rattle.tce_outside.specs.Fault.{HasCause}
 use Rattle.tce_array.specs.declared.form.Form.TheVariants.{One}
 use Rattle.tce_tools.specs.Storage.{HasWords}
-use Rattle.tce_tools.proofs.Told.{failed_from}
 use Rattle.tce_sym.specs.declared.lines.Grid.{Grid}
 use Rattle.tce_sym.specs.declared.symmetry.Symmetry.{Symmetry}
 use Rattle.tce_sym.specs.Storage.{IsStored, stored_word, stored_count}
@@ -34,10 +32,6 @@ front_read bytes ws start n room read k l =
 -- a place among those of an array is a number of the machine
 pub place_small : (place count : ℕ) → place < count → count ≤ max_array_words → place < 2 ^ 64
 place_small place count h few = omega (arith, h, few)
-
--- a call that failed or not, behind others
-pub caused_behind : (before then now : ℕ) (failed : Type 0) → before ≤ then → HasCause then now failed → HasCause before now failed
-caused_behind before then now failed le cause = record { later = omega (arith, cause.later, le); rose = λ f. (failed_from before then now failed failed le cause f).rose f }
 
 -- a file that stores a tensor has as many words as are stored
 pub words_stored : (extents : List ℕ) (s : Symmetry) (count : ℕ) (found : Option (List ℕ)) → count ≡ stored_count extents s → IsSomeAnd found (λ bytes. IsStored extents s bytes)

@@ -41,10 +41,6 @@ in_reach : (negated : Bool) (a b : ℕ) → IsPair negated a b → a < reach neg
 in_reach true a b h = h
 in_reach false a b h = omega arith
 
-reached : (negated : Bool) (a b : ℕ) → a < reach negated b → IsPair negated a b
-reached true a b h = h
-reached false a b h = omega arith
-
 reach_less : (negated : Bool) (b m : ℕ) → b < m → suc (reach negated b) ≤ reach negated m
 reach_less true b m h = omega arith
 reach_less false b m h = omega arith

@@ -1,5 +1,5 @@
 -- Operands that are opened one after the other.
-use Rattle.std.proofs.Common.{◌≡◌, ◌≢◌, ℕ, ◌+◌, ◌<◌, ◌≤◌, List, length, Option, Some, None, set, ◌⊎◌, inl, inr, refl, sym, ap, ◌∙◌, subst, arith}
+use Rattle.std.proofs.Common.{◌≡◌, ◌≢◌, ℕ, ◌+◌, ◌<◌, ◌≤◌, List, length, Option, set, ◌⊎◌, inl, inr, refl, sym, ap, ◌∙◌, subst, arith}
 use Rattle.std.specs.Option.{ForSome, IsSomeAnd}
 use Rattle.std.proofs.lemmas.Bool.{cases_lt, cases_order}
 use Rattle.std.proofs.lemmas.Grind.{get_or-set_at}
@@ -8,12 +8,10 @@ use Rattle.tce_outside.specs.Files.{Files, file}
 use Rattle.tce_array.specs.declared.form.Form.{Form}
 use Rattle.tce_array.specs.declared.form.Form.TheVariants.{One}
 use Rattle.tce_array.specs.Forms.{form_of, IsArray}
-use Rattle.tce_array.specs.Faults.{IsFault}
 use Rattle.tce_spec.specs.Specification.{Specification}
 use Rattle.tce_spec.specs.Operands.{shape_of}
 use Rattle.tce_tensors.specs.TensorFiles.{file_of}
-use Rattle.tce_tensors.specs.declared.opening.Refused.{Refused}
-use Rattle.tce_tensors.specs.Opened.{operand_count, operand, form_at, IsOpened, AreOpened, IsRefused}
+use Rattle.tce_tensors.specs.Opened.{operand, form_at, IsOpened, AreOpened}
 
 -- the first operands are opened, that many of them
 pub record IsOpening (s : Specification) (start now : Option Files) (faults later_faults : ℕ) (forms : List Form) (count : ℕ) : Type 0 where
@@ -56,20 +54,3 @@ goes_on s start now then a b c forms form k t is within before same counted here
   opened = λ files told. next_opened files s forms form k t is (omega (arith, before.long)) (before.opened files told) (here files (before.same ∙ told));
   long = length-set forms t form ∙ before.long;
 }
-
--- what is opened is there
-there : (found : Option (List ℕ)) (s : Specification) (t : ℕ) (form : Form) → IsSomeAnd found (λ bytes. (form_of bytes ≡ form) × IsArray (shape_of s t) bytes) → IsSomeAnd found (IsArray (shape_of s t))
-there None s t form h = h
-there (Some bytes) s t form h = h.1
-
-pub refused : (s : Specification) (start now : Option Files) (a b : ℕ) (forms : List Form) (k t : ℕ) (r : Refused) → t ≡ operand s k → k < operand_count s
-    → IsOpening s start now a b forms k → r.tensor ≡ t → ForSome now (λ files. IsFault (shape_of s t) (file files (file_of s t)) r.fault) → ForSome start (λ files. IsRefused files s r)
-refused s start now a b forms k t r is within before tensor fault files told = (
-  k,
-  record {
-    one_of_them = within;
-    tensor = tensor ∙ is;
-    before = λ d h. there (file files (file_of s (operand s d))) s (operand s d) (form_at forms (operand s d)) (before.opened files told d h);
-    fault = subst (λ u. IsFault (shape_of s u) (file files (file_of s u)) r.fault) (sym tensor) (fault files (before.same ∙ told));
-  },
-)

@@ -1,5 +1,5 @@
 -- Answers that are not the same.
-use Rattle.std.proofs.Common.{◌≡◌, true, false, Option, Some, None, Result, Ok, Err, is_err}
+use Rattle.std.proofs.Common.{◌≡◌, true, Option, Some, None, Result, Ok, Err, is_err}
 use Rattle.tce_outside.specs.declared.device.OutFault.{OutFault}
 use Rattle.tce_outside.specs.declared.device.OutFault.TheVariants.{Failed, Memory}
 use Rattle.tce_array.specs.declared.form.Form.{Form}
@@ -8,9 +8,6 @@ use Rattle.tce_tools.specs.declared.fault.ToolFault.{ToolFault}
 use Rattle.tce_tools.specs.declared.fault.ToolFault.TheVariants as tool
 use Rattle.tce_tools.specs.declared.storage.Storage.{Storage}
 use Rattle.tce_tools.specs.declared.storage.Storage.TheVariants as storage
-
-pub false_not_true : false ≡ true → ⊥
-false_not_true h = cc
 
 pub ok_not_err : {A E : Type 0} {x : A} {e : E} → Ok x ≡ Err e → ⊥
 ok_not_err h = cc

@@ -10,9 +10,6 @@ pub record IsReached (ns cs : List ℕ) (d rest left number : ℕ) : Type 0 wher
   pub below : left < rest
   pub reached : (ys : List ℕ) → IsInside (drop d ns) ys → place (drop d ns) ys ≡ left → IsInside ns (cs ++ ys) × (place ns (cs ++ ys) ≡ number)
 
-pub reached_start : (ns : List ℕ) (number : ℕ) → number < product ns → IsReached ns [] 0 (product ns) number number
-reached_start ns number h = record { rest_is = refl; below = h; reached = λ ys inside is. (inside, is) }
-
 factor : (n m k : ℕ) → k < n * m → (0 < n) × (0 < m)
 factor zero m k h = absurd (let none : 0 * m ≡ 0 = omega arith in omega arith)
 factor (suc n) zero k h = absurd (let none : suc n * 0 ≡ 0 = omega arith in omega arith)

@@ -10,7 +10,7 @@ use Rattle.tce_array.specs.Forms.{word_in, form_of, cell, IsForm, IsArray, Fits}
 use Rattle.tce_tools.specs.declared.storage.Storage.TheVariants.{Flat, Array}
 use Rattle.tce_tools.specs.Flat.{flat_element, array_element}
 use Rattle.tce_tools.specs.Storage.{element_in, HasStored}
-use Rattle.tce_tools.specs.Answers.{FitBefore, IsFirstMisfit}
+use Rattle.tce_tools.specs.Answers.{FitBefore}
 
 pub flat_is : (s : Tiling) (bytes xs : List ℕ) → element_in Flat s bytes xs ≡ flat_element s bytes xs
 unfolding word_in
@@ -31,18 +31,6 @@ pub opened_fits : (form wanted : Form) (s : Tiling) (found : Option (List ℕ)) 
     → IsSomeAnd found (λ bytes. IsArray s bytes × (wanted ≡ Narrow → FitBefore wanted s (array_element s bytes) (elements s)))
 opened_fits form wanted s None h fits = absurd h
 opened_fits form wanted s (Some bytes) h fits = (h.1, λ narrow xs inside lt. subst (Fits wanted) (array_is s form bytes xs h.0) (fits narrow xs inside lt))
-
-pub opened_misfit : (form wanted : Form) (s : Tiling) (found : Option (List ℕ)) (k : ℕ) → IsSomeAnd found (IsOpened s form) → IsFirstMisfit wanted s (element_in (Array form) s (unwrap_or found [])) k
-    → IsSomeAnd found (λ bytes. IsArray s bytes × IsFirstMisfit wanted s (array_element s bytes) k)
-opened_misfit form wanted s None k h first = absurd h
-opened_misfit form wanted s (Some bytes) k h first = (
-  h.1,
-  record {
-    inside = first.inside;
-    before = λ xs inside lt. subst (Fits wanted) (array_is s form bytes xs h.0) (first.before xs inside lt);
-    misfit = λ xs inside placed fits. first.misfit xs inside placed (subst (Fits wanted) (sym (array_is s form bytes xs h.0)) fits);
-  },
-)
 
 pub array_elements : (s : Tiling) (form : Form) (bytes : List ℕ) → form_of bytes ≡ form → element_in (Array form) s bytes ≡ array_element s bytes
 array_elements s form bytes is = ap (λ (f : Form). λ xs. cell f s bytes xs) (sym is)

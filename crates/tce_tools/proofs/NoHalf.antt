@@ -100,9 +100,6 @@ rest_left name last at whole bytes before then now made le same is fs told gs he
     let one : option_map (λ l. drop at l) (file gs name) ≡ option_map (λ l. drop at l) (file (with_file fs name (bytes fs)) name) = cc in
     inr (inr (whole_from at last (file gs name) (bytes fs) (whole fs) le (one ∙ ap (option_map (λ l. drop at l)) (file-with_file fs name (bytes fs))) (is fs)))
 
-pub whole_left : (name : List ℕ) (last : ℕ) (whole : Files → List ℕ) (before now : Option Files) → now ≡ holding_by name whole before → LeavesNoHalfOf name last whole before now
-whole_left name last whole before now made = rest_left name last 0 whole whole before now now made (omega arith) refl (λ fs. refl)
-
 -- ---- files of elements
 
 -- behind the start there are the words, whatever the start is

@@ -20,13 +20,13 @@ use Rattle.tce_array.proofs.MadeFiles.{file-with_file}
 use Rattle.tce_tools.specs.declared.storage.Storage.{Storage}
 use Rattle.tce_tools.specs.declared.storage.Storage.TheVariants.{Flat, Array}
 use Rattle.tce_tools.specs.declared.band.Band.{Band}
-use Rattle.tce_tools.specs.Storage.{form_in, start_of, start_len, words_of, word_count, begun_bytes, bare_bytes, stored_bytes, stored_len, number_of, first_elements, later_elements, HasStored, HasWords}
+use Rattle.tce_tools.specs.Storage.{form_in, start_len, words_of, word_count, begun_bytes, bare_bytes, stored_len, number_of, first_elements, later_elements, HasStored, HasWords}
 use Rattle.tce_tools.specs.Runs.{AreElements}
 use Rattle.tce_tools.specs.Bands.{IsAt, IsBand, AreTiled, AreZerosBetween, KeepsOutside}
 use Rattle.tce_array.proofs.Overwrites.{length-overwritten, get_or-overwritten, get_or-overwritten_other}
 use Rattle.tce_tools.proofs.Pieces.{words_written}
 use Rattle.tce_tools.proofs.Shuffles.{IsCopy, copy_of}
-use Rattle.tce_tools.proofs.Stored.{HoldsElements, storage_holds, bare_same, among_first, behind_first, among_later, length-start}
+use Rattle.tce_tools.proofs.Stored.{HoldsElements, storage_holds, bare_same, among_first, behind_first, among_later}
 
 -- words that are written change the elements that stand there, and no padding
 pub record IsChange (storage : Storage) (s : Tiling) (old new : List ℕ → ℕ) (at : ℕ) (vs : List ℕ) : Type 0 where
@@ -99,10 +99,6 @@ begun_changed storage s start old new at vs len c =
 pub bare_changed : (storage : Storage) (s : Tiling) (old new : List ℕ → ℕ) (at : ℕ) (vs : List ℕ) → IsChange storage s old new at vs
     → overwritten (bare_bytes storage s old) (start_len storage s + width (form_in storage) * at) (flat_map (word_bytes (width (form_in storage))) vs) ≡ bare_bytes storage s new
 bare_changed storage s old new at vs c = begun_changed storage s (replicate (start_len storage s) 0) old new at vs (length-replicate (start_len storage s) 0) c
-
-pub stored_changed : (storage : Storage) (s : Tiling) (old new : List ℕ → ℕ) (at : ℕ) (vs : List ℕ) → IsChange storage s old new at vs
-    → overwritten (stored_bytes storage s old) (start_len storage s + width (form_in storage) * at) (flat_map (word_bytes (width (form_in storage))) vs) ≡ stored_bytes storage s new
-stored_changed storage s old new at vs c = begun_changed storage s (start_of storage s) old new at vs (length-start storage s) c
 
 -- the elements before a band, and those behind it, stay where the band is written behind the first elements
 pub keeps_outside : (s : Tiling) (band : Band) (f : List ℕ → ℕ) → KeepsOutside s band (first_elements s f band.start) (first_elements s f (band.start + band.len))

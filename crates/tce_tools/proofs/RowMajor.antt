@@ -10,25 +10,6 @@ use Rattle.tce_tools.specs.Runs.{IsRowMajor}
 pub below_one : (x e : ℕ) → x < e → x / e ≡ 0
 below_one x e h = let is : x ≡ 0 * e + x = omega arith in ap (λ y. y / e) is ∙ div-mul-add 0 e x h
 
--- at most one dimension
-pub short_is_row_major : (s : Tiling) → IsTiling s → length s.extents < 2 → IsRowMajor s
-short_is_row_major s t l xs h = numbers s.extents s.edges t.same_rank l xs h
-  where
-    along : (e x : ℕ) → e * 1 * (x / e * 1 + 0) + (x % e * 1 + 0) ≡ x * 1 + 0
-    along e x = let is = div-add-mod' x e in omega arith
-
-    numbers : (ns es : List ℕ) → length es ≡ length ns → length ns < 2 → (xs : List ℕ) → IsInside ns xs
-        → product es * place (counts_along ns es) (divided es xs) + place es (remainders es xs) ≡ place ns xs
-    numbers [] [] l k [] h = refl
-    numbers [] [] l k (x ∷ xs) h = absurd h
-    numbers [] (e ∷ es) l k xs h = absurd (omega arith)
-    numbers (n ∷ ns) [] l k xs h = absurd (omega arith)
-    numbers (n ∷ []) (e ∷ []) l k [] h = absurd h
-    numbers (n ∷ []) (e ∷ []) l k (x ∷ []) h = along e x
-    numbers (n ∷ []) (e ∷ []) l k (x ∷ y ∷ xs) h = absurd h.1
-    numbers (n ∷ []) (e ∷ d ∷ es) l k xs h = absurd (omega arith)
-    numbers (n ∷ m ∷ ns) es l k xs h = absurd (omega arith)
-
 -- tiles of one element
 both_one : (a b : ℕ) → a * b ≡ 1 → (a ≡ 1) × (b ≡ 1)
 both_one zero b e = absurd (let none : 0 * b ≡ 0 = omega arith in omega arith)

@@ -6,7 +6,7 @@ use Rattle.tce_space.specs.Tiling.{Tiling, IsTiling, divided, remainders, tile_c
 use Rattle.tce_space.proofs.Boxes.{place-lt, place_injective, length_inside}
 use Rattle.tce_space.proofs.Tilings.{word_number-lt}
 use Rattle.tce_tools.specs.declared.run.Run.{Run}
-use Rattle.tce_tools.specs.Runs.{IsRun, IsRowMajor, moved}
+use Rattle.tce_tools.specs.Runs.{IsRun, moved}
 
 abbrev pub last_of : List ℕ → ℕ
 last_of [] = 0
@@ -114,15 +114,3 @@ row_is_run s xs run d t few h l start word some short in_row in_tile = record {
 
     number_at : (k : ℕ) → k < run.len → word_number s (moved xs k) ≡ run.word + k
     number_at k lt = omega (arith, moved_number s xs k (omega (arith, t.same_rank)) (omega (arith, rank, t.same_rank)) (in_tile_at k lt))
-
--- the run where the words are in row-major order
-pub front_is_run : (s : Tiling) (run : Run) → IsTiling s → elements s ≤ padded_words s → IsRowMajor s → run.word ≡ run.start → 0 < run.len → run.len ≤ 4096 → run.start + run.len ≤ elements s → IsRun s run
-front_is_run s run t few major word some short inside = record {
-  tiling = t;
-  few = few;
-  some = some;
-  short = short;
-  inside = inside;
-  room = omega arith;
-  numbers = λ k lt xs h placed. omega (arith, major xs h);
-}

@@ -133,8 +133,5 @@ length-begun storage s t start f len =
     both ∙ ap (λ n. n + length (flat_map (word_bytes (width (form_in storage))) (words_of storage s f))) len
     ∙ ap (λ n. start_len storage s + n) (length-words (width (form_in storage)) (words_of storage s f) ∙ ap (λ n. width (form_in storage) * n) ((storage_holds storage s t).count f))
 
-pub length-stored : (storage : Storage) (s : Tiling) → IsTiling s → (f : List ℕ → ℕ) → length (stored_bytes storage s f) ≡ stored_len storage s
-length-stored storage s t f = length-begun storage s t (start_of storage s) f (length-start storage s)
-
 pub length-bare : (storage : Storage) (s : Tiling) → IsTiling s → (f : List ℕ → ℕ) → length (bare_bytes storage s f) ≡ stored_len storage s
 length-bare storage s t f = length-begun storage s t (replicate (start_len storage s) 0) f (length-replicate (start_len storage s) 0)

@@ -27,9 +27,6 @@ quiet_plan spec = record { leaves = λ r e. e; in_turn = λ r before after. tt; 
 pub quiet_cert : (spec file : List ℕ) → Quiet (cert spec file)
 quiet_cert spec file = record { leaves = λ r e. e; in_turn = λ r before after. tt; takes = λ before taken taken_after e. e; keeps = λ told taken taken_after e. e }
 
-pub quiet_check : (spec file : List ℕ) → Quiet (check spec file)
-quiet_check spec file = record { leaves = λ r e. e; in_turn = λ r before after. tt; takes = λ before taken taken_after e. e; keeps = λ told taken taken_after e. e }
-
 pub quiet_pack : (spec tensor flat : List ℕ) → Quiet (pack spec tensor flat)
 quiet_pack spec tensor flat = record { leaves = λ r e. e; in_turn = λ r before after. tt; takes = λ before taken taken_after e. e; keeps = λ told taken taken_after e. e }
 

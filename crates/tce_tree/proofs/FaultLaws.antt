@@ -47,29 +47,6 @@ pub or_none_right : (a b : Option Fault) → option_or a b ≡ None → b ≡ No
 or_none_right None b e = e
 or_none_right (Some x) b e = absurd (let k : ⊥ = cc in k)
 
-pub or_none : (a b : Option Fault) → a ≡ None → b ≡ None → option_or a b ≡ None
-or_none a b e f = ap (λ o. option_or o b) e ∙ f
-
-or_some : (a b : Option Fault) (f : Fault) → a ≡ Some f → option_or a b ≡ Some f
-or_some a b f e = ap (λ o. option_or o b) e
-
-or_other : (a b : Option Fault) (f : Fault) → a ≡ None → b ≡ Some f → option_or a b ≡ Some f
-or_other a b f n e = ap (λ o. option_or o b) n ∙ e
-
-pub shows_first : (a b : Option Fault) (fault : TreeFault) → Shows a fault → Shows (option_or a b) fault
-shows_first a b NoOperation s = or_some a b no_operation s
-shows_first a b (SumOverAbsent name) s = or_some a b (sum_over_absent name.bytes) s
-shows_first a b (TooManyLoops v) s = or_some a b (too_many_loops v) s
-shows_first a b (VolumeTooLarge v) s = or_some a b (volume_too_large v) s
-shows_first a b Memory s = tt
-
-pub shows_second : (a b : Option Fault) (fault : TreeFault) → a ≡ None → Shows b fault → Shows (option_or a b) fault
-shows_second a b NoOperation n s = or_other a b no_operation n s
-shows_second a b (SumOverAbsent name) n s = or_other a b (sum_over_absent name.bytes) n s
-shows_second a b (TooManyLoops v) n s = or_other a b (too_many_loops v) n s
-shows_second a b (VolumeTooLarge v) n s = or_other a b (volume_too_large v) n s
-shows_second a b Memory n s = tt
-
 pub shows_memory : (a : Option Fault) (fault : TreeFault) → fault ≡ Memory → Shows a fault
 shows_memory a NoOperation e = absurd (let k : ⊥ = cc in k)
 shows_memory a (SumOverAbsent name) e = absurd (let k : ⊥ = cc in k)

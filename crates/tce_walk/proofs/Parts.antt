@@ -1,5 +1,5 @@
 -- Parts of the code of a tree: what stands in their loops.
-use Rattle.std.proofs.Common.{◌≡◌, ℕ, ◌<◌, ◌⊎◌, true, List, Result, Ok, Err, OnOk, refl, sym, ap, ◌∙◌, inl, inr, subst}
+use Rattle.std.proofs.Common.{◌≡◌, ℕ, ◌<◌, ◌⊎◌, true, List, refl, sym, ap, ◌∙◌, inl, inr, subst}
 use Rattle.tce_space.specs.IndexSet.{has}
 use Rattle.tce_space.specs.Space.{IndexSpace, extent_at}
 use Rattle.tce_tree.specs.ContractionTree.{ContractionTree, leaf, constant, binary, sum, Arithmetic, multiply, add, subtract, operations, node, node_loops}
@@ -20,10 +20,6 @@ use Rattle.tce_walk.specs.Run.{IsPart}
 -- an operation of node `v` other than a `Clear`
 abbrev pub IsOperationOf : Op → ℕ → Type 0
 IsOperationOf op v = (op ≡ Mul v) ⊎ ((op ≡ Add v) ⊎ ((op ≡ Sub v) ⊎ (op ≡ Acc v)))
-
-pub both_ok : {X E A B C : Type 0} (r : Result X E) → (A → B → C) → OnOk r A → OnOk r B → OnOk r C
-both_ok (Ok x) f a b = f a b
-both_ok (Err e) f a b = tt
 
 pub computing-binary : (op : Arithmetic) (c : ContractionTree) (v : ℕ) → IsBinary op c → computing c v ≡ step (compute op v) stop
 computing-binary op (leaf tensor indexes) v h = absurd h

@@ -1,5 +1,5 @@
 -- What the search for a tail sees at a position.
-use Rattle.std.proofs.Common.{◌≡◌, ℕ, ◌+◌, ◌-◌, ◌<◌, ◌≤◌, ◌⊎◌, min, Bool, true, false, ◌||◌, Option, Some, None, List, [], ◌∷◌, ◌++◌, length, get_or, refl, sym, ap, ap₂, ◌∙◌, inl, inr, subst, arith, append_assoc, append-nil}
+use Rattle.std.proofs.Common.{◌≡◌, ℕ, ◌+◌, ◌-◌, ◌<◌, ◌≤◌, ◌⊎◌, min, Bool, true, false, ◌||◌, Option, Some, None, List, [], ◌∷◌, ◌++◌, length, get_or, refl, sym, ap, ap₂, ◌∙◌, inl, inr, subst, arith, append_assoc}
 use Rattle.std.proofs.lemmas.Bool.{cases_Bool, cases_lt, eq-eqb, false≢true}
 use Rattle.std.proofs.lemmas.List.{get_or_default}
 use Rattle.std.specs.Option.{option_map}
@@ -217,18 +217,6 @@ inside-loop tree ops at i d old new v joined close l is h t =
       };
     }
 
-pub inside-alone : (tree : ContractionTree) (ops : List Op) (at : ℕ) (old : List ℕ) (v : ℕ) (joined : Option ℕ) (close : ℕ) → IsAlone tree ops at v joined close
-    → IsInside tree ops at old old v joined close
-inside-alone tree ops at old v joined close h = record {
-  known = h.known;
-  order = [];
-  is = h.is;
-  loops = h.loops;
-  behind = sym (append-nil old);
-  joins = h.joins;
-  ends = h.ends;
-}
-
 -- constants among the operands
 operand-constant : (first : ℕ) (c : ContractionTree) → names_constant (operand_of first c) ≡ is_constant c
 operand-constant first (leaf tensor indexes) = refl
@@ -310,9 +298,6 @@ pub tail-constant : (tree : ContractionTree) (ops : List Op) (at i : ℕ) (old n
     → IsInside tree ops at old new v joined close → reads_constant tree (operation_of_node tree v) ≡ true → HasNoTail tree i (program_at ops at)
 tail-constant tree ops at i old new v joined close h t =
     inl (ap (reads_constant tree) h.is ∙ tail-constants tree h.order v joined h.known h.joins ∙ t)
-
-pub tail-missing : (tree : ContractionTree) (i : ℕ) (body : Program) → tail_loops tree body ≡ None → HasNoTail tree i body
-tail-missing tree i body e = inr (ap (option_map (λ order. i ∷ order)) e)
 
 pub tail-here : (tree : ContractionTree) (ops : List Op) (at i : ℕ) (old : List ℕ) (tail : Tail) (close : ℕ) → old ≡ i ∷ []
     → IsInside tree ops at old tail.loops.0.items tail.node tail.sum close → reads_constant tree (operation_of_node tree tail.node) ≡ false

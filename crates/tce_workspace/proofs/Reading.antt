@@ -15,7 +15,7 @@ use Rattle.tce_frames.specs.Current.{word_of}
 use Rattle.tce_cache.specs.declared.array.ArrayRef.{ArrayRef}
 use Rattle.tce_cache.specs.Cache.{State as CacheState, IsCache, IsReady, IsArrayAt, layout, stored, word_of_tile, words_of_tile}
 use Rattle.tce_array.specs.Files.{AreBytes}
-use Rattle.tce_cache.specs.Transfer.{HasFile, contents, word_in_file}
+use Rattle.tce_cache.specs.Transfer.{contents, word_in_file}
 use Rattle.tce_tree.specs.ContractionTree.{operations, node_dims}
 use Rattle.tce_tree.specs.Fusion.{kept_dims, fused_at}
 use Rattle.tce_tree.specs.Value.{Assignment}
@@ -122,11 +122,6 @@ inside_array x tensor indexes xs is h = by_array (slice_get x.cache.arrays tenso
 
 pub root_inside : (x : Workspace) (a : Assignment) → IsPrepared x → IsPlaceOf x (root x.places) a → IsInside (result_shape x).extents (map a x.places.result)
 root_inside x a is h = numbers_inside (extent_at x.places.space) a x.places.result (λ i m. h.inside i (sym (is.root i) ∙ m))
-
--- the file of a stored tensor is as a touch asks
-pub touch_ready : (x : Workspace) (tensor : ℕ) (indexes : List ℕ) → IsPrepared x → IsStored x tensor indexes
-    → ForSome x.files (λ fs. IsReady x.cache fs x.words × IsArrayAt x.cache.arrays tensor (λ a. HasFile a fs))
-touch_ready x tensor indexes is stored = λ fs told. (is.ready fs told, stored.file fs told)
 
 -- ---- elements of operands
 

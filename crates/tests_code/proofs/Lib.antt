@@ -1,6 +1,10 @@
 mod WorkedBlock
 mod WorkedBlockwise
 mod WorkedCode
+mod WorkedCovers
+mod WorkedFusion
 mod WorkedLayout
 mod WorkedResult
+mod WorkedStates
 mod WorkedTail
+mod WorkedTree

@@ -1,4 +1,4 @@
-//! Tests of codes, of runs of a block, and of what a run takes.
+//! Tests of trees, their fusions, states, nestings, steps and candidates, of codes, of runs of a block, and of what a run takes.
 #![tactic(auto)]
 
 #[cfg(test)]
@@ -8,13 +8,19 @@ mod block;
 #[cfg(test)]
 mod blockwise;
 #[cfg(test)]
+mod candidates;
+#[cfg(test)]
 mod code;
 #[cfg(test)]
 mod code_plain_run;
 #[cfg(test)]
+mod fusion;
+#[cfg(test)]
 mod given;
 #[cfg(test)]
 mod layout;
+#[cfg(test)]
+mod nesting;
 #[cfg(test)]
 mod operand_windows;
 #[cfg(test)]
@@ -22,11 +28,17 @@ mod operands;
 #[cfg(test)]
 mod result;
 #[cfg(test)]
+mod states;
+#[cfg(test)]
+mod steps;
+#[cfg(test)]
 mod strides;
 #[cfg(test)]
 mod tail;
 #[cfg(test)]
 mod takings;
+#[cfg(test)]
+mod tree;
 #[cfg(test)]
 mod walk;
 #[cfg(test)]

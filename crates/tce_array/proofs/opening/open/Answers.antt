@@ -1,7 +1,8 @@
 use Rattle.std.proofs.Common.{◌∙◌, Ok, Err, refl, sym, inr}
+use Rattle.std.proofs.lemmas.Bool.{false≢true}
 use Rattle.tce_outside.specs.Files.{file}
 use Rattle.tce_array.specs.declared.fault.ArrayFault.TheVariants.{NoFile, BadLength, BadHeader}
-use Rattle.tce_array.proofs.Answered.{no_error, rose_here, stayed, form_is_no_disk_fault, no_file_is_no_disk_fault, length_is_no_disk_fault, header_is_no_disk_fault, is_absent, is_as_long, has_wrong_length, has_head_part, has_wrong_head, is_array}
+use Rattle.tce_array.proofs.Answered.{rose_here, stayed, form_is_no_disk_fault, no_file_is_no_disk_fault, length_is_no_disk_fault, header_is_no_disk_fault, is_absent, is_as_long, has_wrong_length, has_head_part, has_wrong_head, is_array}
 use Rattle.tce_array.proofs.OneAnswer.{only_answer}
 use Rattle.tce_array.proofs.opening.open.Goals as goal
 
@@ -44,11 +45,11 @@ returns-in_default-size-clause-same g c = c.size.ensures.same
 pub returns-in_default-size-clause-cause : goal.returns-in_default-size-clause-cause
 returns-in_default-size-clause-cause g c =
     stayed (g.D.Disk.faults c.args.disk.now) (g.D.Disk.faults c.size.new.self) _
-    (c.in-Ok.ensures.told no_error)
+    (c.in-Ok.ensures.told false≢true)
     no_file_is_no_disk_fault
 
 pub returns-in_default-size-clause-told : goal.returns-in_default-size-clause-told
-returns-in_default-size-clause-told g c = λ none. c.in-Ok.ensures.told no_error
+returns-in_default-size-clause-told g c = λ none. c.in-Ok.ensures.told false≢true
 
 pub find_form-requires : goal.find_form-requires
 find_form-requires g c =
@@ -70,7 +71,7 @@ returns-in_default-find_form-clause-same g c = c.find_form.ensures.same ∙ c.si
 pub returns-in_default-find_form-clause-cause : goal.returns-in_default-find_form-clause-cause
 returns-in_default-find_form-clause-cause g c =
     rose_here (g.D.Disk.faults c.args.disk.now) (g.D.Disk.faults c.size.new.self) (g.D.Disk.faults c.find_form.new.disk) _
-    (c.in-Ok.ensures.told no_error)
+    (c.in-Ok.ensures.told false≢true)
     c.in_default-find_form.ensures.cause
 
 pub returns-in_default-find_form-clause-told : goal.returns-in_default-find_form-clause-told
@@ -98,11 +99,11 @@ returns-then-len-form_len-clause-same g c = c.find_form.ensures.same ∙ c.size.
 pub returns-then-len-form_len-clause-cause : goal.returns-then-len-form_len-clause-cause
 returns-then-len-form_len-clause-cause g c =
     stayed (g.D.Disk.faults c.args.disk.now) (g.D.Disk.faults c.find_form.new.disk) _
-    (c.in-Ok-find_form.ensures.told no_error ∙ c.in-Ok.ensures.told no_error)
+    (c.in-Ok-find_form.ensures.told false≢true ∙ c.in-Ok.ensures.told false≢true)
     (length_is_no_disk_fault c.in-Some.len)
 
 pub returns-then-len-form_len-clause-told : goal.returns-then-len-form_len-clause-told
-returns-then-len-form_len-clause-told g c = λ none. c.in-Ok-find_form.ensures.told no_error ∙ c.in-Ok.ensures.told no_error
+returns-then-len-form_len-clause-told g c = λ none. c.in-Ok-find_form.ensures.told false≢true ∙ c.in-Ok.ensures.told false≢true
 
 pub slice_bounds-buffer-end : goal.slice_bounds-buffer-end
 slice_bounds-buffer-end g c = c.len.ensures.fits
@@ -131,7 +132,7 @@ returns-in_default-read_at-clause-same g c = c.read_at.ensures.same ∙ c.find_f
 pub returns-in_default-read_at-clause-cause : goal.returns-in_default-read_at-clause-cause
 returns-in_default-read_at-clause-cause g c =
     rose_here (g.D.Disk.faults c.args.disk.now) (g.D.Disk.faults c.find_form.new.disk) (g.D.Disk.faults c.read_at.new.self) _
-    (c.in-Ok-find_form.ensures.told no_error ∙ c.in-Ok.ensures.told no_error)
+    (c.in-Ok-find_form.ensures.told false≢true ∙ c.in-Ok.ensures.told false≢true)
     c.in_default-read_at.ensures.cause
 
 pub returns-in_default-read_at-clause-told : goal.returns-in_default-read_at-clause-told
@@ -165,11 +166,11 @@ returns-in-Some-first_difference-clause-same g c = c.read_at.ensures.same ∙ c.
 pub returns-in-Some-first_difference-clause-cause : goal.returns-in-Some-first_difference-clause-cause
 returns-in-Some-first_difference-clause-cause g c =
     stayed (g.D.Disk.faults c.args.disk.now) (g.D.Disk.faults c.read_at.new.self) _
-    (c.in-Ok-read_at.ensures.told no_error ∙ c.in-Ok-find_form.ensures.told no_error ∙ c.in-Ok.ensures.told no_error)
+    (c.in-Ok-read_at.ensures.told false≢true ∙ c.in-Ok-find_form.ensures.told false≢true ∙ c.in-Ok.ensures.told false≢true)
     (header_is_no_disk_fault c.in-Some-first_difference.place)
 
 pub returns-in-Some-first_difference-clause-told : goal.returns-in-Some-first_difference-clause-told
-returns-in-Some-first_difference-clause-told g c = λ none. c.in-Ok-read_at.ensures.told no_error ∙ c.in-Ok-find_form.ensures.told no_error ∙ c.in-Ok.ensures.told no_error
+returns-in-Some-first_difference-clause-told g c = λ none. c.in-Ok-read_at.ensures.told false≢true ∙ c.in-Ok-find_form.ensures.told false≢true ∙ c.in-Ok.ensures.told false≢true
 
 pub returns-in-None-clause-fault : goal.returns-in-None-clause-fault
 returns-in-None-clause-fault g c = tt
@@ -199,8 +200,8 @@ returns-in-None-clause-same g c = c.read_at.ensures.same ∙ c.find_form.ensures
 pub returns-in-None-clause-cause : goal.returns-in-None-clause-cause
 returns-in-None-clause-cause g c =
     stayed (g.D.Disk.faults c.args.disk.now) (g.D.Disk.faults c.read_at.new.self) _
-    (c.in-Ok-read_at.ensures.told no_error ∙ c.in-Ok-find_form.ensures.told no_error ∙ c.in-Ok.ensures.told no_error)
+    (c.in-Ok-read_at.ensures.told false≢true ∙ c.in-Ok-find_form.ensures.told false≢true ∙ c.in-Ok.ensures.told false≢true)
     (form_is_no_disk_fault c.in-Ok-find_form.form)
 
 pub returns-in-None-clause-told : goal.returns-in-None-clause-told
-returns-in-None-clause-told g c = λ none. c.in-Ok-read_at.ensures.told no_error ∙ c.in-Ok-find_form.ensures.told no_error ∙ c.in-Ok.ensures.told no_error
+returns-in-None-clause-told g c = λ none. c.in-Ok-read_at.ensures.told false≢true ∙ c.in-Ok-find_form.ensures.told false≢true ∙ c.in-Ok.ensures.told false≢true

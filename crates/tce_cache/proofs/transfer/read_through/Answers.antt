@@ -1,8 +1,8 @@
 use Rattle.std.proofs.Common.{◌*◌, ◌/◌, length, refl, sym, ap, arith, ◌∙◌}
 use Rattle.std.proofs.lemmas.List.{length-take-le}
 use Rattle.std.proofs.lemmas.Result.{IfOk-from_err}
+use Rattle.std.proofs.lemmas.Bool.{false≢true}
 use Rattle.tce_array.proofs.Answered.{rose_here, stayed}
-use Rattle.tce_cache.proofs.Counted.{no_error}
 use Rattle.tce_cache.proofs.Transfers.{words_joined, others_joined, few_bytes, piece_end}
 use Rattle.tce_cache.proofs.transfer.read_through.Goals as goal
 
@@ -67,7 +67,7 @@ loop-done-preserved g c =
       done = omega (arith, c.min-count.ensures);
       len = read.len ∙ before.len;
       files = read.same ∙ before.files;
-      counted = read.told no_error ∙ before.counted;
+      counted = read.told false≢true ∙ before.counted;
       read = λ x told. words_joined c.args.array.now x c.args.span.from c.args.span.at c.loop-done.done c.min-count.result c.loop-done.words c.read_piece.new.words (before.read x told) (read.read x (before.files ∙ told)) read.others;
       others = others_joined c.args.span.at c.loop-done.done c.min-count.result c.args.span.n c.args.words.now c.loop-done.words c.read_piece.new.words (omega (arith, c.min-count.ensures)) before.others read.others;
     }
@@ -104,7 +104,7 @@ pub returns-clause-same : goal.returns-clause-same
 returns-clause-same g c = c.loop-done.invariant.files
 
 pub returns-clause-cause : goal.returns-clause-cause
-returns-clause-cause g c = stayed (g.D.Disk.faults c.args.disk.now) (g.D.Disk.faults c.loop-done.disk) _ c.loop-done.invariant.counted no_error
+returns-clause-cause g c = stayed (g.D.Disk.faults c.args.disk.now) (g.D.Disk.faults c.loop-done.disk) _ c.loop-done.invariant.counted false≢true
 
 pub returns-clause-told : goal.returns-clause-told
 returns-clause-told g c = λ _. c.loop-done.invariant.counted

@@ -1,9 +1,9 @@
 use Rattle.std.proofs.Common.{arith, refl, sym, ◌≡◌, ◌∙◌, ◌*◌, subst}
 use Rattle.std.proofs.lemmas.List.{length-take-le}
 use Rattle.std.proofs.lemmas.Result.{IfOk-from_err}
+use Rattle.std.proofs.lemmas.Bool.{false≢true}
 use Rattle.tce_array.proofs.Answered.{rose_here, stayed}
 use Rattle.tce_cache.specs.Transfer.{IsWritten}
-use Rattle.tce_cache.proofs.Counted.{no_error}
 use Rattle.tce_cache.proofs.Transfers.{told_before, told_once, written_joined, nothing_written}
 use Rattle.tce_cache.proofs.transfer.write_through.Goals as goal
 
@@ -71,7 +71,7 @@ loop-done-preserved g c =
       done = omega (arith, c.min-count.ensures);
       others = piece.others ∙ before.others;
       begins = piece.begins ∙ before.begins;
-      counted = piece.told no_error ∙ before.counted;
+      counted = piece.told false≢true ∙ before.counted;
       written = λ x told y now.
           let middle = told_before c.args.array.now.file.bytes _ _ y piece.others now in
           written_joined c.args.array.now x middle.0 y c.args.span.from c.args.span.at c.loop-done.done c.min-count.result c.args.words.now
@@ -105,7 +105,7 @@ pub returns-clause-begins : goal.returns-clause-begins
 returns-clause-begins g c = c.loop-done.invariant.begins
 
 pub returns-clause-cause : goal.returns-clause-cause
-returns-clause-cause g c = stayed (g.D.Disk.faults c.args.disk.now) (g.D.Disk.faults c.loop-done.disk) _ c.loop-done.invariant.counted no_error
+returns-clause-cause g c = stayed (g.D.Disk.faults c.args.disk.now) (g.D.Disk.faults c.loop-done.disk) _ c.loop-done.invariant.counted false≢true
 
 pub returns-clause-told : goal.returns-clause-told
 returns-clause-told g c = λ _. c.loop-done.invariant.counted

@@ -19,8 +19,9 @@ use Rattle.tce_sym.specs.Storage.{IsStored, full_cell}
 use Rattle.tce_sym.specs.Lines.{AreHeld, HasRoom}
 use Rattle.tce_sym.specs.TileRows.{AreWords}
 use Rattle.tce_sym.proofs.Pieces.{first_words, no_words, all_words, piece_change}
-use Rattle.tce_tools.proofs.Apart.{false_not_true, ok_not_err, failed_not_memory}
+use Rattle.tce_tools.proofs.Apart.{ok_not_err, failed_not_memory}
 use Rattle.std.proofs.lemmas.Result.{IfOk-from_err}
+use Rattle.std.proofs.lemmas.Bool.{false≢true}
 use Rattle.tce_outside.specs.declared.device.OutFault.TheVariants.{Failed, Memory}
 use Rattle.tce_outside.specs.Fault.{HasCause, HasFailed}
 use Rattle.tce_tools.proofs.Faults.{making_failed, failed_making}
@@ -36,7 +37,7 @@ loop-done-init g c = record {
   lines = c.in-Ok.ensures.held;
   others = c.in_ok-make.ensures.others ∙ ap (others c.args.array.now) c.in-Ok.ensures.same;
   later = omega (arith, c.in_ok-make.ensures.cause.later, c.in-Ok.ensures.cause.later);
-  counted = c.in_ok-make.ensures.told (λ e. ok_not_err e) ∙ c.in-Ok.ensures.told false_not_true;
+  counted = c.in_ok-make.ensures.told (λ e. ok_not_err e) ∙ c.in-Ok.ensures.told false≢true;
 }
 
 pub returns-in_err-make-clause-no_half : goal.returns-in_err-make-clause-no_half
@@ -93,7 +94,7 @@ loop-done-preserved g c =
           c.loop-done.invariant.files c.requires.names c.in-Ok-read_piece.ensures.lines;
       others = c.in-Ok-write_words.ensures.others ∙ ap (others c.args.array.now) c.in-Ok-read_piece.ensures.same ∙ c.loop-done.invariant.others;
       later = omega (arith, c.in-Ok-read_piece.ensures.cause.later, c.in-Ok-write_words.ensures.cause.later, c.loop-done.invariant.later);
-      counted = c.in-Ok-write_words.ensures.told false_not_true ∙ c.in-Ok-read_piece.ensures.told false_not_true ∙ c.loop-done.invariant.counted;
+      counted = c.in-Ok-write_words.ensures.told false≢true ∙ c.in-Ok-read_piece.ensures.told false≢true ∙ c.loop-done.invariant.counted;
     }
 
 pub returns-clause-made : goal.returns-clause-made
@@ -198,11 +199,11 @@ returns-in_err-make-clause-memory g c = λ memory. c.make.ensures.memory (making
 pub returns-in_err-make-clause-cause : goal.returns-in_err-make-clause-cause
 returns-in_err-make-clause-cause g c =
     let from : HasCause (g.D.Disk.faults c.args.disk.now) (g.D.Disk.faults c.make.new.self) (HasFailed c.make.result) =
-    subst (λ n. HasCause n (g.D.Disk.faults c.make.new.self) (HasFailed c.make.result)) (c.in-Ok.ensures.told false_not_true) c.make.ensures.cause in
+    subst (λ n. HasCause n (g.D.Disk.faults c.make.new.self) (HasFailed c.make.result)) (c.in-Ok.ensures.told false≢true) c.make.ensures.cause in
     record { later = from.later; rose = λ failed. from.rose (making_failed c.from_residual.result c.make.result c.in_err-make.field-0.0 Failed c.from_residual.ensures.1 c.in_err-make.was failed) }
 
 pub returns-in_err-make-clause-told : goal.returns-in_err-make-clause-told
-returns-in_err-make-clause-told g c = λ fine. c.make.ensures.told (λ failed. fine (failed_making c.from_residual.result c.make.result c.in_err-make.field-0.0 Failed c.from_residual.ensures.1 c.in_err-make.was failed)) ∙ c.in-Ok.ensures.told false_not_true
+returns-in_err-make-clause-told g c = λ fine. c.make.ensures.told (λ failed. fine (failed_making c.from_residual.result c.make.result c.in_err-make.field-0.0 Failed c.from_residual.ensures.1 c.in_err-make.was failed)) ∙ c.in-Ok.ensures.told false≢true
 
 pub overflow_sub-padded : goal.overflow_sub-padded
 overflow_sub-padded g c = c.loop-done.invariant.done

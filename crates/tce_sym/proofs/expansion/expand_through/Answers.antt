@@ -6,8 +6,9 @@ use Rattle.tce_tools.proofs.NoHalf.{bare_left, bare_stored}
 use Rattle.tce_tools.proofs.Told.{failed_from}
 use Rattle.tce_sym.specs.Storage.{full_cell}
 use Rattle.std.proofs.lemmas.Result.{IfOk-from_err}
+use Rattle.std.proofs.lemmas.Bool.{false≢true}
 use Rattle.tce_outside.specs.declared.device.OutFault.TheVariants.{Failed, Memory}
-use Rattle.tce_tools.proofs.Apart.{false_not_true, ok_not_err, failed_not_memory}
+use Rattle.tce_tools.proofs.Apart.{ok_not_err, failed_not_memory}
 use Rattle.tce_tools.proofs.Faults.{making_failed, failed_making}
 use Rattle.tce_sym.proofs.expansion.expand_through.Goals as goal
 
@@ -75,7 +76,7 @@ pub returns-in-Ok-clause-memory : goal.returns-in-Ok-clause-memory
 returns-in-Ok-clause-memory g c = λ memory. absurd (ok_not_err memory)
 
 pub returns-in-Ok-clause-told : goal.returns-in-Ok-clause-told
-returns-in-Ok-clause-told g c = λ fine. c.in-Ok.ensures.told false_not_true ∙ c.in_ok-expand_elements.ensures.told (λ e. ok_not_err e)
+returns-in-Ok-clause-told g c = λ fine. c.in-Ok.ensures.told false≢true ∙ c.in_ok-expand_elements.ensures.told (λ e. ok_not_err e)
 
 pub returns-in-Err-clause-memory : goal.returns-in-Err-clause-memory
 returns-in-Err-clause-memory g c = λ memory. absurd (failed_not_memory _ refl memory)

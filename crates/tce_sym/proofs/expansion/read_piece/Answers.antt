@@ -14,8 +14,8 @@ use Rattle.tce_sym.proofs.FullCells.{among, cell_is}
 use Rattle.tce_sym.proofs.Moved.{moved_is}
 use Rattle.tce_sym.proofs.WordCoords.{moved_none}
 use Rattle.tce_sym.proofs.Pieces.{none_filled, more_filled}
-use Rattle.tce_tools.proofs.Apart.{false_not_true}
 use Rattle.std.proofs.lemmas.Result.{IfOk-from_err}
+use Rattle.std.proofs.lemmas.Bool.{false≢true}
 use Rattle.tce_array.proofs.Answered.{rose_here}
 use Rattle.tce_sym.proofs.expansion.read_piece.Goals as goal
 
@@ -77,7 +77,7 @@ loop-filled-preserved g c =
       lines = λ x told. c.in_ok-read_row.ensures.lines x (c.loop-filled.invariant.files ∙ told);
       files = c.in_ok-read_row.ensures.same ∙ c.loop-filled.invariant.files;
       later = omega (arith, c.in_ok-read_row.ensures.cause.later, c.loop-filled.invariant.later);
-      counted = c.in_ok-read_row.ensures.told false_not_true ∙ c.loop-filled.invariant.counted;
+      counted = c.in_ok-read_row.ensures.told false≢true ∙ c.loop-filled.invariant.counted;
     }
 
 pub returns-clause-read : goal.returns-clause-read
@@ -112,7 +112,7 @@ pub returns-clause-same : goal.returns-clause-same
 returns-clause-same g c = c.loop-filled.invariant.files
 
 pub returns-clause-cause : goal.returns-clause-cause
-returns-clause-cause g c = record { later = c.loop-filled.invariant.later; rose = λ e. absurd (false_not_true e) }
+returns-clause-cause g c = record { later = c.loop-filled.invariant.later; rose = λ e. absurd (false≢true e) }
 
 pub row_of-row-requires-clause-right : goal.row_of-row-requires-clause-right
 row_of-row-requires-clause-right g c = c.requires.right

@@ -5,8 +5,8 @@ use Rattle.tce_tools.specs.Flat.{contents}
 use Rattle.tce_sym.specs.Storage.{stored_word}
 use Rattle.tce_sym.proofs.HeldLines.{line_read}
 use Rattle.tce_sym.proofs.StoredReads.{words_there}
-use Rattle.tce_tools.proofs.Apart.{false_not_true}
 use Rattle.std.proofs.lemmas.Result.{IfOk-from_err}
+use Rattle.std.proofs.lemmas.Bool.{false≢true}
 use Rattle.tce_array.proofs.Answered.{rose_here}
 use Rattle.tce_sym.proofs.lines.read_through.Goals as goal
 
@@ -53,10 +53,10 @@ pub returns-clause-same : goal.returns-clause-same
 returns-clause-same g c = c.in_ok-read_words.ensures.same
 
 pub returns-clause-cause : goal.returns-clause-cause
-returns-clause-cause g c = record { later = c.in_ok-read_words.ensures.cause.later; rose = λ e. absurd (false_not_true e) }
+returns-clause-cause g c = record { later = c.in_ok-read_words.ensures.cause.later; rose = λ e. absurd (false≢true e) }
 
 pub returns-clause-told : goal.returns-clause-told
-returns-clause-told g c = λ _. c.in_ok-read_words.ensures.told false_not_true
+returns-clause-told g c = λ _. c.in_ok-read_words.ensures.told false≢true
 
 pub overflow_sub-grid : goal.overflow_sub-grid
 overflow_sub-grid g c = omega (arith, c.requires.wanted.start, c.requires.wanted.place)

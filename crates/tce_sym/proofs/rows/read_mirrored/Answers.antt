@@ -6,8 +6,8 @@ use Rattle.tce_sym.specs.Storage.{stored_word, turned}
 use Rattle.tce_sym.specs.declared.cells.Pair.{Pair}
 use Rattle.tce_sym.specs.Cells.{IsAmong, IsMirrored, moved_pair}
 use Rattle.tce_sym.proofs.Walked.{mirrored_walk_is, mirrored_placed, moved_nowhere}
-use Rattle.tce_tools.proofs.Apart.{false_not_true}
 use Rattle.std.proofs.lemmas.Result.{IfOk-from_err}
+use Rattle.std.proofs.lemmas.Bool.{false≢true}
 use Rattle.tce_array.proofs.Answered.{rose_here, stayed}
 use Rattle.tce_sym.proofs.rows.read_mirrored.Goals as goal
 
@@ -45,10 +45,10 @@ pub returns-clause-same : goal.returns-clause-same
 returns-clause-same g c = c.in_ok-read_walk.ensures.same
 
 pub returns-clause-cause : goal.returns-clause-cause
-returns-clause-cause g c = record { later = c.in_ok-read_walk.ensures.cause.later; rose = λ e. absurd (false_not_true e) }
+returns-clause-cause g c = record { later = c.in_ok-read_walk.ensures.cause.later; rose = λ e. absurd (false≢true e) }
 
 pub returns-clause-told : goal.returns-clause-told
-returns-clause-told g c = λ _. c.in_ok-read_walk.ensures.told false_not_true
+returns-clause-told g c = λ _. c.in_ok-read_walk.ensures.told false≢true
 
 pub returns-then-is_empty-clause-lines : goal.returns-then-is_empty-clause-lines
 returns-then-is_empty-clause-lines g c = c.requires.lines
@@ -57,7 +57,7 @@ pub returns-then-is_empty-clause-same : goal.returns-then-is_empty-clause-same
 returns-then-is_empty-clause-same g c = refl
 
 pub returns-then-is_empty-clause-cause : goal.returns-then-is_empty-clause-cause
-returns-then-is_empty-clause-cause g c = stayed (g.D.Disk.faults c.args.disk.now) (g.D.Disk.faults c.args.disk.now) _ refl false_not_true
+returns-then-is_empty-clause-cause g c = stayed (g.D.Disk.faults c.args.disk.now) (g.D.Disk.faults c.args.disk.now) _ refl false≢true
 
 pub returns-then-is_empty-clause-told : goal.returns-then-is_empty-clause-told
 returns-then-is_empty-clause-told g c = λ fine. refl

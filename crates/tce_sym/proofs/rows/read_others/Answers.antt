@@ -1,4 +1,5 @@
 use Rattle.std.proofs.Common.{◌≡◌, ◌∙◌, ◌+◌, ◌<◌, length, slice_index, sym, ap, subst, arith, refl}
+use Rattle.std.proofs.lemmas.Bool.{false≢true}
 use Rattle.tce_outside.proofs.Files.{on_ok}
 use Rattle.tce_tools.specs.Flat.{contents}
 use Rattle.tce_sym.specs.declared.cells.Pair.{Pair}
@@ -6,7 +7,6 @@ use Rattle.tce_sym.specs.Storage.{stored_word}
 use Rattle.tce_sym.specs.Cells.{IsAmong, IsStoredPair, cell_of, moved_pair, pair_place}
 use Rattle.tce_sym.proofs.Pieces.{all_zeros}
 use Rattle.tce_sym.proofs.Walked.{joined_words, moved_on, moved_nowhere, stored_is, between_is}
-use Rattle.tce_tools.proofs.Apart.{false_not_true}
 use Rattle.tce_array.proofs.Answered.{stayed}
 use Rattle.tce_sym.proofs.rows.read_others.Goals as goal
 
@@ -76,7 +76,7 @@ pub returns-then-is_empty-clause-same : goal.returns-then-is_empty-clause-same
 returns-then-is_empty-clause-same g c = refl
 
 pub returns-then-is_empty-clause-cause : goal.returns-then-is_empty-clause-cause
-returns-then-is_empty-clause-cause g c = stayed (g.D.Disk.faults c.args.disk.now) (g.D.Disk.faults c.args.disk.now) _ refl false_not_true
+returns-then-is_empty-clause-cause g c = stayed (g.D.Disk.faults c.args.disk.now) (g.D.Disk.faults c.args.disk.now) _ refl false≢true
 
 pub returns-then-is_empty-clause-told : goal.returns-then-is_empty-clause-told
 returns-then-is_empty-clause-told g c = λ fine. refl

@@ -4,10 +4,10 @@ use Rattle.tce_tools.specs.Flat.{contents}
 use Rattle.tce_sym.specs.declared.cells.Pair.{Pair}
 use Rattle.tce_sym.specs.Lines.{HasRoom}
 use Rattle.tce_sym.specs.Cells.{IsAmong, IsUpper, cell_of, moved_pair}
-use Rattle.tce_sym.proofs.StoredReads.{caused_behind}
+use Rattle.tce_tools.proofs.Faults.{cause_behind}
 use Rattle.tce_sym.proofs.Walked.{joined_words, moved_on, moved_nowhere, mirrored_is}
-use Rattle.tce_tools.proofs.Apart.{false_not_true}
 use Rattle.std.proofs.lemmas.Result.{IfOk-from_err}
+use Rattle.std.proofs.lemmas.Bool.{false≢true}
 use Rattle.tce_array.proofs.Answered.{rose_here, stayed}
 use Rattle.tce_sym.proofs.rows.read_row.Goals as goal
 
@@ -76,10 +76,10 @@ pub returns-clause-same : goal.returns-clause-same
 returns-clause-same g c = c.read_others.ensures.same ∙ c.in_ok-read_mirrored.ensures.same
 
 pub returns-clause-cause : goal.returns-clause-cause
-returns-clause-cause g c = caused_behind _ (g.D.Disk.faults c.read_mirrored.new.disk) _ _ c.in_ok-read_mirrored.ensures.cause.later c.read_others.ensures.cause
+returns-clause-cause g c = cause_behind _ (g.D.Disk.faults c.read_mirrored.new.disk) _ _ c.in_ok-read_mirrored.ensures.cause.later c.read_others.ensures.cause
 
 pub returns-clause-told : goal.returns-clause-told
-returns-clause-told g c = λ ok. c.read_others.ensures.told ok ∙ c.in_ok-read_mirrored.ensures.told false_not_true
+returns-clause-told g c = λ ok. c.read_others.ensures.told ok ∙ c.in_ok-read_mirrored.ensures.told false≢true
 
 pub returns-then-is_empty-clause-lines : goal.returns-then-is_empty-clause-lines
 returns-then-is_empty-clause-lines g c = c.requires.lines
@@ -88,7 +88,7 @@ pub returns-then-is_empty-clause-same : goal.returns-then-is_empty-clause-same
 returns-then-is_empty-clause-same g c = refl
 
 pub returns-then-is_empty-clause-cause : goal.returns-then-is_empty-clause-cause
-returns-then-is_empty-clause-cause g c = stayed (g.D.Disk.faults c.args.disk.now) (g.D.Disk.faults c.args.disk.now) _ refl false_not_true
+returns-then-is_empty-clause-cause g c = stayed (g.D.Disk.faults c.args.disk.now) (g.D.Disk.faults c.args.disk.now) _ refl false≢true
 
 pub returns-then-is_empty-clause-told : goal.returns-then-is_empty-clause-told
 returns-then-is_empty-clause-told g c = λ fine. refl

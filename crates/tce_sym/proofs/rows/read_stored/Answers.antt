@@ -1,5 +1,6 @@
 use Rattle.std.proofs.Common.{◌≡◌, ◌∙◌, ◌+◌, ◌*◌, List, ℕ, length, sym, ap, subst, arith, refl}
 use Rattle.std.specs.Option.{IsSomeAnd}
+use Rattle.std.proofs.lemmas.Bool.{false≢true}
 use Rattle.tce_outside.specs.Files.{file}
 use Rattle.tce_outside.proofs.Files.{on_ok}
 use Rattle.tce_tools.specs.Flat.{contents}
@@ -8,7 +9,6 @@ use Rattle.tce_sym.specs.Storage.{stored_word}
 use Rattle.tce_sym.specs.Cells.{IsAmong, IsStoredPair, moved_pair}
 use Rattle.tce_sym.proofs.FullCells.{pair_placed}
 use Rattle.tce_sym.proofs.Walked.{walk_is, moved_nowhere}
-use Rattle.tce_tools.proofs.Apart.{false_not_true}
 use Rattle.tce_array.proofs.Answered.{stayed}
 use Rattle.tce_sym.proofs.rows.read_stored.Goals as goal
 
@@ -59,7 +59,7 @@ pub returns-then-is_empty-clause-same : goal.returns-then-is_empty-clause-same
 returns-then-is_empty-clause-same g c = refl
 
 pub returns-then-is_empty-clause-cause : goal.returns-then-is_empty-clause-cause
-returns-then-is_empty-clause-cause g c = stayed (g.D.Disk.faults c.args.disk.now) (g.D.Disk.faults c.args.disk.now) _ refl false_not_true
+returns-then-is_empty-clause-cause g c = stayed (g.D.Disk.faults c.args.disk.now) (g.D.Disk.faults c.args.disk.now) _ refl false≢true
 
 pub returns-then-is_empty-clause-told : goal.returns-then-is_empty-clause-told
 returns-then-is_empty-clause-told g c = λ fine. refl

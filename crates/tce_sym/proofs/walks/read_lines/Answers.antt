@@ -5,8 +5,8 @@ use Rattle.tce_sym.specs.Storage.{stored_word}
 use Rattle.tce_sym.specs.Lines.{IsGrid, walk_place}
 use Rattle.tce_sym.proofs.Walked.{more}
 use Rattle.tce_sym.proofs.StoredReads.{place_small}
-use Rattle.tce_tools.proofs.Apart.{false_not_true}
 use Rattle.std.proofs.lemmas.Result.{IfOk-from_err}
+use Rattle.std.proofs.lemmas.Bool.{false≢true}
 use Rattle.tce_array.proofs.Answered.{rose_here}
 use Rattle.tce_sym.proofs.walks.read_lines.Goals as goal
 
@@ -57,7 +57,7 @@ loop-done-preserved g c = record {
   lines = λ x told. c.in_ok-words.ensures.lines x (c.loop-done.invariant.files ∙ told);
   files = c.in_ok-words.ensures.same ∙ c.loop-done.invariant.files;
   later = omega (arith, c.in_ok-words.ensures.cause.later, c.loop-done.invariant.later);
-  counted = c.in_ok-words.ensures.told false_not_true ∙ c.loop-done.invariant.counted;
+  counted = c.in_ok-words.ensures.told false≢true ∙ c.loop-done.invariant.counted;
 }
 
 pub returns-in_err-words-clause-same : goal.returns-in_err-words-clause-same
@@ -73,7 +73,7 @@ pub returns-clause-same : goal.returns-clause-same
 returns-clause-same g c = c.loop-done.invariant.files
 
 pub returns-clause-cause : goal.returns-clause-cause
-returns-clause-cause g c = record { later = c.loop-done.invariant.later; rose = λ e. absurd (false_not_true e) }
+returns-clause-cause g c = record { later = c.loop-done.invariant.later; rose = λ e. absurd (false≢true e) }
 
 pub returns-clause-told : goal.returns-clause-told
 returns-clause-told g c = λ _. c.loop-done.invariant.counted

@@ -1,6 +1,6 @@
 use Rattle.std.proofs.Common.{arith, sym, subst, ◌∙◌}
 use Rattle.std.proofs.lemmas.Result.{IfOk-from_err}
-use Rattle.tce_tools.proofs.Apart.{false_not_true}
+use Rattle.std.proofs.lemmas.Bool.{false≢true}
 use Rattle.tce_array.proofs.Answered.{rose_here, stayed}
 use Rattle.tce_sym.specs.Lines.{IsAcross}
 use Rattle.tce_sym.proofs.whole.read_across.Goals as goal
@@ -41,14 +41,14 @@ loop-from-preserved g c = record {
   read = λ x told. c.in_ok-from.ensures.read x (c.loop-from.invariant.files ∙ told) (c.loop-from.invariant.read x told);
   files = c.in_ok-from.ensures.same ∙ c.loop-from.invariant.files;
   later = omega (arith, c.in_ok-from.ensures.cause.later, c.loop-from.invariant.later);
-  counted = c.in_ok-from.ensures.told false_not_true ∙ c.loop-from.invariant.counted;
+  counted = c.in_ok-from.ensures.told false≢true ∙ c.loop-from.invariant.counted;
 }
 
 pub returns-clause-same : goal.returns-clause-same
 returns-clause-same g c = c.loop-from.invariant.files
 
 pub returns-clause-cause : goal.returns-clause-cause
-returns-clause-cause g c = stayed (g.D.Disk.faults c.args.disk.now) (g.D.Disk.faults c.loop-from.disk) _ c.loop-from.invariant.counted false_not_true
+returns-clause-cause g c = stayed (g.D.Disk.faults c.args.disk.now) (g.D.Disk.faults c.loop-from.disk) _ c.loop-from.invariant.counted false≢true
 
 pub returns-clause-told : goal.returns-clause-told
 returns-clause-told g c = λ _. c.loop-from.invariant.counted

@@ -6,8 +6,8 @@ use Rattle.tce_sym.specs.Lines.{IsAcross}
 use Rattle.tce_sym.proofs.StoredReads.{words_there, strip_there}
 use Rattle.tce_sym.proofs.HeldLines.{line_read}
 use Rattle.tce_sym.proofs.Across.{strip_more, strip_before, strip_all}
-use Rattle.tce_tools.proofs.Apart.{false_not_true}
 use Rattle.std.proofs.lemmas.Result.{IfOk-from_err}
+use Rattle.std.proofs.lemmas.Bool.{false≢true}
 use Rattle.tce_array.proofs.Answered.{rose_here}
 use Rattle.tce_sym.proofs.whole.read_strip.Goals as goal
 
@@ -24,7 +24,7 @@ loop-outer-preserved g c =
           (c.loop-outer.invariant.read x told);
       files = c.in_ok-read_words.ensures.same ∙ c.loop-outer.invariant.files;
       later = omega (arith, c.in_ok-read_words.ensures.cause.later, c.loop-outer.invariant.later);
-      counted = c.in_ok-read_words.ensures.told false_not_true ∙ c.loop-outer.invariant.counted;
+      counted = c.in_ok-read_words.ensures.told false≢true ∙ c.loop-outer.invariant.counted;
     }
 
 pub returns-clause-read : goal.returns-clause-read
@@ -75,7 +75,7 @@ pub returns-clause-same : goal.returns-clause-same
 returns-clause-same g c = c.loop-outer.invariant.files
 
 pub returns-clause-cause : goal.returns-clause-cause
-returns-clause-cause g c = record { later = c.loop-outer.invariant.later; rose = λ e. absurd (false_not_true e) }
+returns-clause-cause g c = record { later = c.loop-outer.invariant.later; rose = λ e. absurd (false≢true e) }
 
 pub returns-clause-told : goal.returns-clause-told
 returns-clause-told g c = λ _. c.loop-outer.invariant.counted

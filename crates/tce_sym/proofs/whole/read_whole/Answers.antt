@@ -2,8 +2,8 @@ use Rattle.std.proofs.Common.{◌≡◌, ◌∙◌, ℕ, ◌+◌, ◌-◌, lengt
 use Rattle.std.proofs.lemmas.List.{length-take-le, length-drop}
 use Rattle.tce_tools.specs.Flat.{contents}
 use Rattle.tce_sym.proofs.HeldLines.{line_read, words_more}
-use Rattle.tce_tools.proofs.Apart.{false_not_true}
 use Rattle.std.proofs.lemmas.Result.{IfOk-from_err}
+use Rattle.std.proofs.lemmas.Bool.{false≢true}
 use Rattle.tce_array.proofs.Answered.{rose_here, stayed}
 use Rattle.tce_sym.proofs.whole.read_whole.Goals as goal
 
@@ -21,7 +21,7 @@ loop-done-preserved g c =
           (c.loop-done.invariant.read x told);
       files = c.in_ok-read_words.ensures.same ∙ c.loop-done.invariant.files;
       later = omega (arith, c.in_ok-read_words.ensures.cause.later, c.loop-done.invariant.later);
-      counted = c.in_ok-read_words.ensures.told false_not_true ∙ c.loop-done.invariant.counted;
+      counted = c.in_ok-read_words.ensures.told false≢true ∙ c.loop-done.invariant.counted;
     }
 
 pub loop-done-init : goal.loop-done-init
@@ -49,7 +49,7 @@ pub returns-clause-same : goal.returns-clause-same
 returns-clause-same g c = c.loop-done.invariant.files
 
 pub returns-clause-cause : goal.returns-clause-cause
-returns-clause-cause g c = stayed (g.D.Disk.faults c.args.disk.now) (g.D.Disk.faults c.loop-done.disk) _ c.loop-done.invariant.counted false_not_true
+returns-clause-cause g c = stayed (g.D.Disk.faults c.args.disk.now) (g.D.Disk.faults c.loop-done.disk) _ c.loop-done.invariant.counted false≢true
 
 pub returns-clause-told : goal.returns-clause-told
 returns-clause-told g c = λ _. c.loop-done.invariant.counted

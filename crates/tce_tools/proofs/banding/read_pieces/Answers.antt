@@ -2,11 +2,11 @@ use Rattle.std.proofs.Common.{◌∙◌, ℕ, sym, arith, ap, is_err}
 use Rattle.tce_outside.specs.Files.{file}
 use Rattle.tce_tools.specs.declared.storage.Storage.TheVariants.{Array}
 use Rattle.tce_tools.specs.Flat.{contents}
-use Rattle.tce_tools.proofs.Apart.{false_not_true}
 use Rattle.tce_tools.proofs.PieceReads.{piece_read}
 use Rattle.tce_tools.proofs.PieceWrites.{piece_room, piece_copy, piece_fits, words_there, buffer_fits, index_below}
 use Rattle.tce_tools.proofs.Told.{failed_from}
 use Rattle.std.proofs.lemmas.Result.{IfOk-from_err}
+use Rattle.std.proofs.lemmas.Bool.{false≢true}
 use Rattle.tce_tools.proofs.banding.read_pieces.Goals as goal
 
 pub overflow_mul-from : goal.overflow_mul-from
@@ -41,7 +41,7 @@ loop-piece-preserved g c =
           (c.in_ok-read_words.ensures.read x (c.loop-piece.invariant.files ∙ told)) (c.loop-piece.invariant.read x told);
       files = c.in_ok-read_words.ensures.same ∙ c.loop-piece.invariant.files;
       later = omega (arith, c.in_ok-read_words.ensures.cause.later, c.loop-piece.invariant.later);
-      counted = c.in_ok-read_words.ensures.told false_not_true ∙ c.loop-piece.invariant.counted;
+      counted = c.in_ok-read_words.ensures.told false≢true ∙ c.loop-piece.invariant.counted;
     }
 
 pub returns-clause-read : goal.returns-clause-read
@@ -54,7 +54,7 @@ pub returns-clause-same : goal.returns-clause-same
 returns-clause-same g c = c.loop-piece.invariant.files
 
 pub returns-clause-cause : goal.returns-clause-cause
-returns-clause-cause g c = record { later = c.loop-piece.invariant.later; rose = λ e. absurd (false_not_true e) }
+returns-clause-cause g c = record { later = c.loop-piece.invariant.later; rose = λ e. absurd (false≢true e) }
 
 pub piece_place-requires-clause-band : goal.piece_place-requires-clause-band
 piece_place-requires-clause-band g c = c.requires.band

@@ -6,11 +6,11 @@ use Rattle.tce_outside.specs.Files.{file}
 use Rattle.tce_array.specs.Forms.{width, head_len}
 use Rattle.tce_tools.specs.declared.storage.Storage.TheVariants.{Array}
 use Rattle.tce_tools.specs.Storage.{bare_bytes}
-use Rattle.tce_tools.proofs.Apart.{false_not_true}
 use Rattle.tce_tools.proofs.Told.{failed_from, held_told, held_written}
 use Rattle.tce_tools.proofs.PieceWrites.{after_pieces, piece_bare, piece_room, piece_copy, piece_fits, piece_bytes_fit, words_there, buffer_fits, no_pieces, all_pieces, still_stored}
 use Rattle.tce_tools.proofs.NoHalf.{shorter_before}
 use Rattle.std.proofs.lemmas.Result.{IfOk-from_err}
+use Rattle.std.proofs.lemmas.Bool.{false≢true}
 use Rattle.tce_tools.proofs.banding.write_pieces.Goals as goal
 
 pub loop-piece-init : goal.loop-piece-init
@@ -61,7 +61,7 @@ loop-piece-preserved g c =
           (piece_bytes_fit c.args.form s c.args.band t c.piece_place.result vs c.requires.band c.loop-piece-test.true copy.len c.piece_place.ensures);
       others = c.in_ok-write_words.ensures.others ∙ c.loop-piece.invariant.others;
       later = omega (arith, c.in_ok-write_words.ensures.cause.later, c.loop-piece.invariant.later);
-      counted = c.in_ok-write_words.ensures.told false_not_true ∙ c.loop-piece.invariant.counted;
+      counted = c.in_ok-write_words.ensures.told false≢true ∙ c.loop-piece.invariant.counted;
     }
 
 pub returns-in_err-write_words-clause-ahead : goal.returns-in_err-write_words-clause-ahead
@@ -83,7 +83,7 @@ pub returns-clause-ahead : goal.returns-clause-ahead
 returns-clause-ahead g c = c.loop-piece.invariant.ahead
 
 pub returns-clause-cause : goal.returns-clause-cause
-returns-clause-cause g c = record { later = c.loop-piece.invariant.later; rose = λ e. absurd (false_not_true e) }
+returns-clause-cause g c = record { later = c.loop-piece.invariant.later; rose = λ e. absurd (false≢true e) }
 
 pub piece_place-requires-clause-band : goal.piece_place-requires-clause-band
 piece_place-requires-clause-band g c = c.requires.band

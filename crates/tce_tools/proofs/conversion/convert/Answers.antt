@@ -9,12 +9,13 @@ use Rattle.tce_tools.specs.Answers.{HasFitting, IsConvertAnswer, IsOfConvert}
 use Rattle.tce_tools.specs.Flat.{contents, array_element}
 use Rattle.tce_tools.specs.Storage.{stored_bytes, element_in, holding_by, last_written}
 use Rattle.tce_tools.specs.Told.{Copies, Converts, KeepsFiles, IsDiskFault}
-use Rattle.tce_tools.proofs.Apart.{false_not_true, ok_not_err, array_not_disk, same_err}
+use Rattle.tce_tools.proofs.Apart.{ok_not_err, array_not_disk, same_err}
 use Rattle.tce_tools.proofs.Faults.{not_opened, copied_or_not, on_ok, cause_behind, refused_for}
 use Rattle.tce_tools.proofs.Forms.{opened_form, opened_fits, opened_is, form_stored, array_elements}
 use Rattle.tce_tools.proofs.NoHalf.{same_left, moved_left}
 use Rattle.tce_tools.proofs.Told.{held_told}
 use Rattle.std.proofs.lemmas.Result.{IfOk-from_err}
+use Rattle.std.proofs.lemmas.Bool.{false≢true}
 use Rattle.tce_array.proofs.Answered.{rose_here}
 use Rattle.tce_tools.specs.declared.fault.ToolFault.TheVariants.{Disk}
 use Rattle.tce_tools.proofs.conversion.convert.Goals as goal
@@ -55,7 +56,7 @@ pub returns-clause-cause : goal.returns-clause-cause
 returns-clause-cause g c = cause_behind _ (g.D.Disk.faults c.misfit_for.new.disk) _ _ (omega (arith, c.open.ensures.cause.later, c.misfit_for.ensures.cause.later)) c.copy.ensures.cause
 
 pub returns-clause-told : goal.returns-clause-told
-returns-clause-told g c = λ fine. c.copy.ensures.told fine ∙ c.in_ok-place.ensures.told false_not_true ∙ c.in_ok-found.ensures.told (λ e. ok_not_err e)
+returns-clause-told g c = λ fine. c.copy.ensures.told fine ∙ c.in_ok-place.ensures.told false≢true ∙ c.in_ok-found.ensures.told (λ e. ok_not_err e)
 
 pub returns-in_err-found-clause-answer : goal.returns-in_err-found-clause-answer
 returns-in_err-found-clause-answer g c x told = not_opened (λ (r : Result (Unit {0}) ToolFault). IsConvertAnswer c.args.form c.args.shape.now (file x c.args.array.now) r) c.from_residual.result c.in_err-found.field-0.0 c.from_residual.ensures.1 (λ other. (c.in_err-found.ensures.fault x told, other)) (λ disk. tt)
@@ -121,7 +122,7 @@ pub returns-in-Some-clause-others : goal.returns-in-Some-clause-others
 returns-in-Some-clause-others g c = ap (others c.args.to.now) (c.misfit_for.ensures.same ∙ c.open.ensures.same)
 
 pub returns-in-Some-clause-told : goal.returns-in-Some-clause-told
-returns-in-Some-clause-told g c = λ fine. c.in_ok-place.ensures.told false_not_true ∙ c.in_ok-found.ensures.told (λ e. ok_not_err e)
+returns-in-Some-clause-told g c = λ fine. c.in_ok-place.ensures.told false≢true ∙ c.in_ok-found.ensures.told (λ e. ok_not_err e)
 
 pub copy-requires-clause-names : goal.copy-requires-clause-names
 copy-requires-clause-names g c = c.requires

@@ -6,10 +6,11 @@ use Rattle.tce_tools.specs.Flat.{contents}
 use Rattle.tce_tools.specs.Storage.{element_in}
 use Rattle.tce_tools.specs.Runs.{AreElements}
 use Rattle.tce_tools.specs.Answers.{FitBefore, IsFirstMisfit}
-use Rattle.tce_tools.proofs.Apart.{false_not_true, none_not_some, same_some, failed_not_ok}
+use Rattle.tce_tools.proofs.Apart.{none_not_some, same_some, failed_not_ok}
 use Rattle.tce_tools.proofs.Told.{failed_from}
 use Rattle.tce_tools.proofs.Misfits.{fit_more, misfit_at}
 use Rattle.std.proofs.lemmas.List.{length-take-le}
+use Rattle.std.proofs.lemmas.Bool.{false≢true}
 use Rattle.tce_tools.proofs.conversion.find_misfit.Goals as goal
 
 pub read_band-requires-clause-file : goal.read_band-requires-clause-file
@@ -49,7 +50,7 @@ loop-done-preserved g c =
           fit_more Narrow s f c.loop-done.done c.band_at-band.result.len c.read_band.new.words values (omega (arith, len)) (c.loop-done.invariant.fits x told) (λ k lt. c.in_default.ensures.none k (omega (arith, len)));
       files = c.in_ok-read_band.ensures.same ∙ c.loop-done.invariant.files;
       later = omega (arith, c.in_ok-read_band.ensures.cause.later, c.loop-done.invariant.later);
-      counted = c.in_ok-read_band.ensures.told false_not_true ∙ c.loop-done.invariant.counted;
+      counted = c.in_ok-read_band.ensures.told false≢true ∙ c.loop-done.invariant.counted;
     }
 
 pub returns-clause-told : goal.returns-clause-told
@@ -68,7 +69,7 @@ pub returns-clause-same : goal.returns-clause-same
 returns-clause-same g c = c.loop-done.invariant.files
 
 pub returns-clause-cause : goal.returns-clause-cause
-returns-clause-cause g c = record { later = c.loop-done.invariant.later; rose = λ e. absurd (false_not_true e) }
+returns-clause-cause g c = record { later = c.loop-done.invariant.later; rose = λ e. absurd (false≢true e) }
 
 pub read_band-requires-clause-band : goal.read_band-requires-clause-band
 read_band-requires-clause-band g c = c.band_at-band.ensures.band
@@ -80,10 +81,10 @@ pub returns-in-Some-clause-same : goal.returns-in-Some-clause-same
 returns-in-Some-clause-same g c = c.in_ok-read_band.ensures.same ∙ c.loop-done.invariant.files
 
 pub returns-in-Some-clause-cause : goal.returns-in-Some-clause-cause
-returns-in-Some-clause-cause g c = record { later = omega (arith, c.loop-done.invariant.later, c.in_ok-read_band.ensures.cause.later); rose = λ e. absurd (false_not_true e) }
+returns-in-Some-clause-cause g c = record { later = omega (arith, c.loop-done.invariant.later, c.in_ok-read_band.ensures.cause.later); rose = λ e. absurd (false≢true e) }
 
 pub returns-in-Some-clause-told : goal.returns-in-Some-clause-told
-returns-in-Some-clause-told g c = λ fine. c.in_ok-read_band.ensures.told false_not_true ∙ c.loop-done.invariant.counted
+returns-in-Some-clause-told g c = λ fine. c.in_ok-read_band.ensures.told false≢true ∙ c.loop-done.invariant.counted
 
 pub returns-clause-some : goal.returns-clause-some
 returns-clause-some g c = λ k some. absurd (none_not_some _ _ refl some)

@@ -5,11 +5,12 @@ use Rattle.tce_tools.specs.Answers.{IsOfCopy}
 use Rattle.tce_tools.specs.Flat.{contents}
 use Rattle.tce_tools.specs.Storage.{element_in}
 use Rattle.tce_tools.specs.Told.{KeepsFiles, IsDiskFault}
-use Rattle.tce_tools.proofs.Apart.{ok_not_err, failed_not_memory, memory_not_disk, false_not_true}
+use Rattle.tce_tools.proofs.Apart.{ok_not_err, failed_not_memory, memory_not_disk}
 use Rattle.tce_tools.proofs.Faults.{not_made}
 use Rattle.tce_tools.proofs.NoHalf.{bare_left, bare_stored}
 use Rattle.tce_tools.proofs.Told.{failed_from}
 use Rattle.std.proofs.lemmas.Result.{IfOk-from_err}
+use Rattle.std.proofs.lemmas.Bool.{false≢true}
 use Rattle.tce_tools.proofs.copying.copy.Goals as goal
 
 pub write_start-requires : goal.write_start-requires
@@ -74,7 +75,7 @@ pub returns-in_err-copy_elements-clause-others : goal.returns-in_err-copy_elemen
 returns-in_err-copy_elements-clause-others g c = c.copy_elements.ensures.others
 
 pub returns-in-Ok-clause-told : goal.returns-in-Ok-clause-told
-returns-in-Ok-clause-told g c = λ fine. c.in-Ok.ensures.told false_not_true ∙ c.in_ok-copy_elements.ensures.told (λ e. ok_not_err e)
+returns-in-Ok-clause-told g c = λ fine. c.in-Ok.ensures.told false≢true ∙ c.in_ok-copy_elements.ensures.told (λ e. ok_not_err e)
 
 pub returns-in-Err-clause-own : goal.returns-in-Err-clause-own
 returns-in-Err-clause-own g c = inl refl

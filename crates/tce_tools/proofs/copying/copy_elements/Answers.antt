@@ -5,13 +5,14 @@ use Rattle.tce_tools.specs.declared.band.Band.{Band}
 use Rattle.tce_tools.specs.Flat.{contents}
 use Rattle.tce_tools.specs.Storage.{bare_bytes, stored_bytes, first_elements, later_elements, element_in, last_written, bytes_ahead, holding_by, HasStored}
 use Rattle.tce_tools.specs.Runs.{AreElements}
-use Rattle.tce_tools.proofs.Apart.{false_not_true, ok_not_err, failed_not_memory}
+use Rattle.tce_tools.proofs.Apart.{ok_not_err, failed_not_memory}
 use Rattle.tce_tools.proofs.NoHalf.{some_elements, unmade_left, later_left, last_left, bare_left, bare_stored}
 use Rattle.tce_tools.proofs.PieceWrites.{keeps_outside, keeps_last, first_values, later_values}
 use Rattle.tce_tools.proofs.Stored.{no_later_elements}
 use Rattle.tce_tools.proofs.Told.{held, held_same, held_beside, failed_from}
 use Rattle.std.proofs.lemmas.Result.{IfOk-from_err}
 use Rattle.std.proofs.lemmas.List.{length-take-le}
+use Rattle.std.proofs.lemmas.Bool.{false≢true}
 use Rattle.tce_outside.specs.declared.device.OutFault.TheVariants.{Failed, Memory}
 use Rattle.tce_tools.proofs.Faults.{making_failed, failed_making}
 use Rattle.tce_tools.proofs.copying.copy_elements.Goals as goal
@@ -59,7 +60,7 @@ loop-done-preserved g c =
           (λ fs was. keeps_outside s band (later fs)));
       others = c.in-Ok-write_band.ensures.others ∙ ap (others c.args.target.now) c.in-Ok.ensures.same ∙ c.loop-done.invariant.others;
       later = omega (arith, c.in-Ok.ensures.cause.later, c.in-Ok-write_band.ensures.cause.later, c.loop-done.invariant.later);
-      counted = c.in-Ok-write_band.ensures.told false_not_true ∙ c.in-Ok.ensures.told false_not_true ∙ c.loop-done.invariant.counted;
+      counted = c.in-Ok-write_band.ensures.told false≢true ∙ c.in-Ok.ensures.told false≢true ∙ c.loop-done.invariant.counted;
     }
 
 pub returns-in_err-make-clause-no_half : goal.returns-in_err-make-clause-no_half
@@ -192,7 +193,7 @@ pub returns-clause-memory : goal.returns-clause-memory
 returns-clause-memory g c = λ memory. absurd (ok_not_err memory)
 
 pub returns-clause-told : goal.returns-clause-told
-returns-clause-told g c = λ fine. c.in-Ok-write_band-2.ensures.told false_not_true ∙ c.in-Ok-read_band.ensures.told false_not_true ∙ c.loop-done.invariant.counted
+returns-clause-told g c = λ fine. c.in-Ok-write_band-2.ensures.told false≢true ∙ c.in-Ok-read_band.ensures.told false≢true ∙ c.loop-done.invariant.counted
 
 pub returns-in_err-make-clause-copied : goal.returns-in_err-make-clause-copied
 returns-in_err-make-clause-copied g c = IfOk-from_err c.from_residual.result _ c.from_residual.ensures.0

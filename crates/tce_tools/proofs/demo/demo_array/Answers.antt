@@ -2,10 +2,11 @@ use Rattle.std.proofs.Common.{◌∙◌, ap, refl, is_err, arith}
 use Rattle.tce_array.specs.declared.form.Form.TheVariants.{One}
 use Rattle.tce_tools.specs.declared.storage.Storage.TheVariants.{Array}
 use Rattle.tce_tools.specs.Demo.{demo_element}
-use Rattle.tce_tools.proofs.Apart.{ok_not_err, failed_not_memory, false_not_true}
+use Rattle.tce_tools.proofs.Apart.{ok_not_err, failed_not_memory}
 use Rattle.tce_tools.proofs.NoHalf.{bare_left, bare_stored}
 use Rattle.tce_tools.proofs.Told.{failed_from}
 use Rattle.std.proofs.lemmas.Result.{IfOk-from_err}
+use Rattle.std.proofs.lemmas.Bool.{false≢true}
 use Rattle.tce_outside.specs.declared.device.OutFault.TheVariants.{Failed, Memory}
 use Rattle.tce_tools.proofs.Faults.{making_failed, failed_making}
 use Rattle.tce_tools.proofs.demo.demo_array.Goals as goal
@@ -76,4 +77,4 @@ pub returns-in-Ok-clause-last : goal.returns-in-Ok-clause-last
 returns-in-Ok-clause-last g c = c.in_ok-number.ensures.last
 
 pub returns-in-Ok-clause-told : goal.returns-in-Ok-clause-told
-returns-in-Ok-clause-told g c = λ fine. c.in-Ok.ensures.told false_not_true ∙ c.in_ok-number.ensures.told (λ e. ok_not_err e)
+returns-in-Ok-clause-told g c = λ fine. c.in-Ok.ensures.told false≢true ∙ c.in_ok-number.ensures.told (λ e. ok_not_err e)

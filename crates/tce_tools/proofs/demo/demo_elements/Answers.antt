@@ -9,13 +9,14 @@ use Rattle.tce_tools.specs.declared.storage.Storage.TheVariants.{Array}
 use Rattle.tce_tools.specs.Storage.{bare_bytes, first_elements, holding_by}
 use Rattle.tce_tools.specs.Runs.{AreElements}
 use Rattle.tce_tools.specs.Demo.{drawn, demo_element}
-use Rattle.tce_tools.proofs.Apart.{false_not_true, ok_not_err, failed_not_memory}
+use Rattle.tce_tools.proofs.Apart.{ok_not_err, failed_not_memory}
 use Rattle.tce_tools.proofs.Draws.{drawn_none, drawn_more, digits_are_elements}
 use Rattle.tce_tools.proofs.NoHalf.{first_left, bare_left, bare_stored, unmade_left}
 use Rattle.tce_tools.proofs.PieceWrites.{keeps_outside, first_values}
 use Rattle.tce_tools.proofs.Stored.{no_elements, all_elements}
 use Rattle.tce_tools.proofs.Told.{held_same, failed_from}
 use Rattle.std.proofs.lemmas.Result.{IfOk-from_err}
+use Rattle.std.proofs.lemmas.Bool.{false≢true}
 use Rattle.tce_outside.specs.declared.device.OutFault.TheVariants.{Failed, Memory}
 use Rattle.tce_tools.proofs.Faults.{making_failed, failed_making}
 use Rattle.tce_tools.proofs.demo.demo_elements.Goals as goal
@@ -56,7 +57,7 @@ loop-done-preserved g c =
           (λ fs was. first_values s element band.start (band.start + band.len) c.draw-number.new.digits (omega (arith, len)) values) (λ fs was. keeps_outside s band element));
       others = c.in-Ok.ensures.others ∙ c.loop-done.invariant.others;
       later = omega (arith, c.in-Ok.ensures.cause.later, c.loop-done.invariant.later);
-      counted = c.in-Ok.ensures.told false_not_true ∙ c.loop-done.invariant.counted;
+      counted = c.in-Ok.ensures.told false≢true ∙ c.loop-done.invariant.counted;
     }
 
 pub returns-clause-made : goal.returns-clause-made

@@ -1,4 +1,5 @@
 use Rattle.std.proofs.Common.{◌∙◌, ap, subst, List, ℕ, Option, Result, rules}
+use Rattle.std.proofs.lemmas.Bool.{false≢true}
 use Rattle.tce_space.specs.Tiling.{Tiling}
 use Rattle.tce_outside.specs.Files.{Files, file, others}
 use Rattle.tce_array.specs.declared.form.Form.TheVariants.{One}
@@ -8,7 +9,6 @@ use Rattle.tce_tools.specs.Answers.{HasFlat, IsPackAnswer, IsOfPack}
 use Rattle.tce_tools.specs.Flat.{contents, flat_element}
 use Rattle.tce_tools.specs.Storage.{stored_bytes, element_in, holding_by}
 use Rattle.tce_tools.specs.Told.{Copies, Packs, KeepsFiles}
-use Rattle.tce_tools.proofs.Apart.{false_not_true}
 use Rattle.tce_tools.proofs.Faults.{copied_or_not, on_ok, cause_behind}
 use Rattle.tce_tools.proofs.Forms.{flat_is}
 use Rattle.tce_tools.proofs.Stored.{stored_same}
@@ -49,4 +49,4 @@ pub returns-clause-cause : goal.returns-clause-cause
 returns-clause-cause g c = cause_behind _ (g.D.Disk.faults c.size.new.self) _ _ c.size.ensures.cause.later c.copy.ensures.cause
 
 pub returns-clause-told : goal.returns-clause-told
-returns-clause-told g c = λ fine. c.copy.ensures.told fine ∙ c.in_ok-len.ensures.told false_not_true
+returns-clause-told g c = λ fine. c.copy.ensures.told fine ∙ c.in_ok-len.ensures.told false≢true

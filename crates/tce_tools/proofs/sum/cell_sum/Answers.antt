@@ -2,13 +2,13 @@ use Rattle.std.proofs.Common.{◌∙◌, refl, ap, subst, is_err, arith, List, �
 use Rattle.tce_array.specs.Forms.{cell}
 use Rattle.tce_tools.specs.Flat.{contents}
 use Rattle.tce_tools.specs.Runs.{AreElements}
-use Rattle.tce_tools.proofs.Apart.{false_not_true}
 use Rattle.tce_outside.specs.Files.{file}
 use Rattle.tce_tools.proofs.Forms.{form_stored}
 use Rattle.tce_tools.proofs.Told.{failed_from}
 use Rattle.tce_tools.proofs.Sums.{sum_none, sum_of_run, sum_of_all}
 use Rattle.std.proofs.lemmas.Result.{IfOk-from_err}
 use Rattle.std.proofs.lemmas.List.{length-take-le}
+use Rattle.std.proofs.lemmas.Bool.{false≢true}
 use Rattle.tce_tools.proofs.sum.cell_sum.Goals as goal
 
 pub loop-done-init : goal.loop-done-init
@@ -24,7 +24,7 @@ loop-done-preserved g c = record {
       c.in_ok-read_band.ensures.len (omega (arith, c.band_at-band.ensures.band.inside, c.band_at-band.ensures.start)) (c.loop-done.invariant.sum x told) c.sum_of-total.ensures;
   files = c.in_ok-read_band.ensures.same ∙ c.loop-done.invariant.files;
   later = omega (arith, c.in_ok-read_band.ensures.cause.later, c.loop-done.invariant.later);
-  counted = c.in_ok-read_band.ensures.told false_not_true ∙ c.loop-done.invariant.counted;
+  counted = c.in_ok-read_band.ensures.told false≢true ∙ c.loop-done.invariant.counted;
 }
 
 pub returns-clause-sum : goal.returns-clause-sum
@@ -47,7 +47,7 @@ pub returns-clause-same : goal.returns-clause-same
 returns-clause-same g c = c.loop-done.invariant.files
 
 pub returns-clause-cause : goal.returns-clause-cause
-returns-clause-cause g c = record { later = c.loop-done.invariant.later; rose = λ e. absurd (false_not_true e) }
+returns-clause-cause g c = record { later = c.loop-done.invariant.later; rose = λ e. absurd (false≢true e) }
 
 pub read_band-requires-clause-band : goal.read_band-requires-clause-band
 read_band-requires-clause-band g c = c.band_at-band.ensures.band

@@ -1,8 +1,8 @@
 use Rattle.std.proofs.Common.{◌≡◌, ◌∙◌, ◌*◌, ◌≤◌, ap, refl, length, List, ℕ, arith, is_err}
 use Rattle.std.proofs.lemmas.List.{length-take-le}
+use Rattle.std.proofs.lemmas.Bool.{false≢true}
 use Rattle.tce_array.specs.Forms.{width}
 use Rattle.tce_tools.specs.Flat.{contents}
-use Rattle.tce_tools.proofs.Apart.{false_not_true}
 use Rattle.tce_tools.proofs.Pieces.{piece_is, word_of_piece}
 use Rattle.tce_tools.proofs.transfer.read_words.Goals as goal
 
@@ -36,7 +36,7 @@ pub returns-clause-same : goal.returns-clause-same
 returns-clause-same g c = c.read_at.ensures.same
 
 pub returns-clause-cause : goal.returns-clause-cause
-returns-clause-cause g c = record { later = c.read_at.ensures.cause.later; rose = λ e. absurd (false_not_true e) }
+returns-clause-cause g c = record { later = c.read_at.ensures.cause.later; rose = λ e. absurd (false≢true e) }
 
 pub returns-clause-told : goal.returns-clause-told
-returns-clause-told g c = λ fine. c.in_ok-read_at.ensures.told false_not_true
+returns-clause-told g c = λ fine. c.in_ok-read_at.ensures.told false≢true

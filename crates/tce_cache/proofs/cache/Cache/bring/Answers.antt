@@ -1,12 +1,13 @@
 use Rattle.std.proofs.Common.{◌≡◌, ◌∙◌, ◌+◌, ◌<◌, ℕ, ap, sym, subst, slice_get, slice_index}
 use Rattle.std.proofs.lemmas.Result.{IfOk-from_err}
+use Rattle.std.proofs.lemmas.Bool.{false≢true}
 use Rattle.tce_frames.specs.Held.{Held}
 use Rattle.tce_array.proofs.Answered.{rose_here, stayed}
 use Rattle.tce_frames.specs.Current.{place, IsSameOutside}
 use Rattle.tce_cache.specs.declared.array.ArrayRef.{ArrayRef}
 use Rattle.tce_cache.specs.Transfer.{HasFile}
 use Rattle.tce_cache.specs.Cache.{State, Exists, HasRoom, OnlyWritableDiffers, IsArrayAt, layout, stored, words_of_tile}
-use Rattle.tce_cache.proofs.Counted.{nothing_outside, no_error, cause_of_failure}
+use Rattle.tce_cache.proofs.Counted.{nothing_outside, cause_of_failure}
 use Rattle.tce_cache.proofs.Tiles.{outside_frames, told_from}
 use Rattle.tce_cache.proofs.Steps.{has_after, same_brought}
 use Rattle.tce_cache.proofs.cache.Cache.bring.Goals as goal
@@ -88,7 +89,7 @@ pub returns-in_err-read_tile-clause-others : goal.returns-in_err-read_tile-claus
 returns-in_err-read_tile-clause-others g c = subst (OnlyWritableDiffers c.args.self.now (g.D.Disk.files c.args.disk.now)) (sym c.read_tile.ensures.same) c.take_frame.ensures.others
 
 pub returns-in_err-read_tile-clause-cause : goal.returns-in_err-read_tile-clause-cause
-returns-in_err-read_tile-clause-cause g c = rose_here (g.D.Disk.faults c.args.disk.now) (g.D.Disk.faults c.take_frame.new.disk) (g.D.Disk.faults c.read_tile.new.disk) _ (c.in_ok-frame.ensures.told no_error) c.in_err-read_tile.ensures.cause
+returns-in_err-read_tile-clause-cause g c = rose_here (g.D.Disk.faults c.args.disk.now) (g.D.Disk.faults c.take_frame.new.disk) (g.D.Disk.faults c.read_tile.new.disk) _ (c.in_ok-frame.ensures.told false≢true) c.in_err-read_tile.ensures.cause
 
 pub returns-in_err-read_tile-clause-told : goal.returns-in_err-read_tile-clause-told
 returns-in_err-read_tile-clause-told g c = λ none. absurd (none c.from_residual-in_err-read_tile.ensures.0)
@@ -133,7 +134,7 @@ pub returns-clause-others : goal.returns-clause-others
 returns-clause-others g c = subst (OnlyWritableDiffers c.args.self.now (g.D.Disk.files c.args.disk.now)) (sym c.read_tile.ensures.same) c.take_frame.ensures.others
 
 pub returns-clause-cause : goal.returns-clause-cause
-returns-clause-cause g c = stayed (g.D.Disk.faults c.args.disk.now) (g.D.Disk.faults c.read_tile.new.disk) _ (c.in_ok-read_tile.ensures.told no_error ∙ c.in_ok-frame.ensures.told no_error) no_error
+returns-clause-cause g c = stayed (g.D.Disk.faults c.args.disk.now) (g.D.Disk.faults c.read_tile.new.disk) _ (c.in_ok-read_tile.ensures.told false≢true ∙ c.in_ok-frame.ensures.told false≢true) false≢true
 
 pub returns-clause-told : goal.returns-clause-told
-returns-clause-told g c = λ none. c.in_ok-read_tile.ensures.told no_error ∙ c.in_ok-frame.ensures.told no_error
+returns-clause-told g c = λ none. c.in_ok-read_tile.ensures.told false≢true ∙ c.in_ok-frame.ensures.told false≢true

@@ -1,10 +1,11 @@
 use Rattle.std.proofs.Common.{◌≡◌, ◌∙◌, ℕ, ◌+◌, ◌-◌, ◌<◌, Some, false, length, map, ap, refl, sym, subst, arith}
 use Rattle.std.proofs.lemmas.Result.{IfOk-from_err}
+use Rattle.std.proofs.lemmas.Bool.{false≢true}
 use Rattle.tce_frames.specs.Held.{Held, look_up}
 use Rattle.tce_array.proofs.Answered.{rose_here, stayed}
 use Rattle.tce_cache.specs.Cache.{State, IsCache, HasRoom, OnlyWritableDiffers}
 use Rattle.tce_cache.specs.Touch.{with_held, unmarked, IsSameArrays}
-use Rattle.tce_cache.proofs.Counted.{no_others, no_error}
+use Rattle.tce_cache.proofs.Counted.{no_others}
 use Rattle.tce_cache.proofs.Tiles.{told_from, both_differ}
 use Rattle.tce_cache.proofs.Lists.{all_unmarked}
 use Rattle.tce_cache.proofs.Runs.{length-run, run_part, unmarked_run, frames_cleaned}
@@ -116,7 +117,7 @@ loop-frame-preserved g c =
           let second = subst (λ (z : State). IsSameArrays (with_held s l.held s.touches) z middle.0 y words words) state (subst (λ (z : State). IsSameArrays z n middle.0 y words words) before.state (back.arrays middle.0 middle.1 y now)) in
           subst (λ (z : State). IsSameArrays s z x y words words) (sym state) (same_trans s l.held n.held s.touches s.touches x middle.0 y words words words first second);
       others = both_differ s _ _ _ before.others (differ_again s l.held s.touches _ _ (subst (λ (z : State). OnlyWritableDiffers z (g.D.Disk.files c.loop-frame.disk) (g.D.Disk.files c.write_back.new.disk)) before.state back.others));
-      counted = back.told no_error ∙ before.counted;
+      counted = back.told false≢true ∙ before.counted;
     }
 
 pub returns-clause-flushed : goal.returns-clause-flushed
@@ -149,7 +150,7 @@ pub returns-clause-others : goal.returns-clause-others
 returns-clause-others g c = c.loop-frame.invariant.others
 
 pub returns-clause-cause : goal.returns-clause-cause
-returns-clause-cause g c = stayed (g.D.Disk.faults c.args.disk.now) (g.D.Disk.faults c.loop-frame.disk) _ c.loop-frame.invariant.counted no_error
+returns-clause-cause g c = stayed (g.D.Disk.faults c.args.disk.now) (g.D.Disk.faults c.loop-frame.disk) _ c.loop-frame.invariant.counted false≢true
 
 pub returns-clause-told : goal.returns-clause-told
 returns-clause-told g c = λ _. c.loop-frame.invariant.counted

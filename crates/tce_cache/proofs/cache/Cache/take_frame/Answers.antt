@@ -1,12 +1,13 @@
 use Rattle.std.proofs.Common.{◌≡◌, ◌∙◌, ◌≤◌, ◌<◌, ◌∷◌, None, length, drop, ap, sym, refl, subst, arith}
 use Rattle.std.proofs.lemmas.Result.{IfOk-from_err}
+use Rattle.std.proofs.lemmas.Bool.{false≢true}
 use Rattle.tce_space.specs.Tiling.{tiles}
 use Rattle.tce_frames.specs.Held.{Held, IsFree, look_up}
 use Rattle.tce_frames.proofs.Touching.{touches_change}
 use Rattle.tce_cache.specs.declared.array.ArrayRef.{ArrayRef}
 use Rattle.tce_cache.specs.Cache.{State, IsCache}
 use Rattle.tce_cache.specs.Touch.{with_held, IsSameArrays}
-use Rattle.tce_cache.proofs.Counted.{no_others, no_cause, no_error, cause_of_failure}
+use Rattle.tce_cache.proofs.Counted.{no_others, no_cause, cause_of_failure}
 use Rattle.tce_cache.proofs.Tiles.{array_low}
 use Rattle.tce_cache.proofs.Lists.{IsOldest, IsCleaned, IsGivenUp, oldest_there, oldest_absent}
 use Rattle.tce_cache.proofs.Runs.{frame_cleaned}
@@ -84,7 +85,7 @@ pub returns-then-len-frames-clause-others : goal.returns-then-len-frames-clause-
 returns-then-len-frames-clause-others g c = no_others c.args.self.now (g.D.Disk.files c.args.disk.now)
 
 pub returns-then-len-frames-clause-cause : goal.returns-then-len-frames-clause-cause
-returns-then-len-frames-clause-cause g c = no_cause (g.D.Disk.faults c.args.disk.now) _ no_error
+returns-then-len-frames-clause-cause g c = no_cause (g.D.Disk.faults c.args.disk.now) _ false≢true
 
 pub returns-then-len-frames-clause-told : goal.returns-then-len-frames-clause-told
 returns-then-len-frames-clause-told g c = λ none. refl

@@ -1,6 +1,7 @@
 use Rattle.std.proofs.Common.{◌≡◌, ◌∙◌, ◌+◌, ◌<◌, ◌||◌, ◌∷◌, ℕ, List, Some, None, ap, sym, refl, subst, true, slice_get, slice_index, unwrap_or, length, inl, inr, arith}
 use Rattle.std.specs.Result.{is_err}
 use Rattle.std.proofs.lemmas.Result.{err_from_is_err_and}
+use Rattle.std.proofs.lemmas.Bool.{false≢true}
 use Rattle.tce_frames.specs.Held.{Held, look_up, without, touched}
 use Rattle.tce_frames.specs.Current.{place}
 use Rattle.tce_frames.specs.Table.{Holding}
@@ -11,7 +12,7 @@ use Rattle.tce_cache.specs.declared.array.ArrayRef.{ArrayRef}
 use Rattle.tce_cache.specs.Transfer.{HasFile}
 use Rattle.tce_cache.specs.Cache.{State, IsCache, IsReady, IsArrayAt, IsWritable, Exists, HasRoom, layout, words_of_tile, current_word}
 use Rattle.tce_cache.specs.Touch.{with_held, IsSameArrays}
-use Rattle.tce_cache.proofs.Counted.{cache_counted, outside_counted, others_counted, state_counted, nothing_outside, no_others, no_cause, no_error, cause_of_failure, none_is_held, frames_bounded}
+use Rattle.tce_cache.proofs.Counted.{cache_counted, outside_counted, others_counted, state_counted, nothing_outside, no_others, no_cause, cause_of_failure, none_is_held, frames_bounded}
 use Rattle.tce_cache.proofs.Tiles.{told_from}
 use Rattle.tce_cache.proofs.Lists.{touched_apart, marked_as, or_true, or_false}
 use Rattle.tce_cache.proofs.Steps.{holding_is, cache_touched, same_touched, shown_front, ready_again, same_again}
@@ -297,7 +298,7 @@ pub returns-in-Some-clause-others : goal.returns-in-Some-clause-others
 returns-in-Some-clause-others g c = no_others c.args.self.now (g.D.Disk.files c.args.disk.now)
 
 pub returns-in-Some-clause-cause : goal.returns-in-Some-clause-cause
-returns-in-Some-clause-cause g c = no_cause (g.D.Disk.faults c.args.disk.now) _ no_error
+returns-in-Some-clause-cause g c = no_cause (g.D.Disk.faults c.args.disk.now) _ false≢true
 
 pub returns-in-Some-clause-told : goal.returns-in-Some-clause-told
 returns-in-Some-clause-told g c = λ none. refl

@@ -1,5 +1,5 @@
 use Rattle.std.proofs.Common.{◌≡◌, ◌<◌, ◌∙◌, ap, sym, refl, subst, Some, length, arith}
-use Rattle.std.proofs.lemmas.Bool.{not-true, not-false}
+use Rattle.std.proofs.lemmas.Bool.{not-true, not-false, false≢true}
 use Rattle.std.proofs.lemmas.Result.{IfOk-from_err}
 use Rattle.tce_frames.specs.Held.{look_up}
 use Rattle.tce_frames.specs.Frames.{held_at}
@@ -7,7 +7,7 @@ use Rattle.tce_cache.specs.declared.cache.writing.Run.{Run}
 use Rattle.tce_cache.specs.Cache.{State, IsCache}
 use Rattle.tce_cache.specs.Touch.{IsSameArrays}
 use Rattle.tce_cache.specs.Runs.{run_cleaned}
-use Rattle.tce_cache.proofs.Counted.{held_again, no_others, no_cause, no_error, cause_of_failure}
+use Rattle.tce_cache.proofs.Counted.{held_again, no_others, no_cause, cause_of_failure}
 use Rattle.tce_cache.proofs.Runs.{none_cleaned, are_cleaned, run_of_one, same_run}
 use Rattle.tce_cache.proofs.Steps.{same_stay}
 use Rattle.tce_cache.proofs.Transfers.{told_once}
@@ -47,7 +47,7 @@ pub returns-then-not-held-clause-others : goal.returns-then-not-held-clause-othe
 returns-then-not-held-clause-others g c = no_others c.args.self.now (g.D.Disk.files c.args.disk.now)
 
 pub returns-then-not-held-clause-cause : goal.returns-then-not-held-clause-cause
-returns-then-not-held-clause-cause g c = no_cause (g.D.Disk.faults c.args.disk.now) _ no_error
+returns-then-not-held-clause-cause g c = no_cause (g.D.Disk.faults c.args.disk.now) _ false≢true
 
 pub returns-then-not-held-clause-told : goal.returns-then-not-held-clause-told
 returns-then-not-held-clause-told g c = λ none. refl

@@ -1,7 +1,7 @@
 use Rattle.std.proofs.Common.{◌≡◌, ◌∙◌, sym, ap, arith, eqb-true, eq-eqb}
 use Rattle.tce_space.specs.IndexSet.{has}
 use Rattle.tce_space.proofs.IndexSetLaws.{has-empty, same_set}
-use Rattle.tests_fusion.proofs.nesting.is_empty.Goals as goal
+use Rattle.tests_code.proofs.nesting.is_empty.Goals as goal
 
 pub returns : goal.returns
 returns c = (

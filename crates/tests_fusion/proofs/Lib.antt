@@ -1,4 +1,0 @@
-mod WorkedCovers
-mod WorkedFusion
-mod WorkedStates
-mod WorkedTree
