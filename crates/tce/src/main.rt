@@ -4,10 +4,6 @@
 //! knows all commands and does all the rest. The exit status is that of its answer.
 #![tactic(auto)]
 
-ghost use Rattle.std.specs.Prelude.{◌≡◌};
-ghost use Rattle.std.specs.Process.{exit_status};
-ghost use Rattle.tce_command.specs.Report.{code_of};
-
 #[cfg(test)]
 mod tests;
 
@@ -40,13 +36,6 @@ fn words_of<R: Env>(alloc: Global, env: &R) -> Result<Vec<String>, AllocError> {
     Ok(words)
 }
 
-// The exit status of an answer.
-fn exit_of(status: Status) -> ExitCode
-    ensures { exit_status result ≡ code_of status }
-{
-    ExitCode::from(status.code())
-}
-
 // Does what the words say over the files of the system, of which holes are not read.
 fn answer<R: Files<File = File>, K: Sink>(
     alloc: Global,
@@ -56,7 +45,7 @@ fn answer<R: Files<File = File>, K: Sink>(
 ) -> ExitCode {
     let mut disk = SparseDisk::new(alloc, FileDisk::new(alloc, files));
     let mut room = HeapRoom::new(alloc);
-    exit_of(tce(alloc, words, &mut disk, out, &mut room))
+    tce(alloc, words, &mut disk, out, &mut room).exit_code()
 }
 
 fn main(rt: HostRuntime) -> ExitCode {
@@ -70,7 +59,7 @@ fn main(rt: HostRuntime) -> ExitCode {
     let mut out = OutSink::new(&rt);
     let Ok(words) = words_of(alloc, &rt) else {
         let _ = out.put(b"error 10: want of memory\n");
-        return exit_of(Status::WantOfMemory);
+        return Status::WantOfMemory.exit_code();
     };
     answer(alloc, &words, &rt, &mut out)
 }

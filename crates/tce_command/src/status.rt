@@ -1,8 +1,10 @@
 // What a command ends with.
 ghost use Rattle.std.specs.Prelude.{◌≡◌};
+ghost use Rattle.std.specs.Process.{exit_status};
 ghost use Rattle.tce_command.specs.Report.{code_of};
 
 use crate::trouble::{CertTrouble, EinsumTrouble, SpillTrouble, SymTrouble};
+use std::process::ExitCode;
 use tce_array::ArrayFault;
 use tce_declarations::SpecFault;
 use tce_space::{FileName, Name};
@@ -47,7 +49,7 @@ pub enum Status {
 }
 
 impl Status {
-    /// The exit status of the process.
+    /// The number of the exit status.
     pub fn code(&self) -> u8
         ensures { result ≡ code_of self.now }
     {
@@ -70,5 +72,12 @@ impl Status {
             Status::SpillRefused(_) => 15,
             Status::SymRefused(_) => 16,
         }
+    }
+
+    /// The exit status of the process.
+    pub fn exit_code(&self) -> ExitCode
+        ensures { exit_status result ≡ code_of self.now }
+    {
+        ExitCode::from(self.code())
     }
 }
