@@ -1,15 +1,17 @@
 //! The commands of the program.
 //!
-//! [`tce`] does all that the program does. Its contract says when each [`Status`] comes and what it leaves on the disk,
+//! [`tce`] does all that the program does, over any disk, sink and room, and [`answer`] over the files of the system. Its contract says when each [`Status`] comes and what it leaves on the disk,
 //! on the sink and in the room. What a command needs, why it is refused and what it leaves stands for each command in
 //! `specs/Performed.antt`. All that a status holds is exported beside it.
 #![tactic(auto)]
 
 mod laws;
 mod perform;
+mod program;
 mod top;
 
 pub use laws::written_is_verified;
+pub use program::{answer, words_of};
 pub use tce_array::ArrayFault;
 pub use tce_cert::CertFault;
 pub use tce_check::Verdict;

@@ -4,4 +4,6 @@
 #[cfg(test)]
 mod spill;
 #[cfg(test)]
+mod status;
+#[cfg(test)]
 mod top;

@@ -1,23 +1,13 @@
-use crate::{answer, words_of};
+//! Exit statuses of the program, over real files in a folder of their own.
+
+use crate::top::given::{check, must, part};
 use std::env::FillError;
 use std::fs::File;
 use std::process::Abort;
 use std::rt::{Env, Files};
 use std::{env, fs, process};
 use tce_outside::MemSink;
-
-// Ends the test where this does not hold, with what it is about.
-fn check(rt: &impl Abort, holds: bool, what: &str) {
-    assert!(rt; holds, "{what}");
-}
-
-// What was made. The test ends where it could not be made.
-fn must<T, E>(rt: &impl Abort, made: Result<T, E>) -> T {
-    match made {
-        Ok(made) => made,
-        Err(_) => panic!(rt; "this cannot be made"),
-    }
-}
+use tce_top::{answer, words_of};
 
 // The file has these bytes, also for others.
 fn check_file<R: Files<File = File> + AllocGlobal + Abort>(rt: &R, name: &str, bytes: &[u8]) {
@@ -64,10 +54,6 @@ sum 168
 ;tce unpack demo.tce demoS s.flat|0|tce unpack 1
 wrote s.flat 8
 ";
-
-fn part(row: &'static str, number: usize) -> &'static str {
-    row.split('|').nth(number).unwrap_or("")
-}
 
 fn check_answer<R: Files<File = File> + AllocGlobal + Abort>(rt: &R, row: &'static str) {
     let alloc = rt.alloc();

@@ -1,0 +1,41 @@
+// The program over what the system gives it: the words of its command line and the files of the current folder.
+use crate::tce;
+use std::alloc::{AllocError, Global};
+use std::env;
+use std::fs::File;
+use std::io::ErrorKind;
+use std::process::ExitCode;
+use std::rt::{Env, Files};
+use tce_holes::SparseDisk;
+use tce_outside::Sink;
+use tce_system::FileDisk;
+use tce_words::HeapRoom;
+
+/// The words behind the program's name. Where the system does not give them as text there are none, which are no command.
+///
+/// # Errors
+/// There is no memory.
+pub fn words_of<R: Env>(alloc: Global, env: &R) -> Result<Vec<String>, AllocError> {
+    let mut words = Vec::new(alloc);
+    let args = match env::args(&(env, alloc)) {
+        Ok(args) => args,
+        Err(error) if error.kind() == ErrorKind::OutOfMemory => return Err(AllocError),
+        Err(_) => return Ok(words),
+    };
+    for word in args.skip(1) {
+        words.push(word)?;
+    }
+    Ok(words)
+}
+
+/// Does what the words say over the files of the system, of which holes are not read, and ends with the status of that.
+pub fn answer<R: Files<File = File>, K: Sink>(
+    alloc: Global,
+    words: &[String],
+    files: &R,
+    out: &mut K,
+) -> ExitCode {
+    let mut disk = SparseDisk::new(alloc, FileDisk::new(alloc, files));
+    let mut room = HeapRoom::new(alloc);
+    tce(alloc, words, &mut disk, out, &mut room).exit_code()
+}
