@@ -10,6 +10,7 @@ mod copies;
 mod laws;
 mod operands;
 mod pieces;
+mod sources;
 mod spec;
 
 pub use laws::{every_text_has_one_outcome, piece_specification_has_value};

@@ -1,40 +1,27 @@
 //! The specifications of pieces of a tree.
 
-ghost use Rattle.std.specs.Prelude.{◌≡◌, ◌<◌, ◌≤◌, ◌+◌, ◌-◌, ◌++◌, ◌∷◌, [], None, ◌&&◌, nat_lt, codes, IfOk, IsTrue, length};
-ghost use Rattle.std.specs.List.{list_all};
-ghost use Rattle.std.specs.Fmt.{decimal};
+ghost use Rattle.std.specs.Prelude.{◌≡◌, ◌<◌, ◌≤◌, ◌+◌, ◌-◌, ◌&&◌, IfOk, IsTrue, length};
 ghost use Rattle.tce_space.specs.Limits.{max_nodes, max_rank, max_tensors};
-ghost use Rattle.tce_space.specs.IndexSet.{has, count, members};
+ghost use Rattle.tce_space.specs.IndexSet.{has, count};
 ghost use Rattle.tce_tree.specs.Expr.{tree_of};
 ghost use Rattle.tce_tree.specs.ContractionTree.{leaf, sum, operations, node, node_dims};
-ghost use Rattle.tce_tree.specs.Measure.{IsMeasured};
-ghost use Rattle.tce_declarations.specs.Declarations.{HaveNames, IsTensor, tensor_number};
+ghost use Rattle.tce_declarations.specs.Declarations.{HaveNames};
 ghost use Rattle.tce_pieces.specs.Pieces as model;
-ghost use Rattle.tce_pieces.specs.Storable.{ranges_of_node};
-ghost use Rattle.tce_spec.specs.PieceSpecification.{CanCut, piece_of, renumbered, place_in, source, target_indexes, declared_of};
-ghost use Rattle.tce_spec.specs.PieceCode.{StandsAt, HaveRank, IsSource, CanDeclare, target_number, cuts_below, IsRestOf, IsRenumbered, IsJoined, with_operands, specification_to};
+ghost use Rattle.tce_spec.specs.PieceSpecification.{CanCut, piece_of, renumbered, place_in, target_indexes};
+ghost use Rattle.tce_spec.specs.PieceCode.{StandsAt, HaveRank, target_number, cuts_below, IsRestOf, IsRenumbered, IsJoined, with_operands, specification_to};
 ghost use Rattle.tce_spec.specs.Specification.{ConstantsAreWords};
 ghost use Rattle.tce_formula.specs.Contraction.{IsContraction};
 ghost use Rattle.tce_tree.specs.WellFormed.{sums_distinct};
-ghost use Rattle.tce_spec.specs.Operands.{references, each_once};
 
-use crate::copies::copied_space;
-use crate::operands::add_operands;
+use crate::sources::{FIRST_ARRAY, declared, dims_of, sources_of};
 use crate::spec::Spec;
 use arrayvec::ArrayVec;
 use std::alloc::{AllocError, Global};
 use std::boxed::Box;
 use tce_declarations::Declarations;
-use tce_fields::{decimal_text, members_of};
 use tce_formula::Contraction;
-use tce_space::{MAX_INDEXES, MAX_NODES, MAX_RANK, MAX_TENSORS, Name, Space};
+use tce_space::{MAX_INDEXES, MAX_RANK};
 use tce_tree::{Expr, Leaf, Tree};
-
-/// The array of node `v` stands behind all tensors that may be declared, as number `FIRST_ARRAY + v`.
-const FIRST_ARRAY: u8 = MAX_TENSORS as u8;
-
-/// How many tensors and arrays of nodes there are at most.
-const MAX_SOURCES: usize = MAX_TENSORS + MAX_NODES;
 
 /// The cut nodes, as the bits of a number, and the root of a piece, which is not cut off itself.
 #[derive(Clone, Copy)]
@@ -67,20 +54,6 @@ fn has_bit(bits: u32, v: u8) -> bool
     ensures { result ≡ has bits v }
 {
     bits >> v & 1 == 1
-}
-
-// The indexes of a node in order.
-fn dims_of(tree: &Tree, v: u8) -> ArrayVec<u8, MAX_RANK>
-    requires inside { v < operations tree.now }
-    requires rank { count (node_dims tree.now v) ≤ max_rank }
-    ensures { result.items ≡ members (node_dims tree.now v) }
-{
-    let all = members_of(tree.dims(v));
-    let mut dims = ArrayVec::new();
-    for index in all.as_slice() {
-        dims.push(*index);
-    }
-    dims
 }
 
 // The array of a node in place of the node.
@@ -243,95 +216,6 @@ fn renumbered(alloc: Global, expr: &Expr, numbers: &[u8]) -> Result<Expr, AllocE
     }
 }
 
-// The name of a node's array.
-fn array_name(v: u8) -> Name
-    requires { v < max_nodes }
-    ensures { result.bytes ≡ codes "spill-" ++ decimal v }
-{
-    let mut name = Name::new();
-    name.push_str("spill-");
-    name.push_str(decimal_text(u128::from(v)).as_str());
-    name
-}
-
-// The ranges of a node's dims.
-fn ranges_of(space: &Space, tree: &Tree, v: u8) -> ArrayVec<u8, MAX_RANK>
-    requires measured { IsMeasured space.now tree.now }
-    requires inside { v < operations tree.now }
-    requires rank { count (node_dims tree.now v) ≤ max_rank }
-    ensures { result.items ≡ ranges_of_node space.now tree.now v }
-{
-    let _indexes = space.index_count();
-    let dims = dims_of(tree, v);
-    let mut ranges = ArrayVec::new();
-    for index in dims.as_slice() {
-        ranges.push(space.range_of(*index));
-    }
-    ranges
-}
-
-// The name of a tensor or an array.
-fn source_name(spec: &Spec, t: u8) -> Name
-    requires { IsSource spec.now t }
-    ensures { result.bytes ≡ (source spec.now t).name }
-{
-    let _rules = spec.space();
-    if t < FIRST_ARRAY {
-        spec.tensor(t).name
-    } else {
-        array_name(t - FIRST_ARRAY)
-    }
-}
-
-// The ranges of a tensor or an array.
-fn source_ranges(spec: &Spec, t: u8) -> Result<ArrayVec<u8, MAX_RANK>, AllocError>
-    requires { IsSource spec.now t }
-    ensures { IfOk result (λ ranges. ranges.items ≡ (source spec.now t).ranges) }
-{
-    let space = spec.space();
-    if t < FIRST_ARRAY {
-        spec.tensor(t).ranges.clone()
-    } else {
-        Ok(ranges_of(space, spec.tree(), t - FIRST_ARRAY))
-    }
-}
-
-// One more tensor or array behind the others.
-fn declare_source(
-    declarations: Declarations,
-    spec: &Spec,
-    t: u8,
-) -> Result<Declarations, AllocError>
-    requires source { IsSource spec.now t }
-    requires unnamed { tensor_number declarations.tensors (source spec.now t).name ≡ None }
-    requires room { length declarations.tensors < max_tensors }
-    requires fits { IsTensor declarations.space (source spec.now t) }
-    ensures { IfOk result (λ d. d ≡ record {
-      space = declarations.space;
-      tensors = declarations.tensors ++ source spec.now t ∷ [];
-    }) }
-{
-    match source_ranges(spec, t) {
-        Ok(ranges) => declarations.with_tensor_over(source_name(spec, t), ranges),
-        Err(error) => {
-            drop(declarations);
-            Err(error)
-        }
-    }
-}
-
-// These tensors and arrays over the same space.
-fn declared(alloc: Global, spec: &Spec, numbers: &[u8]) -> Result<Declarations, AllocError>
-    requires { CanDeclare spec.now numbers.now }
-    ensures { IfOk result (λ d. d ≡ declared_of spec.now numbers.now) }
-{
-    let mut declarations = Declarations::over(alloc, copied_space(alloc, spec.space())?)?;
-    for t in numbers {
-        declarations = declare_source(declarations, spec, *t)?;
-    }
-    Ok(declarations)
-}
-
 // What is left of the node, with the numbers of the whole.
 fn rest_of_piece(alloc: Global, spec: &Spec, root: u8, cuts: u32) -> Result<Expr, AllocError>
     requires { CanCut spec.now (has cuts) root }
@@ -341,16 +225,6 @@ fn rest_of_piece(alloc: Global, spec: &Spec, root: u8, cuts: u32) -> Result<Expr
     let node = node_of(spec.expr(), u64::from(root));
     let first = root + 1 - node.operations() as u8;
     rest_of(alloc, tree, CutNodes { cuts, root }, first, node)
-}
-
-// The tensors and arrays of an expression, by their first place from the left, each once.
-fn sources_of(expr: &Expr) -> ArrayVec<u8, MAX_SOURCES>
-    requires { IsTrue (list_all (λ t. nat_lt t (max_tensors + max_nodes)) (references (tree_of expr.now))) }
-    ensures { result.items ≡ each_once (references (tree_of expr.now)) }
-{
-    let mut sources = ArrayVec::new();
-    add_operands(&mut sources, expr);
-    sources
 }
 
 // The number of what the piece computes.

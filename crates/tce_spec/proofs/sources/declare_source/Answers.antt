@@ -3,7 +3,7 @@ use Rattle.std.proofs.lemmas.Result.{IfOk-weaker}
 use Rattle.tce_declarations.specs.Declarations.{Tensor, tensor_number}
 use Rattle.tce_spec.specs.PieceSpecification.{source}
 use Rattle.tce_spec.proofs.PieceCalls.{tensor_is, tensor_fits}
-use Rattle.tce_spec.proofs.pieces.declare_source.Goals as goal
+use Rattle.tce_spec.proofs.sources.declare_source.Goals as goal
 
 pub with_tensor_over-requires-clause-unnamed : goal.with_tensor_over-requires-clause-unnamed
 with_tensor_over-requires-clause-unnamed c = ap (tensor_number c.args.declarations.tensors) c.source_name.ensures ∙ c.requires.unnamed

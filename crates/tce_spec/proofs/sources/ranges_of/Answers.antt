@@ -4,7 +4,7 @@ use Rattle.tce_space.specs.Space.{index_at}
 use Rattle.tce_tree.specs.ContractionTree.{node_dims}
 use Rattle.tce_spec.proofs.PieceNames.{index_declared}
 use Rattle.tce_spec.proofs.Taken.{mapped_more, mapped_all}
-use Rattle.tce_spec.proofs.pieces.ranges_of.Goals as goal
+use Rattle.tce_spec.proofs.sources.ranges_of.Goals as goal
 
 pub range_of-requires : goal.range_of-requires
 range_of-requires c =

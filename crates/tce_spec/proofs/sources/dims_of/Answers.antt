@@ -3,7 +3,7 @@ use Rattle.tce_space.specs.IndexSet.{members}
 use Rattle.tce_tree.specs.ContractionTree.{node_dims}
 use Rattle.tce_spec.proofs.PieceParts.{rank_room}
 use Rattle.tce_spec.proofs.Taken.{taken_more, taken_all}
-use Rattle.tce_spec.proofs.pieces.dims_of.Goals as goal
+use Rattle.tce_spec.proofs.sources.dims_of.Goals as goal
 
 pub push-requires : goal.push-requires
 push-requires c = (

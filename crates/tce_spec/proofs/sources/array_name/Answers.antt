@@ -2,7 +2,7 @@ use Rattle.std.proofs.Common.{List, ℕ, ◌++◌, ◌∙◌, ap, arith}
 use Rattle.std.specs.Prelude.{codes}
 use Rattle.std.specs.Fmt.{decimal}
 use Rattle.tce_spec.proofs.PieceParts.{name_room}
-use Rattle.tce_spec.proofs.pieces.array_name.Goals as goal
+use Rattle.tce_spec.proofs.sources.array_name.Goals as goal
 
 pub push_str-requires-2 : goal.push_str-requires-2
 push_str-requires-2 c = (

@@ -5,7 +5,7 @@ use Rattle.tce_spec.specs.PieceCode.{IsSource}
 use Rattle.tce_spec.specs.PieceSpecification.{source}
 use Rattle.tce_spec.proofs.PieceCalls.{tensor_fits}
 use Rattle.tce_spec.proofs.DeclaredAnew.{unnamed_before, each_at, tensor_more, room_before, all_tensors}
-use Rattle.tce_spec.proofs.pieces.declared.Goals as goal
+use Rattle.tce_spec.proofs.sources.declared.Goals as goal
 
 pub loop-t-init : goal.loop-t-init
 loop-t-init c = c.in_ok-declarations.ensures ∙ ap (λ (x : IndexSpace). record { space = x; tensors = [] }) (c.in_ok-copied_space.ensures ∙ c.space.ensures.space)
