@@ -3,12 +3,9 @@ ghost use Rattle.std.specs.Prelude.{◌↔◌, ◌<◌, IsTrue, IsNone, IfSome, 
 ghost use Rattle.tce_states.specs.Relation.{above};
 ghost use Rattle.tce_states.specs.Row.{StandsFor};
 
-use arrayvec::ArrayVec;
-use tce_nesting::{Nesting, Row};
-use tce_space::{IndexSet, MAX_LOOPS};
-
-// A prime, so that parts which differ in few loops mostly have different groups.
-pub(crate) const GROUPS: usize = 16_381;
+use crate::uppers::{Parts, group_of, hint_of, marks_of, parts_of, single_of, uppers_of};
+use tce_nesting::Row;
+use tce_space::IndexSet;
 
 // How many rows have an entry. Those behind them are asked one by one.
 pub(crate) const ENTRIES: usize = 131_072;
@@ -16,25 +13,8 @@ pub(crate) const ENTRIES: usize = 131_072;
 // An entry is the place of a row, below this, and above it the marks.
 const PLACES: u32 = 524_288;
 
-// The greatest prime for which all remainders are bits of a mark.
-const MARKS: u32 = 13;
-
 // Fewer rows have no entries, since to fill the groups would take longer than to ask all rows.
 const FEW: usize = 48;
-
-// How many hints there are, a prime.
-pub(crate) const HINTS: usize = 16_381;
-
-// How many places of rows with one class are kept, a prime.
-pub(crate) const SINGLES: usize = 1021;
-
-// The three largest parts of the outer loops that are above the others, the largest first, without loops where there are fewer.
-#[derive(Clone, Copy, Default)]
-struct Parts {
-    first: IndexSet,
-    second: IndexSet,
-    third: IndexSet,
-}
 
 // The rows of a node by their three largest upper parts: the outer loops that they put above the others.
 //
@@ -59,64 +39,6 @@ struct Sought<'a, 'b> {
     state: &'b Row,
     outer: IndexSet,
     marks: u32,
-}
-
-// The upper parts, the least first.
-fn uppers_of(classes: &Nesting, outer: IndexSet) -> ArrayVec<IndexSet, MAX_LOOPS> {
-    let mut uppers = ArrayVec::<IndexSet, MAX_LOOPS>::new();
-    let mut reached = IndexSet::empty();
-    for class in classes.classes() {
-        reached = reached.union(class.meet(outer));
-        if outer.within(reached) {
-            return uppers;
-        }
-        if uppers.len() < MAX_LOOPS {
-            uppers.push(reached);
-        }
-    }
-    uppers
-}
-
-// A bit for each upper part, and mostly another one for another part.
-fn marks_of(uppers: &[IndexSet]) -> u32 {
-    let mut marks = 0;
-    for part in uppers {
-        marks |= 1 << (part.bits() % MARKS);
-    }
-    marks
-}
-
-// The three largest upper parts.
-fn parts_of(uppers: &[IndexSet]) -> Parts {
-    let mut parts = Parts::default();
-    for part in uppers {
-        parts = Parts {
-            first: *part,
-            second: parts.first,
-            third: parts.second,
-        };
-    }
-    parts
-}
-
-// The number of the group of three parts.
-fn group_of(parts: &Parts) -> usize {
-    let two = parts.first.bits() as u64 * 1021 + parts.second.bits() as u64;
-    ((two * 1021 + parts.third.bits() as u64) % GROUPS as u64) as usize
-}
-
-// The hint for states with these classes.
-fn hint_of(classes: &Nesting) -> usize {
-    let mut number = 0;
-    for class in classes.classes() {
-        number = (number % HINTS * 1021 + class.bits() as usize) % HINTS;
-    }
-    number
-}
-
-// The number under which a row with this class alone is noted.
-fn single_of(class: IndexSet) -> usize {
-    class.bits() as usize % SINGLES
 }
 
 impl<'a> Groups<'a> {

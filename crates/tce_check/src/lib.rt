@@ -15,6 +15,7 @@ mod runs;
 mod steps;
 mod tables;
 mod tops;
+mod uppers;
 mod verdict;
 
 pub use rules::check;

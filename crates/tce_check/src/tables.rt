@@ -8,11 +8,12 @@ ghost use Rattle.tce_check.specs.First.{IsFirst};
 ghost use Rattle.tce_check.specs.Verdict.{CoversAt, FailsAt};
 
 use crate::bound::bound_of;
-use crate::groups::{ENTRIES, GROUPS, Groups, HINTS, SINGLES};
+use crate::groups::{ENTRIES, Groups};
 use crate::operands::{leaf_row, left_rows, right_rows};
 use crate::parts::{PARTS, PartCost};
 use crate::reach::fill_reaches;
 use crate::steps::{Kept, Node, Step};
+use crate::uppers::{GROUPS, HINTS, SINGLES};
 use tce_nesting::{Tables, choices, stretches_of};
 use tce_space::Space;
 use tce_tree::Tree;
