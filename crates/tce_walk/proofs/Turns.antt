@@ -83,10 +83,10 @@ pub record IsIndex (space : IndexSpace) (i : ℕ) : Type 0 where
   pub declared : i < length space.indexes
   pub some : 0 < extent_at space i
 
-pub loop-index : (space : IndexSpace) (tree : ContractionTree) (i : ℕ) (body : Program) (a : Assignment) → AreKept space tree → IsMeasured space tree
+pub loop-index : {space : IndexSpace} {tree : ContractionTree} {i : ℕ} {body : Program} {a : Assignment} → AreKept space tree → IsMeasured space tree
     → IsPart space tree (loop i body stop) a → IsIndex space i
 unfolding node_loops
-loop-index space tree i body a limits m h =
+loop-index {space} {tree} {i} limits m h =
     let is_loop = h.shape.0 in
     let declared = node_loops_declared space tree is_loop.0 is_loop.1 limits.is_space.index_limit m.declared i is_loop.2 in
     record {

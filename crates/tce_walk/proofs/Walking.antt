@@ -1,8 +1,9 @@
 -- Parts of the code at positions, one after the other.
-use Rattle.std.proofs.Common.{◌≡◌, ℕ, zero, suc, replicate, ◌+◌, ◌^◌, ◌<◌, ◌≤◌, min, Option, List, [], length, get_or, set, refl, sym, ap, ap₂, ◌∙◌, subst, arith, set-set}
+use Rattle.std.proofs.Common.{◌≡◌, ℕ, zero, suc, replicate, ◌+◌, ◌^◌, ◌<◌, ◌≤◌, true, false, min, Option, List, [], length, get_or, set, refl, sym, ap, ap₂, ◌∙◌, subst, arith, set-set}
 use mathlib.Core.Path.{fun_ext}
 use Rattle.std.proofs.lemmas.Bool.{false≢true}
 use Rattle.std.proofs.lemmas.List.{get_or_default, set-get_or}
+use Rattle.tce_outside.specs.Fault.{HasCause}
 use Rattle.tce_space.specs.Space.{IndexSpace, extent_at}
 use Rattle.tce_tree.specs.ContractionTree.{ContractionTree, multiply, add, subtract}
 use Rattle.tce_tree.specs.Value.{Assignment}
@@ -19,10 +20,16 @@ use Rattle.tce_walk.proofs.Searching.{program-loop}
 use Rattle.tce_walk.proofs.Positions.{programs-action, programs-loop, programs-within, IsLeft, left-plain, left-loop, left-done, stop-close, stop-past, ends-close, ends-past}
 
 -- the same machine, later
-pub over-later : (space : IndexSpace) (tree : ContractionTree) (own later : IndexSpace) (s next : Setting) → later ≡ own → next ≡ s → RunsOver space tree own s
+pub over-later : {space : IndexSpace} {tree : ContractionTree} {own later : IndexSpace} {s next : Setting} → later ≡ own → next ≡ s → RunsOver space tree own s
     → RunsOver space tree later next
-over-later space tree own later s next e f h =
+over-later {space} {tree} {own} {later} {s} {next} e f h =
     subst (λ o. RunsOver space tree o next) (sym e) (subst (λ n. RunsOver space tree own n) (sym f) h)
+
+pub cause-later : {before now later : ℕ} → now ≡ before → HasCause now later (true ≡ true) → HasCause before later (true ≡ true)
+cause-later {before} {now} {later} e h = subst (λ n. HasCause n later (true ≡ true)) e h
+
+pub cause-none : {before now : ℕ} → now ≡ before → HasCause before now (false ≡ true)
+cause-none e = record { later = omega (arith, e); rose = λ f. absurd (false≢true f) }
 
 pub over-part : (space : IndexSpace) (tree : ContractionTree) (own : IndexSpace) (s : Setting) (program : Program) (a : Assignment) → RunsOver space tree own s
     → IsPart space tree program a → IsPart own s.tree program a

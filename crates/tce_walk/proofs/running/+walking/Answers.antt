@@ -1,7 +1,5 @@
 use Rattle.std.proofs.Common.{◌≡◌, ◌+◌, ◌-◌, ◌<◌, length, get_or, set, refl, sym, ap, ◌∙◌, subst, arith, rules}
-use Rattle.std.proofs.lemmas.Bool.{false≢true}
 use Rattle.std.proofs.lemmas.Result.{err_from_is_err_and}
-use Rattle.tce_outside.specs.Fault.{Rose}
 use Rattle.tce_space.specs.Space.{extent_at}
 use Rattle.tce_code.specs.Program.{stop, loop}
 use Rattle.tce_code.specs.declared.op.Op.TheVariants.{Open}
@@ -11,7 +9,7 @@ use Rattle.tce_walk.specs.Run.{RunsOver, IsPart, IsRun}
 use Rattle.tce_walk.proofs.Turns.{IsIndex, AreTurns, loop-index, assignment-set, set-again, turn-part, turn-few, turns-none, turns-next, turns-all}
 use Rattle.tce_walk.proofs.TailParts.{part-shaped, tail-asks, tail-few, tail-run}
 use Rattle.tce_walk.proofs.Positions.{left-start}
-use Rattle.tce_walk.proofs.Walking.{over-later, over-part, over-extents, plain-is, plain-part, plain-rest, plain-few, plain-left, open-part, open-few, open-rest, open-left, set-next, set-back, close-run, close-end, past-run, past-end}
+use Rattle.tce_walk.proofs.Walking.{over-later, cause-later, cause-none, over-part, over-extents, plain-is, plain-part, plain-rest, plain-few, plain-left, open-part, open-few, open-rest, open-left, set-next, set-back, close-run, close-end, past-run, past-end}
 use Rattle.tce_walk.proofs.running.+walking.Goals as goal
 
 pub run_loop-find_tail-requires-clause-shaped : goal.run_loop-find_tail-requires-clause-shaped
@@ -24,33 +22,17 @@ run_loop-run_tail-requires-clause-tail g t c =
     (program_at c.args.ops.now (c.args.head.at + 1)) (assignment_of c.args.numbers.now) c.in-Some.found.tail c.requires.over c.requires.part (c.in-Some.ensures).0
 
 pub run_part-run_loop-requires : goal.run_part-run_loop-requires
-run_part-run_loop-requires g t c = λ κs lives. (
-  omega (arith, c.loop-at-test.true, c.loop-at.invariant.behind),
-  (
-    lives,
-    (
-      c.loop-at-test.true,
-      (
-        c.requires.limits,
-        (
-          over-later c.args.space.now c.args.tree.now (g.M.Machine.space c.args.machine.now) (g.M.Machine.space c.loop-at.machine)
-              (g.M.Machine.setting c.args.machine.now) (g.M.Machine.setting c.loop-at.machine) c.loop-at.invariant.space c.loop-at.invariant.setting c.requires.over,
-          (
-            subst (λ ns. IsPart c.args.space.now c.args.tree.now (loop c.in-Open.i (program_at c.args.ops.now (c.loop-at.at + 1)) stop) (assignment_of ns)) (sym c.loop-at.invariant.numbers_same)
-                (open-part c.args.space.now c.args.tree.now c.args.ops.now c.loop-at.at c.in-Open.i (Open 0) (assignment_of c.args.numbers.now) c.loop-at-test.true
-                c.in-Open.is c.loop-at.invariant.part),
-            (
-              c.loop-at.invariant.ready,
-              open-few c.args.space.now c.args.tree.now (g.M.Machine.setting c.args.machine.now) c.args.ops.now c.args.start c.loop-at.at c.in-Open.i (Open 0)
-                  (assignment_of c.args.numbers.now) (g.M.Machine.state c.args.machine.now) (g.M.Machine.state c.loop-at.machine)
-                  (g.M.Machine.touches c.args.machine.now) (g.M.Machine.touches c.loop-at.machine) c.loop-at-test.true c.in-Open.is c.loop-at.invariant.left c.requires.few,
-            ),
-          ),
-        ),
-      ),
-    ),
-  ),
-)
+run_part-run_loop-requires g t c = λ κs lives.
+    let over = over-later c.loop-at.invariant.space c.loop-at.invariant.setting c.requires.over in
+    let part =
+    subst (λ ns. IsPart c.args.space.now c.args.tree.now (loop c.in-Open.i (program_at c.args.ops.now (c.loop-at.at + 1)) stop) (assignment_of ns)) (sym c.loop-at.invariant.numbers_same)
+    (open-part c.args.space.now c.args.tree.now c.args.ops.now c.loop-at.at c.in-Open.i (Open 0) (assignment_of c.args.numbers.now) c.loop-at-test.true
+    c.in-Open.is c.loop-at.invariant.part) in
+    let few =
+    open-few c.args.space.now c.args.tree.now (g.M.Machine.setting c.args.machine.now) c.args.ops.now c.args.start c.loop-at.at c.in-Open.i (Open 0)
+    (assignment_of c.args.numbers.now) (g.M.Machine.state c.args.machine.now) (g.M.Machine.state c.loop-at.machine)
+    (g.M.Machine.touches c.args.machine.now) (g.M.Machine.touches c.loop-at.machine) c.loop-at-test.true c.in-Open.is c.loop-at.invariant.left c.requires.few in
+    (omega (arith, c.loop-at-test.true, c.loop-at.invariant.behind), (lives, (c.loop-at-test.true, (c.requires.limits, (over, (part, (c.loop-at.invariant.ready, few)))))))
 
 pub run_part-loop-at-preserved-in-Open : goal.run_part-loop-at-preserved-in-Open
 run_part-loop-at-preserved-in-Open g t c = record {
@@ -80,8 +62,7 @@ pub run_part-run_action-requires : goal.run_part-run_action-requires
 run_part-run_action-requires g t c =
     let plain : IsPlain (get_or c.args.ops.now c.loop-at.at (Open 0)) = plain-is (get_or c.args.ops.now c.loop-at.at (Open 0)) c.in_default.not-Open c.in_default.not-Close in
     let over : RunsOver c.args.space.now c.args.tree.now (g.M.Machine.space c.loop-at.machine) (g.M.Machine.setting c.loop-at.machine) =
-    over-later c.args.space.now c.args.tree.now (g.M.Machine.space c.args.machine.now) (g.M.Machine.space c.loop-at.machine)
-    (g.M.Machine.setting c.args.machine.now) (g.M.Machine.setting c.loop-at.machine) c.loop-at.invariant.space c.loop-at.invariant.setting c.requires.over in
+    over-later c.loop-at.invariant.space c.loop-at.invariant.setting c.requires.over in
     record {
       plain = plain;
       ready = c.loop-at.invariant.ready;
@@ -102,8 +83,7 @@ pub run_part-loop-at-preserved : goal.run_part-loop-at-preserved
 run_part-loop-at-preserved g t c =
     let plain : IsPlain (get_or c.args.ops.now c.loop-at.at (Open 0)) = plain-is (get_or c.args.ops.now c.loop-at.at (Open 0)) c.in_default.not-Open c.in_default.not-Close in
     let over : RunsOver c.args.space.now c.args.tree.now (g.M.Machine.space c.loop-at.machine) (g.M.Machine.setting c.loop-at.machine) =
-    over-later c.args.space.now c.args.tree.now (g.M.Machine.space c.args.machine.now) (g.M.Machine.space c.loop-at.machine)
-    (g.M.Machine.setting c.args.machine.now) (g.M.Machine.setting c.loop-at.machine) c.loop-at.invariant.space c.loop-at.invariant.setting c.requires.over in
+    over-later c.loop-at.invariant.space c.loop-at.invariant.setting c.requires.over in
     record {
       setting = c.run_action.ensures.setting ∙ c.loop-at.invariant.setting;
       space = c.run_action.ensures.space ∙ c.loop-at.invariant.space;
@@ -126,56 +106,32 @@ run_part-loop-at-preserved g t c =
     }
 
 pub run_turns-extent-extent-requires : goal.run_turns-extent-extent-requires
-run_turns-extent-extent-requires g t c =
-    (loop-index c.args.space.now c.args.tree.now c.args.head.index (program_at c.args.ops.now (c.args.head.at + 1)) (assignment_of c.args.numbers.now) c.requires.limits
-    c.requires.over.measured c.requires.part).declared
+run_turns-extent-extent-requires g t c = (loop-index c.requires.limits c.requires.over.measured c.requires.part).declared
 
 pub run_turns-bounds-numbers-i : goal.run_turns-bounds-numbers-i
-run_turns-bounds-numbers-i g t c =
-    (loop-index c.args.space.now c.args.tree.now c.args.head.index (program_at c.args.ops.now (c.args.head.at + 1)) (assignment_of c.args.numbers.now) c.requires.limits
-    c.requires.over.measured c.requires.part).small
+run_turns-bounds-numbers-i g t c = (loop-index c.requires.limits c.requires.over.measured c.requires.part).small
 
 pub run_turns-bounds-numbers-i-2 : goal.run_turns-bounds-numbers-i-2
-run_turns-bounds-numbers-i-2 g t c =
-    (loop-index c.args.space.now c.args.tree.now c.args.head.index (program_at c.args.ops.now (c.args.head.at + 1)) (assignment_of c.args.numbers.now) c.requires.limits
-    c.requires.over.measured c.requires.part).small
+run_turns-bounds-numbers-i-2 g t c = (loop-index c.requires.limits c.requires.over.measured c.requires.part).small
 
 pub run_turns-run_part-requires : goal.run_turns-run_part-requires
 run_turns-run_part-requires g t c = λ κs lives.
-    let index : IsIndex c.args.space.now c.args.head.index = loop-index c.args.space.now c.args.tree.now c.args.head.index (program_at c.args.ops.now (c.args.head.at + 1))
-    (assignment_of c.args.numbers.now) c.requires.limits c.requires.over.measured c.requires.part in
-    let within : c.args.head.index < length c.args.numbers.now = omega (arith, index.small, c.told-numbers) in (
-      omega (arith, c.requires.within),
-      (
-        lives,
-        (
-          omega (arith, c.requires.within),
-          (
-            c.requires.limits,
-            (
-              c.requires.over,
-              (
-                turn-part c.args.space.now c.args.tree.now c.args.head.index (program_at c.args.ops.now (c.args.head.at + 1)) (assignment_of c.args.numbers.now)
-                    (assignment_of (set c.args.numbers.now c.args.head.index 0)) 0 (assignment-set c.args.numbers.now c.args.head.index 0 within) index.some c.requires.part,
-                (
-                  c.requires.ready,
-                  turn-few c.args.space.now c.args.tree.now (g.M.Machine.setting c.args.machine.now) c.args.head.index (program_at c.args.ops.now (c.args.head.at + 1))
-                      (assignment_of c.args.numbers.now) 0 (g.M.Machine.state c.args.machine.now) (g.M.Machine.state c.args.machine.now)
-                      (g.M.Machine.touches c.args.machine.now) (g.M.Machine.touches c.args.machine.now) c.requires.no_tail index.some
-                      (turns-none c.args.space.now c.args.tree.now (g.M.Machine.setting c.args.machine.now) c.args.head.index (program_at c.args.ops.now (c.args.head.at + 1))
-                      (assignment_of c.args.numbers.now) (g.M.Machine.state c.args.machine.now) (g.M.Machine.touches c.args.machine.now)) c.requires.few,
-                ),
-              ),
-            ),
-          ),
-        ),
-      ),
-    )
+    let index : IsIndex c.args.space.now c.args.head.index = loop-index c.requires.limits c.requires.over.measured c.requires.part in
+    let within : c.args.head.index < length c.args.numbers.now = omega (arith, index.small, c.told-numbers) in
+    let part =
+    turn-part c.args.space.now c.args.tree.now c.args.head.index (program_at c.args.ops.now (c.args.head.at + 1)) (assignment_of c.args.numbers.now)
+    (assignment_of (set c.args.numbers.now c.args.head.index 0)) 0 (assignment-set c.args.numbers.now c.args.head.index 0 within) index.some c.requires.part in
+    let few =
+    turn-few c.args.space.now c.args.tree.now (g.M.Machine.setting c.args.machine.now) c.args.head.index (program_at c.args.ops.now (c.args.head.at + 1))
+    (assignment_of c.args.numbers.now) 0 (g.M.Machine.state c.args.machine.now) (g.M.Machine.state c.args.machine.now)
+    (g.M.Machine.touches c.args.machine.now) (g.M.Machine.touches c.args.machine.now) c.requires.no_tail index.some
+    (turns-none c.args.space.now c.args.tree.now (g.M.Machine.setting c.args.machine.now) c.args.head.index (program_at c.args.ops.now (c.args.head.at + 1))
+    (assignment_of c.args.numbers.now) (g.M.Machine.state c.args.machine.now) (g.M.Machine.touches c.args.machine.now)) c.requires.few in
+    (omega (arith, c.requires.within), (lives, (omega (arith, c.requires.within), (c.requires.limits, (c.requires.over, (part, (c.requires.ready, few)))))))
 
 pub run_turns-loop-x-init : goal.run_turns-loop-x-init
 run_turns-loop-x-init g t c =
-    let index : IsIndex c.args.space.now c.args.head.index = loop-index c.args.space.now c.args.tree.now c.args.head.index (program_at c.args.ops.now (c.args.head.at + 1))
-    (assignment_of c.args.numbers.now) c.requires.limits c.requires.over.measured c.requires.part in
+    let index : IsIndex c.args.space.now c.args.head.index = loop-index c.requires.limits c.requires.over.measured c.requires.part in
     let within : c.args.head.index < length c.args.numbers.now = omega (arith, index.small, c.told-numbers) in
     record {
       setting = c.run_part.ensures.setting;
@@ -197,41 +153,23 @@ run_turns-loop-x-init g t c =
 
 pub run_turns-run_part-requires-in-loop-x : goal.run_turns-run_part-requires-in-loop-x
 run_turns-run_part-requires-in-loop-x g t c = λ κs lives.
-    let index : IsIndex c.args.space.now c.args.head.index = loop-index c.args.space.now c.args.tree.now c.args.head.index (program_at c.args.ops.now (c.args.head.at + 1))
-    (assignment_of c.args.numbers.now) c.requires.limits c.requires.over.measured c.requires.part in
+    let index : IsIndex c.args.space.now c.args.head.index = loop-index c.requires.limits c.requires.over.measured c.requires.part in
     let within : c.args.head.index < length c.args.numbers.now = omega (arith, index.small, c.told-numbers) in
-    let turn : c.loop-x.x < extent_at c.args.space.now c.args.head.index = omega (arith, c.loop-x-test.true, c.extent-extent.ensures.extent) in (
-      omega (arith, c.requires.within),
-      (
-        lives,
-        (
-          omega (arith, c.requires.within),
-          (
-            c.requires.limits,
-            (
-              over-later c.args.space.now c.args.tree.now (g.M.Machine.space c.args.machine.now) (g.M.Machine.space c.loop-x.machine)
-                  (g.M.Machine.setting c.args.machine.now) (g.M.Machine.setting c.loop-x.machine) c.loop-x.invariant.space c.loop-x.invariant.setting c.requires.over,
-              (
-                turn-part c.args.space.now c.args.tree.now c.args.head.index (program_at c.args.ops.now (c.args.head.at + 1)) (assignment_of c.args.numbers.now)
-                    (assignment_of (set c.loop-x.numbers c.args.head.index c.loop-x.x)) c.loop-x.x
-                    (set-again c.args.numbers.now c.loop-x.numbers c.args.head.index c.loop-x.x (c.loop-x.x - 1) within c.loop-x.invariant.numbers_set) turn c.requires.part,
-                (
-                  c.loop-x.invariant.ready,
-                  turn-few c.args.space.now c.args.tree.now (g.M.Machine.setting c.args.machine.now) c.args.head.index (program_at c.args.ops.now (c.args.head.at + 1))
-                      (assignment_of c.args.numbers.now) c.loop-x.x (g.M.Machine.state c.args.machine.now) (g.M.Machine.state c.loop-x.machine)
-                      (g.M.Machine.touches c.args.machine.now) (g.M.Machine.touches c.loop-x.machine) c.requires.no_tail turn c.loop-x.invariant.turns c.requires.few,
-                ),
-              ),
-            ),
-          ),
-        ),
-      ),
-    )
+    let turn : c.loop-x.x < extent_at c.args.space.now c.args.head.index = omega (arith, c.loop-x-test.true, c.extent-extent.ensures.extent) in
+    let over = over-later c.loop-x.invariant.space c.loop-x.invariant.setting c.requires.over in
+    let part =
+    turn-part c.args.space.now c.args.tree.now c.args.head.index (program_at c.args.ops.now (c.args.head.at + 1)) (assignment_of c.args.numbers.now)
+    (assignment_of (set c.loop-x.numbers c.args.head.index c.loop-x.x)) c.loop-x.x
+    (set-again c.args.numbers.now c.loop-x.numbers c.args.head.index c.loop-x.x (c.loop-x.x - 1) within c.loop-x.invariant.numbers_set) turn c.requires.part in
+    let few =
+    turn-few c.args.space.now c.args.tree.now (g.M.Machine.setting c.args.machine.now) c.args.head.index (program_at c.args.ops.now (c.args.head.at + 1))
+    (assignment_of c.args.numbers.now) c.loop-x.x (g.M.Machine.state c.args.machine.now) (g.M.Machine.state c.loop-x.machine)
+    (g.M.Machine.touches c.args.machine.now) (g.M.Machine.touches c.loop-x.machine) c.requires.no_tail turn c.loop-x.invariant.turns c.requires.few in
+    (omega (arith, c.requires.within), (lives, (omega (arith, c.requires.within), (c.requires.limits, (over, (part, (c.loop-x.invariant.ready, few)))))))
 
 pub run_turns-loop-x-preserved : goal.run_turns-loop-x-preserved
 run_turns-loop-x-preserved g t c =
-    let index : IsIndex c.args.space.now c.args.head.index = loop-index c.args.space.now c.args.tree.now c.args.head.index (program_at c.args.ops.now (c.args.head.at + 1))
-    (assignment_of c.args.numbers.now) c.requires.limits c.requires.over.measured c.requires.part in
+    let index : IsIndex c.args.space.now c.args.head.index = loop-index c.requires.limits c.requires.over.measured c.requires.part in
     let within : c.args.head.index < length c.args.numbers.now = omega (arith, index.small, c.told-numbers) in
     let back : c.loop-x.x ≡ c.loop-x.x + 1 - 1 = omega arith in
     record {
@@ -254,25 +192,29 @@ run_turns-loop-x-preserved g t c =
     }
 
 pub run_turns-bounds-numbers-i-3 : goal.run_turns-bounds-numbers-i-3
-run_turns-bounds-numbers-i-3 g t c =
-    (loop-index c.args.space.now c.args.tree.now c.args.head.index (program_at c.args.ops.now (c.args.head.at + 1)) (assignment_of c.args.numbers.now) c.requires.limits
-    c.requires.over.measured c.requires.part).small
+run_turns-bounds-numbers-i-3 g t c = (loop-index c.requires.limits c.requires.over.measured c.requires.part).small
 
-pub run_turns-returns-clause-run : goal.run_turns-returns-clause-run
-run_turns-returns-clause-run g t c =
+pub run_turns-returns : goal.run_turns-returns
+run_turns-returns g t c =
+    let index : IsIndex c.args.space.now c.args.head.index = loop-index c.requires.limits c.requires.over.measured c.requires.part in
     let all : c.loop-x.x ≡ extent_at c.args.space.now c.args.head.index = omega (arith, c.loop-x-test.false, c.extent-extent.ensures.extent, c.extent-extent.ensures.positive, c.loop-x.auto) in
-    turns-all c.args.space.now c.args.tree.now (g.M.Machine.setting c.args.machine.now) c.args.head.index (program_at c.args.ops.now (c.args.head.at + 1))
-    (assignment_of c.args.numbers.now) (g.M.Machine.state c.args.machine.now) (g.M.Machine.state c.loop-x.machine) (g.M.Machine.touches c.args.machine.now)
-    (g.M.Machine.touches c.loop-x.machine) c.requires.over.extents c.requires.no_tail
-    (subst (λ n. AreTurns c.args.space.now c.args.tree.now (g.M.Machine.setting c.args.machine.now) c.args.head.index (program_at c.args.ops.now (c.args.head.at + 1))
-    (assignment_of c.args.numbers.now) n (g.M.Machine.state c.args.machine.now) (g.M.Machine.state c.loop-x.machine) (g.M.Machine.touches c.args.machine.now)
-    (g.M.Machine.touches c.loop-x.machine)) all c.loop-x.invariant.turns)
-
-pub run_turns-returns-clause-numbers : goal.run_turns-returns-clause-numbers
-run_turns-returns-clause-numbers g t c =
-    let index : IsIndex c.args.space.now c.args.head.index = loop-index c.args.space.now c.args.tree.now c.args.head.index (program_at c.args.ops.now (c.args.head.at + 1))
-    (assignment_of c.args.numbers.now) c.requires.limits c.requires.over.measured c.requires.part in
-    set-back c.args.numbers.now c.loop-x.numbers c.args.head.index (c.loop-x.x - 1) (omega (arith, index.small, c.told-numbers)) c.loop-x.invariant.numbers_set
+    record {
+      ready = c.loop-x.invariant.ready;
+      run =
+          turns-all c.args.space.now c.args.tree.now (g.M.Machine.setting c.args.machine.now) c.args.head.index (program_at c.args.ops.now (c.args.head.at + 1))
+          (assignment_of c.args.numbers.now) (g.M.Machine.state c.args.machine.now) (g.M.Machine.state c.loop-x.machine) (g.M.Machine.touches c.args.machine.now)
+          (g.M.Machine.touches c.loop-x.machine) c.requires.over.extents c.requires.no_tail
+          (subst (λ n. AreTurns c.args.space.now c.args.tree.now (g.M.Machine.setting c.args.machine.now) c.args.head.index (program_at c.args.ops.now (c.args.head.at + 1))
+          (assignment_of c.args.numbers.now) n (g.M.Machine.state c.args.machine.now) (g.M.Machine.state c.loop-x.machine) (g.M.Machine.touches c.args.machine.now)
+          (g.M.Machine.touches c.loop-x.machine)) all c.loop-x.invariant.turns);
+      end = c.loop-x.invariant.end;
+      numbers = set-back c.args.numbers.now c.loop-x.numbers c.args.head.index (c.loop-x.x - 1) (omega (arith, index.small, c.told-numbers)) c.loop-x.invariant.numbers_set;
+      cause = cause-none c.loop-x.invariant.counted;
+      told = λ none. c.loop-x.invariant.counted;
+      space = c.loop-x.invariant.space;
+      setting = c.loop-x.invariant.setting;
+      kept = c.loop-x.invariant.kept;
+    }
 
 pub run_loop-run_tail-requires-clause-few : goal.run_loop-run_tail-requires-clause-few
 run_loop-run_tail-requires-clause-few g t c =
@@ -338,7 +280,7 @@ run_part-returns-in-Close g t c = record {
       (g.M.Machine.state c.args.machine.now) (g.M.Machine.state c.loop-at.machine) (g.M.Machine.touches c.args.machine.now) (g.M.Machine.touches c.loop-at.machine)
       c.loop-at-test.true c.in-Close.is c.loop-at.invariant.behind c.loop-at.invariant.left;
   numbers = c.loop-at.invariant.numbers_same;
-  cause = record { later = omega (arith, c.loop-at.invariant.counted); rose = λ f. absurd (false≢true f) };
+  cause = cause-none c.loop-at.invariant.counted;
   told = λ none. c.loop-at.invariant.counted;
   space = c.loop-at.invariant.space;
   setting = c.loop-at.invariant.setting;
@@ -353,7 +295,7 @@ run_part-returns-in_err-close-in-Open g t c =
       run = tt;
       end = tt;
       numbers = tt;
-      cause = record { later = omega (arith, c.loop-at.invariant.counted, c.in_err-close-in-Open.ensures.cause.later); rose = λ f. subst (λ n. Rose n (g.M.Machine.faults c.run_loop.new.machine)) c.loop-at.invariant.counted (c.in_err-close-in-Open.ensures.cause.rose f) };
+      cause = cause-later c.loop-at.invariant.counted c.in_err-close-in-Open.ensures.cause;
       told = λ none. c.in_err-close-in-Open.ensures.told none ∙ c.loop-at.invariant.counted;
       space = c.run_loop.ensures.space ∙ c.loop-at.invariant.space;
       setting = c.run_loop.ensures.setting ∙ c.loop-at.invariant.setting;
@@ -368,7 +310,7 @@ run_part-returns-in_err-run_action-in_default g t c =
       run = tt;
       end = tt;
       numbers = tt;
-      cause = record { later = omega (arith, c.loop-at.invariant.counted, c.in_err-run_action-in_default.ensures.cause.later); rose = λ f. subst (λ n. Rose n (g.M.Machine.faults c.run_action.new.machine)) c.loop-at.invariant.counted (c.in_err-run_action-in_default.ensures.cause.rose f) };
+      cause = cause-later c.loop-at.invariant.counted c.in_err-run_action-in_default.ensures.cause;
       told = λ none. c.in_err-run_action-in_default.ensures.told none ∙ c.loop-at.invariant.counted;
       space = c.run_action.ensures.space ∙ c.loop-at.invariant.space;
       setting = c.run_action.ensures.setting ∙ c.loop-at.invariant.setting;
@@ -387,7 +329,7 @@ run_part-returns g t c = record {
       (g.M.Machine.state c.args.machine.now) (g.M.Machine.state c.loop-at.machine) (g.M.Machine.touches c.args.machine.now) (g.M.Machine.touches c.loop-at.machine)
       c.loop-at-test.false c.loop-at.invariant.behind c.loop-at.invariant.within c.loop-at.invariant.left;
   numbers = c.loop-at.invariant.numbers_same;
-  cause = record { later = omega (arith, c.loop-at.invariant.counted); rose = λ f. absurd (false≢true f) };
+  cause = cause-none c.loop-at.invariant.counted;
   told = λ none. c.loop-at.invariant.counted;
   space = c.loop-at.invariant.space;
   setting = c.loop-at.invariant.setting;
@@ -417,7 +359,7 @@ run_turns-returns-in_err-close-2 g t c =
       run = tt;
       end = tt;
       numbers = tt;
-      cause = record { later = omega (arith, c.loop-x.invariant.counted, c.in_err-close-2.ensures.cause.later); rose = λ f. subst (λ n. Rose n (g.M.Machine.faults c.run_part-in-loop-x.new.machine)) c.loop-x.invariant.counted (c.in_err-close-2.ensures.cause.rose f) };
+      cause = cause-later c.loop-x.invariant.counted c.in_err-close-2.ensures.cause;
       told = λ none. c.in_err-close-2.ensures.told none ∙ c.loop-x.invariant.counted;
       space = c.run_part-in-loop-x.ensures.space ∙ c.loop-x.invariant.space;
       setting = c.run_part-in-loop-x.ensures.setting ∙ c.loop-x.invariant.setting;
@@ -439,24 +381,3 @@ run_part-loop-at-init g t c = record {
   behind = omega arith;
   within = c.requires.start;
 }
-
-pub run_turns-returns-clause-ready : goal.run_turns-returns-clause-ready
-run_turns-returns-clause-ready g t c = c.loop-x.invariant.ready
-
-pub run_turns-returns-clause-end : goal.run_turns-returns-clause-end
-run_turns-returns-clause-end g t c = c.loop-x.invariant.end
-
-pub run_turns-returns-clause-cause : goal.run_turns-returns-clause-cause
-run_turns-returns-clause-cause g t c = record { later = omega (arith, c.loop-x.invariant.counted); rose = λ f. absurd (false≢true f) }
-
-pub run_turns-returns-clause-told : goal.run_turns-returns-clause-told
-run_turns-returns-clause-told g t c = λ none. c.loop-x.invariant.counted
-
-pub run_turns-returns-clause-space : goal.run_turns-returns-clause-space
-run_turns-returns-clause-space g t c = c.loop-x.invariant.space
-
-pub run_turns-returns-clause-setting : goal.run_turns-returns-clause-setting
-run_turns-returns-clause-setting g t c = c.loop-x.invariant.setting
-
-pub run_turns-returns-clause-kept : goal.run_turns-returns-clause-kept
-run_turns-returns-clause-kept g t c = c.loop-x.invariant.kept
