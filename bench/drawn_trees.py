@@ -3,7 +3,7 @@
 python3 drawn_trees.py wide FOLDER COUNT    trees of 32 operations over 6 to 24 indexes, every fourth dense, one for each seed
 python3 drawn_trees.py small FOLDER COUNT   trees of up to 7 operations, each with a file of its least memory, which is
                                             found by trying all fusions
-python3 drawn_trees.py cuts COUNT           the rows of crates/tests_batch/src/drawn.rt: formulas of a few operations, each
+python3 drawn_trees.py cuts COUNT           the rows of crates/tests_job/src/job/pieces.rt: formulas of a few operations, each
                                             with a limit of memory, and the pieces that it is cut into, which are found by
                                             trying all fusions of each piece and all sets of cuts
 

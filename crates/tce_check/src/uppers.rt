@@ -1,4 +1,4 @@
-//! The upper parts of rows and states, and the numbers under which rows are kept and noted by their classes.
+// The upper parts of rows and states, and the numbers under which rows are kept and noted by their classes.
 
 use arrayvec::ArrayVec;
 use tce_nesting::Nesting;

@@ -21,6 +21,24 @@ fn number_of(rt: &impl Abort, word: &str) -> u64 {
     number
 }
 
+/// Ends the test where this does not hold, with what it is about.
+pub(crate) fn check(rt: &impl Abort, holds: bool, what: &str) {
+    assert!(rt; holds, "{what}");
+}
+
+/// What was made. The test ends where it could not be made.
+pub(crate) fn must<T, E>(rt: &impl Abort, made: Result<T, E>) -> T {
+    match made {
+        Ok(made) => made,
+        Err(_) => panic!(rt; "this cannot be made"),
+    }
+}
+
+/// The part of a row with this number, where bars part it; nothing where there is none.
+pub(crate) fn bar(row: &str, number: usize) -> &str {
+    part(row, '|', number)
+}
+
 // The numbers of a text, apart by blanks.
 pub(crate) fn numbers_of(rt: &impl Abort, alloc: Global, text: &str) -> Vec<u64> {
     let mut numbers = Vec::new(alloc);

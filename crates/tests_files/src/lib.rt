@@ -1,4 +1,4 @@
-//! Tests of array files, the cache over them, flat files and files that are written.
+//! Tests of array files, the cache over them, flat files, files of stored pairs and files that are written.
 #![tactic(auto)]
 
 #[cfg(test)]
@@ -7,6 +7,8 @@ mod array;
 mod cache;
 #[cfg(test)]
 mod given;
+#[cfg(test)]
+mod symmetric;
 #[cfg(test)]
 mod tools;
 #[cfg(test)]

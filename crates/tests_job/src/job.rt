@@ -1,10 +1,11 @@
-//! Whole runs of formulas that are drawn and evaluated apart, by least fusions and by drawn ones, and how often runs
-//! touch tiles.
+//! Whole runs of formulas that are drawn and evaluated apart, by least fusions, by drawn ones and in pieces,
+//! and how often runs touch tiles.
 
 mod draws;
 mod formulas;
 mod fusions;
 mod given;
+mod pieces;
 mod terms;
 mod tiled;
 mod touches;

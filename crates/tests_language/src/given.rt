@@ -39,7 +39,7 @@ pub(crate) fn expect_text(rt: &impl Abort, text: &[u8], wanted: &[u8], row: &str
     assert!(rt; text == wanted, "{row}");
 }
 
-fn words_of_limit(limit: Limit) -> &'static str {
+pub(crate) fn words_of_limit(limit: Limit) -> &'static str {
     match limit {
         Limit::Ranges => "ranges",
         Limit::Indexes => "indexes",
@@ -91,7 +91,7 @@ fn words_of(fault: &SpecFault) -> (&'static str, u64, Name) {
     }
 }
 
-fn numbered(rt: &impl Abort, alloc: Global, kind: &str, number: u64) -> Vec<u8> {
+pub(crate) fn numbered(rt: &impl Abort, alloc: Global, kind: &str, number: u64) -> Vec<u8> {
     match format!(in alloc; "{kind} {number}") {
         Ok(text) => text.into_bytes(),
         Err(_) => panic!(rt; "no memory"),

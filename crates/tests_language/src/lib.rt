@@ -1,10 +1,12 @@
-//! Tests of the language of specifications.
+//! Tests of the language of specifications, and of einsums as specifications.
 #![tactic(auto)]
 
 #[cfg(test)]
 mod canonical;
 #[cfg(test)]
 mod declarations;
+#[cfg(test)]
+mod einsum;
 #[cfg(test)]
 mod formula;
 #[cfg(test)]

@@ -5,7 +5,7 @@
 
 ghost use Rattle.std.specs.Prelude.{◌≤◌, ◌^◌};
 
-use crate::given::array_of;
+use super::given::push_number;
 use std::alloc::{AllocError, Global};
 use std::process::Abort;
 use std::test::Fail;
@@ -35,6 +35,31 @@ const FIFTH: &str =
 
 fn part<'a>(text: &'a str, between: char, number: usize) -> &'a str {
     text.split(between).nth(number).unwrap_or("")
+}
+
+// The array file over tiles of one element of so many words, each of which is the one before it times a factor.
+fn array_of(
+    alloc: Global,
+    extents: &[u64],
+    count: u64,
+    first: u64,
+    factor: u64,
+) -> Result<Vec<u8>, Fail> {
+    let mut bytes = Vec::new(alloc);
+    bytes.extend_from_slice(b"TCARRAY1")?;
+    push_number(&mut bytes, extents.len() as u64)?;
+    for extent in extents {
+        push_number(&mut bytes, *extent)?;
+    }
+    for _ in extents {
+        push_number(&mut bytes, 1)?;
+    }
+    let mut word = first;
+    for _ in 0..count {
+        push_number(&mut bytes, word)?;
+        word = word.wrapping_mul(factor);
+    }
+    Ok(bytes)
 }
 
 fn put(

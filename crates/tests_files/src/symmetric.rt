@@ -55,8 +55,8 @@ fn check_file(rt: &impl Abort, disk: &MemDisk, name: &str, bytes: &[u8], row: &s
 // A row is a shape, the numbers in A.sym behind its mark, and those in the array behind its own.
 fn check_words(rt: &impl Abort, alloc: Global, row: &str) {
     let shape = shape_of(rt, alloc, bar(row, 0));
-    let packed = file_of(rt, alloc, "TCSYMM01", bar(row, 1), "");
-    let array = file_of(rt, alloc, "TCARRAY1", bar(row, 2), "");
+    let packed = file_of(rt, alloc, "TCSYMM01", bar(row, 1), &[]);
+    let array = file_of(rt, alloc, "TCARRAY1", bar(row, 2), &[]);
     let mut disk = MemDisk::new(alloc);
     must(rt, disk.put_file("A.sym", &packed));
     let word = ended(rt, alloc, &mut disk, &shape);
@@ -108,7 +108,7 @@ fn pairs_are_expanded_in_much_and_in_little_room(rt: HostRuntime) {
 // A row is a shape, a mark, the numbers behind it, bytes behind those, and the refusal. The file of the array stays.
 fn check_refused(rt: &impl Abort, alloc: Global, row: &str) {
     let shape = shape_of(rt, alloc, bar(row, 0));
-    let packed = file_of(rt, alloc, bar(row, 1), bar(row, 2), bar(row, 3));
+    let packed = file_of(rt, alloc, bar(row, 1), bar(row, 2), bar(row, 3).as_bytes());
     let mut disk = MemDisk::new(alloc);
     must(rt, disk.put_file("A.tca", b"old"));
     let word = ended(rt, alloc, &mut disk, &shape);
@@ -152,7 +152,7 @@ fn is_turned<D: Disk>(disk: &mut D, shape: &Shape) -> bool {
 #[test]
 fn heads_are_read(rt: HostRuntime) {
     let shape = shape_of(&rt, rt.alloc(), "3/1 3/1");
-    let packed = file_of(&rt, rt.alloc(), "TCSYMM01", "0 1 1 1 2 3", "");
+    let packed = file_of(&rt, rt.alloc(), "TCSYMM01", "0 1 1 1 2 3", &[]);
     let mut disk = MemDisk::new(rt.alloc());
     must(&rt, disk.put_file("A.sym", &packed));
     check(&rt, is_turned(&mut disk, &shape), "the pair and the sign");
@@ -176,7 +176,7 @@ fn check_call(rt: &impl Abort, alloc: Global, shape: &Shape, packed: &[u8], call
 #[test]
 fn each_call_of_the_disk_may_fail(rt: HostRuntime) {
     let shape = shape_of(&rt, rt.alloc(), "3/2 3/2");
-    let packed = file_of(&rt, rt.alloc(), "TCSYMM01", "0 1 0 1 2 3 4 5 6", "");
+    let packed = file_of(&rt, rt.alloc(), "TCSYMM01", "0 1 0 1 2 3 4 5 6", &[]);
     for call in 0..1000 {
         if check_call(&rt, rt.alloc(), &shape, packed.as_slice(), call) {
             check(&rt, call > 5, "both files are used");

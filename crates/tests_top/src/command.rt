@@ -1,7 +1,7 @@
 //! Words that are read, and lines that were written by hand.
 ghost use Rattle.tce_command.specs.Report.{NamesDeclared, trouble_of};
 
-use crate::given::{check, must};
+use crate::top::given::{check, must};
 use std::alloc::Global;
 use std::process::Abort;
 use std::test::Fail;

@@ -1,7 +1,0 @@
-//! Tests of einsums as specifications.
-#![tactic(auto)]
-
-#[cfg(test)]
-mod einsum;
-#[cfg(test)]
-mod given;
