@@ -1,23 +1,12 @@
 -- What an answer to opening a file rests on: the counts of faults, and what the calls before it told.
-use Rattle.std.proofs.Common.{◌≡◌, ◌≢◌, ◌∙◌, ℕ, ◌+◌, ◌≤◌, List, length, Option, Some, None, Ok, Err, true, take, unwrap_or, [], refl, sym, ap, subst, arith}
+use Rattle.std.proofs.Common.{◌≡◌, ◌≢◌, ◌∙◌, ℕ, ◌+◌, ◌≤◌, List, length, Option, Some, None, Ok, Err, take, unwrap_or, [], refl, sym, ap, subst, arith}
 use Rattle.std.proofs.lemmas.List.{length-take-le}
 use Rattle.std.specs.Option.{IsSomeAnd, option_map}
 use Rattle.tce_space.specs.Tiling.{Tiling}
-use Rattle.tce_outside.specs.Fault.{HasCause}
 use Rattle.tce_array.specs.declared.form.Form.{Form}
 use Rattle.tce_array.specs.declared.fault.ArrayFault.TheVariants.{NoFile, BadLength, BadHeader}
 use Rattle.tce_array.specs.Forms.{form_of, form_len, head, head_len, IsArray}
 use Rattle.tce_array.specs.Faults.{IsFault, IsDiskFault, DifferFirst}
-
--- a call failed before which the count had stayed
-pub rose_here : (before kept now : ℕ) (failed : Type 0) → kept ≡ before → HasCause kept now (true ≡ true) → HasCause before now failed
-rose_here before kept now failed same cause =
-    let from : HasCause before now (true ≡ true) = subst (λ n. HasCause n now (true ≡ true)) same cause in
-    record { later = from.later; rose = λ e. from.rose refl }
-
--- no call failed
-pub stayed : (before now : ℕ) (failed : Type 0) → now ≡ before → (failed → ⊥) → HasCause before now failed
-stayed before now failed same none = record { later = omega arith; rose = λ e. absurd (none e) }
 
 pub form_is_no_disk_fault : (form : Form) → IsDiskFault (Ok form) → ⊥
 form_is_no_disk_fault form e = cc

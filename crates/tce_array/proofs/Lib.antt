@@ -7,7 +7,6 @@ pub mod MadeFiles
 pub mod Way
 pub mod FormOf
 pub mod Padding
-pub mod Overwrites
 pub mod Writes
 pub mod Tiles
 pub mod Told

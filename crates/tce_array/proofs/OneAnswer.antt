@@ -9,7 +9,7 @@ use Rattle.tce_array.specs.declared.fault.ArrayFault.TheVariants.{NoFile, BadLen
 use Rattle.tce_array.specs.Faults.{DifferFirst, IsAnswer, IsOnlyAnswer}
 
 -- the first place at which two lists differ is one
-first_alone : (xs ys : List ℕ) (p q : ℕ) → DifferFirst xs ys p → DifferFirst xs ys q → p ≡ q
+pub first_alone : (xs ys : List ℕ) (p q : ℕ) → DifferFirst xs ys p → DifferFirst xs ys q → p ≡ q
 first_alone xs ys p q h k =
     elim (cases_lt p q) [
       | inl below ↦ absurd (h.differ (before p q below k.same))
@@ -23,7 +23,7 @@ first_alone xs ys p q h k =
     before i n l e = sym (get_or-take n xs i 0 l) ∙ ap (λ l. slice_index l i) e ∙ get_or-take n ys i 0 l
 
 -- lists that differ are not the same
-not_same : (xs ys : List ℕ) (p : ℕ) → DifferFirst xs ys p → xs ≡ ys → ⊥
+pub not_same : (xs ys : List ℕ) (p : ℕ) → DifferFirst xs ys p → xs ≡ ys → ⊥
 not_same xs ys p h e = h.differ (ap (λ l. slice_index l p) e)
 
 pub agree : (s : Tiling) (found : Option (List ℕ)) (x y : Result Form ArrayFault) → IsAnswer s found x → IsAnswer s found y → x ≢ Err Disk → y ≢ Err Disk → x ≡ y

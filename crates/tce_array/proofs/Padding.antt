@@ -13,7 +13,7 @@ use Rattle.tce_array.specs.Files.{IsPadding}
 use Rattle.tce_array.proofs.Contents.{get-words, word_of_file}
 
 -- a product above some number is not 0
-some_factor : (n m k : ℕ) → k < n * m → 0 < m
+pub some_factor : (n m k : ℕ) → k < n * m → 0 < m
 some_factor n zero k h = let none : n * 0 ≡ 0 = omega arith in absurd (omega arith)
 some_factor n (suc m) k h = omega arith
 

@@ -7,13 +7,13 @@ use Rattle.std.proofs.Math.Nat.{mul-le-mul_left}
 use Rattle.std.proofs.lemmas.List.{get_or-take, get_or-drop, length-take-le, take-append-le, take-take}
 use Rattle.tce_base.specs.Word.{word_bytes}
 use Rattle.tce_base.proofs.WordBytes.{length-words}
+use Rattle.tce_outside.proofs.Overwrites.{length-overwritten, get_or-overwritten, get_or-overwritten_other}
 use Rattle.tce_space.specs.Box.{IsInside}
 use Rattle.tce_space.specs.Tiling.{Tiling, IsTiling, tile_words, tiles, padded_words, word_number, tile_number, place_in_tile}
 use Rattle.tce_space.proofs.Tilings.{place_in_tile-lt, word_number-lt, word-lt}
 use Rattle.tce_array.specs.declared.form.Form.{Form}
 use Rattle.tce_array.specs.Forms.{width, word_in, head_len, form_len, IsForm, Fits, cell, word_place, word_at}
 use Rattle.tce_array.specs.Files.{bytes_of_run, with_words, ChangesWords}
-use Rattle.tce_array.proofs.Overwrites.{length-overwritten, get_or-overwritten, get_or-overwritten_other}
 use Rattle.tce_array.proofs.WordBytes.{word_in_same, word_of_words}
 
 -- the words of a part

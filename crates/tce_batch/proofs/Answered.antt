@@ -14,9 +14,10 @@ use Rattle.tce_declarations.proofs.Readings.{computed_head, lines_of}
 use Rattle.tce_formula.specs.declared.read.Contraction.{Contraction}
 use Rattle.tce_spec.specs.Specification.{Specification}
 use Rattle.tce_spec.specs.SpecCode.{specification_of}
+use Rattle.tce_spec.proofs.Reading.{shows_none}
 use Rattle.tce_batch.specs.Outcome.{together, IsBatchOutcome}
 use Rattle.tce_batch.specs.Reading.{without_formulas, specified_by, of_lines, as_found}
-use Rattle.tce_batch.proofs.Lines.{shows_none, all_found}
+use Rattle.tce_batch.proofs.Lines.{all_found}
 use Rattle.tce_batch.proofs.Lines as lines_read
 use Rattle.tce_batch.proofs.Computed.{batch_in, batch_behind, behind_first, batch_only}
 

@@ -1,5 +1,5 @@
 -- The lines behind a formula, and what they specify.
-use Rattle.std.proofs.Common.{zero, suc, ◌≡◌, ℕ, ◌+◌, ◌<◌, arith, length, List, [], ◌∷◌, ◌++◌, map, Option, Some, None, Result, Ok, Err, refl, sym, subst, ◌∙◌, ap}
+use Rattle.std.proofs.Common.{zero, suc, ◌≡◌, ℕ, ◌+◌, ◌<◌, arith, length, List, [], ◌∷◌, ◌++◌, map, Option, Some, None, Result, Ok, Err, refl, sym, subst, ◌∙◌, ap, append-nil}
 use Rattle.std.specs.Prelude.{IfSome, All, eqb, ◌==◌, ◌||◌, take}
 use Rattle.std.specs.List.{list_any}
 use Rattle.std.proofs.lemmas.List.{length-map}
@@ -10,7 +10,6 @@ use Rattle.tce_declarations.specs.Faults.{Fault}
 use Rattle.tce_declarations.specs.FaultCode.{Shows}
 use Rattle.tce_declarations.specs.TextCode.{fault_in}
 use Rattle.tce_declarations.specs.declared.fault.SpecFault.{SpecFault}
-use Rattle.tce_declarations.specs.declared.fault.SpecFault.TheVariants.{Memory, Tree}
 use Rattle.tce_tree.specs.declared.fault.TreeFault.TheVariants as tree_faults
 use Rattle.tce_formula.specs.declared.read.Contraction.{Contraction}
 use Rattle.tce_spec.specs.Specification.{Specification, IsSpecification}
@@ -18,12 +17,7 @@ use Rattle.tce_batch.specs.BatchCode.{AreKept, IsBatch, specifications_of, resul
 use Rattle.tce_batch.specs.Outcome.{together, with_first}
 use Rattle.tce_batch.specs.Reading.{specified_by, of_line, of_lines, as_found, as_list}
 use Rattle.tce_spec.specs.SpecCode.{specification_of, IsKept}
-
--- where nothing is found, the program can only answer want of memory
-pub shows_none : (o : Option Fault) (f : SpecFault) → Shows None f → Shows o f
-shows_none o Memory s = tt
-shows_none o (Tree line tree_faults.Memory) s = absurd s
-shows_none o f s = cc
+use Rattle.tce_spec.proofs.Reading.{shows_none}
 
 -- the fault of one result, or of the first of some
 pub one_fault : (r : Result Specification Fault) → fault_in (together (r ∷ [])) ≡ fault_in r
@@ -65,12 +59,8 @@ pub next_read : (d : Declarations) (cs : List Contraction) (n : ℕ) (l : Line) 
 next_read d [] n l ls read is = ap (λ (xs : List (Result Specification Fault)). xs ++ of_lines (n + 1) d ls) is
 next_read d (c ∷ cs) n l ls read is = ap (λ (xs : List (Result Specification Fault)). Ok (specification_of d c) ∷ xs) (next_read d cs n l ls read is)
 
-none_behind : (cs : List Contraction) → cs ++ [] ≡ cs
-none_behind [] = refl
-none_behind (c ∷ cs) = ap (λ (xs : List Contraction). c ∷ xs) (none_behind cs)
-
 pub all_kept : (d : Declarations) (cs : List Contraction) (read : Option Contraction) → All (IsKept d) cs → IfSome read (IsKept d) → All (IsKept d) (cs ++ as_list read)
-all_kept d cs None all one = subst (All (IsKept d)) (sym (none_behind cs)) all
+all_kept d cs None all one = subst (All (IsKept d)) (sym (append-nil cs)) all
 all_kept d cs (Some c) all one = All-push (IsKept d) cs c all one
 
 -- the fault of a line behind what was found is the fault of all

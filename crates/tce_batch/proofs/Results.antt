@@ -6,6 +6,7 @@ use Rattle.tce_declarations.specs.Declarations.{Declarations, nothing_declared}
 use Rattle.tce_declarations.specs.DeclarationLines.{statement_fault, with_statement}
 use Rattle.tce_declarations.specs.Faults.{Fault, bad_text}
 use Rattle.tce_declarations.specs.Text.{Head, head_of, closing_fault, unless}
+use Rattle.tce_declarations.proofs.Readings.{unless_ok}
 use Rattle.tce_formula.specs.FormulaFaults.{formula_fault}
 use Rattle.tce_spec.specs.Specification.{Specification}
 use Rattle.tce_spec.specs.Outcome.{outcome, outcome_in, specified}
@@ -138,10 +139,6 @@ map_cons n m d e l (ls ∷ lists) is = λ i. is ls i ∷ map_cons n m d e l list
 abbrev pub rest_of : List Line → List Line
 rest_of [] = []
 rest_of (l ∷ ls) = if is_formula l then ls else rest_of ls
-
-unless_ok : {A : Type 0} (fault : Option Fault) (next : Result A Fault) (x : A) → unless fault next ≡ Ok x → next ≡ Ok x
-unless_ok None next x is = is
-unless_ok (Some f) next x is = cc
 
 unless_faultless : {A : Type 0} (fault : Option Fault) (next : Result A Fault) (x : A) → unless fault next ≡ Ok x → fault ≡ None
 unless_faultless None next x is = refl

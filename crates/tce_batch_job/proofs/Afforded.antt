@@ -10,10 +10,6 @@ use Rattle.tce_job.specs.declared.fault.JobFault.TheVariants.{BudgetTooSmall, In
 use Rattle.tce_job.specs.Refusals.{IsCause, IsFree}
 use Rattle.tce_batch_job.specs.Refusals.{AffordableBelow, IsNamed, IsCauseAt}
 
-pub on_ok : {A P Q : Type 0} (result : Result A JobFault) → (P → Q) → OnOk result P → OnOk result Q
-on_ok (Ok a) more p = more p
-on_ok (Err f) more p = tt
-
 pub on_ok_as : {A E P : Type 0} (result : Result A E) → P → OnOk result P
 on_ok_as (Ok a) p = p
 on_ok_as (Err f) p = tt

@@ -1,16 +1,13 @@
 -- Several formulas are refused for one reason.
-use Rattle.std.proofs.Common.{inl, inr, ◌⊎◌, ◌≡◌, ◌≢◌, ℕ, ◌+◌, ◌<◌, ◌≤◌, List, length, Option, Some, None, Ok, Err, refl, sym, subst, ◌∙◌, ap, arith}
+use Rattle.std.proofs.Common.{inl, inr, ◌⊎◌, ◌≡◌, ◌≢◌, ℕ, ◌+◌, ◌<◌, ◌≤◌, List, length, Option, Some, None, refl, sym, subst, ◌∙◌, ap, arith}
 use Rattle.std.specs.Prelude.{⊤, slice_get, IsSomeAnd}
 use Rattle.std.specs.Option.{ForSome}
-use Rattle.std.proofs.lemmas.Bool.{cases_lt, true≢false}
+use Rattle.std.proofs.lemmas.Bool.{cases_lt}
 use Rattle.std.proofs.lemmas.Option.{slice_get_within}
 use Rattle.tce_outside.specs.Files.{Files, file}
-use Rattle.tce_space.specs.Tiling.{Tiling}
 use Rattle.tce_array.specs.declared.fault.ArrayFault.{ArrayFault}
 use Rattle.tce_array.specs.declared.fault.ArrayFault.TheVariants as array_fault
-use Rattle.tce_array.specs.Forms.{form_of, IsArray}
 use Rattle.tce_array.specs.Faults.{IsFault}
-use Rattle.tce_array.proofs.OneAnswer.{agree}
 use Rattle.tce_spec.specs.Specification.{Specification}
 use Rattle.tce_spec.specs.Operands.{shape_of}
 use Rattle.tce_tensors.specs.TensorFiles.{file_of}
@@ -18,7 +15,7 @@ use Rattle.tce_tensors.specs.Opened.{operand, operand_count, HasArray}
 use Rattle.tce_job.specs.declared.fault.JobFault.{JobFault}
 use Rattle.tce_job.specs.declared.fault.JobFault.TheVariants.{BudgetTooSmall, IntermediatesTooLarge, Array, Disk, Memory}
 use Rattle.tce_job.specs.Refusals.{IsAffordable, IsCause, IsFree}
-use Rattle.tce_job.proofs.Causes.{opens, fault_in, one_reason, no_reason, any_refused}
+use Rattle.tce_job.proofs.Causes.{one_reason, no_reason, any_refused, no_fault, one_fault}
 use Rattle.tce_batch.specs.BatchCode.{results_before}
 use Rattle.tce_batch_job.specs.Refusals.{AffordableBelow, SourcesBelow, HasSources, IsSource, IsRefusedSource, IsAt, IsCauseAt, IsKnown}
 
@@ -31,15 +28,6 @@ abbrev RefusedAt : Option Files → List Specification → ℕ → ℕ → ℕ �
 RefusedAt told batch budget formula t f =
     IsAt batch formula (λ number s. AffordableBelow batch budget (length batch) × (f ≢ array_fault.Disk) × (t < length s.declarations.tensors)
     × ForSome told (λ files. SourcesBelow files batch number × IsRefusedSource files s (results_before batch number) t f))
-
--- an array has no fault, and a file one
-no_fault : (shape : Tiling) (found : Option (List ℕ)) (f : ArrayFault) → IsSomeAnd found (IsArray shape) → IsFault shape found f → f ≢ array_fault.Disk → ⊥
-no_fault shape None f h fault real = h
-no_fault shape (Some bytes) f h fault real =
-    true≢false (ap opens (agree shape (Some bytes) (Ok (form_of bytes)) (Err f) (refl, h) fault (λ e. true≢false (ap opens e)) (λ e. real (ap fault_in e))))
-
-one_fault : (shape : Tiling) (found : Option (List ℕ)) (f g : ArrayFault) → IsFault shape found f → IsFault shape found g → f ≢ array_fault.Disk → g ≢ array_fault.Disk → f ≡ g
-one_fault shape found f g p q nf ng = ap fault_in (agree shape found (Err f) (Err g) p q (λ e. nf (ap fault_in e)) (λ e. ng (ap fault_in e)))
 
 one_place : (batch : List Specification) (k l : ℕ) (s u : Specification) → k ≡ l → slice_get batch k ≡ Some s → slice_get batch l ≡ Some u → s ≡ u
 one_place batch k l s u same at there = let place : slice_get batch k ≡ slice_get batch l = ap (slice_get batch) same in cc

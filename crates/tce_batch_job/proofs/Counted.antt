@@ -1,34 +1,19 @@
 -- Faults of the disk that were counted up to a formula, and by its call.
-use Rattle.std.proofs.Common.{◌≡◌, ◌⊎◌, ℕ, ◌+◌, ◌<◌, ◌≤◌, List, Option, Some, Result, Ok, Err, inl, inr, sym, ap, ◌∙◌, subst, arith}
+use Rattle.std.proofs.Common.{◌≡◌, ◌⊎◌, ℕ, ◌+◌, ◌<◌, ◌≤◌, List, Option, Some, Result, Err, inl, inr, sym, ap, ◌∙◌, subst, arith}
 use Rattle.std.specs.Option.{ForSome}
 use Rattle.std.proofs.lemmas.Bool.{cases_lt}
 use Rattle.tce_outside.specs.Files.{Files}
-use Rattle.tce_outside.specs.Fault.{Rose, HasCause, TellsFaults}
 use Rattle.tce_spec.specs.Specification.{Specification}
 use Rattle.tce_tensors.specs.Opened.{operand, HasArray}
 use Rattle.tce_job.specs.declared.fault.JobFault.{JobFault}
 use Rattle.tce_job.specs.declared.fault.JobFault.TheVariants.{Disk}
 use Rattle.tce_batch_job.specs.Refusals.{IsSource, HasSources}
 
--- none before the call
-pub cause_after : {P Q : Type 0} (start now after : ℕ) → now ≡ start → (Q → P) → HasCause now after P → HasCause start after Q
-cause_after start now after same from cause = record { later = omega (arith, cause.later, same); rose = λ failed. subst (λ n. Rose n after) same (cause.rose (from failed)) }
-
-pub no_cause_after : {P Q : Type 0} (start now after : ℕ) → now ≡ start → (Q → ⊥) → HasCause now after P → HasCause start after Q
-no_cause_after start now after same never cause = record { later = omega (arith, cause.later, same); rose = λ failed. absurd (never failed) }
-
-pub none_counted : {Q : Type 0} (start now : ℕ) → now ≡ start → (Q → ⊥) → HasCause start now Q
-none_counted start now same never = record { later = omega (arith, same); rose = λ failed. absurd (never failed) }
-
 pub fault_of : {A : Type 0} (fault : JobFault) (given : Result A JobFault) → given ≡ Err fault → fault ≡ Disk → given ≡ Err Disk
 fault_of fault given is failed = is ∙ ap Err failed
 
 pub fault_is : {A : Type 0} (fault : JobFault) (given : Result A JobFault) → given ≡ Err fault → given ≡ Err Disk → fault ≡ Disk
 fault_is fault given is failed = let same : Err fault ≡ Err Disk = sym is ∙ failed in cc
-
--- an answer is no fault
-pub answered_quiet : {A : Type 0} (a b : ℕ) (x : A) (given : Result A JobFault) → given ≡ Ok x → TellsFaults a b (given ≡ Err Disk) → b ≡ a
-answered_quiet a b x given is told = told (λ failed. absurd (cc))
 
 -- the file of one operand more is there, unless it is an earlier result
 pub sources_more : (start now : Option Files) (s : Specification) (made : List ℕ) (k t : ℕ) → t ≡ operand s k → now ≡ start → ForSome start (λ files. HasSources files s made k)

@@ -6,13 +6,12 @@ use Rattle.std.proofs.Math.Seq.{take-suc}
 use Rattle.std.proofs.lemmas.Bool.{true≢false}
 use Rattle.std.proofs.lemmas.Option.{slice_get_within, get_or_from_slice_get}
 use Rattle.tce_outside.specs.Files.{Files, file}
-use Rattle.tce_outside.proofs.Files.{without_file-with_file}
+use Rattle.tce_outside.proofs.Files.{without_file-with_file, file-with_file}
 use Rattle.tce_outside.proofs.Told.{other_files}
 use Rattle.tce_space.specs.Space.{tiling_of}
 use Rattle.tce_array.specs.declared.form.Form.TheVariants.{One}
 use Rattle.tce_array.specs.Forms.{form_of, IsForm, IsArray}
 use Rattle.tce_array.proofs.FormOf.{form_of_file}
-use Rattle.tce_array.proofs.MadeFiles.{file-with_file}
 use Rattle.tce_declarations.specs.Declarations.{Declarations, tensor_at}
 use Rattle.tce_spec.specs.Specification.{Specification, IsSpecification}
 use Rattle.tce_spec.specs.Operands.{shape_of}
@@ -67,9 +66,6 @@ other_here x s files t rules here declared same differs has =
     other_files (file_of x x.result) (file_of s t) files (with_result x files) (ap Some (without_file-with_file files (file_of x x.result) (result_bytes x files))) apart in
     subst (λ o. IsSomeAnd o (IsArray (shape_of s t))) (sym kept) has
 
-eqb_same : (t u : ℕ) → t ≡ u → eqb t u ≡ true
-eqb_same t u is = eq-eqb t u is
-
 pub all_first : (P : Specification → Type 0) (x : Specification) (xs : List Specification) → All P (x ∷ xs) → P x
 all_first P x xs all = all 0 x (omega arith)
 
@@ -88,4 +84,4 @@ has_after (x ∷ ss) files s t here declared same rules has = has_after ss (with
     by_result : (made : Bool) → eqb t x.result ≡ made → IsSource (map (λ (y : Specification). y.result) ss) t → HasArray (with_result x files) s t
     by_result true e source = made_here x s files t (all_first IsSpecification x ss rules) (all_first Over x ss same) (eqb-true t x.result e)
     by_result false e source =
-        other_here x s files t (all_first IsSpecification x ss rules) here declared (all_first Over x ss same) (λ is. true≢false (sym (eqb_same t x.result is) ∙ e)) (has (rw e source))
+        other_here x s files t (all_first IsSpecification x ss rules) here declared (all_first Over x ss same) (λ is. true≢false (sym (eq-eqb t x.result is) ∙ e)) (has (rw e source))

@@ -1,8 +1,8 @@
 -- No file differs but those of the results.
-use Rattle.std.proofs.Common.{◌≡◌, ◌≢◌, ◌⊎◌, inl, inr, refl, ap, ◌∙◌, ℕ, ◌+◌, List, [], ◌∷◌, take, All, Option, Some, None}
+use Rattle.std.proofs.Common.{◌≡◌, ◌⊎◌, inl, inr, refl, ap, ◌∙◌, ℕ, ◌+◌, List, [], ◌∷◌, take, All, Option, Some, None}
 use Rattle.std.specs.Option.{option_map}
 use Rattle.std.proofs.lemmas.List.Elements.{All-take}
-use Rattle.tce_outside.specs.Files.{Files, file, others}
+use Rattle.tce_outside.specs.Files.{Files, file}
 use Rattle.tce_outside.proofs.Files.{without_file-with_file}
 use Rattle.tce_outside.proofs.Told.{other_files}
 use Rattle.tce_spec.specs.Specification.{Specification}
@@ -11,33 +11,20 @@ use Rattle.tce_tensors.specs.ResultBytes.{with_result, result_bytes}
 use Rattle.tce_job.specs.declared.fault.JobFault.{JobFault}
 use Rattle.tce_job.specs.declared.fault.JobFault.TheVariants.{BudgetTooSmall, IntermediatesTooLarge, Array, Disk, Memory}
 use Rattle.tce_job.specs.Several.{files_after, OnlyResultsDiffer}
+use Rattle.tce_job.proofs.Several.{found, IsApart, one_other}
 use Rattle.tce_batch_job.specs.Left.{files_at, IsLeftAt}
 use Rattle.tce_batch_job.proofs.Files.{all_first, all_rest}
 use Rattle.tce_batch_job.proofs.Ended.{at_all}
 
-abbrev pub found : List ℕ → Option Files → Option (Option (List ℕ))
-found name told = option_map (λ files. file files name) told
-
--- the name is none of the results' files
-abbrev NoResult : List ℕ → Specification → Type 0
-NoResult name s = name ≢ file_of s s.result
-
--- where all files but one are the same, each of another name is
-one_other : (name result : List ℕ) (before after : Option Files) → name ≢ result → others result after ≡ others result before → found name after ≡ found name before
-one_other name result None None differs same = refl
-one_other name result (Some old) (Some new) differs same = ap Some (other_files result name old new same differs)
-one_other name result None (Some new) differs same = absurd (cc)
-one_other name result (Some old) None differs same = absurd (cc)
-
-after_others : (ss : List Specification) (files : Files) (name : List ℕ) → All (NoResult name) ss → file (files_after ss files) name ≡ file files name
+after_others : (ss : List Specification) (files : Files) (name : List ℕ) → All (IsApart name) ss → file (files_after ss files) name ≡ file files name
 after_others [] files name none = refl
 after_others (s ∷ ss) files name none =
-    after_others ss (with_result s files) name (all_rest (NoResult name) s ss none)
-    ∙ other_files (file_of s s.result) name files (with_result s files) (ap Some (without_file-with_file files (file_of s s.result) (result_bytes s files))) (all_first (NoResult name) s ss none)
+    after_others ss (with_result s files) name (all_rest (IsApart name) s ss none)
+    ∙ other_files (file_of s s.result) name files (with_result s files) (ap Some (without_file-with_file files (file_of s s.result) (result_bytes s files))) (all_first (IsApart name) s ss none)
 
-at_others : (batch : List Specification) (before : Option Files) (count : ℕ) (name : List ℕ) → All (NoResult name) batch → found name (files_at before batch count) ≡ found name before
+at_others : (batch : List Specification) (before : Option Files) (count : ℕ) (name : List ℕ) → All (IsApart name) batch → found name (files_at before batch count) ≡ found name before
 at_others batch None count name none = refl
-at_others batch (Some files) count name none = ap Some (after_others (take count batch) files name (All-take (NoResult name) count batch none))
+at_others batch (Some files) count name none = ap Some (after_others (take count batch) files name (All-take (IsApart name) count batch none))
 
 pub told_others : (batch : List Specification) (before after : Option Files) → after ≡ option_map (files_after batch) before → OnlyResultsDiffer batch before after
 told_others batch None after is = λ name none. ap (found name) is
@@ -53,9 +40,9 @@ left_others before after batch formula (IntermediatesTooLarge n) left = same_oth
 left_others before after batch formula (Array t fault) left = same_others batch before after left
 left_others before after batch formula Disk left = λ name none.
     let s = left.specification in
-    one_other name (file_of s s.result) (files_at before batch left.number) after (at_all (NoResult name) batch left.number s none left.at) left.here.0 ∙ at_others batch before left.number name none
+    one_other name (file_of s s.result) (files_at before batch left.number) after (at_all (IsApart name) batch left.number s none left.at) left.here.0 ∙ at_others batch before left.number name none
 left_others before after batch formula Memory left = λ name none. by_end name none left.here
   where
-    by_end : (name : List ℕ) → All (NoResult name) batch → (after ≡ files_at before batch left.number) ⊎ (after ≡ files_at before batch (left.number + 1)) → found name after ≡ found name before
+    by_end : (name : List ℕ) → All (IsApart name) batch → (after ≡ files_at before batch left.number) ⊎ (after ≡ files_at before batch (left.number + 1)) → found name after ≡ found name before
     by_end name none (inl is) = ap (found name) is ∙ at_others batch before left.number name none
     by_end name none (inr is) = ap (found name) is ∙ at_others batch before (left.number + 1) name none

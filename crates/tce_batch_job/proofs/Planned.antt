@@ -1,13 +1,12 @@
 -- Runs by a plan that was kept.
-use Rattle.std.proofs.Common.{inl, inr, ◌≡◌, ℕ, ◌+◌, ◌≤◌, ◌^◌, List, [], ◌∷◌, ◌++◌, length, replicate, Option, Result, Ok, Err, All, refl, sym, subst, ◌∙◌, ap, arith}
+use Rattle.std.proofs.Common.{inl, inr, ◌≡◌, ℕ, ◌+◌, ◌≤◌, ◌^◌, List, [], ◌∷◌, ◌++◌, length, Result, Ok, Err, refl, sym, ◌∙◌, ap, arith}
 use Rattle.std.specs.Prelude.{OnOk, IfOk, IfErr}
-use Rattle.std.proofs.lemmas.Bool.{cases_lt}
-use Rattle.std.proofs.lemmas.List.{length-replicate, get_or-replicate, get_or_past}
-use Rattle.tce_outside.specs.Files.{Files}
+use Rattle.std.proofs.lemmas.List.{length-replicate}
 use Rattle.tce_tree.specs.ContractionTree.{operations, node_dims}
-use Rattle.tce_states.specs.Row.{Row, rows_at}
+use Rattle.tce_states.specs.Row.{rows_at}
 use Rattle.tce_nesting.specs.declared.plan.Plan.{Plan}
-use Rattle.tce_nesting.specs.Plan.{PlanFits, RowFits}
+use Rattle.tce_nesting.specs.Plan.{PlanFits}
+use Rattle.tce_nesting.proofs.RowLists.{no_rows, empty_fits}
 use Rattle.tce_report.specs.NodeLine.{stated}
 use Rattle.tce_report.specs.Report.{run_text}
 use Rattle.tce_array.specs.declared.form.Form.TheVariants.{One}
@@ -22,20 +21,9 @@ use Rattle.tce_job.specs.declared.report.RunReport.{RunReport}
 use Rattle.tce_job.specs.Refusals.{IsFree}
 use Rattle.tce_job.specs.Prepared.{IsCarriedPlan, IsReport, MayHaveTaken, IsRoomLeft, taking_of}
 use Rattle.tce_job.specs.Run.{IsReported}
-use Rattle.tce_job.specs.Told.{Takes, MayTake, Reports, LeavesRoom, IsRefusalOf}
+use Rattle.tce_job.specs.Told.{Takes, MayTake, Reports, LeavesRoom}
 use Rattle.tce_batch_job.specs.declared.plans.KeptPlan.{KeptPlan}
 use Rattle.tce_batch_job.specs.Plans.{IsPlanOf, IsKeptFor}
-
--- lists without rows
-no_rows : (count v : ℕ) → rows_at (replicate count []) v ≡ []
-no_rows count v =
-    elim (cases_lt v count) [
-      | inl less ↦ get_or-replicate count v [] [] less
-      | inr past ↦ get_or_past (replicate count []) v [] (omega (arith, past, length-replicate {A = List Row} count []))
-    ]
-
-empty_fits : (dims : ℕ) (rows : List Row) → rows ≡ [] → All (RowFits dims) rows
-empty_fits dims rows none = subst (All (RowFits dims)) (sym none) (λ k d less. absurd (omega (arith, less)))
 
 module _ (s : Specification) (kept : KeptPlan) (plan : Plan) (h : IsKeptFor s kept) (is : IsPlanOf kept plan) where
   fusion_is : plan.fusion ≡ h.plan.fusion
@@ -119,15 +107,3 @@ module _ (s : Specification) (kept : KeptPlan) (plan : Plan) (h : IsKeptFor s ke
       → LeavesRoom result s budget before after
   answer_room_left budget before after (Ok report) free left = tt
   answer_room_left budget before after (Err fault) free left = room_left budget fault before after free left
-
--- want of memory and a failure of the disk need no other cause
-free_refusal : (told : Option Files) (s : Specification) (budget : ℕ) (fault : JobFault) → IsFree fault → IsRefusalOf told s budget fault
-free_refusal told s budget (BudgetTooSmall n) free = absurd free
-free_refusal told s budget (IntermediatesTooLarge n) free = absurd free
-free_refusal told s budget (Array t f) free = absurd free
-free_refusal told s budget Disk free = tt
-free_refusal told s budget Memory free = tt
-
-pub answer_refused : (told : Option Files) (s : Specification) (budget : ℕ) (result : Result RunReport JobFault) → IfErr result IsFree → IfErr result (IsRefusalOf told s budget)
-answer_refused told s budget (Ok report) free = tt
-answer_refused told s budget (Err fault) free = free_refusal told s budget fault free

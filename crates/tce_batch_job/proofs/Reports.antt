@@ -5,7 +5,6 @@ use Rattle.std.specs.Prelude.{slice_get, Some}
 use Rattle.std.proofs.lemmas.List.{append_assoc, append-nil, length-take-le}
 use Rattle.std.proofs.lemmas.Option.{slice_get_within}
 use Rattle.tce_nesting.specs.declared.plan.Plan.{Plan}
-use Rattle.tce_search.specs.LeastPlan.{IsLeastPlan}
 use Rattle.tce_spec.specs.Specification.{Specification}
 use Rattle.tce_job.specs.declared.report.RunReport.{RunReport}
 use Rattle.tce_job.specs.Prepared.{taking_of, HasTaken as HasTakenOne}
@@ -13,11 +12,8 @@ use Rattle.tce_job.specs.Run.{IsReported}
 use Rattle.tce_batch_job.specs.Reports.{sections_of, section_of, text_of, HasRun}
 use Rattle.tce_job.specs.Several.{takings_of, HasTakenEach}
 use Rattle.tce_job.proofs.Several.{zip_more, takings_more}
+use Rattle.tce_job.specs.Told.{IsLeastPlanOf}
 use Rattle.tce_batch_job.proofs.Files.{take_one}
-
--- a least plan of the formula
-abbrev Least : Specification → Plan → Type 0
-Least s plan = IsLeastPlan s.declarations.space s.tree plan
 
 sections_more : (R : Specification → Plan → Type 0) (number last budget : ℕ) (ss : List Specification) (plans : List Plan) (s : Specification) (plan : Plan) → AllZip R ss plans → last ≡ number + length ss
     → sections_of number budget (ss ++ s ∷ []) (plans ++ plan ∷ []) ≡ sections_of number budget ss plans ++ section_of last (text_of s budget plan)
@@ -31,17 +27,17 @@ sections_more R number last budget (t ∷ ss) (p ∷ plans) s plan all is =
     ∙ sym (append_assoc (section_of number (text_of t budget p)) (sections_of (number + 1) budget ss plans) (section_of last (text_of s budget plan)))
 
 -- what is taken, and one formula more
-more_taken : (budget : ℕ) (ss : List Specification) (plans : List Plan) (s : Specification) (plan : Plan) (before now after : List (ℕ × ℕ)) → AllZip Least ss plans
+more_taken : (budget : ℕ) (ss : List Specification) (plans : List Plan) (s : Specification) (plan : Plan) (before now after : List (ℕ × ℕ)) → AllZip IsLeastPlanOf ss plans
     → now ≡ before ++ takings_of budget ss plans → after ≡ now ++ taking_of s budget plan ∷ [] → after ≡ before ++ takings_of budget (ss ++ s ∷ []) (plans ++ plan ∷ [])
 more_taken budget ss plans s plan before now after all is then =
     then ∙ ap (λ xs. xs ++ taking_of s budget plan ∷ []) is ∙ append_assoc before (takings_of budget ss plans) (taking_of s budget plan ∷ [])
-    ∙ ap (λ xs. before ++ xs) (sym (takings_more Least budget ss plans s plan all))
+    ∙ ap (λ xs. before ++ xs) (sym (takings_more IsLeastPlanOf budget ss plans s plan all))
 
 pub taken_more : (budget : ℕ) (batch : List Specification) (number : ℕ) (s : Specification) (before now after : List (ℕ × ℕ)) → slice_get batch number ≡ Some s
     → HasTakenEach (take number batch) budget before now → HasTakenOne s budget now after → HasTakenEach (take (number + 1) batch) budget before after
 taken_more budget batch number s before now after at front one = subst (λ ss. HasTakenEach ss budget before after) (sym (take_one batch number s at)) (record {
   plans = front.plans ++ one.plan ∷ [];
-  least = zip_more Least (take number batch) front.plans s one.plan front.least one.least;
+  least = zip_more IsLeastPlanOf (take number batch) front.plans s one.plan front.least one.least;
   taken = more_taken budget (take number batch) front.plans s one.plan before now after front.least front.taken one.taken;
 })
 
@@ -64,10 +60,10 @@ run_more budget batch number s before now after text new report at front one the
     let told : new ≡ codes "tce batch 1\n" ++ sections_of 1 budget (take number batch ++ s ∷ []) (front.plans ++ one.plan ∷ []) =
     then ∙ ap (λ xs. text ++ section_of (number + 1) xs) one.report_is.text ∙ ap (λ xs. xs ++ section_of (number + 1) (text_of s budget one.plan)) front.told
     ∙ append_assoc (codes "tce batch 1\n") sections (section_of (number + 1) (text_of s budget one.plan))
-    ∙ ap (λ xs. codes "tce batch 1\n" ++ xs) (sym (sections_more Least 1 (number + 1) budget (take number batch) front.plans s one.plan front.least (omega (arith, long)))) in
+    ∙ ap (λ xs. codes "tce batch 1\n" ++ xs) (sym (sections_more IsLeastPlanOf 1 (number + 1) budget (take number batch) front.plans s one.plan front.least (omega (arith, long)))) in
     subst (λ ss. HasRun ss budget before after new) (sym (take_one batch number s at)) (record {
       plans = front.plans ++ one.plan ∷ [];
-      least = zip_more Least (take number batch) front.plans s one.plan front.least one.least;
+      least = zip_more IsLeastPlanOf (take number batch) front.plans s one.plan front.least one.least;
       taken = more_taken budget (take number batch) front.plans s one.plan before now after front.least front.taken one.taken;
       told = told;
     })

@@ -1,13 +1,14 @@
 -- A sum over a box is the sum of those over its blocks.
 use Rattle.std.proofs.Common.{◌≡◌, ◌∙◌, ℕ, ◌+◌, ◌-◌, ◌*◌, ◌<◌, ◌≤◌, ◌^◌, min, true, false, eqb, List, [], ◌∷◌, map, refl, sym, ap, inl, inr, zero-add}
 use Rattle.std.specs.Int.{div_ceil}
-use Rattle.std.proofs.lemmas.Bool.{false≢true, true≢false, ne_eqb, eqb-true, eqb-false, cases_eq, eq-eqb, cases_Bool, or_left}
+use Rattle.std.proofs.lemmas.Bool.{true≢false, ne_eqb, cases_eq, eq-eqb, or_left}
 use Rattle.std.proofs.lemmas.Grind.{div_ceil_times}
 use Rattle.std.proofs.lemmas.Simd.{map-map}
 use Rattle.std.proofs.Math.Nat.{min-eq_left}
 use Rattle.std.specs.Prelude.{IsTrue}
 use Rattle.std.specs.List.Sorted.{IsPermutation}
 use Rattle.tce_base.specs.Word.{wrapping_add, wrapping_sum}
+use Rattle.tce_base.proofs.Words.{plus-zero}
 use mathlib.Core.Path.{fun_ext}
 use Rattle.tce_space.specs.Box.{places}
 use Rattle.tce_space.specs.Tiling.{ArePositive, counts_along}
@@ -15,60 +16,15 @@ use Rattle.tce_tree.specs.WellFormed.{among, is_distinct}
 use Rattle.tce_tree.specs.Value.{Assignment, with_number, assignment, sum_below, sum_over}
 use Rattle.tce_tree.proofs.Lists.{among_first, among_later, distinct_first, distinct_later}
 use Rattle.tce_tree.proofs.Values.{sum_below-same, sum_over-lt}
-use Rattle.tce_tree.proofs.Permutations.{without, among-without_other, among-without_same, distinct-without, distinct-permutation, among-permutation}
+use Rattle.tce_tree.proofs.Permutations.{distinct-permutation, among-permutation}
+use Rattle.tce_tree.proofs.Assignments.{with-same, with-other, with_number_comm}
+use Rattle.tce_tree.proofs.Sums.{sum_over_permuted}
 use Rattle.tce_block.specs.Parts.{Part, beginnings, lengths, block, blocks}
 use Rattle.tce_block.specs.Sums.{moved, part_sum}
-use Rattle.tce_block.proofs.Words.{plus-zero, sum_below_swap, sum_below-parts, total, total-cons, total-nil, total-same, total-flat, total-sum_below}
-
-pub with-same : (a : Assignment) (i x : ℕ) → with_number a i x i ≡ x
-with-same a i x = rw (eq-eqb i i refl) refl
-
-pub with-other : (a : Assignment) (i x j : ℕ) → (j ≡ i → ⊥) → with_number a i x j ≡ a j
-with-other a i x j ne = rw (ne_eqb j i ne) refl
-
-pub with_number_comm : (a : Assignment) (i x j y : ℕ) → (i ≡ j → ⊥) → with_number (with_number a i x) j y ≡ with_number (with_number a j y) i x
-with_number_comm a i x j y ne = fun_ext (λ k.
-    elim (cases_eq k i) [
-      | inl p ↦ rw (eq-eqb k i p, ne_eqb k j (λ q. ne (sym p ∙ q))) refl
-      | inr p ↦ rw (ne_eqb k i p) refl
-    ])
+use Rattle.tce_block.proofs.Words.{sum_below-parts, total, total-cons, total-nil, total-same, total-flat, total-sum_below}
 
 pub with_number_twice : (a : Assignment) (i x y : ℕ) → with_number (with_number a i x) i y ≡ with_number a i y
 with_number_twice a i x y = fun_ext (λ k. elim (cases_eq k i) [ inl p ↦ rw (eq-eqb k i p) refl | inr p ↦ rw (ne_eqb k i p) refl ])
-
--- the sequence of the indexes of a sum does not matter
-sum_over_swap : (extent : ℕ → ℕ) (i j : ℕ) (rest : List ℕ) (f : Assignment → ℕ) (a : Assignment) → (i ≡ j → ⊥)
-    → sum_over extent (i ∷ j ∷ rest) f a ≡ sum_over extent (j ∷ i ∷ rest) f a
-sum_over_swap extent i j rest f a ne =
-    sum_below_swap (extent i) (extent j) (λ x y. sum_over extent rest f (with_number (with_number a i x) j y))
-    ∙ sum_below-same (extent j) _ (λ y. sum_below (extent i) (λ x. sum_over extent rest f (with_number (with_number a j y) i x)))
-    (λ y l. sum_below-same (extent i) _ (λ x. sum_over extent rest f (with_number (with_number a j y) i x))
-    (λ x k. ap (sum_over extent rest f) (with_number_comm a i x j y ne)))
-
-sum_over_front : (extent : ℕ → ℕ) (i : ℕ) (indexes : List ℕ) (f : Assignment → ℕ) (a : Assignment) → among indexes i ≡ true
-    → sum_over extent indexes f a ≡ sum_over extent (i ∷ without i indexes) f a
-sum_over_front extent i [] f a h = absurd (false≢true h)
-sum_over_front extent i (x ∷ xs) f a h =
-    elim (cases_Bool (eqb x i)) [
-      | inl e ↦ rw e (ap (λ k. sum_over extent (k ∷ xs) f a) (eqb-true x i e))
-      | inr e ↦ rw e
-          (sum_below-same (extent x) _ (λ y. sum_over extent (i ∷ without i xs) f (with_number a x y))
-          (λ y l. sum_over_front extent i xs f (with_number a x y) (rw e at h))
-          ∙ sum_over_swap extent x i (without i xs) f a (λ q. eqb-false x i e q))
-    ]
-
-pub sum_over_permuted : (extent : ℕ → ℕ) (xs ys : List ℕ) (f : Assignment → ℕ) (a : Assignment)
-    → is_distinct xs ≡ true → is_distinct ys ≡ true → ((i : ℕ) → among xs i ≡ among ys i) → sum_over extent xs f a ≡ sum_over extent ys f a
-sum_over_permuted extent [] [] f a d e h = refl
-sum_over_permuted extent [] (y ∷ ys) f a d e h = absurd (false≢true (h y ∙ among_first y ys))
-sum_over_permuted extent (x ∷ xs) ys f a d e h =
-    sum_below-same (extent x) _ (λ y. sum_over extent (without x ys) f (with_number a x y))
-    (λ y l. sum_over_permuted extent xs (without x ys) f (with_number a x y) (distinct_later x xs d) (distinct-without x ys e)
-    (λ i. elim (cases_eq i x) [
-      | inl q ↦ ap (among xs) q ∙ distinct_first x xs d ∙ sym (among-without_same x ys e) ∙ ap (among (without x ys)) (sym q)
-      | inr q ↦ (rw (ne_eqb x i (λ r. q (sym r))) at (h i)) ∙ sym (among-without_other x ys i q)
-    ]))
-    ∙ sym (sum_over_front extent x ys f a (sym (h x) ∙ among_first x xs))
 
 -- the numbers that are given to indexes
 pub assignment-absent : (is xs : List ℕ) (j : ℕ) → among is j ≡ false → assignment is xs j ≡ 0

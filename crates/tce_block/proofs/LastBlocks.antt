@@ -14,12 +14,12 @@ use Rattle.tce_space.proofs.Boxes.{length-places, places_every}
 use Rattle.tce_tree.specs.WellFormed.{among, is_distinct}
 use Rattle.tce_tree.specs.Value.{Assignment, assignment}
 use Rattle.tce_tree.proofs.Lists.{among_first, among_later, among_cases, distinct_first, distinct_later, same_truth}
+use Rattle.tce_tree.proofs.Assignments.{with-same, with-other}
 use Rattle.tce_block.proofs.Beginning.{some_count}
 use Rattle.tce_block.specs.Parts.{beginnings, lengths, block, blocks}
 use Rattle.tce_block.specs.Last.{meets, last_of_part, last_of_box}
 use Rattle.tce_block.proofs.Cover.{end_is, in_part, part_of_number}
 use Rattle.tce_block.proofs.Dimensions.{begins_inside}
-use Rattle.tce_block.proofs.BoxSums.{with-same, with-other}
 
 -- folds over lists that are made of others
 fold-map : {X Y W : Type 0} (step : W → Y → W) (k : X → Y) (w : W) (xs : List X) → fold step w (map k xs) ≡ fold (λ v x. step v (k x)) w xs

@@ -1,48 +1,15 @@
 -- Sums of words.
-use Rattle.std.proofs.Common.{◌≡◌, ◌∙◌, ℕ, zero, suc, ◌+◌, ◌-◌, ◌*◌, ◌%◌, ◌<◌, ◌^◌, min, List, [], ◌∷◌, ◌++◌, map, refl, sym, ap, ap₂, inl, inr, arith, add_comm, add_assoc}
+use Rattle.std.proofs.Common.{◌≡◌, ◌∙◌, ℕ, zero, suc, ◌+◌, ◌-◌, ◌*◌, ◌%◌, ◌<◌, ◌^◌, min, List, [], ◌∷◌, ◌++◌, map, refl, sym, ap, ap₂, inl, inr, arith}
 use Rattle.std.specs.List.{flat_map, range_with_len, sum}
 use Rattle.std.proofs.Math.Nat.{add-mod-mod, mod-add-mod}
 use Rattle.std.proofs.lemmas.Bool.{cases_lt}
 use Rattle.std.proofs.lemmas.List.{map-append}
 use Rattle.std.proofs.lemmas.List.Sums.{sum_by-append, sum_by-cons}
 use Rattle.tce_base.specs.Word.{wrapping_add, wrapping_sum}
+use Rattle.tce_base.proofs.Words.{plus_assoc, plus-zero, zero-plus}
 use Rattle.tce_tree.specs.Value.{sum_below}
 use Rattle.tce_tree.proofs.Values.{sum_below-same, sum_below-lt}
-
-pub plus_comm : (x y : ℕ) → wrapping_add x y ≡ wrapping_add y x
-unfolding wrapping_add
-plus_comm x y = ap (λ n. n % 2 ^ 64) (add_comm x y)
-
-pub plus_assoc : (x y z : ℕ) → wrapping_add (wrapping_add x y) z ≡ wrapping_add x (wrapping_add y z)
-unfolding wrapping_add
-plus_assoc x y z = mod-add-mod (x + y) (2 ^ 64) z ∙ ap (λ n. n % 2 ^ 64) (add_assoc x y z) ∙ sym (add-mod-mod x (y + z) (2 ^ 64))
-
-pub plus-zero : (x : ℕ) → x < 2 ^ 64 → wrapping_add x 0 ≡ x
-unfolding wrapping_add
-plus-zero x h = omega arith
-
-pub zero-plus : (x : ℕ) → x < 2 ^ 64 → wrapping_add 0 x ≡ x
-zero-plus x h = plus_comm 0 x ∙ plus-zero x h
-
-plus_middle : (a b c d : ℕ) → wrapping_add (wrapping_add a b) (wrapping_add c d) ≡ wrapping_add (wrapping_add a c) (wrapping_add b d)
-plus_middle a b c d =
-    plus_assoc a b (wrapping_add c d) ∙ ap (wrapping_add a) (sym (plus_assoc b c d) ∙ ap (λ x. wrapping_add x d) (plus_comm b c) ∙ plus_assoc c b d)
-    ∙ sym (plus_assoc a c (wrapping_add b d))
-
-pub sum_below-plus : (n : ℕ) (f g : ℕ → ℕ) → sum_below n (λ x. wrapping_add (f x) (g x)) ≡ wrapping_add (sum_below n f) (sum_below n g)
-sum_below-plus zero f g = sym (zero-plus 0 (omega arith))
-sum_below-plus (suc n) f g =
-    ap (λ s. wrapping_add s (wrapping_add (f n) (g n))) (sum_below-plus n f g) ∙ plus_middle (sum_below n f) (sum_below n g) (f n) (g n)
-
-pub sum_below-zero : (n : ℕ) → sum_below n (λ x. 0) ≡ 0
-sum_below-zero zero = refl
-sum_below-zero (suc n) = ap (λ s. wrapping_add s 0) (sum_below-zero n) ∙ zero-plus 0 (omega arith)
-
-pub sum_below_swap : (n m : ℕ) (g : ℕ → ℕ → ℕ) → sum_below n (λ x. sum_below m (λ y. g x y)) ≡ sum_below m (λ y. sum_below n (λ x. g x y))
-sum_below_swap zero m g = sym (sum_below-zero m)
-sum_below_swap (suc n) m g =
-    ap (λ s. wrapping_add s (sum_below m (λ y. g n y))) (sum_below_swap n m g)
-    ∙ sym (sum_below-plus m (λ y. sum_below n (λ x. g x y)) (λ y. g n y))
+use Rattle.tce_tree.proofs.Sums.{sum_below-plus, sum_below-zero}
 
 -- the sum over a range is that over its first part and over the rest
 pub sum_below-split : (m n : ℕ) (f : ℕ → ℕ) → sum_below (n + m) f ≡ wrapping_add (sum_below m f) (sum_below n (λ x. f (m + x)))

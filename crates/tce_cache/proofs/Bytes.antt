@@ -12,7 +12,7 @@ none_are : AreBytes []
 none_are zero = omega arith
 none_are (suc i) = omega arith
 
-joined_are : (xs ys : List ℕ) → AreBytes xs → AreBytes ys → AreBytes (xs ++ ys)
+pub joined_are : (xs ys : List ℕ) → AreBytes xs → AreBytes ys → AreBytes (xs ++ ys)
 joined_are [] ys hx hy i = hy i
 joined_are (x ∷ xs) ys hx hy zero = hx zero
 joined_are (x ∷ xs) ys hx hy (suc i) = joined_are xs ys (λ j. hx (suc j)) hy i
@@ -26,11 +26,11 @@ front_are (suc n) (x ∷ xs) h (suc i) = front_are n xs (λ j. h (suc j)) i
 rest_are : (n : ℕ) (xs : List ℕ) → AreBytes xs → AreBytes (drop n xs)
 rest_are n xs h i = omega (arith, get_or-drop n xs i 0, h (n + i))
 
-byte_is : (j n : ℕ) → byte_at j n < 256
+pub byte_is : (j n : ℕ) → byte_at j n < 256
 byte_is zero n = mod-lt n (omega arith)
 byte_is (suc j) n = mod-lt (n / 256 ^ suc j) (omega arith)
 
-low_first_are : (j w n : ℕ) → AreBytes (bytes_low_first j w n)
+pub low_first_are : (j w n : ℕ) → AreBytes (bytes_low_first j w n)
 low_first_are j zero n i = none_are i
 low_first_are j (suc w) n zero = byte_is j n
 low_first_are j (suc w) n (suc i) = low_first_are (suc j) w n i

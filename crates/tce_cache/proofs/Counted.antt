@@ -1,8 +1,7 @@
 -- A touch is counted before anything else is done, and the count is no part of what a cache is asked for.
-use Rattle.std.proofs.Common.{◌≡◌, ◌∙◌, ℕ, ◌+◌, ◌*◌, ◌<◌, ◌≤◌, ◌^◌, List, Option, None, Some, true, unwrap_or, refl, sym, ap, subst, arith}
+use Rattle.std.proofs.Common.{◌≡◌, ◌∙◌, ℕ, ◌+◌, ◌*◌, ◌<◌, ◌≤◌, ◌^◌, List, Option, None, Some, unwrap_or, refl, sym, ap, subst, arith}
 use Rattle.std.specs.Option.{IsSome}
 use Rattle.tce_outside.specs.Files.{Files, file}
-use Rattle.tce_outside.specs.Fault.{HasCause}
 use Rattle.tce_frames.specs.Held.{Held}
 use Rattle.tce_cache.specs.Cache.{State, IsCache, IsSameOutsideFrames, OnlyWritableDiffers}
 use Rattle.tce_cache.specs.Touch.{with_held}
@@ -36,13 +35,6 @@ no_others c told =
       begins = λ name. refl;
       same = λ name none fs before gs after. ap (λ o. file (unwrap_or o fs) name) (sym after ∙ before);
     }
-
-pub no_cause : (n : ℕ) (failed : Type 0) → (failed → ⊥) → HasCause n n failed
-no_cause n failed none = record { later = omega arith; rose = λ f. absurd (none f) }
-
--- a failure that is handed on
-pub cause_of_failure : (before now : ℕ) (failed : Type 0) → HasCause before now (true ≡ true) → HasCause before now failed
-cause_of_failure before now failed cause = record { later = cause.later; rose = λ f. cause.rose refl }
 
 pub none_is_held : (found : Option Held) → found ≡ None → IsSome found → ⊥
 none_is_held None is some = cc

@@ -1,6 +1,6 @@
 -- Lists of held tiles under the steps of a cache.
-use Rattle.std.proofs.Common.{◌≡◌, ◌∙◌, ◌⊎◌, ℕ, suc, ◌+◌, ◌<◌, ◌||◌, Bool, true, false, if◌then◌else◌, List, [], ◌∷◌, ◌++◌, length, map, Option, Some, None, sym, refl, ap, subst, inl, inr, arith}
-use Rattle.std.proofs.lemmas.Bool.{cases_eq}
+use Rattle.std.proofs.Common.{◌≡◌, ◌∙◌, ◌⊎◌, ℕ, suc, ◌+◌, ◌<◌, Bool, true, false, if◌then◌else◌, List, [], ◌∷◌, ◌++◌, length, map, Option, Some, None, sym, refl, ap, subst, inl, inr, arith}
+use Rattle.std.proofs.lemmas.Bool.{cases_eq, false_from_ne_true}
 use Rattle.tce_cache.specs.Touch.{unmarked}
 use Rattle.tce_frames.specs.Held.{Held, is_tile, look_up, without, cleaned, touched, IsFree, AreApart}
 use Rattle.tce_frames.proofs.Current.{tile_cases, tests, tests_not, same_tile, frames_differ, look_up_without, look_up_taken, below_found, look_up_at, free_taken, apart_without}
@@ -203,14 +203,6 @@ marked_as h a t f m ea et ef =
     ∙ ap (λ i. record { array = a; tile = i; frame = h.frame; marked = m }) et
     ∙ ap (λ i. record { array = a; tile = t; frame = i; marked = m }) ef
 
-pub or_true : (p q : Bool) → (p || q) ≡ true → (p ≡ true) ⊎ (q ≡ true)
-or_true true q e = inl refl
-or_true false q e = inr e
-
-pub or_false : (p q : Bool) → (p || q) ≡ false → p ≡ false
-or_false true q e = absurd (cc)
-or_false false q e = refl
-
 -- ---- all marks taken away
 pub unmarked_cleaned : (a t : ℕ) (held : List Held) → map unmarked (cleaned a t held) ≡ map unmarked held
 unmarked_cleaned a t [] = refl
@@ -229,10 +221,6 @@ all_unmarked frames (x ∷ xs) apart none =
     ])) in
     ap (λ m. record x { marked = m } ∷ xs) first ∙ ap (λ l. unmarked x ∷ l) rest
 
-not_true : (b : Bool) → (b ≡ true → ⊥) → b ≡ false
-not_true true n = absurd (n refl)
-not_true false n = refl
-
 -- one frame more without a mark
 pub one_cleaned : (frames n : ℕ) (held new : List Held) (h : Held) → AreApart frames held → look_up held h.array h.tile ≡ Some h → h.frame ≡ n → new ≡ cleaned h.array h.tile held
     → ((a t : ℕ) (x : Held) → look_up held a t ≡ Some x → x.frame < n → x.marked ≡ false) → (a t : ℕ) (x : Held) → look_up new a t ≡ Some x → x.frame < n + 1 → x.marked ≡ false
@@ -250,5 +238,5 @@ one_cleaned frames n held new h apart found at is before a t x e lt =
           let frame = part.3 in
           let low : part.0.frame < n = omega arith in
           let unmarked_before : part.0.marked ≡ false = before a t part.0 part.1 low in
-          not_true x.marked (λ k. let both : true ≡ false = sym (part.2 k) ∙ unmarked_before in absurd (cc))
+          false_from_ne_true x.marked (λ k. let both : true ≡ false = sym (part.2 k) ∙ unmarked_before in absurd (cc))
     ]

@@ -69,7 +69,7 @@ holding_is now frames arrays held ef ea eh =
     sym all
 
 -- ---- files keep their lengths
-front_has : (a : ArrayRef) (old new : Option (List ℕ)) → option_map (front a) new ≡ option_map (front a) old → IsSomeAnd old (λ bytes. length bytes ≡ form_len a.form a.shape) → IsSomeAnd new (λ bytes. length bytes ≡ form_len a.form a.shape)
+pub front_has : (a : ArrayRef) (old new : Option (List ℕ)) → option_map (front a) new ≡ option_map (front a) old → IsSomeAnd old (λ bytes. length bytes ≡ form_len a.form a.shape) → IsSomeAnd new (λ bytes. length bytes ≡ form_len a.form a.shape)
 front_has a None new e h = absurd h
 front_has a (Some old) None e h = absurd (none e)
   where
@@ -137,7 +137,7 @@ same_dropped c rest z n m fs words apart unmarked ready =
       bytes = λ i a e are. are;
     }
 
-tiles_fit : (c : State) → IsCache c → TilesFit (layout c)
+pub tiles_fit : (c : State) → IsCache c → TilesFit (layout c)
 tiles_fit c is i = by_array (slice_get c.arrays i) refl
   where
     by_array : (o : Option ArrayRef) → slice_get c.arrays i ≡ o → words_of_tile (slice_get c.arrays i) ≤ c.frame_words

@@ -1,16 +1,14 @@
 -- Words that are read from a file, and words written over a part of one.
-use Rattle.std.proofs.Common.{◌≡◌, ◌∙◌, ℕ, ◌+◌, ◌-◌, ◌*◌, ◌/◌, ◌%◌, ◌^◌, ◌<◌, ◌≤◌, cond, List, [], length, take, drop, slice_index, slice_range, Option, Some, None, unwrap_or, sym, refl, ap, subst, inl, inr, arith}
+use Rattle.std.proofs.Common.{◌≡◌, ◌∙◌, ℕ, ◌+◌, ◌-◌, ◌*◌, ◌/◌, ◌%◌, ◌^◌, ◌<◌, ◌≤◌, List, [], length, take, drop, slice_index, slice_range, Option, Some, None, unwrap_or, sym, refl, ap, subst, inl, inr, arith}
 use Rattle.std.specs.List.{flat_map}
 use Rattle.std.specs.Option.{IsSomeAnd}
-use Rattle.std.specs.FinMap.{get-insert}
 use Rattle.std.proofs.Math.Nat.{mul-le-mul_left}
 use Rattle.std.proofs.lemmas.Bool.{cases_lt}
-use Rattle.std.proofs.lemmas.Cmp.{nat_list_cmp_total}
 use Rattle.std.proofs.lemmas.List.{get_or-take, get_or-drop, length-take-le, length-drop}
 use Rattle.tce_base.specs.Word.{word_bytes}
 use Rattle.tce_space.specs.Tiling.{Tiling, IsTiling, padded_words}
 use Rattle.tce_outside.specs.Files.{Files, file, with_file, with_part, without_file, overwritten, part, others, written, HasPart}
-use Rattle.tce_outside.proofs.Places.{same_name}
+use Rattle.tce_outside.proofs.Files.{file-with_file}
 use Rattle.tce_array.specs.declared.form.Form.{Form}
 use Rattle.tce_array.specs.declared.form.Form.TheVariants.{One, Narrow, Wide}
 use Rattle.tce_array.specs.Files.{AreBytes}
@@ -90,15 +88,6 @@ pub others_joined : (at d n m : ℕ) (first old new : List ℕ) → d + n ≤ m 
 others_joined at d n m first old new le before piece p out =
     piece p (elim out [ inl low ↦ inl (omega arith) | inr high ↦ inr (omega arith) ]) ∙ before p out
 
--- a file that was put in place of another
-pub file_with : (files : Files) (name bytes : List ℕ) → file (with_file files name bytes) name ≡ Some bytes
-file_with files name bytes =
-    get-insert nat_list_cmp_total files name bytes name
-    ∙ elim (same_name name name) [
-      | inl s ↦ ap (λ b. cond b (Some bytes) (file files name)) s.0
-      | inr s ↦ absurd (s.1 refl)
-    ]
-
 -- what a file has where it is there
 pub file_there : (a : ArrayRef) (files : Files) → HasFile a files → (file files a.file.bytes ≡ Some (contents a files)) × (length (contents a files) ≡ form_len a.form a.shape)
 file_there a files h = by_file (file files a.file.bytes) h
@@ -130,7 +119,7 @@ words_written a files from at n words ws has le count same fit =
     let there = file_there a files has in
     let over = bytes_over a.form a.shape (contents a files) from ws there.1 (omega arith) in
     let bytes : List ℕ = overwritten (contents a files) (word_place a.form a.shape from) (flat_map (word_bytes (width a.form)) ws) in
-    let now : file (with_file files a.file.bytes bytes) a.file.bytes ≡ Some bytes = file_with files a.file.bytes bytes in
+    let now : file (with_file files a.file.bytes bytes) a.file.bytes ≡ Some bytes = file-with_file files a.file.bytes bytes in
     let contents_is : contents a (with_file files a.file.bytes bytes) ≡ bytes = ap (λ o. unwrap_or o []) now in
     record {
       has_file = subst (λ o. IsSomeAnd o (λ bs. length bs ≡ form_len a.form a.shape)) (sym now) (over.len ∙ there.1);

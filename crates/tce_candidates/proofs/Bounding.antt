@@ -1,7 +1,7 @@
 -- What the first classes of a nesting put above all else.
-use Rattle.std.proofs.Common.{◌≡◌, ℕ, suc, zero, ◌<◌, length, get_or, Bool, true, false, not, ◌&&◌, ◌||◌, ◌⊎◌, inl, inr, arith, ◌∙◌, sym, ap, map, eqb, List, [], ◌∷◌}
+use Rattle.std.proofs.Common.{◌≡◌, ℕ, suc, zero, ◌<◌, length, get_or, Bool, true, false, not, ◌&&◌, ◌||◌, inl, inr, arith, ◌∙◌, sym, ap, map, eqb, List, [], ◌∷◌}
 use Rattle.std.specs.List.{All}
-use Rattle.std.proofs.lemmas.Bool.{both_ways, and_parts}
+use Rattle.std.proofs.lemmas.Bool.{both_ways, and_parts, or_cases, or_parts}
 use Rattle.std.proofs.lemmas.List.Elements.{All-filter, All-map}
 use Rattle.tce_space.specs.IndexSet.{IsWithin, has, meet, empty}
 use Rattle.tce_space.proofs.IndexSetLaws.{has-meet}
@@ -21,23 +21,17 @@ prefix_none classes reached none = record {
   within = λ dims all i h. absurd (both_ways (has reached i) (none i) h);
 }
 
-none_of_either : (reached_j c_j : Bool) → (reached_j || c_j) ≡ false → (reached_j ≡ false) × (c_j ≡ false)
-none_of_either reached_j c_j low = grind arith
-
 one_class : (reached_i c_i c_j rest : Bool) → c_j ≡ false → (reached_i || (not c_j && (c_i || rest))) ≡ ((reached_i || c_i) || rest)
 one_class reached_i c_i c_j rest p = grind arith
-
-some_of_either : (a b : Bool) → (a || b) ≡ true → (a ≡ true) ⊎ (b ≡ true)
-some_of_either a b h = grind arith
 
 -- one more class
 pub prefix_further : (classes rest : List ℕ) (c reached wider : ℕ) → ((i : ℕ) → has wider i ≡ (has reached i || has c i))
     → ((dims : ℕ) → All (LiesWithin dims) classes → IsWithin c dims) → IsPrefix classes (c ∷ rest) reached → IsPrefix classes rest wider
 prefix_further classes rest c reached wider members class is = record {
   upper = λ i j low.
-      let parts = none_of_either (has reached j) (has c j) (sym (members j) ∙ low) in
+      let parts = or_parts (has reached j) (has c j) (sym (members j) ∙ low) in
       is.upper i j parts.0 ∙ one_class (has reached i) (has c i) (has c j) (above rest i j) parts.1 ∙ ap (λ b. b || above rest i j) (sym (members i));
-  within = λ dims all i h. elim (some_of_either (has reached i) (has c i) (sym (members i) ∙ h)) [ inl p ↦ is.within dims all i p | inr q ↦ class dims all i q ];
+  within = λ dims all i h. elim (or_cases (has reached i) (has c i) (sym (members i) ∙ h)) [ inl p ↦ is.within dims all i p | inr q ↦ class dims all i q ];
 }
 
 above_one : (w_i w_j : Bool) → (not w_j && (w_i || false)) ≡ true → (w_j ≡ false) × (w_i ≡ true)
@@ -58,7 +52,7 @@ class_inhabited (x ∷ xs) (suc k) c low is nesting none = class_inhabited xs k 
 pub prefix_inhabited : (classes : List ℕ) (k c reached wider : ℕ) → k < length classes → c ≡ get_or classes k c → IsNesting classes
     → ((i : ℕ) → has wider i ≡ (has reached i || has c i)) → IsInhabited wider
 prefix_inhabited classes k c reached wider low is nesting members none =
-    class_inhabited classes k c low is nesting (λ i. (none_of_either (has reached i) (has c i) (sym (members i) ∙ none i)).1)
+    class_inhabited classes k c low is nesting (λ i. (or_parts (has reached i) (has c i) (sym (members i) ∙ none i)).1)
 
 -- each class of what is left lies within the fused set
 pub restricted_within : (dims fused : ℕ) (classes : List ℕ) → IsWithin fused dims → All (LiesWithin dims) (restricted classes fused)

@@ -9,7 +9,7 @@ use Rattle.tce_states.specs.Relation.{Relation, above, joined, HasNoConflict}
 use Rattle.tce_states.specs.Classes.{in_class}
 use Rattle.tce_states.specs.Row.{Row, rows_joined}
 use Rattle.tce_states.proofs.ClassLists.{tally, tally-bound, tally-le, tally-lt, AreLevels, levels}
-use Rattle.tce_states.proofs.StateClasses.{Divides}
+use Rattle.tce_states.proofs.StateClasses.{Divides, divides-joined}
 use Rattle.tce_nesting.specs.Classes.{IsJoinOf}
 use Rattle.tce_candidates.specs.Steps.{IsRowJoin}
 
@@ -23,13 +23,6 @@ one_more false false false rki rkj rij rest h = rest h
 divides-above : (cs : List ℕ) → Divides (above cs)
 divides-above [] i j k h = absurd (false≢true h)
 divides-above (c ∷ cs) i j k h = one_more (has c i) (has c j) (has c k) (above cs k i) (above cs k j) (above cs i j) (divides-above cs i j k) h
-
-either : (rki rij rkj ski sij skj : Bool) → (rkj ≡ true → (rki ≡ true) ⊎ (rij ≡ true)) → (skj ≡ true → (ski ≡ true) ⊎ (sij ≡ true)) → (rkj || skj) ≡ true
-    → ((rki || ski) ≡ true) ⊎ ((rij || sij) ≡ true)
-either rki rij rkj ski sij skj first second h = grind (arith, first, second, h)
-
-divides-both : (r s : Relation) → Divides r → Divides s → Divides (joined r s)
-divides-both r s first second i j k h = either (r k i) (r i j) (r k j) (s k i) (s i j) (s k j) (first i j k) (second i j k) h
 
 module _ (loops : ℕ) (r s : Relation) (is_set : IsIndexSet loops) (divides : Divides (joined r s)) (quiet : HasNoConflict loops (joined r s)) where
   -- how many loops are above an index
@@ -83,5 +76,5 @@ module _ (loops : ℕ) (r s : Relation) (is_set : IsIndexSet loops) (divides : D
 pub joined_row : (loops : ℕ) (left right : Row) → IsIndexSet loops → HasNoConflict loops (rows_joined left right) → (row : Row) × IsRowJoin loops left right row
 joined_row loops left right is_set quiet =
     let found = classes_of loops (above left.classes) (above right.classes) is_set
-    (divides-both (above left.classes) (above right.classes) (divides-above left.classes) (divides-above right.classes)) quiet in
+    (divides-joined (above left.classes) (above right.classes) (divides-above left.classes) (divides-above right.classes)) quiet in
     (record { classes = found.0; cost = left.cost + right.cost }, record { classes = found.1; cost = refl })

@@ -1,5 +1,4 @@
 pub mod Adding
-pub mod Agreeing
 pub mod Bounding
 pub mod Covers
 pub mod Existing
@@ -11,7 +10,6 @@ pub mod Marks
 pub mod Parts
 pub mod Quantifiers
 pub mod ReachedStates
-pub mod Reaching
 pub mod Reordered
 pub mod RunParts
 pub mod StartParts

@@ -1,5 +1,5 @@
 -- Lists of names as they are printed.
-use Rattle.std.proofs.Common.{◌≡◌, ℕ, suc, ◌+◌, ◌<◌, List, [], ◌∷◌, ◌++◌, length, get_or, take, map, All, refl, subst, ap, sym, ◌∙◌, arith}
+use Rattle.std.proofs.Common.{◌≡◌, ℕ, ◌+◌, ◌<◌, List, [], ◌∷◌, ◌++◌, length, get_or, take, map, refl, ap, sym, ◌∙◌}
 use Rattle.std.proofs.lemmas.List.{map_more}
 use Rattle.tce_grammar.specs.Tokens.{word, symbol}
 use Rattle.tce_grammar.specs.Grammar.{listed}
@@ -18,7 +18,3 @@ list_more f x rest i d p p1 p2 p3 l e1 e2 e3 =
     then_tokens p p1 p3 (listed (map f (x ∷ take i rest))) (symbol 44 ∷ word (f (get_or rest i d)) ∷ []) e1 (e3 ∙ ap (λ q. with_token q (word (f (get_or rest i d)))) e2)
     ∙ ap (λ ts. with_tokens p ts) (sym (listed_push (f x) (map f (take i rest)) (f (get_or rest i d))))
     ∙ ap (λ ns. with_tokens p (listed (f x ∷ ns))) (sym (map_more f rest i d l))
-
--- what holds of each number of a list holds of those behind the first
-pub below_tail : (n : ℕ) (xs : List ℕ) (y : ℕ) (ys : List ℕ) → xs ≡ y ∷ ys → All (λ i. i < n) xs → (k d : ℕ) → k < length ys → get_or ys k d < n
-below_tail n xs y ys is all k d l = subst (All (λ i. i < n)) is all (suc k) d (omega arith)

@@ -1,10 +1,10 @@
 -- A certificate has no fault.
-use Rattle.std.proofs.Common.{◌≡◌, ◌≢◌, ℕ, zero, suc, ◌+◌, ◌-◌, ◌<◌, ◌≤◌, ◌^◌, ◌==◌, not, Bool, true, false, List, [], ◌∷◌, ◌++◌, codes, length, map, replicate, Option, Some, None, refl, ap, sym, ◌∙◌, subst, arith, append-nil, inl, inr}
+use Rattle.std.proofs.Common.{◌≡◌, ◌≢◌, ℕ, zero, suc, ◌+◌, ◌-◌, ◌<◌, ◌≤◌, ◌^◌, ◌==◌, not, true, List, [], ◌∷◌, ◌++◌, codes, length, map, replicate, Option, Some, None, refl, ap, sym, ◌∙◌, subst, arith, append-nil, inl, inr}
 use Rattle.std.specs.Fmt.{decimal}
 use Rattle.std.specs.Prelude.{slice_index, ◌⊎◌, Result, IfErr}
 use Rattle.std.specs.declared.result.Result.TheVariants.{Ok, Err}
 use Rattle.std.specs.List.{All, list_all, flat_map, range_with_len}
-use Rattle.std.proofs.lemmas.Bool.{and_parts}
+use Rattle.std.proofs.lemmas.Bool.{and_parts, not-true, and_from}
 use Rattle.std.proofs.lemmas.List.{get_or_past}
 use Rattle.std.proofs.lemmas.List.Folds.{list_all-append}
 use Rattle.std.proofs.Math.Nat.{eq-or-lt_of_le}
@@ -27,11 +27,11 @@ use Rattle.tce_nesting.specs.declared.plan.Plan.{Plan}
 use Rattle.tce_report.specs.NodeForm.{Form, IsForm, IsArrayForm, ArrayForm, form_text, array_text}
 use Rattle.tce_report.specs.NodeLine.{MaySay, Said, said_of, stated, node_line, line_saying, set_text, loops_written, kind_word}
 use Rattle.tce_report.specs.ReadLine.{form_saying}
-use Rattle.tce_report.proofs.Reading.{saying_form, saying_text}
+use Rattle.tce_report.proofs.Reading.{saying_form, saying_text, names_named}
 use Rattle.tce_cert.specs.Cut.{Lacks}
 use Rattle.tce_cert.specs.Lines.{opening_line, memory_line, table_line, row_line, classes_text, end_line}
 use Rattle.tce_cert.proofs.Stated.{decimal_lacks}
-use Rattle.tce_cert.proofs.StatedClass.{both, names_are_names, members_declared, set_declared}
+use Rattle.tce_cert.proofs.StatedClass.{set_declared}
 use Rattle.tce_cert.specs.declared.fault.CertFault.{CertFault}
 use Rattle.tce_cert.specs.declared.fault.CertFault.TheVariants.{BadText, WrongTree, Memory}
 use Rattle.tce_cert.specs.Certificate.{text_of, table_lines, certificate, certificate_lines, nodes_lines, tables_lines}
@@ -40,22 +40,19 @@ use Rattle.tce_cert.specs.Laws.{IsNestingRow, AreNestingRows, RowsAreNestings, C
 use Rattle.tce_cert.proofs.Faulty.{parts, line_parts, some_parts}
 use Rattle.tce_cert.proofs.OneFault.{due_once}
 use Rattle.tce_cert.proofs.TableRuns.{text_more, text_line}
-
-not_true : (b : Bool) → not b ≡ true → b ≡ false
-not_true true e = cc
-not_true false e = refl
+use Rattle.tce_cert.proofs.Sets.{members_declared}
 
 pub to_lacks : (text : List ℕ) → lacks 10 text ≡ true → Lacks 10 text
 to_lacks [] e k d l = absurd (omega arith)
-to_lacks (b ∷ bs) e zero d l = not_true (b == 10) (and_parts (not (b == 10)) (lacks 10 bs) e).0
+to_lacks (b ∷ bs) e zero d l = not-true (b == 10) (and_parts (not (b == 10)) (lacks 10 bs) e).0
 to_lacks (b ∷ bs) e (suc k) d l = to_lacks bs (and_parts (not (b == 10)) (lacks 10 bs) e).1 k d (omega arith)
 
 from_lacks : (text : List ℕ) → Lacks 10 text → lacks 10 text ≡ true
 from_lacks [] all = refl
-from_lacks (b ∷ bs) all = both (not (b == 10)) (lacks 10 bs) (ap not (all 0 0 (omega arith))) (from_lacks bs (λ k d l. all (suc k) d (omega arith)))
+from_lacks (b ∷ bs) all = and_from (not (b == 10)) (lacks 10 bs) (ap not (all 0 0 (omega arith))) (from_lacks bs (λ k d l. all (suc k) d (omega arith)))
 
 pub in_both : (xs ys : List ℕ) → lacks 10 xs ≡ true → lacks 10 ys ≡ true → lacks 10 (xs ++ ys) ≡ true
-in_both xs ys e f = list_all-append (λ b. not (b == 10)) xs ys ∙ both (lacks 10 xs) (lacks 10 ys) e f
+in_both xs ys e f = list_all-append (λ b. not (b == 10)) xs ys ∙ and_from (lacks 10 xs) (lacks 10 ys) e f
 
 pub number_lacks : (n : ℕ) → n < 2 ^ 96 → lacks 10 (decimal n) ≡ true
 number_lacks n l = from_lacks (decimal n) (decimal_lacks 10 n (omega arith) l)
@@ -100,8 +97,8 @@ sets_lack : (space : IndexSpace) (dims : ℕ) (classes : List ℕ) → IsSpace s
 unfolding set_text
 sets_lack space dims [] is declared within = refl
 sets_lack space dims (c ∷ cs) is declared within =
-    both (lacks 10 (set_text space c)) (list_all (lacks 10) (map (set_text space) cs))
-    (names_lack_feeds (names_of space (members c)) (names_are_names space (members c) is (members_declared space c (set_declared space dims c declared (within 0 0 (omega arith))))))
+    and_from (lacks 10 (set_text space c)) (list_all (lacks 10) (map (set_text space) cs))
+    (names_lack_feeds (names_of space (members c)) (names_named space (members c) is (members_declared space c (set_declared space dims c declared (within 0 0 (omega arith))))))
     (sets_lack space dims cs is declared (λ k d l. within (suc k) d (omega arith)))
 
 classes_lack : (space : IndexSpace) (dims : ℕ) (classes : List ℕ) → IsSpace space → IsDeclared space dims → All (LiesWithin dims) classes → lacks 10 (classes_text space classes) ≡ true

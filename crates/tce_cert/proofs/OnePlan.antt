@@ -3,7 +3,7 @@ use Rattle.std.proofs.Common.{◌≡◌, ℕ, zero, suc, ◌+◌, ◌<◌, ◌�
 use Rattle.std.proofs.Math.Nat.{eq-or-lt_of_le}
 use Rattle.std.specs.Fmt.{decimal}
 use Rattle.std.specs.List.{All, list_all, flat_map, range_with_len}
-use Rattle.std.proofs.lemmas.Bool.{and_parts}
+use Rattle.std.proofs.lemmas.Bool.{and_parts, and_from as both}
 use Rattle.std.proofs.lemmas.List.{length-map, ext_get_or}
 use Rattle.std.proofs.lemmas.Option.{same_Some}
 use Rattle.tce_space.specs.Space.{IndexSpace, IsSpace, IsDeclared}
@@ -21,7 +21,7 @@ use Rattle.tce_cert.specs.Forms.{StatesClasses}
 use Rattle.tce_cert.specs.Lines.{opening_line, memory_line, table_line, row_line, classes_text, end_line}
 use Rattle.tce_cert.proofs.Cuts.{cut_once}
 use Rattle.tce_cert.proofs.Stated.{cost_once}
-use Rattle.tce_cert.proofs.StatedClass.{set_declared, both}
+use Rattle.tce_cert.proofs.StatedClass.{set_declared}
 use Rattle.tce_cert.proofs.StatedRows.{none_stated, classes_parts, decimal_once}
 use Rattle.tce_cert.specs.Certificate.{text_of, table_lines, certificate, certificate_lines, nodes_lines, tables_lines}
 use Rattle.tce_cert.specs.Laws.{IsNestingRow, AreNestingRows, PlansAreTheirCertificates}

@@ -22,9 +22,9 @@ use Rattle.tce_report.specs.NodeLine.{Said, MaySay, line_saying, set_text}
 use Rattle.tce_report.specs.ReadLine.{form_saying}
 use Rattle.tce_report.specs.Fields.{form_fields, array_fields}
 use Rattle.tce_report.proofs.Forms.{form_parts}
-use Rattle.tce_report.proofs.Reading.{order_is_declared, fused_is_declared, saying_form, saying_text}
-use Rattle.tce_cert.proofs.StatedClass.{names_are_names, members_declared}
+use Rattle.tce_report.proofs.Reading.{order_is_declared, fused_is_declared, saying_form, saying_text, names_named}
 use Rattle.tce_cert.proofs.StatedRows.{decimal_once}
+use Rattle.tce_cert.proofs.Sets.{members_declared}
 
 -- Names tell indexes apart.
 
@@ -53,7 +53,7 @@ listed_once (n ∷ ns) (m ∷ ms) a b e =
 -- lists of declared indexes by their text
 indexes_once : (space : IndexSpace) (xs ys : List ℕ) → IsSpace space → All (λ i. i < length space.indexes) xs → All (λ i. i < length space.indexes) ys
     → listed (names_of space xs) ≡ listed (names_of space ys) → xs ≡ ys
-indexes_once space xs ys is a b e = names_once space xs ys is a b (listed_once (names_of space xs) (names_of space ys) (names_are_names space xs is a) (names_are_names space ys is b) e)
+indexes_once space xs ys is a b e = names_once space xs ys is a b (listed_once (names_of space xs) (names_of space ys) (names_named space xs is a) (names_named space ys is b) e)
 
 members_once : (a b : ℕ) → IsIndexSet a → IsIndexSet b → members a ≡ members b → a ≡ b
 members_once a b p q e =

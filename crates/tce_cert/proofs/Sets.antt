@@ -1,11 +1,12 @@
 -- Sets of indexes as they are pushed.
-use Rattle.std.proofs.Common.{◌≡◌, ℕ, suc, ◌+◌, ◌<◌, ◌≤◌, List, [], ◌∷◌, ◌++◌, length, get_or, take, map, refl, ap, sym, subst, ◌∙◌, append_assoc, arith}
+use Rattle.std.proofs.Common.{◌≡◌, ℕ, suc, ◌+◌, ◌<◌, ◌≤◌, List, [], ◌∷◌, ◌++◌, length, get_or, take, map, ap, sym, subst, ◌∙◌, append_assoc, arith}
 use Rattle.std.specs.List.{join_with_byte, range_with_len, All}
 use Rattle.std.proofs.lemmas.List.{map_more}
 use Rattle.std.proofs.lemmas.List.Elements.{filter_passes}
 use Rattle.tce_space.specs.IndexSet.{has, members}
 use Rattle.tce_space.specs.Space.{IndexSpace, IsDeclared}
 use Rattle.tce_report.specs.NodeLine.{set_text}
+use Rattle.tce_report.proofs.Lists.{join_push}
 use Rattle.tce_tree.specs.ContractionTree.{ContractionTree, operations}
 use Rattle.tce_tree.specs.WellFormed.{IsDeclaredTree}
 use Rattle.tce_tree.proofs.NamedIndexes.{node_dims_declared}
@@ -17,10 +18,6 @@ pub members_declared : (space : IndexSpace) (set : ℕ) → IsDeclared space set
 unfolding members
 members_declared space set declared k d inside =
     declared (get_or (members set) k d) (filter_passes (has set) (range_with_len 0 24) k d inside)
-
-join_push : (c : ℕ) (x : List ℕ) (xs : List (List ℕ)) (y : List ℕ) → join_with_byte c (x ∷ (xs ++ y ∷ [])) ≡ join_with_byte c (x ∷ xs) ++ c ∷ y
-join_push c x [] y = refl
-join_push c x (z ∷ zs) y = ap (λ t. x ++ (c ∷ t)) (join_push c z zs y) ∙ sym (append_assoc x (c ∷ join_with_byte c (z ∷ zs)) (c ∷ y))
 
 -- one more class behind those that are listed
 classes_more : (space : IndexSpace) (x : ℕ) (rest : List ℕ) (i d : ℕ) → i < length rest

@@ -20,9 +20,6 @@ use Rattle.tce_cert.specs.Cut.{Lacks, IsCut}
 use Rattle.tce_cert.specs.Forms.{StatesMemory, StatesTable, StatesNumbers, StatesCost, BeginsWithCost, IsClassText, IsClassesText, HasRowForm}
 use Rattle.tce_cert.proofs.Cuts.{cut_once, lacks_middle}
 
-pub through : {P Q R : Type 0} → P ↔ Q → Q ↔ R → P ↔ R
-through f g = ((λ p. g.0 (f.0 p)), (λ r. f.1 (g.1 r)))
-
 pub memory_stated : (line number : List ℕ) → line ≡ codes "memory " ++ number → (value : ℕ) → IsNumber number value ↔ StatesMemory line value
 memory_stated line number is value = (
   (λ n. record { limit = n.limit; text_is = is ∙ ap (λ t. codes "memory " ++ t) n.text_is }),

@@ -1,41 +1,17 @@
 -- What the text of a class states.
-use Rattle.std.proofs.Common.{◌≡◌, ℕ, suc, ◌<◌, ◌≤◌, true, Bool, ◌&&◌, List, [], ◌∷◌, length, get_or, Option, Some, None, refl, ap, ap₂, sym, ◌∙◌, subst, arith}
+use Rattle.std.proofs.Common.{◌≡◌, ℕ, List, Option, Some, None, refl, ap, sym, ◌∙◌, subst, arith}
 use Rattle.std.specs.Borrow.{Bor}
-use Rattle.std.specs.List.{All, list_all, range_with_len}
 use Rattle.std.proofs.lemmas.List.{length-map}
-use Rattle.std.proofs.lemmas.List.Elements.{filter_passes}
-use Rattle.std.proofs.lemmas.List.FromFn.{length-range_with_len}
-use Rattle.std.proofs.lemmas.List.Sums.{length-filter, count_by-le-length}
 use Rattle.std.proofs.lemmas.Option.{none-some, same_Some}
-use Rattle.tce_space.specs.IndexSet.{has, members, IsWithin}
-use Rattle.tce_space.specs.Name.{is_name}
-use Rattle.tce_space.specs.Space.{IndexSpace, IsSpace, IsDeclared, index_at, no_index}
+use Rattle.tce_space.specs.IndexSet.{members, IsWithin}
+use Rattle.tce_space.specs.Space.{IndexSpace, IsSpace, IsDeclared, index_at}
 use Rattle.tce_fields.specs.Fields.{AreListed, listed}
 use Rattle.tce_fields.specs.Names.{IsSetNamed, names_of}
 use Rattle.tce_fields.specs.Reading.{GivesExactly, texts}
 use Rattle.tce_report.specs.NodeLine.{set_text}
+use Rattle.tce_report.proofs.Reading.{members_few, names_named}
 use Rattle.tce_cert.specs.Forms.{IsPart, StatesClass}
-
-pub both : (a b : Bool) → a ≡ true → b ≡ true → (a && b) ≡ true
-both a b e f = ap₂ (λ x y. x && y) e f
-
-pub members_declared : (space : IndexSpace) (set : ℕ) → IsDeclared space set → All (λ i. i < length space.indexes) (members set)
-unfolding members
-members_declared space set declared k d inside = declared (get_or (members set) k d) (filter_passes (has set) (range_with_len 0 24) k d inside)
-
-few_members : (set : ℕ) → length (members set) ≤ 24
-unfolding members
-few_members set =
-    omega (arith, length-filter (has set) (range_with_len 0 24), count_by-le-length (has set) (range_with_len 0 24), length-range_with_len 0 24)
-
-name_declared : (space : IndexSpace) (i : ℕ) → IsSpace space → i < length space.indexes → is_name (index_at space i).name ≡ true
-name_declared space i is inside = (is.indexes i no_index inside).0
-
-pub names_are_names : (space : IndexSpace) (indexes : List ℕ) → IsSpace space → All (λ i. i < length space.indexes) indexes → list_all is_name (names_of space indexes) ≡ true
-names_are_names space [] is declared = refl
-names_are_names space (i ∷ indexes) is declared =
-    both (is_name (index_at space i).name) (list_all is_name (names_of space indexes)) (name_declared space i is (declared 0 0 (omega arith)))
-    (names_are_names space indexes is (λ k d l. declared (suc k) d (omega arith)))
+use Rattle.tce_cert.proofs.Sets.{members_declared}
 
 pub set_declared : (space : IndexSpace) (dims set : ℕ) → IsDeclared space dims → IsWithin set dims → IsDeclared space set
 set_declared space dims set declared within i member = declared i (within i member)
@@ -45,8 +21,8 @@ pub class_listed : (space : IndexSpace) (dims : ℕ) (text : List ℕ) (class : 
     → AreListed 24 text (names_of space (members class))
 unfolding set_text
 class_listed space dims text class is declared s = record {
-  few = omega (arith, few_members class, length-map (members class) (λ i. (index_at space i).name));
-  named = names_are_names space (members class) is (members_declared space class (set_declared space dims class declared s.part.within));
+  few = omega (arith, members_few class, length-map (members class) (λ i. (index_at space i).name));
+  named = names_named space (members class) is (members_declared space class (set_declared space dims class declared s.part.within));
   text_is = s.text_is;
 }
 

@@ -1,7 +1,7 @@
 -- What the texts of classes and rows state.
 use Rattle.std.proofs.Common.{◌≡◌, ℕ, zero, suc, ◌+◌, ◌<◌, ◌^◌, true, false, Bool, ◌||◌, IsTrue, List, [], ◌∷◌, ◌++◌, codes, length, map, get_or, take, Option, Some, None, refl, ap, ap₂, sym, ◌∙◌, subst, arith, inl, inr}
 use Rattle.std.specs.List.{All, Contains, list_all, join_with_byte}
-use Rattle.std.proofs.lemmas.Bool.{cases_Bool}
+use Rattle.std.proofs.lemmas.Bool.{cases_Bool, and_from as both, or_from}
 use Rattle.std.proofs.lemmas.List.{length-map, get_or-map, map-append, take_more, take_all}
 use Rattle.std.proofs.lemmas.List.Elements.{All-append}
 use Rattle.std.proofs.lemmas.Option.{none-some, same_Some}
@@ -23,10 +23,12 @@ use Rattle.tce_fields.proofs.Splitting.{split_joined, parts_at}
 use Rattle.tce_states.specs.Classes.{IsNesting, IsInhabited, in_class}
 use Rattle.tce_nesting.specs.Plan.{LiesWithin}
 use Rattle.tce_report.specs.NodeLine.{set_text}
+use Rattle.tce_report.proofs.Reading.{names_named}
 use Rattle.tce_cert.specs.Lines.{classes_text, cost_line}
 use Rattle.tce_cert.specs.Forms.{StatesCost, StatesClass, AreClasses, StatesClasses, StatesRow}
 use Rattle.tce_cert.proofs.Stated.{cost_once}
-use Rattle.tce_cert.proofs.StatedClass.{names_are_names, members_declared, set_declared, both}
+use Rattle.tce_cert.proofs.StatedClass.{set_declared}
+use Rattle.tce_cert.proofs.Sets.{members_declared}
 
 in_class_at : (cs : List ℕ) (k i : ℕ) → k < length cs → has (get_or cs k 0) i ≡ true → in_class cs i ≡ true
 in_class_at [] k i l h = absurd (omega arith)
@@ -36,9 +38,6 @@ in_class_at (c ∷ cs) (suc k) i l h = ap (λ b. has c i || b) (in_class_at cs k
     or_true : (b : Bool) → (b || true) ≡ true
     or_true true = refl
     or_true false = refl
-
-neither : (a b : Bool) → a ≡ false → b ≡ false → (a || b) ≡ false
-neither a b e f = ap₂ (λ x y. x || y) e f
 
 -- each class of a nesting has members, and none of those before it has them
 pub record IsClassAt (before : List ℕ) (class : ℕ) : Type 0 where
@@ -54,7 +53,7 @@ class_at (c ∷ cs) (suc k) n l =
     record {
       is_set = rest.is_set;
       inhabited = rest.inhabited;
-      apart = λ i h. neither (has c i) (in_class (take k cs) i)
+      apart = λ i h. or_from (has c i) (in_class (take k cs) i)
           (elim (cases_Bool (has c i)) [
             | inl t ↦ absurd (let none = n.2 i t in let some = in_class_at cs k i (omega arith) h in cc)
             | inr f ↦ f
@@ -147,7 +146,7 @@ unfolding set_text
 class_lacks space class is declared is_set some = by_members (members class) refl
   where
     named : list_all is_name (names_of space (members class)) ≡ true
-    named = names_are_names space (members class) is (members_declared space class declared)
+    named = names_named space (members class) is (members_declared space class declared)
 
     by_members : (xs : List ℕ) → members class ≡ xs → lacks 47 (listed (names_of space (members class))) ≡ true
     by_members [] e = absurd (some (no_members class is_set e))
@@ -189,7 +188,7 @@ no_names space (x ∷ xs) e = cc
 dash_alone : (space : IndexSpace) (dims c : ℕ) → IsSpace space → IsDeclared space dims → LiesWithin dims c → codes "-" ≡ set_text space c → members c ≡ []
 unfolding set_text
 dash_alone space dims c is declared within e =
-    let named = names_are_names space (members c) is (members_declared space c (set_declared space dims c declared within)) in
+    let named = names_named space (members c) is (members_declared space c (set_declared space dims c declared within)) in
     no_names space (members c) (only_none (names_of space (members c)) named (sym e))
 
 pub none_stated : (space : IndexSpace) (dims : ℕ) (text : List ℕ) → IsSpace space → IsDeclared space dims → text ≡ codes "-" → GivesExactly (Some []) (StatesClasses space dims text)

@@ -4,8 +4,8 @@ use Rattle.std.specs.Prelude.{slice_set}
 use Rattle.std.specs.List.{All, flat_map, range_with_len}
 use Rattle.std.proofs.lemmas.List.{get_or-set_other, get_or-set_same, flat_map_more}
 use Rattle.std.proofs.Math.Nat.{eq-or-lt_of_le}
-use Rattle.tce_fields.proofs.Ranges.{range_next}
 use Rattle.tce_space.specs.Space.{IndexSpace}
+use Rattle.tce_space.proofs.Ranges.{range_next}
 use Rattle.tce_tree.specs.ContractionTree.{ContractionTree, node_dims}
 use Rattle.tce_states.specs.Row.{Row, rows_at}
 use Rattle.tce_nesting.specs.Plan.{RowFits}

@@ -4,8 +4,8 @@ use Rattle.std.specs.List.{flat_map, range_with_len}
 use Rattle.std.proofs.lemmas.List.{flat_map_more}
 use Rattle.std.proofs.lemmas.List.FromFn.{map-range_with_len_more}
 use Rattle.std.proofs.lemmas.Grind.{flat_map-append}
-use Rattle.tce_fields.proofs.Ranges.{range_next}
 use Rattle.std.specs.Fmt.{decimal}
+use Rattle.tce_space.proofs.Ranges.{range_next}
 use Rattle.tce_cert.specs.Lines.{table_line}
 use Rattle.tce_cert.specs.Certificate.{text_of}
 

@@ -5,12 +5,12 @@ use Rattle.std.specs.List.{join_with_byte}
 use Rattle.std.proofs.lemmas.Bool.{cases_order}
 use Rattle.std.proofs.lemmas.Option.{none-some, same_Some}
 use Rattle.std.proofs.Math.Seq.{take-length}
+use Rattle.std.proofs.lemmas.Fmt.{decimal_injective}
 use Rattle.tce_command.specs.Command.{IsHeld}
 use Rattle.tce_einsum.specs.Text.{Einsum, IsText, size_text}
 use Rattle.tce_einsum.specs.Sizes.{IsBadSize, AreSized, is_missized}
 use Rattle.tce_einsum.specs.Path.{Item, one, two, item_text, Fits, left_by, AreItems, IsBadItem}
 use Rattle.tce_einsum.specs.Reading.{cut}
-use Rattle.tce_einsum.proofs.Items.{same_number}
 use Rattle.tce_einsum.proofs.Cuts.{cut_lacking, cut_front}
 use Rattle.tce_fields.proofs.Decimals.{decimal_lacks}
 
@@ -55,7 +55,7 @@ one_item : (n : ℕ) (i j : Item) → n < 2 ^ 64 → Fits n i → Fits n j → i
 one_item n (one p) (one q) small fits other e =
     let first : p < n = fits in
     let second : q < n = other in
-    ap one (same_number p q (omega arith) (omega arith) e)
+    ap one (decimal_injective p q (omega arith) (omega arith) e)
 one_item n (one p) (two q r) small fits other e =
     let inside : p < n = fits in
     absurd (none-some (decimal q, decimal r) (sym (cut_one p (omega arith)) ∙ ap (cut 44) e ∙ cut_two q r (omega (arith, other.0))))
@@ -65,8 +65,8 @@ one_item n (two p q) (one r) small fits other e =
 one_item n (two p q) (two r s) small fits other e =
     let halves : (decimal p, decimal q) ≡ (decimal r, decimal s) =
     same_Some (decimal p, decimal q) (decimal r, decimal s) (sym (cut_two p q (omega (arith, fits.0))) ∙ ap (cut 44) e ∙ cut_two r s (omega (arith, other.0))) in
-    let first : p ≡ r = same_number p r (omega (arith, fits.0)) (omega (arith, other.0)) (ap (λ (h : List ℕ × List ℕ). h.0) halves) in
-    let second : q ≡ s = same_number q s (omega (arith, fits.1)) (omega (arith, other.1)) (ap (λ (h : List ℕ × List ℕ). h.1) halves) in
+    let first : p ≡ r = decimal_injective p r (omega (arith, fits.0)) (omega (arith, other.0)) (ap (λ (h : List ℕ × List ℕ). h.0) halves) in
+    let second : q ≡ s = decimal_injective q s (omega (arith, fits.1)) (omega (arith, other.1)) (ap (λ (h : List ℕ × List ℕ). h.1) halves) in
     (λ k. two (first k) (second k))
 
 left_small : (n : ℕ) (i : Item) → n < 2 ^ 64 → left_by n i < 2 ^ 64

@@ -2,7 +2,7 @@
 use Rattle.std.proofs.Common.{◌≡◌, ℕ, Bool, true, not, ◌&&◌, ◌||◌, false, ◌+◌, ◌-◌, ◌^◌, ◌<◌, ◌≤◌, ◌⊎◌, inl, inr, refl, sym, subst, arith, List, [], ◌∷◌, All, length, get_or, min, Option, Some, None, unwrap_or}
 use Rattle.std.specs.Prelude.{IsTrue}
 use Rattle.std.specs.List.{Any, AllWithin}
-use Rattle.std.proofs.lemmas.Bool.{cases_Bool, cases_lt, false≢true}
+use Rattle.std.proofs.lemmas.Bool.{cases_Bool, cases_lt, false≢true, or_left}
 use Rattle.std.proofs.lemmas.List.Elements.{All-contains}
 use Rattle.tce_space.specs.IndexSet.{IsWithin, has}
 use Rattle.tce_space.specs.Space.{IndexSpace}
@@ -77,15 +77,12 @@ allowed_no_cross loops fused part r top inner allows cross = cross.0 (λ j in_fu
 
 -- ---- tops of two rows together
 
-in_left : (x y : Bool) → x ≡ true → (x || y) ≡ true
-in_left x y h = grind arith
-
 -- those of the left row
 pub tops_of_left : (loops : ℕ) (left right : Row) (tops : List ℕ) → AreTops loops left tops → All (IsTopOf loops (rows_joined left right)) tops
 tops_of_left loops left right tops are k d low =
     let top = are k d low in record {
       within = top.within;
-      upper = λ i j in_top in_loops out. in_left (above left.classes i j) (above right.classes i j) (top.upper i j in_top in_loops out);
+      upper = λ i j in_top in_loops out. or_left (above left.classes i j) (above right.classes i j) (top.upper i j in_top in_loops out);
     }
 
 -- and those of their join

@@ -10,12 +10,13 @@ use Rattle.tce_code.specs.Execution.{Setting, State, coordinates, exec}
 use Rattle.tce_code.specs.Plan.{Plan, setting_of}
 use Rattle.tce_code.proofs.Frames.{changes, exec-followed_by, exec-other}
 use Rattle.tce_tree.specs.WellFormed.{among}
-use Rattle.tce_code.proofs.Settled.{OperandSettled, Settled, settled-map, settled-both, IsBelow, settled-numbers, node-positive, operand-here, operand-above, operand-past, operand-outside, clearing-other}
+use Rattle.tce_code.proofs.Settled.{OperandSettled, Settled, settled-map, settled-both, IsBelow, settled-numbers, operand-here, operand-above, operand-past, operand-outside, clearing-other}
 use Rattle.tce_code.proofs.Readings.{InExtents, NodeFits, OperandFits, Fits, Holds, Ready, Advances}
 use Rattle.tce_code.proofs.Nests.{joint_at, ready-kept, nest-exec}
 use Rattle.tce_tree.specs.WellFormed.{IsWellFormed}
 use Rattle.tce_tree.proofs.NamedIndexes.{well_formed-left, well_formed-right, well_formed-operand}
 use Rattle.tce_tree.specs.Fusion.{fused_at, order_at, kept_dims}
+use Rattle.tce_tree.proofs.Nodes.{node-positive}
 use Rattle.tce_code.proofs.NodeWords.{BeginsAt, node-word}
 
 -- a state with the same words at the nodes of an operand

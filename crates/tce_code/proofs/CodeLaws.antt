@@ -1,12 +1,12 @@
 -- The code that is generated computes the tree.
-use Rattle.std.proofs.Common.{◌≡◌, ℕ, ◌-◌, ◌<◌, ◌≤◌, false, List, [], refl, sym, ap, ◌∙◌, subst, arith}
+use Rattle.std.proofs.Common.{◌≡◌, ℕ, ◌-◌, ◌<◌, ◌≤◌, false, List, [], sym, ap, ◌∙◌, subst, arith}
 use Rattle.tce_space.specs.IndexSet.{has}
 use Rattle.tce_space.proofs.IndexSetLaws.{has-empty}
-use Rattle.tce_tree.specs.ContractionTree.{ContractionTree, leaf, constant, binary, sum, is_leaf, operations, dims, node}
+use Rattle.tce_tree.specs.ContractionTree.{ContractionTree, is_leaf, operations, dims, node}
 use Rattle.tce_tree.specs.FlatTree.{IsTree}
 use Rattle.tce_tree.specs.Fusion.{FusionFits, OrdersFit, Carries, fused_at, kept_dims}
 use Rattle.tce_tree.specs.Value.{Assignment, Elements, IsInExtents, value}
-use Rattle.tce_tree.proofs.Nodes.{node-root}
+use Rattle.tce_tree.proofs.Nodes.{node-root, node_of_some}
 use Rattle.tce_code.specs.CodeFor.{IsCodeFor}
 use Rattle.tce_code.specs.Execution.{State, exec, ReadsRight, coordinates}
 use Rattle.tce_code.specs.Generation.{code_of}
@@ -49,12 +49,6 @@ by-program tree plan program ops e for = record {
     same : program_of ops ≡ program
     same = ap program_of e ∙ program_of-spelled program
 
-some-node : (tree : ContractionTree) → 0 < operations tree → is_leaf tree ≡ false
-some-node (leaf t is) h = absurd (omega arith)
-some-node (constant n) h = absurd (omega arith)
-some-node (binary op l r) h = refl
-some-node (sum is e) h = refl
-
 pub code-is : (tree : ContractionTree) (fusion : List ℕ) (orders : List (List ℕ)) → FusionFits tree fusion → OrdersFit tree orders
     → Carries tree fusion orders → IsTree tree → (ops : List Op) → ops ≡ spelled (code_of (plan_of fusion orders) tree) → IsCodeFor tree (plan_of fusion orders) ops
 code-is tree fusion orders fits fit carried is_tree ops e =
@@ -71,7 +65,7 @@ code-is tree fusion orders fits fit carried is_tree ops e =
     at = let some = is_tree.some in node-root tree (operations tree - 1) (omega arith)
 
     node_root : is_leaf tree ≡ false
-    node_root = some-node tree is_tree.some
+    node_root = node_of_some tree is_tree.some
 
     nf : NodeFits (plan_of fusion orders) tree (operations tree - 1)
     nf =

@@ -10,10 +10,10 @@ use Rattle.tce_tree.specs.WellFormed.{among}
 use Rattle.tce_tree.proofs.Conditions.{order-has, order-distinct, fused_fits_low, fused_fits_high}
 use Rattle.tce_tree.proofs.Lists.{same_truth, contains-among, among-contains}
 use Rattle.tce_tree.proofs.Operands.{Stands, stands-whole, stands-left, stands-right, stands-operand, IsChild, left_child, right_child, only_child}
+use Rattle.tce_tree.proofs.Nodes.{node-positive}
 use Rattle.tce_code.specs.Emission.{JointsFit}
 use Rattle.tce_code.specs.Plan.{plan_of}
 use Rattle.tce_code.proofs.Readings.{NodeFits, EdgeFits, OperandFits, Fits}
-use Rattle.tce_code.proofs.Settled.{node-positive}
 
 pub node-fits : (tree : ContractionTree) (fusion : List ℕ) (orders : List (List ℕ)) → OrdersFit tree orders → (v : ℕ) → v < operations tree
     → NodeFits (plan_of fusion orders) (node tree v) v

@@ -1,7 +1,7 @@
 -- What the loops of one node leave in its places.
 use Rattle.std.proofs.Common.{◌≡◌, ℕ, suc, ◌+◌, ◌-◌, ◌<◌, ◌≤◌, true, false, List, [], ◌∷◌, drop, take, if◌then◌else◌, refl, sym, ap, ap₂, ◌∙◌, inl, inr, subst, arith, take-take}
 use Rattle.std.specs.Prelude.{bytes_eq}
-use Rattle.std.proofs.lemmas.Bool.{true≢false, ne_eqb, cases_Bool, cases_eq, eq-eqb}
+use Rattle.std.proofs.lemmas.Bool.{true≢false, cases_Bool, cases_eq, eq-eqb}
 use Rattle.std.proofs.lemmas.Slice.Eq.{bytes_eq-Decides}
 use Rattle.tce_space.specs.IndexSet.{count, has}
 use Rattle.tce_tree.specs.ContractionTree.{ContractionTree, leaf, constant, binary, sum, is_leaf, operations, node, left_tree, right_tree}
@@ -15,8 +15,10 @@ use Rattle.tce_code.proofs.Frames.{changes, exec-followed_by, exec-other}
 use Rattle.tce_tree.specs.WellFormed.{among}
 use Rattle.tce_tree.proofs.Lists.{among_first}
 use Rattle.tce_tree.specs.Fusion.{fused_at, order_at, kept_dims}
+use Rattle.tce_tree.proofs.Assignments.{with-same, with-other}
+use Rattle.tce_tree.proofs.Nodes.{node-positive}
 use Rattle.tce_code.proofs.Lists.{among-take_more, among-take_next, distinct-apart, drop_next, drop-end}
-use Rattle.tce_code.proofs.Settled.{Settled, settled-map, settled-both, IsBelow, settled-numbers, node-positive, inner-other, nest-other, LeftAlone, settled-alone, computing-other}
+use Rattle.tce_code.proofs.Settled.{Settled, settled-map, settled-both, IsBelow, settled-numbers, inner-other, nest-other, LeftAlone, settled-alone, computing-other}
 use Rattle.tce_code.proofs.Readings.{InExtents, NodeFits, EdgeFits, Fits, Holds, Ready, Advances, turned, nest_word, repeated_related, found}
 
 -- the first indexes of both ends of an edge
@@ -64,12 +66,6 @@ settled-fused whole plan first (sum indexes operand) v depth num fits = λ n.
   where
     same : first + operations operand ≡ v
     same = omega arith
-
-pub with-other : (a : Assignment) (i x j : ℕ) → (j ≡ i → ⊥) → with_number a i x j ≡ a j
-with-other a i x j h = rw (ne_eqb j i h) refl
-
-pub with-same : (a : Assignment) (i x : ℕ) → with_number a i x i ≡ x
-with-same a i x = rw (eq-eqb i i refl) refl
 
 -- the last loop's index is no earlier one
 pub ready-further : (whole : ContractionTree) (e : Elements) (plan : Plan) (first : ℕ) (c : ContractionTree) (v depth i x : ℕ) (rest : List ℕ)

@@ -2,6 +2,7 @@
 use Rattle.std.proofs.Common.{◌≡◌, ℕ, true, false, ◌&&◌, not, List, drop, take, filter, refl, sym, ap, ◌∙◌, inl, inr}
 use Rattle.std.specs.Prelude.{bytes_eq}
 use Rattle.std.proofs.lemmas.Bool.{and_from, and_parts, true≢false, false≢true, cases_Bool, not-true, not_from_false, false_from_ne_true}
+use Rattle.tce_base.proofs.Words.{zero-plus}
 use Rattle.tce_space.specs.IndexSet.{has, set_of}
 use Rattle.tce_space.proofs.IndexSetLaws.{has-minus, has_below}
 use Rattle.tce_tree.specs.ContractionTree.{ContractionTree, leaf, constant, binary, sum, is_leaf, dims, node, node_dims}
@@ -10,7 +11,7 @@ use Rattle.tce_code.specs.Execution.{coordinates}
 use Rattle.tce_code.specs.Plan.{Plan}
 use Rattle.tce_tree.specs.WellFormed.{among}
 use Rattle.tce_code.proofs.Lists.{among-drop, among-parts, distinct-apart, distinct-drop}
-use Rattle.tce_code.proofs.Words.{zero-plus, sum_over_permuted, zero-is_word}
+use Rattle.tce_code.proofs.Words.{zero-is_word}
 use Rattle.tce_tree.specs.WellFormed.{IsWellFormed}
 use Rattle.tce_tree.proofs.Lists.{same_truth, among-filter, filter-among}
 use Rattle.tce_tree.proofs.Members.{dims_lt}
@@ -18,6 +19,7 @@ use Rattle.tce_tree.proofs.NamedIndexes.{has-set_of_list, well_formed-operand, s
 use Rattle.tce_tree.proofs.Permutations.{distinct-filter}
 use Rattle.tce_tree.proofs.Values.{sum_over-lt, value-depends, value-lt}
 use Rattle.tce_tree.specs.Fusion.{fused_at, order_at, kept_dims}
+use Rattle.tce_tree.proofs.Sums.{sum_over_permuted}
 use Rattle.tce_code.proofs.Readings.{InExtents, NodeFits, turned, nest_word}
 use Rattle.tce_code.proofs.Sums.{nest_word-set, nest_word-sum}
 

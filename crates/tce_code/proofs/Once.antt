@@ -1,14 +1,15 @@
 -- Each node is computed once.
 use Rattle.std.proofs.Common.{◌≡◌, ℕ, zero, suc, ◌+◌, ◌-◌, ◌<◌, ◌≤◌, ◌⊎◌, ◌==◌, true, false, List, [], ◌∷◌, length, drop, if◌then◌else◌, refl, sym, ap, ap₂, ◌∙◌, inl, inr, subst, arith, length-drop}
-use Rattle.std.proofs.lemmas.Bool.{true≢false, false≢true, ne_eqb, cases_Bool, cases_lt, cases_eq, eq-eqb}
+use Rattle.std.proofs.lemmas.Bool.{true≢false, ne_eqb, cases_Bool, cases_lt, cases_eq, eq-eqb}
 use Rattle.tce_space.specs.IndexSet.{count}
 use Rattle.tce_tree.specs.ContractionTree.{ContractionTree, leaf, constant, binary, sum, is_leaf, operations}
 use Rattle.tce_tree.specs.Fusion.{fused_at, order_at}
+use Rattle.tce_tree.proofs.Nodes.{operations-leaf, node-positive}
 use Rattle.tce_code.specs.Program.{clear, compute, accumulate, Program, stop, step, loop}
 use Rattle.tce_code.specs.Generation.{followed_by, nest, computing, loops_from, clearing, operand_code, inner_code, code_of}
 use Rattle.tce_code.specs.Plan.{Plan}
 use Rattle.tce_code.specs.Shape.{times_computed}
-use Rattle.tce_code.proofs.Settled.{node-positive, operand-here, operand-above, operand-past, operand-leaf}
+use Rattle.tce_code.proofs.Settled.{operand-here, operand-above, operand-past, operand-leaf}
 use Rattle.tce_code.proofs.Readings.{OperandFits, Fits}
 
 times-followed_by : (p q : Program) (u : ℕ) → times_computed (followed_by p q) u ≡ times_computed p u + times_computed q u
@@ -61,7 +62,7 @@ times-nest inner depth [] last u = omega (arith, times-followed_by (inner depth)
 times-nest inner depth (i ∷ order) last u =
     omega (arith, times-followed_by (inner depth) (loop i (nest inner (suc depth) order last) stop) u, times-nest inner (suc depth) order last u)
 
-abbrev one_at : ℕ → ℕ → ℕ
+abbrev pub one_at : ℕ → ℕ → ℕ
 one_at v u = if v == u then 1 else 0
 
 times-computing : (c : ContractionTree) (v u : ℕ) → is_leaf c ≡ false → times_computed (computing c v) u ≡ one_at v u
@@ -118,12 +119,6 @@ record Counts (first size u times : ℕ) : Type 0 where
   inside : first ≤ u → u < first + size → times ≡ 1
   outside : (u < first) ⊎ (first + size ≤ u) → times ≡ 0
 
-leaf-operations : (c : ContractionTree) → is_leaf c ≡ true → operations c ≡ 0
-leaf-operations (leaf tensor indexes) n = refl
-leaf-operations (constant number) n = refl
-leaf-operations (binary op left right) n = absurd (false≢true n)
-leaf-operations (sum indexes operand) n = absurd (false≢true n)
-
 operand-counts : (whole : ContractionTree) (plan : Plan) (first : ℕ) (c : ContractionTree) (p u : ℕ)
     → (is_leaf c ≡ false → OperandFits whole plan c (first + operations c - 1) p)
     → (is_leaf c ≡ false → Counts first (operations c - 1) u (total (λ e. times_computed (inner_code plan first c e) u) 0 (suc (length (order_at plan.orders (first + operations c - 1))))))
@@ -132,7 +127,7 @@ operand-counts : (whole : ContractionTree) (plan : Plan) (first : ℕ) (c : Cont
 operand-counts whole plan first c p u fits h =
     elim (cases_Bool (is_leaf c)) [
       | inl n ↦
-          let z = leaf-operations c n in
+          let z = operations-leaf c n in
           record {
             inside = λ a b. absurd (omega arith);
             outside = λ o. leaf-times plan c (first + operations c - 1) (inner_code plan first c) (length (order_at plan.orders p)) u n;

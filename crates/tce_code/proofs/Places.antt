@@ -1,25 +1,15 @@
 -- When two assignments give one place.
-use Rattle.std.proofs.Common.{◌≡◌, ℕ, ◌<◌, true, false, eqb, List, [], ◌∷◌, map, filter, sym, ap, ◌∙◌, inl, inr, arith}
+use Rattle.std.proofs.Common.{◌≡◌, ℕ, ◌<◌, true, false, filter, arith}
 use Rattle.std.specs.List.{range_with_len}
 use Rattle.std.specs.Prelude.{bytes_eq}
-use Rattle.std.proofs.lemmas.Bool.{false≢true, eqb-true, or_cases, false_from_ne_true}
+use Rattle.std.proofs.lemmas.Bool.{false_from_ne_true}
 use Rattle.std.proofs.lemmas.Slice.Eq.{bytes_eq-Decides}
 use Rattle.tce_space.specs.IndexSet.{has, members}
 use Rattle.tce_tree.specs.Value.{Assignment}
 use Rattle.tce_code.specs.Execution.{coordinates}
-use Rattle.tce_tree.specs.WellFormed.{among}
 use Rattle.tce_tree.proofs.Lists.{among-filter, filter-among, among-range}
 use Rattle.tce_tree.proofs.Values.{map-same}
-
-same_at : (xs : List ℕ) (a b : Assignment) (i : ℕ) → map a xs ≡ map b xs → among xs i ≡ true → a i ≡ b i
-same_at [] a b i h m = absurd (false≢true m)
-same_at (x ∷ xs) a b i h m =
-    let first : a x ≡ b x = cc in
-    let later : map a xs ≡ map b xs = cc in
-    elim (or_cases (eqb x i) (among xs i) m) [
-      | inl e ↦ ap a (sym (eqb-true x i e)) ∙ first ∙ ap b (eqb-true x i e)
-      | inr e ↦ same_at xs a b i later e
-    ]
+use Rattle.tce_tree.proofs.Assignments.{same_at}
 
 pub coordinates-same : (set : ℕ) (a b : Assignment) → ((i : ℕ) → has set i ≡ true → a i ≡ b i) → bytes_eq (coordinates set a) (coordinates set b) ≡ true
 unfolding members

@@ -11,12 +11,13 @@ use Rattle.tce_code.specs.Generation.{nest, computing, loops_from, clearing, ope
 use Rattle.tce_code.proofs.Frames.{changes, reads-followed_by, exec-other, repeated_keeps}
 use Rattle.tce_tree.specs.WellFormed.{among}
 use Rattle.tce_code.proofs.Lists.{drop_next, drop-end}
-use Rattle.tce_code.proofs.Settled.{OperandSettled, settled-map, IsBelow, settled-numbers, node-positive, operand-here, operand-above, operand-past, operand-leaf, operand-outside, clearing-other}
+use Rattle.tce_code.proofs.Settled.{OperandSettled, settled-map, IsBelow, settled-numbers, operand-here, operand-above, operand-past, operand-leaf, operand-outside, clearing-other}
 use Rattle.tce_code.proofs.Readings.{InExtents, NodeFits, OperandFits, Fits, Holds, Ready, Advances, found}
 use Rattle.tce_code.proofs.Nests.{joint_at, ready-kept, ready-further, inside-further, nest-alone}
 use Rattle.tce_tree.specs.WellFormed.{IsWellFormed}
 use Rattle.tce_tree.proofs.NamedIndexes.{well_formed-left, well_formed-right, well_formed-operand}
 use Rattle.tce_tree.specs.Fusion.{fused_at, order_at}
+use Rattle.tce_tree.proofs.Nodes.{node-positive}
 use Rattle.tce_code.proofs.Advance.{advances, operand-moved, none-settled}
 
 abbrev pub ReadsInside : ContractionTree → Elements → Plan → ℕ → ContractionTree → ℕ → Type 0

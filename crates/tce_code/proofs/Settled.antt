@@ -1,9 +1,10 @@
 -- The nodes whose places are settled where the loops of a tree stand open down to a depth.
 use Rattle.std.proofs.Common.{◌≡◌, ℕ, suc, ◌+◌, ◌-◌, ◌<◌, ◌≤◌, ◌⊎◌, true, false, List, [], ◌∷◌, drop, refl, ap, ◌∙◌, inl, inr, arith}
-use Rattle.std.proofs.lemmas.Bool.{true≢false, ne_eqb, cases_Bool, cases_order, lt-ltb, le-ltb, eq-eqb}
+use Rattle.std.proofs.lemmas.Bool.{ne_eqb, cases_Bool, cases_order, lt-ltb, le-ltb, eq-eqb}
 use Rattle.tce_space.specs.IndexSet.{count}
 use Rattle.tce_tree.specs.ContractionTree.{ContractionTree, leaf, constant, binary, sum, is_leaf, operations}
 use Rattle.tce_tree.specs.Fusion.{fused_at, order_at}
+use Rattle.tce_tree.proofs.Nodes.{node-positive}
 use Rattle.tce_code.specs.Program.{Program, stop, loop}
 use Rattle.tce_code.specs.Generation.{followed_by, nest, computing, loops_from, clearing, operand_code, inner_code}
 use Rattle.tce_code.specs.Plan.{Plan}
@@ -55,12 +56,6 @@ settled-both plan Q R S f first (sum indexes operand) depth h j =
       (λ k. f (first + operations operand - 1) operand ((h n).0 k) ((j n).0 k)),
       (λ k. settled-both plan Q R S f first operand depth ((h n).1 k) ((j n).1 k)),
     )
-
-pub node-positive : (tree : ContractionTree) → is_leaf tree ≡ false → 0 < operations tree
-node-positive (leaf tensor indexes) h = absurd (true≢false h)
-node-positive (constant number) h = absurd (true≢false h)
-node-positive (binary op left right) h = omega arith
-node-positive (sum indexes operand) h = omega arith
 
 abbrev pub IsBelow : ℕ → ContractionTree → ℕ → ContractionTree → Type 0
 IsBelow first tree v c = (first ≤ v) × (v + 1 < first + operations tree)

@@ -8,8 +8,9 @@ use Rattle.tce_code.specs.Generation.{followed_by, nest, computing, loops_from, 
 use Rattle.tce_code.specs.Plan.{Plan}
 use Rattle.tce_tree.specs.WellFormed.{among}
 use Rattle.tce_tree.specs.Fusion.{fused_at, order_at}
+use Rattle.tce_tree.proofs.Nodes.{node-positive}
 use Rattle.tce_code.proofs.Lists.{drop_next, drop-end}
-use Rattle.tce_code.proofs.Settled.{node-positive, operand-here, operand-above, operand-past, operand-leaf}
+use Rattle.tce_code.proofs.Settled.{operand-here, operand-above, operand-past, operand-leaf}
 use Rattle.std.proofs.lemmas.List.{take_all}
 use Rattle.tce_code.specs.Shape.{EachAction, ActionFits, IsBinary, IsSum, IsLoop}
 use Rattle.tce_code.proofs.Readings.{NodeFits, OperandFits, Fits}

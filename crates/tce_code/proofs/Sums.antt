@@ -4,15 +4,16 @@ use Rattle.std.specs.Prelude.{bytes_eq}
 use Rattle.std.proofs.lemmas.Bool.{true≢false, ne_eqb, cases_eq, eq-eqb, cases_Bool, or_left, or_right, or_parts}
 use Rattle.tce_space.specs.IndexSet.{has}
 use Rattle.tce_base.specs.Word.{wrapping_add}
+use Rattle.tce_base.proofs.Words.{plus_assoc, plus-lt, plus-zero}
 use Rattle.tce_tree.specs.Value.{Assignment, with_number, sum_below, sum_over}
 use Rattle.tce_code.specs.Execution.{coordinates, repeated}
 use Rattle.tce_tree.specs.WellFormed.{among, is_distinct}
 use Rattle.tce_tree.proofs.Lists.{distinct_first, distinct_later}
+use Rattle.tce_tree.proofs.Assignments.{with-same, with-other}
 use Rattle.tce_code.proofs.Frames.{repeated_keeps}
-use Rattle.tce_code.proofs.Words.{IsWord, plus-is_word, plus-zero, plus_assoc}
+use Rattle.tce_code.proofs.Words.{IsWord}
 use Rattle.tce_code.proofs.Places.{coordinates-same, coordinates-other}
 use Rattle.tce_code.proofs.Readings.{nest_word}
-use Rattle.tce_code.proofs.Nests.{with-other, with-same}
 
 -- one turn counts where the others do nothing
 repeated-idle : {X : Type 0} (n m : ℕ) (turn : ℕ → X → X) (x : X) → n ≤ m → ((k : ℕ) (y : X) → (k ≡ m → ⊥) → turn k y ≡ y)
@@ -35,7 +36,7 @@ pub repeated-plus : (n : ℕ) (turn : ℕ → ℕ → ℕ) (g : ℕ → ℕ) (w 
 repeated-plus zero turn g w h more = sym (plus-zero w h)
 repeated-plus (suc n) turn g w h more =
     ap (turn n) (repeated-plus n turn g w h (λ k y l. more k y (omega arith)))
-    ∙ more n (wrapping_add w (sum_below n g)) (omega arith) (plus-is_word w (sum_below n g))
+    ∙ more n (wrapping_add w (sum_below n g)) (omega arith) (plus-lt w (sum_below n g))
     ∙ plus_assoc w (sum_below n g) (g n)
 
 -- whether an assignment falls on the place of `b`

@@ -1,26 +1,11 @@
 -- Decimal texts and how they begin.
-use Rattle.std.proofs.Common.{◌≡◌, ◌≢◌, refl, sym, ◌∙◌, ap, subst, ℕ, zero, suc, ◌<◌, ◌^◌, Bool, true, false, List, [], ◌∷◌, length, get_or, arith, Result, Ok, Err, rules}
+use Rattle.std.proofs.Common.{◌≡◌, sym, ◌∙◌, ap, ℕ, zero, suc, ◌<◌, ◌^◌, Bool, true, false, List, length, get_or, arith, Result, Ok, Err}
 use Rattle.std.specs.Fmt.{decimal}
 use Rattle.std.specs.Str.Parse.{AllDigits, digits_value, ParsesUnsigned}
-use Rattle.std.specs.Int.{IsInRange}
-use Rattle.std.proofs.lemmas.Bool.Decides.{nat_tests}
 use Rattle.std.proofs.lemmas.Fmt.{decimal_digit, first_decimal, decimal_is_IsNumeral, decimal-digits_value}
-use Rattle.std.proofs.lemmas.Str.Parse.{IsNumeralModel, numerals_by_value, parse_plain, digit_at}
+use Rattle.std.proofs.lemmas.Str.Parse.{parse_plain}
+use Rattle.tce_fields.proofs.Decimals.{decimal_model, digits_start, no_sign, lead_alone}
 use Rattle.tce_command.specs.Number.{starts_as_number}
-
-own : IsNumeralModel (AllDigits 10) (digits_value 10)
-own = numerals_by_value _ (search rules)
-
--- a text of digits without a leading 0 begins as a number
-digits_start : (ds : List ℕ) → AllDigits 10 ds → 0 < length ds → (get_or ds 0 0 ≡ 48 → length ds ≡ 1) → starts_as_number ds ≡ true
-digits_start [] all some lead = absurd (omega arith)
-digits_start (b ∷ []) all some lead =
-    let here : IsInRange 48 57 b = digit_at (b ∷ []) 0 all (omega arith) in
-    grind (arith, nat_tests)
-digits_start (b ∷ c ∷ bs) all some lead =
-    let here : IsInRange 48 57 b = digit_at (b ∷ c ∷ bs) 0 all (omega arith) in
-    let positive : b ≢ 48 = λ e. let one = lead e in omega arith in
-    grind (arith, nat_tests)
 
 lead_of_decimal : (n : ℕ) → n < 2 ^ 64 → get_or (decimal n) 0 0 ≡ 48 → length (decimal n) ≡ 1
 lead_of_decimal zero small first = ap length (decimal_digit 0 (omega arith))
@@ -30,17 +15,6 @@ pub decimal_start : (n : ℕ) → n < 2 ^ 64 → starts_as_number (decimal n) �
 decimal_start n small =
     let numeral = (decimal_is_IsNumeral n small).0 in
     digits_start (decimal n) numeral.1 numeral.0 (lead_of_decimal n small)
-
--- what begins as a number has no sign, and a leading 0 stands alone
-no_sign : (ds : List ℕ) → starts_as_number ds ≡ true → get_or ds 0 0 ≢ 43
-no_sign [] e = cc
-no_sign (b ∷ []) e = λ sign. let f : starts_as_number (43 ∷ []) ≡ true = subst (λ x. starts_as_number (x ∷ []) ≡ true) sign e in absurd (cc)
-no_sign (b ∷ c ∷ bs) e = λ sign. let f : starts_as_number (43 ∷ c ∷ bs) ≡ true = subst (λ x. starts_as_number (x ∷ c ∷ bs) ≡ true) sign e in absurd (cc)
-
-lead_alone : (ds : List ℕ) → starts_as_number ds ≡ true → get_or ds 0 0 ≡ 48 → length ds ≡ 1
-lead_alone [] e first = cc
-lead_alone (b ∷ []) e first = refl
-lead_alone (b ∷ c ∷ bs) e first = let f : starts_as_number (48 ∷ c ∷ bs) ≡ true = subst (λ x. starts_as_number (x ∷ c ∷ bs) ≡ true) first e in absurd (cc)
 
 -- tests and answers have one value
 pub not_both : (b : Bool) → b ≡ true → b ≡ false → ⊥
@@ -52,8 +26,8 @@ not_read r value fault read failed = cc
 -- the text of a number that was parsed is its decimal text
 pub parsed_text : {E : Type 0} (ds : List ℕ) (value : ℕ) (r : Result ℕ E) → starts_as_number ds ≡ true → ParsesUnsigned 64 10 ds r → r ≡ Ok value → ds ≡ decimal value
 parsed_text {E} ds value (Ok x) start h e =
-    let parsed : (AllDigits 10 ds × (0 < length ds) × (digits_value 10 ds < 2 ^ 64)) × (x ≡ digits_value 10 ds) = parse_plain own {E = E} 64 ds (Ok x) h (no_sign ds start) in
+    let parsed : (AllDigits 10 ds × (0 < length ds) × (digits_value 10 ds < 2 ^ 64)) × (x ≡ digits_value 10 ds) = parse_plain decimal_model {E = E} 64 ds (Ok x) h (no_sign ds start) in
     let same : x ≡ value = cc in
-    sym (decimal-digits_value own ds parsed.0.0 parsed.0.1 (lead_alone ds start) parsed.0.2)
+    sym (decimal-digits_value decimal_model ds parsed.0.0 parsed.0.1 (lead_alone ds start) parsed.0.2)
     ∙ ap decimal (sym parsed.1 ∙ same)
 parsed_text ds value (Err fault) start h e = absurd (cc)

@@ -7,13 +7,12 @@ use Rattle.std.specs.Str.{bytes_eq}
 use Rattle.std.proofs.lemmas.List.{length-map, map-append, get_or-map}
 use Rattle.std.proofs.lemmas.List.Elements.{All-push, All-from_recursion, recursion_from_All}
 use Rattle.std.proofs.lemmas.Bool.Decides.{nat_tests}
-use Rattle.std.proofs.lemmas.Bool.{and_parts}
-use borrow.Author.Tests.{leb-true}
 use Rattle.arrayvec.specs.ArrayString.{ArrayString}
 use Rattle.tce_space.specs.Name.{is_name}
 use Rattle.tce_space.specs.Space.{Range, IndexSpace, IsSpace, range_at, range_number, no_range, tiling_of}
 use Rattle.tce_space.specs.SpaceEntries.{names_of}
 use Rattle.tce_space.specs.Tiling.{Tiling, tile_words, padded_words}
+use Rattle.tce_space.proofs.Spaces.{name_len}
 use Rattle.tce_declarations.specs.Declarations as model
 use Rattle.tce_declarations.specs.Declarations.{Declarations, IsTensor, no_tensor, tensor_number}
 use Rattle.tce_declarations.specs.DeclarationsCode.{tensor_of, IsEntry, AreKept}
@@ -26,7 +25,7 @@ both_none : (a b : Option Fault) → option_or a b ≡ None → (a ≡ None) × 
 both_none None b e = (refl, e)
 both_none (Some f) b e = cc
 
-not_faulty : (b : Bool) (f : Fault) → fault_if b f ≡ None → b ≡ false
+pub not_faulty : (b : Bool) (f : Fault) → fault_if b f ≡ None → b ≡ false
 not_faulty true f e = cc
 not_faulty false f e = refl
 
@@ -34,10 +33,10 @@ none_found : (f : List ℕ → Fault) (o : Option (List ℕ)) → option_map f o
 none_found f None e = refl
 none_found f (Some x) e = cc
 
-at_most : (limit n : ℕ) → nat_lt limit n ≡ false → n ≤ limit
+pub at_most : (limit n : ℕ) → nat_lt limit n ≡ false → n ≤ limit
 at_most limit n e = grind (arith, nat_tests)
 
-less_than : (limit n : ℕ) → nat_le limit n ≡ false → n < limit
+pub less_than : (limit n : ℕ) → nat_le limit n ≡ false → n < limit
 less_than limit n e = grind (arith, nat_tests)
 
 -- what a tensor line without a fault has
@@ -71,7 +70,7 @@ below_limit : (b : Bool) (k n : ℕ) → nat_lt k n ≡ b → is_none (cond b (S
 below_limit true k n below known = grind (arith, nat_tests)
 below_limit false k n below known = cc
 
-number_known : (space : IndexSpace) (name : List ℕ) → is_none (range_number space name) ≡ false → number_of_range space name < length space.ranges
+pub number_known : (space : IndexSpace) (name : List ℕ) → is_none (range_number space name) ≡ false → number_of_range space name < length space.ranges
 number_known space name known = below_limit (nat_lt _ (length space.ranges)) _ (length space.ranges) refl known
 
 known_first : (b : Bool) (name : List ℕ) (rest : Option (List ℕ)) → cond b (Some name) rest ≡ None → (b ≡ false) × (rest ≡ None)
@@ -167,13 +166,6 @@ kept_with_tensor space entries new t kept is distinct room tensor shaped =
       };
       entries = subst (All (IsEntry space)) (sym is) (All-push (IsEntry space) entries (t.name, t) kept.entries (record { named = refl; shaped = shaped }));
     }
-
-name_len : (w : List ℕ) → IsTrue (is_name w) → length w ≤ 16
-unfolding is_name
-name_len w h =
-    let fronts = and_parts _ _ h in
-    let lens = and_parts _ _ (and_parts _ _ fronts.0).0 in
-    leb-true _ _ lens.1
 
 -- the tensor of a line without a fault
 pub tensor_is : (d : Declarations) (name : List ℕ) (ranges : List (List ℕ)) (t : Tensor) → Faultless d name ranges → IsTrue (is_name name)

@@ -108,18 +108,6 @@ twice_further declared xs i d h new =
     (ap (λ earlier. twice_after earlier (names (drop (i + 1) xs)))
     (append_assoc declared (names (take i xs)) ((get_or xs i d).now ∷ []) ∙ ap (λ ns. declared ++ ns) (sym (names_to xs i d h))))
 
-pub first_holds : (a b : Bool) → a ≡ true → (a || b) ≡ true
-first_holds true b e = refl
-first_holds false b e = cc
-
-pub second_holds : (a b : Bool) → b ≡ true → (a || b) ≡ true
-second_holds true b e = refl
-second_holds false b e = e
-
-pub neither : (a b : Bool) → a ≡ false → b ≡ false → (a || b) ≡ false
-neither true b e f = cc
-neither false b e f = f
-
 -- indexes entered one after another
 pub index_entered : (space : IndexSpace) (range : ℕ) (earlier : List (List ℕ)) (name : List ℕ) (before after : IndexSpace)
     → before ≡ with_numbered_indexes space range earlier → after.ranges ≡ before.ranges

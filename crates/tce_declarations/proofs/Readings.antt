@@ -101,7 +101,7 @@ names_kept d (declaration name ranges) has named =
     All-push (λ (t : Tensor). IsTrue (is_name t.name)) d.tensors (record { name = name; ranges = numbers_of_ranges d.space ranges }) named has.0
 names_kept d (formula result indexes f) has named = named
 
-unless_ok : {A : Type 0} (fault : Option Fault) (next : Result A Fault) (x : A) → unless fault next ≡ Ok x → next ≡ Ok x
+pub unless_ok : {A : Type 0} (fault : Option Fault) (next : Result A Fault) (x : A) → unless fault next ≡ Ok x → next ≡ Ok x
 unless_ok None next x is = is
 unless_ok (Some f) next x is = cc
 

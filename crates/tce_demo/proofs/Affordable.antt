@@ -6,7 +6,8 @@ use Rattle.tce_space.specs.Tiling.{tile_words}
 use Rattle.tce_tree.specs.ContractionTree.{node, node_dims, operations}
 use Rattle.tce_tree.specs.Fusion.{kept_dims}
 use Rattle.tce_tree.specs.Memory.{size_at, size_before, memory}
-use Rattle.tce_search.proofs.LastLimit.{zeros_fit, zeros_legal}
+use Rattle.tce_states.proofs.Unfused.{zeros_fit}
+use Rattle.tce_search.proofs.LastLimit.{zeros_legal}
 use Rattle.tce_spec.specs.Specification.{Specification, IsSpecification}
 use Rattle.tce_spec.specs.Operands.{operands, shape_of, largest_tile}
 use Rattle.tce_tensors.specs.Takings.{tile_count, tile_take}

@@ -1,24 +1,12 @@
 -- A demonstration is refused as a run is.
 use Rattle.std.proofs.Common.{◌≡◌, refl, sym, subst, ℕ, Result, Ok, Err, IfErr}
-use Rattle.tce_job.specs.declared.fault.JobFault.{JobFault}
 use Rattle.tce_job.specs.declared.fault.JobFault.TheVariants as faults
-use Rattle.tce_job.specs.Refusals.{IsFree as IsFreeFault}
 use Rattle.tce_spec.specs.Specification.{Specification}
-use Rattle.tce_command.specs.Refusals.{IsFree}
 use Rattle.tce_command.specs.declared.refusal.Refusal.{Refusal}
 use Rattle.tce_command.specs.declared.refusal.Refusal.TheVariants as refusals
-use Rattle.tce_run.specs.Told.{IsToldAs}
 use Rattle.tce_example.specs.Specification.{IsDemoOf, IsExtent, demo_specification}
 use Rattle.tce_example.proofs.Specified.{specified}
 use Rattle.tce_demo.specs.Done.{IsOfRun, IsDemoRefusal}
-
--- what tells a free fault is free
-pub told_free : (s : Specification) (f : JobFault) (a : Refusal) → IsToldAs s f a → IsFreeFault f → IsFree a
-told_free s (faults.BudgetTooSmall n) a told free = absurd free
-told_free s (faults.IntermediatesTooLarge n) a told free = absurd free
-told_free s (faults.Array t fault) a told free = absurd free
-told_free s faults.Disk a told free = subst IsFree (sym told) tt
-told_free s faults.Memory a told free = subst IsFree (sym told) tt
 
 -- of the example, which is made for these extents
 pub all_of_demo : {A : Type 0} (answer : Result A Refusal) (s : Specification) (v o : ℕ) → s ≡ demo_specification v o → IsExtent v → IsExtent o → IfErr answer (IsOfRun s) → IfErr answer (IsDemoRefusal v o)

@@ -3,13 +3,13 @@ use Rattle.std.proofs.Common.{◌≡◌, ◌≢◌, ◌∙◌, ℕ, zero, suc, �
 use Rattle.std.proofs.lemmas.Option.{none-some}
 use Rattle.std.specs.Option.{ForSome, IsSomeAnd, option_map}
 use Rattle.tce_outside.specs.Files.{Files, file, with_file}
+use Rattle.tce_outside.proofs.Files.{file-with_file}
 use Rattle.tce_space.specs.Tiling.{Tiling}
 use Rattle.tce_array.specs.declared.form.Form.{Form}
 use Rattle.tce_array.specs.declared.form.Form.TheVariants.{One}
 use Rattle.tce_array.specs.Forms.{array_bytes, IsForm, IsArray}
 use Rattle.tce_array.proofs.Contents.{form_bytes_is}
 use Rattle.tce_array.proofs.FormOf.{form_of_file}
-use Rattle.tce_array.proofs.MadeFiles.{file-with_file}
 use Rattle.tce_tools.specs.Demo.{demo_element}
 use Rattle.tce_tools.proofs.Told.{file_beside}
 use Rattle.tce_declarations.specs.Declarations.{IsDeclarations}

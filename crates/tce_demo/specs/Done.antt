@@ -3,7 +3,7 @@ use Rattle.std.specs.Prelude.{◌≡◌, ◌⊎◌, ℕ, ◌≤◌, List, [], �
 use Rattle.std.specs.Option.{ForSome, option_map, IsSomeAnd}
 use Rattle.std.specs.Fmt.{decimal}
 use Rattle.tce_base.specs.Word.{wrapping_sum}
-use Rattle.tce_outside.specs.Files.{Files, file, others}
+use Rattle.tce_outside.specs.Files.{Files, file}
 use Rattle.tce_array.specs.declared.form.Form.TheVariants.{One}
 use Rattle.tce_array.specs.Forms.{head_len, cell, IsForm}
 use Rattle.tce_tools.specs.Flat.{in_order, contents}
@@ -14,7 +14,7 @@ use Rattle.tce_search.specs.LeastPlan.{IsLeastPlan}
 use Rattle.tce_spec.specs.Specification.{Specification}
 use Rattle.tce_spec.specs.Operands.{shape_of}
 use Rattle.tce_tensors.specs.TensorFiles.{file_of}
-use Rattle.tce_tensors.specs.ResultBytes.{result_bytes, with_result}
+use Rattle.tce_tensors.specs.ResultBytes.{result_bytes}
 use Rattle.tce_tensors.specs.Takings.{tile_take}
 use Rattle.tce_tensors.specs.Opened.{HasOperands, operand_count}
 use Rattle.tce_job.specs.Prepared.{taking_of, HasTaken}
@@ -96,13 +96,6 @@ IsSumOfResult told s n = ForSome told (λ files. n ≡ result_sum s files)
 
 abbrev pub HasAllOperands : Option Files → Specification → Type 0
 HasAllOperands told s = ForSome told (λ files. HasOperands files s (operand_count s))
-
--- the result's file has the bytes of the formula; no file but that of the result differs
-abbrev pub PutsResult : Specification → Option Files → Option Files → Type 0
-PutsResult s before after = after ≡ option_map (with_result s) before
-
-abbrev pub AllButResultStay : Specification → Option Files → Option Files → Type 0
-AllButResultStay s before after = others (file_of s s.result) after ≡ others (file_of s s.result) before
 
 -- the report of a run under the words that a demonstration has for tiles
 abbrev pub HasRunReport : Specification → List (ℕ × ℕ) → List (ℕ × ℕ) → RunReport → Type 0

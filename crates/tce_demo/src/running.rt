@@ -6,9 +6,10 @@ ghost use Rattle.tce_outside.specs.Fault.{HasCause, TellsFaults};
 ghost use Rattle.tce_command.specs.Refusals.{IsFree};
 ghost use Rattle.tce_tensors.specs.Laws.{LeavesNoHalfResult};
 ghost use Rattle.tce_job.specs.Refusals.{NamesDeclared, IsFree as IsFreeFault};
+ghost use Rattle.tce_job.specs.Told.{ResultAlone, WritesResult};
 ghost use Rattle.tce_example.specs.Specification.{IsDemo};
 ghost use Rattle.tce_run.specs.Told.{IsOfFiles, IsToldAs};
-ghost use Rattle.tce_demo.specs.Done.{IsOfRun, AllButResultStay, HasAllOperands, HasRunReport, LeavesRoom, PutsResult};
+ghost use Rattle.tce_demo.specs.Done.{IsOfRun, HasAllOperands, HasRunReport, LeavesRoom};
 
 use std::alloc::Global;
 use tce_command::Refusal;
@@ -43,14 +44,14 @@ pub fn run_example<D: Disk, R: Room>(
 ) -> Result<RunReport, Refusal>
     requires spec { IsDemo spec.now }
     requires operands { HasAllOperands (D.files disk.old) spec.now }
-    ensures told { OnOk result (PutsResult spec.now (D.files disk.old) (D.files disk.new)) }
+    ensures told { OnOk result (WritesResult spec.now (D.files disk.old) (D.files disk.new)) }
     ensures reported { IfOk result
         (HasRunReport spec.now (R.takings room.old) (R.takings room.new)) }
     ensures refused { IfErr result (λ refusal. ForSome (D.files disk.old) (λ _. IsFree refusal)) }
     ensures takings { LeavesRoom spec.now (R.takings room.old) (R.takings room.new) result }
     ensures as_run { IfErr result (IsOfRun spec.now) }
     ensures no_half { LeavesNoHalfResult spec.now (D.files disk.old) (D.files disk.new) }
-    ensures others { AllButResultStay spec.now (D.files disk.old) (D.files disk.new) }
+    ensures others { ResultAlone spec.now (D.files disk.old) (D.files disk.new) }
     ensures cause { HasCause (D.faults disk.old) (D.faults disk.new) (result ≡ Err Refusal.Disk) }
     ensures quiet { TellsFaults (D.faults disk.old) (D.faults disk.new)
         (result ≡ Err Refusal.Disk) }

@@ -9,14 +9,15 @@ use Rattle.tce_base.specs.Word.{word, wrapping_mul}
 use Rattle.tce_tree.specs.ContractionTree.{ContractionTree, multiply, leaf, constant, binary, sum}
 use Rattle.tce_tree.specs.WellFormed.{among, is_distinct}
 use Rattle.tce_tree.specs.Value.{Assignment, with_number, Elements, arithmetic, sum_over, value}
-use Rattle.tce_tree.proofs.Values.{sum_below-same, map-same, with-both, value-lt}
+use Rattle.tce_tree.proofs.Values.{map-same, value-lt, sum_over-depends}
 use Rattle.tce_tree.proofs.Lists.{among_first, among_later, distinct_first, distinct_later, distinct_from}
 use Rattle.tce_tree.proofs.Permutations.{distinct-filter}
+use Rattle.tce_tree.proofs.Sums.{sum_over_permuted}
 use Rattle.tce_einsum.specs.Path.{Item, one, two, Fits, left_by, Leave}
 use Rattle.tce_einsum.specs.Entries.{Labels, AreUsed, numbered, leaves, is_free, labels_to_sum, summed, entry_at, made, others, with_entry, contracted, entries_after}
 use Rattle.tce_einsum.specs.EinsumValue.{product, elements, einsum_value}
 use Rattle.tce_einsum.specs.ContractionLaws.{PathsLeaveTheirEntries, EveryPathHasTheValue}
-use Rattle.tce_einsum.proofs.ValueLaws.{mul_grouped, sum_over_times, sum_over-same, sum_over_joined, sum_over_unordered}
+use Rattle.tce_einsum.proofs.ValueLaws.{mul_grouped, sum_over_times, sum_over-same, sum_over_joined}
 use Rattle.tce_einsum.proofs.Products.{products_have_no_order, mul_one}
 
 -- the product of all entries, and whether a label is free in one
@@ -72,17 +73,6 @@ distinct-joined (x ∷ xs) ys dx dy apart =
     (among-joined xs ys x ∙ or_from (among xs x) (among ys x) (distinct_first x xs dx) (apart x (among_first x xs)))
     (distinct-joined xs ys (distinct_later x xs dx) dy (λ i m. apart i (among_later x xs i m)))
 
--- a sum over labels changes with the numbers of the other labels alone on which its summands depend
-sum_by_others : (extent : ℕ → ℕ) (is : List ℕ) (f : Assignment → ℕ) (test : ℕ → Bool)
-    → ((a b : Assignment) → ((i : ℕ) → test i ≡ true → a i ≡ b i) → f a ≡ f b)
-    → (a b : Assignment) → ((i : ℕ) → test i ≡ true → among is i ≡ false → a i ≡ b i)
-    → sum_over extent is f a ≡ sum_over extent is f b
-sum_by_others extent [] f test depends a b same = depends a b (λ i t. same i t refl)
-sum_by_others extent (j ∷ rest) f test depends a b same =
-    sum_below-same (extent j) _ (λ x. sum_over extent rest f (with_number b j x)) (λ x l.
-    sum_by_others extent rest f test depends (with_number a j x) (with_number b j x)
-    (λ i t m. with-both a b j x i (λ apart. same i t (rw (ne_eqb j i (λ q. apart (sym q))) m))))
-
 -- a value changes with the numbers of its free labels alone
 value_by_free : (e : Elements) (t : ContractionTree) (a b : Assignment) → ((i : ℕ) → is_free t i ≡ true → a i ≡ b i) → value e t a ≡ value e t b
 value_by_free e (leaf k is) a b same = ap (λ at. word (e.cell k at)) (map-same is a b same)
@@ -92,7 +82,7 @@ value_by_free e (binary op l r) a b same =
     (value_by_free e l a b (λ i m. same i (or_left (is_free l i) (is_free r i) m)))
     (value_by_free e r a b (λ i m. same i (or_right (is_free l i) (is_free r i) m)))
 value_by_free e (sum is t) a b same =
-    sum_by_others e.extent is (value e t) (is_free t) (λ c d k. value_by_free e t c d k) a b
+    sum_over-depends e.extent is (value e t) (is_free t) (λ c d k. value_by_free e t c d k) a b
     (λ i f m. same i (and_from (is_free t i) (not (among is i)) f (not_from_false (among is i) m)))
 
 together_by_free : (e : Elements) (ts : List ContractionTree) (a b : Assignment) → ((i : ℕ) → any_free ts i ≡ true → a i ≡ b i) → together e ts a ≡ together e ts b
@@ -238,7 +228,7 @@ keeps_total e ls es rest t a distinct r =
     (λ b. with_entry_worth e ls rest t b
     ∙ sum_over-same e.extent new (λ c. wrapping_mul (value e t c) (together e rest c)) (together e es) b (λ c. sym (r.worth e c)))
     ∙ sum_over_joined e.extent left new (together e es) a
-    ∙ sum_over_unordered e.extent (left ++ new) (open_labels ls es) (together e es) a
+    ∙ sum_over_permuted e.extent (left ++ new) (open_labels ls es) (together e es) a
     (distinct-joined left new (distinct-filter (is_open ls (with_entry ls rest t)) ls.all distinct)
     (distinct-filter (λ i. is_free t i && not (among ls.output i || any_free rest i)) ls.all distinct) apart)
     (distinct-filter (is_open ls es) ls.all distinct) same

@@ -2,15 +2,11 @@
 use Rattle.std.proofs.Common.{◌≡◌, ℕ, ◌+◌, ◌-◌, ◌<◌, ◌==◌, Bool, true, false, not, List, [], ◌∷◌, ◌++◌, length, take, drop, Option, Some, None, refl, sym, ap, subst, ◌∙◌, arith, eq-eqb, eqb-true, ◌≤◌, suc, nat_lt}
 use Rattle.std.specs.Prelude.{option_map}
 use Rattle.std.specs.List.{position, position_or_len}
-use Rattle.std.proofs.lemmas.Bool.{and_parts, ltb-true, ltb-false}
+use Rattle.std.proofs.lemmas.Bool.{and_parts, ltb-true, ltb-false, not-true}
 use Rattle.std.proofs.lemmas.List.{take_all, length-drop}
 use Rattle.std.proofs.lemmas.Option.{none-some, same_Some}
 use Rattle.tce_fields.specs.Fields.{lacks}
 use Rattle.tce_einsum.specs.Reading.{cut}
-
-pub not_true : (b : Bool) → not b ≡ true → b ≡ false
-not_true true e = cc
-not_true false e = refl
 
 -- a byte in front of what stands before a cut
 abbrev pub longer : ℕ → Option (List ℕ × List ℕ) → Option (List ℕ × List ℕ)
@@ -32,13 +28,13 @@ pub cut_lacking : (c : ℕ) (text : List ℕ) → lacks c text ≡ true → cut 
 cut_lacking c [] e = cut_empty c
 cut_lacking c (b ∷ bs) e =
     let both = and_parts (not (b == c)) (lacks c bs) e in
-    cut_later c b bs (not_true (b == c) both.0) ∙ ap (longer b) (cut_lacking c bs both.1)
+    cut_later c b bs (not-true (b == c) both.0) ∙ ap (longer b) (cut_lacking c bs both.1)
 
 pub cut_front : (c : ℕ) (front behind : List ℕ) → lacks c front ≡ true → cut c (front ++ c ∷ behind) ≡ Some (front, behind)
 cut_front c [] behind e = cut_here c c behind (eq-eqb c c refl)
 cut_front c (b ∷ bs) behind e =
     let both = and_parts (not (b == c)) (lacks c bs) e in
-    cut_later c b (bs ++ c ∷ behind) (not_true (b == c) both.0) ∙ ap (longer b) (cut_front c bs behind both.1)
+    cut_later c b (bs ++ c ∷ behind) (not-true (b == c) both.0) ∙ ap (longer b) (cut_front c bs behind both.1)
 
 -- what is cut is the text
 abbrev pub Joins : ℕ → List ℕ → Option (List ℕ × List ℕ) → Type 0

@@ -1,5 +1,5 @@
 -- What the lines of a produced text declare.
-use Rattle.std.proofs.Common.{◌≡◌, ℕ, ◌+◌, IsTrue, List, [], ◌∷◌, ◌++◌, map, fold, Option, Some, None, Result, Ok, refl, sym, ap, ◌∙◌, append_assoc, append-nil}
+use Rattle.std.proofs.Common.{◌≡◌, ℕ, ◌+◌, IsTrue, List, [], ◌∷◌, ◌++◌, map, fold, Ok, refl, sym, ap, ◌∙◌, append_assoc, append-nil}
 use Rattle.std.specs.List.{AllByRecursion}
 use Rattle.tce_space.specs.Name.{is_name}
 use Rattle.tce_space.specs.Space.{Range, Index, IndexSpace}
@@ -7,11 +7,11 @@ use Rattle.tce_grammar.specs.Grammar.{AreNames, Line, Statement, range, index, d
 use Rattle.tce_grammar.specs.Canonical.{AreStatements}
 use Rattle.tce_declarations.specs.Declarations.{Declarations, IsDeclarations, Tensor}
 use Rattle.tce_declarations.specs.DeclarationLines.{statement_fault, with_statement, number_of_range, numbers_of_ranges}
-use Rattle.tce_declarations.specs.Faults.{Fault}
-use Rattle.tce_declarations.specs.Text.{Head, head_of, unless}
+use Rattle.tce_declarations.specs.Text.{Head, head_of}
 use Rattle.tce_canonical.specs.Statements.{Group}
 use Rattle.tce_round_trip.proofs.Heads.{only_ranges, without_tensors, with_tensors, of_group, all_of}
 use Rattle.tce_round_trip.proofs.KeptDeclarations.{statement_keeps}
+use Rattle.tce_round_trip.proofs.Written.{no_fault}
 use Rattle.tce_einsum.specs.Text.{Size, Einsum}
 use Rattle.tce_einsum.specs.Entries.{numbered}
 use Rattle.tce_einsum.specs.Produced.{Tiled, range_name, operand_name, result_name, range_names, range_statement, index_statement, operand_statement, result_statement}
@@ -26,10 +26,6 @@ Declares (formula result indexes f) = ⊥
 
 abbrev pub declared : Declarations → List Statement → Declarations
 declared d ss = fold with_statement d ss
-
-no_fault : {A : Type 0} (fault : Option Fault) (next : Result A Fault) (x : A) → unless fault next ≡ Ok x → (fault ≡ None) × (next ≡ Ok x)
-no_fault None next x is = (refl, is)
-no_fault (Some f) next x is = cc
 
 -- lines that declare, in front of others among which a formula is found
 pub record Declared (line : ℕ) (d : Declarations) (rest : List Line) (h : Head) : Type 0 where

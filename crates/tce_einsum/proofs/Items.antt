@@ -4,8 +4,7 @@ use Rattle.std.specs.Prelude.{MatchOption}
 use Rattle.std.specs.Fmt.{decimal}
 use Rattle.std.specs.Borrow.{Bor}
 use Rattle.tce_fields.specs.Reading.{texts}
-use Rattle.std.specs.Str.Parse.{digits_value}
-use Rattle.std.proofs.lemmas.Fmt.{decimal_is_IsNumeral_wide}
+use Rattle.std.proofs.lemmas.Fmt.{decimal_injective}
 use Rattle.std.proofs.lemmas.List.{map-append}
 use Rattle.std.proofs.lemmas.Option.{none-some, same_Some}
 use Rattle.tce_fields.proofs.Decimals.{decimal_lacks}
@@ -16,16 +15,12 @@ use Rattle.tce_einsum.specs.Reading.{cut}
 use Rattle.tce_einsum.specs.declared.path.Item.{Item}
 use Rattle.tce_einsum.proofs.Cuts.{cut_lacking, cut_front, Joins, cut_joins}
 
-pub same_number : (m n : ℕ) → m < 2 ^ 64 → n < 2 ^ 64 → decimal m ≡ decimal n → m ≡ n
-same_number m n p q e =
-    sym (decimal_is_IsNumeral_wide m (omega arith)).1 ∙ ap (digits_value 10) e ∙ (decimal_is_IsNumeral_wide n (omega arith)).1
-
 -- one position twice is no item
 pub two_same : (count p q : ℕ) (first second : List ℕ) → count < 2 ^ 64 → p < count → q < count → first ≡ decimal p → second ≡ decimal q → p ≡ q
     → (i j : ℕ) → first ≡ decimal i → second ≡ decimal j → Fits count (two i j) → ⊥
 two_same count p q first second small p_in q_in p_is q_is same i j i_is j_is fits =
-    let left : i ≡ p = same_number i p (omega (arith, fits.0)) (omega arith) (sym i_is ∙ p_is) in
-    let right : j ≡ q = same_number j q (omega (arith, fits.1)) (omega arith) (sym j_is ∙ q_is) in
+    let left : i ≡ p = decimal_injective i p (omega (arith, fits.0)) (omega arith) (sym i_is ∙ p_is) in
+    let right : j ≡ q = decimal_injective j q (omega (arith, fits.1)) (omega arith) (sym j_is ∙ q_is) in
     fits.2 (left ∙ same ∙ sym right)
 
 cut_one : (p : ℕ) → p < 2 ^ 64 → cut 44 (item_text (one p)) ≡ None

@@ -1,5 +1,5 @@
 -- Labels that stand have a number, which stands for them.
-use Rattle.std.proofs.Common.{◌≡◌, ℕ, ◌<◌, ◌≤◌, ◌==◌, Bool, true, false, not, ◌||◌, cond, List, [], ◌∷◌, map, length, get_or, count_by, None, refl, sym, ap, ◌∙◌, arith, inl, inr}
+use Rattle.std.proofs.Common.{◌≡◌, ℕ, ◌<◌, ◌≤◌, ◌==◌, Bool, true, false, not, ◌||◌, cond, List, [], ◌∷◌, map, length, get_or, count_by, refl, sym, ap, ◌∙◌, arith, inl, inr}
 use Rattle.std.specs.List.{AllByRecursion, list_any, list_all}
 use Rattle.std.proofs.lemmas.Bool.{cases_Bool, and_parts, or_left, or_right, eq-eqb, eqb-true, true≢false}
 use Rattle.std.proofs.lemmas.List.{get_or-map}
@@ -7,15 +7,12 @@ use Rattle.tce_einsum.specs.Text.{Size, Einsum, is_label, are_labels, IsText}
 use Rattle.tce_einsum.specs.Sizes.{stands, size_count, is_missized, AreSized}
 use Rattle.tce_einsum.specs.Numbered.{number_of, numbers_of, numbered_operands}
 use Rattle.tce_einsum.specs.Produced.{label_at, letter_names, label_names}
-use Rattle.tce_einsum.proofs.Numbers.{counted}
+use Rattle.tce_einsum.proofs.Numbers.{counted, no_size}
 use Rattle.tce_einsum.proofs.SizeRanges.{place_below, place_passes}
 
 pub record HasNumber (ss : List Size) (label : ℕ) : Type 0 where
   pub below : number_of ss label < length ss
   pub back : label_at ss (number_of ss label) ≡ label
-
-pub no_size : Size
-no_size = record { label = 0; extent = []; edge = None }
 
 pub label_is : (ss : List Size) (k : ℕ) (d : Size) → k < length ss → label_at ss k ≡ (get_or ss k d).label
 label_is ss k d inside = get_or-map (λ (s : Size). s.label) ss k d 0 inside

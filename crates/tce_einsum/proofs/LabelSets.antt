@@ -1,12 +1,13 @@
 -- Members of sets of labels.
-use Rattle.std.proofs.Common.{◌≡◌, ℕ, zero, suc, cond, append-nil, ◌/◌, ◌+◌, ◌*◌, ◌%◌, ◌^◌, ◌<◌, ◌==◌, ◌&&◌, ◌||◌, ◌⊎◌, ◌↔◌, Bool, true, false, eqb, eqb-true, [], ◌∷◌, ◌++◌, filter, bit_and, bit_or, w32, refl, sym, ap, subst, ◌∙◌, lt_of_le_of_lt, arith, inl, inr}
+use Rattle.std.proofs.Common.{◌≡◌, ℕ, cond, append-nil, ◌/◌, ◌+◌, ◌*◌, ◌%◌, ◌^◌, ◌<◌, ◌==◌, ◌&&◌, ◌||◌, ◌↔◌, Bool, true, false, eqb, eqb-true, [], ◌∷◌, ◌++◌, filter, bit_and, bit_or, w32, refl, sym, ap, subst, ◌∙◌, lt_of_le_of_lt, inl, inr}
 use Rattle.std.specs.List.{range_with_len}
-use Rattle.std.proofs.lemmas.Bool.{and_parts, cases_Bool, cases_eq, eq-eqb, false≢true, ne_eqb, or_right, true≢false}
+use Rattle.std.proofs.lemmas.Bool.{and_parts, cases_Bool, cases_eq, eq-eqb, ne_eqb, or_right}
 use Rattle.std.proofs.lemmas.List.Elements.{filter-append}
 use Rattle.std.proofs.lemmas.Nat.{and_le_l}
 use Rattle.std.proofs.lemmas.Nat.Bits.{bit_at-lt, bit_at_set_same, bit_at_set_other, same_from_bits_below}
 use Rattle.tce_space.specs.IndexSet.{has, IsWithin}
-use Rattle.tce_space.proofs.IndexSetLaws.{has-and, range_more}
+use Rattle.tce_space.proofs.IndexSetLaws.{has-and, same_bit}
+use Rattle.tce_space.proofs.Ranges.{range_next}
 
 pub has_with : (a k i : ℕ) → k < 32 → has (bit_or a (1 * 2 ^ k % 2 ^ 32)) i ≡ (has a i || k == i)
 unfolding has
@@ -25,18 +26,6 @@ has_with a k i inside =
     or_false true y e = refl
     or_false false y e = e
 
-bit_cases : (b : ℕ) → b < 2 → (b ≡ 0) ⊎ (b ≡ 1)
-bit_cases zero l = inl refl
-bit_cases (suc zero) l = inr refl
-bit_cases (suc (suc n)) l = absurd (omega arith)
-
-same_bit : (a b : ℕ) → a < 2 → b < 2 → eqb a 1 ≡ eqb b 1 → a ≡ b
-same_bit a b p q e =
-    elim (bit_cases a p) [
-      | inl x ↦ elim (bit_cases b q) [ inl y ↦ x ∙ sym y | inr y ↦ absurd (false≢true (rw (x, y) at e)) ]
-      | inr x ↦ elim (bit_cases b q) [ inl y ↦ absurd (true≢false (rw (x, y) at e)) | inr y ↦ x ∙ sym y ]
-    ]
-
 -- the test that a program makes
 pub same_meet-is : (a b : ℕ) → a < 2 ^ 32 → (eqb (bit_and a b) a ≡ true) ↔ IsWithin a b
 unfolding has
@@ -52,19 +41,12 @@ same_meet-is a b p = (
       | inr e ↦ rw e refl
     ]
 
--- one number more
-longer : (n : ℕ) → range_with_len 0 (n + 1) ≡ range_with_len 0 n ++ n ∷ []
-longer n =
-    let next : n + 1 ≡ suc n = omega arith in
-    let last : 0 + n ≡ n = omega arith in
-    ap (range_with_len 0) next ∙ range_more 0 n ∙ ap (λ k. range_with_len 0 n ++ k ∷ []) last
-
 pub member_more : (a n : ℕ) → has a n ≡ true → filter (has a) (range_with_len 0 (n + 1)) ≡ filter (has a) (range_with_len 0 n) ++ n ∷ []
 member_more a n here =
-    ap (filter (has a)) (longer n) ∙ filter-append (has a) (range_with_len 0 n) (n ∷ [])
+    ap (filter (has a)) (range_next n) ∙ filter-append (has a) (range_with_len 0 n) (n ∷ [])
     ∙ ap (λ (b : Bool). filter (has a) (range_with_len 0 n) ++ cond b (n ∷ []) []) here
 
 pub member_none : (a n : ℕ) → has a n ≡ false → filter (has a) (range_with_len 0 (n + 1)) ≡ filter (has a) (range_with_len 0 n)
 member_none a n lacks =
-    ap (filter (has a)) (longer n) ∙ filter-append (has a) (range_with_len 0 n) (n ∷ [])
+    ap (filter (has a)) (range_next n) ∙ filter-append (has a) (range_with_len 0 n) (n ∷ [])
     ∙ ap (λ (b : Bool). filter (has a) (range_with_len 0 n) ++ cond b (n ∷ []) []) lacks ∙ append-nil (filter (has a) (range_with_len 0 n))

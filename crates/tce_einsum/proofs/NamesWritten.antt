@@ -4,24 +4,12 @@ use Rattle.std.specs.List.{list_all}
 use Rattle.std.specs.Fmt.{decimal}
 use Rattle.std.proofs.lemmas.Fmt.{length-decimal-le}
 use Rattle.std.proofs.lemmas.Bool.{and_parts, and_from, le-leb}
-use Rattle.tce_space.specs.Name.{is_name, is_word_byte, is_digit, is_letter, is_keyword}
+use Rattle.tce_space.specs.Name.{is_name, is_word_byte, is_letter, is_keyword}
 use Rattle.tce_grammar.specs.Grammar.{AreNames}
+use Rattle.tce_grammar.proofs.TokenTexts.{digits_word}
 use Rattle.tce_round_trip.proofs.Numbers.{decimal_says}
 use Rattle.tce_einsum.specs.Text.{is_label, are_labels}
 use Rattle.tce_einsum.specs.Produced.{range_name, operand_name, result_name, letter_names}
-
-digit_word : (d : ℕ) → is_digit d ≡ true → is_word_byte d ≡ true
-digit_word d is = by_test (is_letter d)
-  where
-    by_test : (l : Bool) → (l || is_digit d || d == 95) ≡ true
-    by_test true = refl
-    by_test false = rw is refl
-
-digits_word : (ds : List ℕ) → list_all is_digit ds ≡ true → list_all is_word_byte ds ≡ true
-digits_word [] all = refl
-digits_word (d ∷ ds) all =
-    let parts = and_parts (is_digit d) (list_all is_digit ds) all in
-    and_from (is_word_byte d) (list_all is_word_byte ds) (digit_word d parts.0) (digits_word ds parts.1)
 
 letter_word : (c : ℕ) → is_letter c ≡ true → is_word_byte c ≡ true
 letter_word c is = rw is refl

@@ -1,13 +1,14 @@
 -- Each number of a label stands in the output or in an operand.
-use Rattle.std.proofs.Common.{◌≡◌, ℕ, zero, suc, ◌+◌, ◌<◌, ◌≤◌, ◌==◌, None, subst, Bool, true, false, not, ◌&&◌, ◌||◌, cond, List, [], ◌∷◌, map, length, get_or, count_by, refl, sym, ap, ◌∙◌, arith, inl, inr}
+use Rattle.std.proofs.Common.{◌≡◌, ℕ, zero, suc, ◌+◌, ◌<◌, ◌≤◌, ◌==◌, subst, Bool, true, false, not, ◌&&◌, ◌||◌, cond, List, [], ◌∷◌, map, length, get_or, count_by, refl, sym, ap, ◌∙◌, arith, inl, inr, None}
 use Rattle.std.specs.List.{list_any, list_all, range_with_len, position_or_len}
-use Rattle.std.proofs.lemmas.Bool.{cases_Bool, or_cases, or_left, or_right, and_parts, false_from_ne_true, eq-eqb, eqb-true, true≢false}
+use Rattle.std.proofs.lemmas.Bool.{cases_Bool, or_cases, or_left, or_right, and_parts, eq-eqb, eqb-true, true≢false}
 use Rattle.std.proofs.lemmas.List.{length-map}
 use Rattle.std.proofs.lemmas.List.Sums.{sum_by-cons}
 use Rattle.std.proofs.lemmas.List.Splits.{length-slice_split}
-use Rattle.tce_tree.specs.WellFormed.{among, is_distinct}
+use Rattle.tce_tree.specs.WellFormed.{among}
 use Rattle.tce_tree.specs.Value.{value}
-use Rattle.tce_tree.proofs.Lists.{among_later, among_cases, distinct_from}
+use Rattle.tce_tree.proofs.Lists.{among_later, among_cases}
+use Rattle.tce_tree.proofs.Permutations.{distinct-range}
 use Rattle.tce_einsum.specs.Text.{Size, Einsum, is_size, is_label, is_number, is_number_if_some, IsText}
 use Rattle.tce_einsum.specs.Sizes.{stands, size_count, is_missized, AreSized}
 use Rattle.tce_einsum.specs.Path.{Item, AreItems, item_texts, left_by, Leave}
@@ -65,13 +66,6 @@ range_bounds a (suc n) i m =
       | inr later ↦ let bounds = range_bounds (a + 1) n i later in (omega (arith, bounds.0), omega (arith, bounds.1))
     ]
 
-range_distinct : (a n : ℕ) → is_distinct (range_with_len a n) ≡ true
-range_distinct a zero = refl
-range_distinct a (suc n) =
-    distinct_from a (range_with_len (a + 1) n)
-    (false_from_ne_true (among (range_with_len (a + 1) n) a) (λ m. let bounds = range_bounds (a + 1) n a m in omega (arith, bounds.0)))
-    (range_distinct (a + 1) n)
-
 pub sized_label : (ss : List Size) (k : ℕ) (d : Size) → list_all is_size ss ≡ true → k < length ss → is_label (get_or ss k d).label ≡ true
 sized_label [] k d all inside = absurd (omega arith)
 sized_label (s ∷ ss) zero d all inside = (and_parts (is_label s.label) (is_number s.extent && is_number_if_some s.edge) (and_parts (is_size s) (list_all is_size ss) all).0).0
@@ -88,11 +82,11 @@ sized_once x label fine some = by_standing (stands x label) refl
     by_standing true e = let one = same (size_count x label) 1 (rw e at fine) in (omega (arith, one), e)
     by_standing false e = absurd (let none = same (size_count x label) 0 (rw e at fine) in omega (arith, none, some))
 
-no_size : Size
+pub no_size : Size
 no_size = record { label = 0; extent = []; edge = None }
 
 pub labels_used : (text : List ℕ) (x : Einsum) → IsText text x → AreSized x → AreUsed (numbered_labels x) (numbered_operands x)
-labels_used text x is sized = record { once = range_distinct 0 (length x.sizes); stand = standing }
+labels_used text x is sized = record { once = distinct-range 0 (length x.sizes); stand = standing }
   where
     standing : (k : ℕ) → among (range_with_len 0 (length x.sizes)) k ≡ true
         → (among (numbers_of x.sizes x.output) k || list_any (λ labels. among labels k) (numbered_operands x)) ≡ true

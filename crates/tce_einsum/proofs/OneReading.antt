@@ -1,26 +1,27 @@
 -- What is read from the left is what the grammar says.
 use Rattle.std.proofs.Common.{◌≡◌, ◌≢◌, ℕ, ◌==◌, Bool, true, false, ◌&&◌, not, List, [], ◌∷◌, ◌++◌, map, Option, Some, None, refl, sym, ap, subst, ◌∙◌, eqb-true, append_assoc}
-use Rattle.std.specs.List.{list_all, join_with_byte, onto_first}
-use Rattle.std.proofs.lemmas.Bool.{and_parts}
+use Rattle.std.specs.List.{list_all, join_with_byte}
+use Rattle.std.proofs.lemmas.Bool.{and_parts, and_from}
 use Rattle.std.proofs.lemmas.List.Folds.{list_all-append}
 use Rattle.std.proofs.lemmas.List.Splits.{join_with_byte-slice_split, slice_split-cons_yes, slice_split-cons_no}
 use Rattle.std.proofs.lemmas.Option.{none-some, same_Some}
 use Rattle.tce_fields.specs.Fields.{lacks}
-use Rattle.tce_fields.proofs.Splitting.{split_joined}
+use Rattle.tce_fields.proofs.Splitting.{split_joined, onto_some}
 use Rattle.tce_fields.proofs.Listing.{joined_lacks}
 use Rattle.tce_grammar.specs.Reading.{◌>>=◌}
+use Rattle.tce_grammar.proofs.Sound.{bind_some}
 use Rattle.tce_einsum.specs.Text.{Einsum, Size, is_label, are_labels, size_text, text_of, IsText}
 use Rattle.tce_einsum.specs.Reading.{cut, sizes_of, operands_of, output_of, einsum_in, einsum_of, comma_parts}
 use Rattle.tce_einsum.specs.Laws.{ReadingIsTheGrammar, TextsHaveOneReading}
 use Rattle.tce_einsum.proofs.Cuts.{cut_front, Joins, cut_joins}
-use Rattle.tce_einsum.proofs.Sizes.{both, all_sizes_written, all_sizes_sound}
+use Rattle.tce_einsum.proofs.Sizes.{all_sizes_written, all_sizes_sound}
 
 -- no byte below the letters stands among labels
 labels_lack : (c : ℕ) (letters : List ℕ) → is_label c ≡ false → are_labels letters ≡ true → lacks c letters ≡ true
 labels_lack c [] apart all = refl
 labels_lack c (b ∷ bs) apart all =
     let parts = and_parts (is_label b) (are_labels bs) all in
-    both (not (b == c)) (lacks c bs) (by_byte (b == c) refl parts.0) (labels_lack c bs apart parts.1)
+    and_from (not (b == c)) (lacks c bs) (by_byte (b == c) refl parts.0) (labels_lack c bs apart parts.1)
   where
     by_byte : (d : Bool) → (b == c) ≡ d → is_label b ≡ true → not (b == c) ≡ true
     by_byte false e label = rw e refl
@@ -30,7 +31,7 @@ operands_lack : (c : ℕ) (operands : List (List ℕ)) → is_label c ≡ false 
 operands_lack c [] apart all = refl
 operands_lack c (o ∷ os) apart all =
     let parts = and_parts (are_labels o) (list_all are_labels os) all in
-    both (lacks c o) (list_all (lacks c) os) (labels_lack c o apart parts.0) (operands_lack c os apart parts.1)
+    and_from (lacks c o) (list_all (lacks c) os) (labels_lack c o apart parts.0) (operands_lack c os apart parts.1)
 
 pub operands_by_test : (text : List ℕ) → list_all are_labels (comma_parts text) ≡ true → operands_of text ≡ Some (comma_parts text)
 unfolding operands_of
@@ -44,10 +45,6 @@ operands_written : (os : List (List ℕ)) → os ≢ [] → list_all are_labels 
 operands_written os some all =
     let same : comma_parts (join_with_byte 44 os) ≡ os = split_joined 44 os some (operands_lack 44 os refl all) in
     operands_by_test (join_with_byte 44 os) (ap (list_all are_labels) same ∙ all) ∙ ap (λ (found : List (List ℕ)). Some found) same
-
-onto_some : (b : ℕ) (parts : List (List ℕ)) → onto_first b parts ≢ []
-onto_some b [] = λ e. cc
-onto_some b (part ∷ parts) = λ e. cc
 
 parts_some : (text : List ℕ) → comma_parts text ≢ []
 parts_some [] = λ e. cc
@@ -95,11 +92,6 @@ output_sound (b ∷ bs) labels e = by_test (b == 62 && are_labels bs) refl
         (parts.1, ap (λ x. x ∷ bs) (eqb-true b 62 parts.0))
     by_test false p = absurd (none-some labels (sym (output_refused b bs p) ∙ e))
 
--- a step that gave something
-bound : {A B : Type 0} (m : Option A) (f : A → Option B) (y : B) → (m >>= f) ≡ Some y → (x : A) × (m ≡ Some x) × (f x ≡ Some y)
-bound None f y e = absurd (none-some y e)
-bound (Some x) f y e = (x, refl, e)
-
 -- the text in front of the sizes
 abbrev head_text : Einsum → List ℕ
 head_text e = join_with_byte 44 e.operands ++ (45 ∷ 62 ∷ e.output)
@@ -126,19 +118,19 @@ einsum_written text e is =
     let labels : lacks 45 (join_with_byte 44 e.operands) ≡ true = joined_lacks 45 44 e.operands refl (operands_lack 45 e.operands refl is.operands) in
     let head : lacks 64 (head_text e) ≡ true =
     list_all-append (λ b. not (b == 64)) (join_with_byte 44 e.operands) (45 ∷ 62 ∷ e.output)
-    ∙ both (lacks 64 (join_with_byte 44 e.operands)) (lacks 64 e.output)
+    ∙ and_from (lacks 64 (join_with_byte 44 e.operands)) (lacks 64 e.output)
     (joined_lacks 64 44 e.operands refl (operands_lack 64 e.operands refl is.operands)) (labels_lack 64 e.output refl is.output) in
     einsum_cut text (head_text e, join_with_byte 44 (map size_text e.sizes)) (join_with_byte 44 e.operands, 62 ∷ e.output)
     (ap (cut 64) (is.text_is ∙ text_halves e) ∙ cut_front 64 (head_text e) (join_with_byte 44 (map size_text e.sizes)) head)
     (cut_front 45 (join_with_byte 44 e.operands) (62 ∷ e.output) labels)
     ∙ parts_read (join_with_byte 44 e.operands) (62 ∷ e.output) (join_with_byte 44 (map size_text e.sizes)) e
-    (operands_written e.operands is.some is.operands) (output_by_test 62 e.output (both true (are_labels e.output) refl is.output)) (all_sizes_written e.sizes is.sizes)
+    (operands_written e.operands is.some is.operands) (output_by_test 62 e.output (and_from true (are_labels e.output) refl is.output)) (all_sizes_written e.sizes is.sizes)
 
 parts_sound : (operands output sizes text : List ℕ) (e : Einsum) → text ≡ (operands ++ 45 ∷ output) ++ 64 ∷ sizes → einsum_in operands output sizes ≡ Some e → IsText text e
 parts_sound operands output sizes text e joined is =
-    let ops = bound (operands_of operands) _ e is in
-    let out = bound (output_of output) _ e ops.2 in
-    let ss = bound (sizes_of sizes) _ e out.2 in
+    let ops = bind_some (operands_of operands) _ e is in
+    let out = bind_some (output_of output) _ e ops.2 in
+    let ss = bind_some (sizes_of sizes) _ e out.2 in
     let found : Einsum = record { operands = ops.0; output = out.0; sizes = ss.0 } in
     let are = operands_sound operands ops.0 ops.1 in
     let labels = output_sound output out.0 out.1 in
@@ -158,8 +150,8 @@ einsum_steps text e is = is
 
 einsum_sound : (text : List ℕ) (e : Einsum) → einsum_of text ≡ Some e → IsText text e
 einsum_sound text e is =
-    let first = bound (cut 64 text) _ e (einsum_steps text e is) in
-    let second = bound (cut 45 first.0.0) _ e first.2 in
+    let first = bind_some (cut 64 text) _ e (einsum_steps text e is) in
+    let second = bind_some (cut 45 first.0.0) _ e first.2 in
     let whole : text ≡ first.0.0 ++ 64 ∷ first.0.1 = subst (Joins 64 text) first.1 (cut_joins 64 text) in
     let head : first.0.0 ≡ second.0.0 ++ 45 ∷ second.0.1 = subst (Joins 45 first.0.0) second.1 (cut_joins 45 first.0.0) in
     parts_sound second.0.0 second.0.1 first.0.1 text e (whole ∙ ap (λ (xs : List ℕ). xs ++ 64 ∷ first.0.1) head) second.2

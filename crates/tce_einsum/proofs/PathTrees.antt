@@ -3,10 +3,11 @@ use Rattle.std.proofs.Common.{◌≡◌, ◌≢◌, ℕ, zero, suc, ◌+◌, ◌
 use Rattle.std.specs.List.{AllByRecursion, list_any, range_with_len, sum_by}
 use Rattle.std.proofs.lemmas.List.Sums.{sum_by-cons}
 use Rattle.std.proofs.lemmas.List.Sorted.{sum_by-IsPermutation, IsPermutation-to_front}
+use Rattle.std.proofs.lemmas.List.FromFn.{length-range_with_len}
+use Rattle.tce_grammar.proofs.CanonicalLines.{all_joined}
 use Rattle.tce_tree.specs.ContractionTree.{ContractionTree, leaf, constant, binary, sum, operations}
 use Rattle.tce_tree.specs.WellFormed.{among}
 use Rattle.tce_tree.proofs.Lists.{among_first, among_later}
-use Rattle.tce_round_trip.proofs.Lookups.{all_joined}
 use Rattle.tce_einsum.specs.Path.{Item, one, two, Fits, Leave}
 use Rattle.tce_einsum.specs.Entries.{Labels, numbered, leaves, is_free, labels_to_sum, summed, entry_at, made, others, with_entry, contracted, entries_after, contraction}
 use Rattle.tce_einsum.proofs.Contractions.{any_free, is_open, open_labels, Replaces, replaced, among-filtered, with_entry_free, taken, either_taken, others_left, contracted_left, as_many_leaves, only_entry, paths_leave_their_entries}
@@ -211,10 +212,6 @@ leaves_work : (k : ℕ) (os : List (List ℕ)) → work (numbered leaf k os) ≡
 leaves_work k [] = refl
 leaves_work k (o ∷ os) = omega (arith, sum_by-cons operations (leaf k o) (numbered leaf (k + 1) os), leaves_work (k + 1) os)
 
-range_long : (a n : ℕ) → length (range_with_len a n) ≡ n
-range_long a zero = refl
-range_long a (suc n) = omega (arith, range_long (a + 1) n)
-
 -- at most one for each operand but one, and one for each label
 pub contraction_work : (m : ℕ) (output : List ℕ) (os : List (List ℕ)) (items : List Item) → Leave (length os) items 1
     → operations (contraction (record { all = range_with_len 0 m; output = output }) os items) + 1 ≤ length os + m
@@ -233,5 +230,5 @@ contraction_work m output os items leave =
       leaves_work 0 os,
       as_many_leaves 0 os,
       filter_short (is_open ls (leaves os)) ls.all,
-      range_long 0 m,
+      length-range_with_len 0 m,
     )

@@ -1,5 +1,5 @@
 -- The statements of a produced text are such as lines can say.
-use Rattle.std.proofs.Common.{◌≡◌, ◌≢◌, ℕ, zero, suc, ◌+◌, ◌<◌, ◌≤◌, ◌^◌, true, ◌&&◌, IsTrue, List, [], ◌∷◌, ◌++◌, map, length, get_or, None, All, refl, sym, ap, subst, ◌∙◌, arith}
+use Rattle.std.proofs.Common.{◌≡◌, ◌≢◌, ℕ, zero, suc, ◌+◌, ◌<◌, ◌≤◌, ◌^◌, true, ◌&&◌, IsTrue, List, [], ◌∷◌, ◌++◌, map, length, get_or, All, refl, sym, ap, subst, ◌∙◌, arith}
 use Rattle.std.specs.List.{AllByRecursion, list_all, position_or_len}
 use Rattle.std.proofs.lemmas.Bool.{and_parts}
 use Rattle.std.proofs.lemmas.List.{length-map, get_or-map}
@@ -11,9 +11,9 @@ use Rattle.tce_tree.specs.ContractionTree.{ContractionTree, leaf, constant, bina
 use Rattle.tce_grammar.specs.Formula.{operations}
 use Rattle.tce_grammar.specs.Grammar.{AreNames, AreSome, Statement}
 use Rattle.tce_grammar.specs.Canonical.{IsFormula, IsStatement, AreStatements}
+use Rattle.tce_grammar.proofs.CanonicalLines.{all_joined}
 use Rattle.tce_declarations.specs.Numbers.{value_of, edge_of}
 use Rattle.tce_canonical.specs.Statements.{Group, groups}
-use Rattle.tce_round_trip.proofs.Lookups.{all_joined}
 use Rattle.tce_round_trip.proofs.NumbersBack.{number_is}
 use Rattle.tce_round_trip.proofs.WrittenStatements.{IsGroup, groups_are}
 use Rattle.tce_einsum.specs.Text.{Size, Einsum, is_size, is_label, is_number, is_number_if_some, are_labels}
@@ -21,7 +21,7 @@ use Rattle.tce_einsum.specs.Entries.{numbered}
 use Rattle.tce_einsum.specs.Numbered.{number_of}
 use Rattle.tce_einsum.specs.Produced.{Tiled, tiled, is_same, ranges, range_numbers, range_of, label_at, range_name, label_names, range_names, written_edge, range_statement, range_statements, index_of, indexes, index_statement, index_statements, operand_statement, result_statement, tensor_statements, formula_of, formula_statement}
 use Rattle.tce_einsum.proofs.NamesWritten.{range_named, operand_named, result_named, letter_named, letters_named}
-use Rattle.tce_einsum.proofs.Numbers.{sized_label}
+use Rattle.tce_einsum.proofs.Numbers.{sized_label, no_size}
 use Rattle.tce_einsum.proofs.PathTrees.{IsOver}
 use Rattle.tce_einsum.proofs.SizeRanges.{IsWritten, ranges_are, edge_written, ranges_few, range_number_within, range_of_size, HasRange}
 
@@ -60,10 +60,7 @@ numbered_first f xs i d e inside =
 abbrev pub indexed_space : List Size → IndexSpace
 indexed_space ss = record { ranges = declared_ranges ss; indexes = indexes ss }
 
-no_size : Size
-no_size = record { label = 0; extent = []; edge = None }
-
-no_tiled : Tiled
+pub no_tiled : Tiled
 no_tiled = record { extent = []; edge = [] }
 
 indexes_are : (ss : List Size) → list_all is_size ss ≡ true → All (λ (i : Index). IsTrue (is_name i.name) × (i.of_range < length (declared_ranges ss))) (indexes ss)

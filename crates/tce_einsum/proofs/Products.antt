@@ -3,13 +3,14 @@ use Rattle.std.proofs.Common.{◌≡◌, ℕ, zero, suc, ◌<◌, ◌^◌, List,
 use Rattle.std.proofs.lemmas.List.Sorted.{IsPermutation-keeps}
 use Rattle.std.proofs.lemmas.List.Edits.{swap_is}
 use Rattle.tce_base.specs.Word.{wrapping_mul}
+use Rattle.tce_base.proofs.Words.{times_comm}
 use Rattle.tce_einsum.specs.EinsumValue.{product}
 use Rattle.tce_einsum.specs.ContractionLaws.{ProductsHaveNoOrder}
-use Rattle.tce_einsum.proofs.ValueLaws.{mul_either, mul_grouped}
+use Rattle.tce_einsum.proofs.ValueLaws.{mul_grouped}
 
 -- two factors in front of a product change places
 pub mul_crossed : (x y z : ℕ) → wrapping_mul x (wrapping_mul y z) ≡ wrapping_mul y (wrapping_mul x z)
-mul_crossed x y z = sym (mul_grouped x y z) ∙ ap (λ n. wrapping_mul n z) (mul_either x y) ∙ mul_grouped y x z
+mul_crossed x y z = sym (mul_grouped x y z) ∙ ap (λ n. wrapping_mul n z) (times_comm x y) ∙ mul_grouped y x z
 
 pub mul_one : (x : ℕ) → x < 2 ^ 64 → wrapping_mul x 1 ≡ x
 unfolding wrapping_mul

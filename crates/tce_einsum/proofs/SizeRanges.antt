@@ -6,11 +6,12 @@ use Rattle.std.proofs.lemmas.Bool.{and_parts, and_from, or_left, true≢false}
 use Rattle.std.proofs.lemmas.List.{length-map}
 use Rattle.std.proofs.lemmas.List.Folds.{list_any-append}
 use Rattle.std.proofs.lemmas.Slice.Eq.{bytes_eq-Decides}
+use Rattle.tce_space.proofs.Names.{bytes_same}
 use Rattle.tce_fields.specs.Digits.{starts_as_number}
 use Rattle.tce_grammar.specs.Tokens.{IsNumber}
 use Rattle.tce_grammar.specs.Canonical.{IsNumberIfSome}
+use Rattle.tce_grammar.proofs.CanonicalLines.{all_joined}
 use Rattle.tce_declarations.specs.Numbers.{edge_of}
-use Rattle.tce_round_trip.proofs.Lookups.{all_joined, bytes_same}
 use Rattle.tce_einsum.specs.Text.{Size, is_size, is_label, is_number, is_number_if_some}
 use Rattle.tce_einsum.specs.Produced.{Tiled, edge_or_one, tiled, is_same, with_new, ranges, written_edge}
 use Rattle.tce_einsum.proofs.Places.{place_within}

@@ -2,7 +2,7 @@
 use Rattle.std.proofs.Common.{◌≡◌, ℕ, ◌<◌, ◌==◌, Bool, true, false, ◌&&◌, not, List, [], ◌∷◌, ◌++◌, map, length, Option, Some, None, refl, sym, ap, subst, ◌∙◌, arith, eqb-true, append-nil}
 use Rattle.std.specs.Prelude.{nat_le, option_map}
 use Rattle.std.specs.List.{list_all, join_with_byte}
-use Rattle.std.proofs.lemmas.Bool.{and_parts}
+use Rattle.std.proofs.lemmas.Bool.{and_parts, and_from}
 use Rattle.std.proofs.lemmas.Bool.Decides.{nat_tests}
 use Rattle.std.proofs.lemmas.List.Folds.{list_all-append}
 use Rattle.std.proofs.lemmas.List.Splits.{join_with_byte-slice_split}
@@ -16,14 +16,11 @@ use Rattle.tce_einsum.specs.Text.{Size, is_label, is_number, is_number_if_some, 
 use Rattle.tce_einsum.specs.Reading.{cut, numbers_of, size_of, sizes_in, sizes_of, comma_parts}
 use Rattle.tce_einsum.proofs.Cuts.{cut_lacking, cut_front, Joins, cut_joins}
 
-pub both : (a b : Bool) → a ≡ true → b ≡ true → (a && b) ≡ true
-both a b p q = rw (p, q) refl
-
 digits_lack : (c : ℕ) (ds : List ℕ) → c < 48 → list_all is_digit ds ≡ true → lacks c ds ≡ true
 digits_lack c [] low all = refl
 digits_lack c (d ∷ ds) low all =
     let parts = and_parts (is_digit d) (list_all is_digit ds) all in
-    both (not (d == c)) (lacks c ds) (apart c d low parts.0) (digits_lack c ds low parts.1)
+    and_from (not (d == c)) (lacks c ds) (apart c d low parts.0) (digits_lack c ds low parts.1)
   where
     apart : (c d : ℕ) → c < 48 → is_digit d ≡ true → not (d == c) ≡ true
     apart c d low digit = grind (arith, nat_tests)
@@ -53,7 +50,7 @@ size_written : (s : Size) → is_size s ≡ true → size_of (size_text s) ≡ S
 size_written s is =
     let parts = and_parts (is_label s.label) (is_number s.extent && is_number_if_some s.edge) is in
     let numbers = and_parts (is_number s.extent) (is_number_if_some s.edge) parts.1 in
-    size_by_test s.label 61 (s.extent ++ edge_text s.edge) true (both (is_label s.label) true parts.0 refl)
+    size_by_test s.label 61 (s.extent ++ edge_text s.edge) true (and_from (is_label s.label) true parts.0 refl)
     ∙ numbers_written s.label s.extent s.edge numbers.0 numbers.1
 
 -- what is read is a size, and the text is its
@@ -67,14 +64,14 @@ numbers_sound l b ds None s label sign joins e = by_number (is_number ds) refl
     by_number : (d : Bool) → is_number ds ≡ d → IsSizeOf (l ∷ b ∷ ds) s
     by_number true p =
         let same : ◌≡◌ {A = Size} (record { label = l; extent = ds; edge = None }) s = same_Some _ s (rw p at e) in
-        subst (IsSizeOf (l ∷ b ∷ ds)) same (both (is_label l) _ label (both (is_number ds) true p refl), λ i. l ∷ sign i ∷ sym (append-nil ds) i)
+        subst (IsSizeOf (l ∷ b ∷ ds)) same (and_from (is_label l) _ label (and_from (is_number ds) true p refl), λ i. l ∷ sign i ∷ sym (append-nil ds) i)
     by_number false p = absurd (none-some s (rw p at e))
 numbers_sound l b ds (Some r) s label sign joins e = by_number (is_number r.0 && is_number r.1) refl
   where
     by_number : (d : Bool) → (is_number r.0 && is_number r.1) ≡ d → IsSizeOf (l ∷ b ∷ ds) s
     by_number true p =
         let same : ◌≡◌ {A = Size} (record { label = l; extent = r.0; edge = Some r.1 }) s = same_Some _ s (rw p at e) in
-        subst (IsSizeOf (l ∷ b ∷ ds)) same (both (is_label l) _ label p, λ i. l ∷ sign i ∷ joins i)
+        subst (IsSizeOf (l ∷ b ∷ ds)) same (and_from (is_label l) _ label p, λ i. l ∷ sign i ∷ joins i)
     by_number false p = absurd (none-some s (rw p at e))
 
 size_none : size_of [] ≡ None
@@ -112,7 +109,7 @@ one_more : (s : Size) (text : List ℕ) (texts : List (List ℕ)) (ss : List Siz
 one_more s text texts ss None is rest e = absurd (none-some ss e)
 one_more s text texts ss (Some found) is rest e =
     let behind = rest found refl in
-    subst (AreSizesOf (text ∷ texts)) (same_Some (s ∷ found) ss e) (both (is_size s) (list_all is_size found) is.0 behind.0, λ i. is.1 i ∷ behind.1 i)
+    subst (AreSizesOf (text ∷ texts)) (same_Some (s ∷ found) ss e) (and_from (is_size s) (list_all is_size found) is.0 behind.0, λ i. is.1 i ∷ behind.1 i)
 
 sizes_sound : (texts : List (List ℕ)) (ss : List Size) → sizes_in texts ≡ Some ss → AreSizesOf texts ss
 sizes_sound [] ss e = subst (AreSizesOf []) (same_Some [] ss e) (refl, refl)
@@ -133,9 +130,9 @@ size_lacks : (s : Size) → is_size s ≡ true → lacks 44 (size_text s) ≡ tr
 size_lacks s is =
     let parts = and_parts (is_label s.label) (is_number s.extent && is_number_if_some s.edge) is in
     let numbers = and_parts (is_number s.extent) (is_number_if_some s.edge) parts.1 in
-    both (not (s.label == 44)) (lacks 44 (s.extent ++ edge_text s.edge)) (letter s.label parts.0)
+    and_from (not (s.label == 44)) (lacks 44 (s.extent ++ edge_text s.edge)) (letter s.label parts.0)
     (list_all-append (λ b. not (b == 44)) s.extent (edge_text s.edge)
-    ∙ both (lacks 44 s.extent) (lacks 44 (edge_text s.edge)) (number_lacks 44 s.extent (omega arith) numbers.0) (edge_lacks s.edge numbers.1))
+    ∙ and_from (lacks 44 s.extent) (lacks 44 (edge_text s.edge)) (number_lacks 44 s.extent (omega arith) numbers.0) (edge_lacks s.edge numbers.1))
   where
     letter : (l : ℕ) → is_label l ≡ true → not (l == 44) ≡ true
     letter l is = grind (arith, nat_tests)
@@ -144,7 +141,7 @@ sizes_lack : (ss : List Size) → list_all is_size ss ≡ true → list_all (lac
 sizes_lack [] all = refl
 sizes_lack (s ∷ ss) all =
     let parts = and_parts (is_size s) (list_all is_size ss) all in
-    both (lacks 44 (size_text s)) (list_all (lacks 44) (map size_text ss)) (size_lacks s parts.0) (sizes_lack ss parts.1)
+    and_from (lacks 44 (size_text s)) (list_all (lacks 44) (map size_text ss)) (size_lacks s parts.0) (sizes_lack ss parts.1)
 
 sizes_of_none : sizes_of [] ≡ Some []
 unfolding sizes_of

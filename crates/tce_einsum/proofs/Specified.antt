@@ -1,10 +1,11 @@
 -- What a produced text specifies, by its declarations: the tree of the path, over the labels of the output.
-use Rattle.std.proofs.Common.{◌≡◌, ℕ, zero, suc, ◌+◌, ◌<◌, List, [], ◌∷◌, ◌++◌, map, length, get_or, refl, sym, ap, ◌∙◌, arith, length-append}
+use Rattle.std.proofs.Common.{◌≡◌, ℕ, ◌+◌, ◌<◌, List, [], ◌∷◌, ◌++◌, map, length, get_or, refl, sym, ap, ◌∙◌, arith, length-append}
 use Rattle.std.specs.Prelude.{unwrap_or}
 use Rattle.std.specs.List.{AllByRecursion}
 use Rattle.std.proofs.lemmas.List.{length-map, get_or-map, get_or_append_left}
 use Rattle.tce_space.specs.Space.{Index, IndexSpace, index_at, index_number, no_range, no_index, range_at}
 use Rattle.tce_tree.specs.ContractionTree.{ContractionTree, leaf, constant, binary, sum}
+use Rattle.tce_tree.proofs.Flat.{last_one}
 use Rattle.tce_declarations.specs.Declarations.{Declarations, IsDeclarations, Tensor, tensor_at, no_tensor}
 use Rattle.tce_declarations.specs.Numbers.{value_of, edge_of}
 use Rattle.tce_formula.specs.Meaning.{meaning, indexes_of, tensor_of}
@@ -17,15 +18,13 @@ use Rattle.tce_einsum.specs.Produced.{Tiled, ranges, index_of, label_at, label_n
 use Rattle.tce_einsum.specs.HasValue.{IsLabel, AreLabels, tensor_names}
 use Rattle.tce_einsum.proofs.PathTrees.{IsOver}
 use Rattle.tce_einsum.proofs.SizeRanges.{HasRange, range_of_size, edge_read}
-use Rattle.tce_einsum.proofs.ProducedStatements.{range_from, indexed_space, numbered_long, numbered_first}
+use Rattle.tce_einsum.proofs.ProducedStatements.{range_from, indexed_space, numbered_long, numbered_first, no_tiled}
 use Rattle.tce_einsum.proofs.Declared.{operand_from, result_from, declared_tensors}
-use Rattle.tce_einsum.proofs.LabelNumbers.{no_size, label_is}
+use Rattle.tce_einsum.proofs.LabelNumbers.{label_is}
+use Rattle.tce_einsum.proofs.Numbers.{no_size}
 
 abbrev pub declarations_of : Einsum → Declarations
 declarations_of x = with_tensors (indexed_space x.sizes) (declared_tensors (indexed_space x.sizes) x)
-
-no_tiled : Tiled
-no_tiled = record { extent = []; edge = [] }
 
 -- the labels
 
@@ -81,12 +80,6 @@ operand_is x k below =
     ap (λ (t : Tensor). t.name) (get_or_append_left operands (result_from space x ∷ []) no_tensor k (omega (arith, below, operands_long x)))
     ∙ ap (λ (t : Tensor). t.name) (numbered_first (operand_from space x.sizes) x.operands k [] no_tensor below)
 
-at_end : {A : Type 0} (xs : List A) (y d : A) (n : ℕ) → n ≡ length xs → get_or (xs ++ y ∷ []) n d ≡ y
-at_end [] y d zero e = refl
-at_end [] y d (suc n) e = absurd (omega (arith, e))
-at_end (x ∷ xs) y d zero e = absurd (omega (arith, e))
-at_end (x ∷ xs) y d (suc n) e = at_end xs y d n (omega (arith, e))
-
 operand_back : (x : Einsum) → IsDeclarations (declarations_of x) → (k : ℕ) → k < length x.operands → tensor_of (declarations_of x) (operand_name k) ≡ k
 operand_back x rules k below =
     let d : Declarations = declarations_of x in
@@ -97,7 +90,7 @@ result_back x rules =
     let d : Declarations = declarations_of x in
     let space : IndexSpace = indexed_space x.sizes in
     let n : ℕ = length x.operands in
-    let last : tensor_at d n ≡ result_from space x = at_end (numbered (operand_from space x.sizes) 0 x.operands) (result_from space x) no_tensor n (sym (operands_long x)) in
+    let last : tensor_at d n ≡ result_from space x = last_one (numbered (operand_from space x.sizes) 0 x.operands) (result_from space x) no_tensor n (sym (operands_long x)) in
     ap (tensor_of d) (sym (ap (λ (t : Tensor). t.name) last)) ∙ tensor_back d rules n (omega (arith, tensors_long x))
 
 pub names_of_tensors : (x : Einsum) → map (λ (t : Tensor). t.name) (declarations_of x).tensors ≡ tensor_names x

@@ -1,6 +1,5 @@
 -- Tasks of a stack, and what they print.
-use Rattle.std.proofs.Common.{◌≡◌, ℕ, zero, suc, ◌+◌, ◌<◌, ◌≤◌, true, false, nat_lt, nat_le, List, [], ◌∷◌, ◌++◌, codes, length, get_or, take, drop, Result, Ok, Err, refl, sym, ap, subst, ◌∙◌, arith, append_assoc}
-use Rattle.std.specs.Result.{OnOk}
+use Rattle.std.proofs.Common.{◌≡◌, ℕ, zero, suc, ◌+◌, ◌<◌, ◌≤◌, true, false, nat_lt, nat_le, List, [], ◌∷◌, ◌++◌, codes, length, get_or, take, drop, refl, sym, ap, subst, ◌∙◌, arith, append_assoc}
 use Rattle.std.proofs.lemmas.Bool.Decides.{nat_tests}
 use Rattle.std.proofs.lemmas.List.{length-append, length-take-le, take-append-drop, append-nil}
 use Rattle.std.proofs.lemmas.List.Sums.{fold-append}
@@ -92,11 +91,6 @@ not_product_of ss nodes k (Operand number labels) d inside e apart =
 not_product_of ss nodes k (Product l r) d inside e apart = absurd (apart l r refl)
 not_product_of ss nodes k (Sum labels operand) d inside e apart =
     sym (ap (λ t. nat_le (level (written_of (formula_of ss t))) 2) (place_tree nodes k (Sum labels operand) d inside e))
-
--- what holds where a call succeeds
-pub on_ok : {A E P Q : Type 0} (r : Result A E) → (P → Q) → OnOk r P → OnOk r Q
-on_ok (Ok x) f p = f p
-on_ok (Err e) f p = tt
 
 -- what a task leaves: what it printed and the stack print what it and the stack before it do
 pub record IsDone (ss : List text.Size) (nodes : List Node) (before after : List Task) (p p1 : Printing) (tokens : List Token) (w : ℕ) : Type 0 where

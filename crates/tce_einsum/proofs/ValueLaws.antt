@@ -1,21 +1,18 @@
 -- Sums of products in any order.
-use Rattle.std.proofs.Common.{◌≡◌, ◌≢◌, ℕ, zero, suc, ◌+◌, ◌*◌, ◌%◌, ◌^◌, ◌==◌, Bool, true, false, List, [], ◌∷◌, ◌++◌, refl, sym, ap, ap₂, ◌∙◌, arith, inl, inr, eqb, eqb-true}
-use Rattle.std.proofs.lemmas.Bool.{ne_eqb, cases_eq, cases_Bool, eq-eqb}
+use Rattle.std.proofs.Common.{◌≡◌, ◌≢◌, ℕ, zero, suc, ◌+◌, ◌*◌, ◌%◌, ◌^◌, ◌==◌, Bool, true, false, List, [], ◌∷◌, ◌++◌, refl, sym, ap, ap₂, ◌∙◌, arith, inl, inr, eqb-true}
+use Rattle.std.proofs.lemmas.Bool.{ne_eqb, cases_eq, eq-eqb}
 use Rattle.std.proofs.lemmas.Nat.{mul-mod_first, mul-mod_second}
 use Rattle.std.proofs.Math.Nat.{mul_comm, mul_assoc, mul-add, add-mod-mod, mod-add-mod}
 use Rattle.tce_base.specs.Word.{wrapping_add, wrapping_mul}
+use Rattle.tce_base.proofs.Words.{plus_middle, times_comm}
 use Rattle.tce_space.specs.IndexSet.{has}
 use Rattle.tce_tree.specs.ContractionTree.{ContractionTree, dims}
-use Rattle.tce_tree.specs.WellFormed.{among, indexes_below, is_distinct}
+use Rattle.tce_tree.specs.WellFormed.{among, indexes_below}
 use Rattle.tce_tree.specs.Value.{Assignment, with_number, Elements, sum_below, sum_over, value}
 use Rattle.tce_tree.proofs.Values.{sum_below-same, value-depends}
-use Rattle.tce_tree.proofs.Lists.{among_first, among_later, distinct_first, distinct_later}
-use Rattle.tce_tree.proofs.Permutations.{without, among-without_other, among-without_same, distinct-without}
+use Rattle.tce_tree.proofs.Lists.{among_first, among_later}
+use Rattle.tce_tree.proofs.Sums.{sum_below-zero, sum_over_permuted}
 use Rattle.tce_einsum.specs.ValueLaws.{LacksIndexes, SumsMoveOutOfLeftOperands, SumsMoveOutOfRightOperands, ProductsCommute, ProductsAssociate, SumsJoin, SumsExchange, SumsHaveNoOrder}
-
-pub mul_either : (x y : ℕ) → wrapping_mul x y ≡ wrapping_mul y x
-unfolding wrapping_mul
-mul_either x y = ap (λ n. n % 2 ^ 64) (mul_comm x y)
 
 pub mul_grouped : (x y z : ℕ) → wrapping_mul (wrapping_mul x y) z ≡ wrapping_mul x (wrapping_mul y z)
 unfolding wrapping_mul
@@ -34,12 +31,6 @@ unfolding wrapping_mul wrapping_add
 mul_shared x y z =
     let parts : (x + y) * z ≡ x * z + y * z = mul_comm (x + y) z ∙ mul-add z x y ∙ ap₂ (λ a b. a + b) (mul_comm z x) (mul_comm z y) in
     mul-mod_first (x + y) z (2 ^ 64) ∙ ap (λ n. n % 2 ^ 64) parts ∙ sym (added (x * z) (y * z))
-
-add_crossed : (a b c d : ℕ) → wrapping_add (wrapping_add a b) (wrapping_add c d) ≡ wrapping_add (wrapping_add a c) (wrapping_add b d)
-unfolding wrapping_add
-add_crossed a b c d =
-    let crossed : (a + b) + (c + d) ≡ (a + c) + (b + d) = omega arith in
-    added (a + b) (c + d) ∙ ap (λ n. n % 2 ^ 64) crossed ∙ sym (added (a + c) (b + d))
 
 add_none : wrapping_add 0 0 ≡ 0
 unfolding wrapping_add
@@ -75,7 +66,7 @@ lacking_keeps e tree is below lacks b i x m = value-depends e tree (with_number 
     kept j d false p = rw p refl
 
 pub products_commute : ProductsCommute
-products_commute e left right a = mul_either (value e left a) (value e right a)
+products_commute e left right a = times_comm (value e left a) (value e right a)
 
 pub products_associate : ProductsAssociate
 products_associate e x y z a = mul_grouped (value e x a) (value e y a) (value e z a)
@@ -86,10 +77,10 @@ sums_move_out_of_left_operands e indexes left right a below lacks =
 
 pub sums_move_out_of_right_operands : SumsMoveOutOfRightOperands
 sums_move_out_of_right_operands e indexes left right a below lacks =
-    mul_either (value e left a) (sum_over e.extent indexes (value e right) a)
+    times_comm (value e left a) (sum_over e.extent indexes (value e right) a)
     ∙ sum_over_times e.extent indexes (value e right) (value e left) a (lacking_keeps e left indexes below lacks)
     ∙ sum_over-same e.extent indexes (λ b. wrapping_mul (value e right b) (value e left b)) (λ b. wrapping_mul (value e left b) (value e right b)) a
-    (λ b. mul_either (value e right b) (value e left b))
+    (λ b. times_comm (value e right b) (value e left b))
 
 pub sum_over_joined : (extent : ℕ → ℕ) (outer inner : List ℕ) (f : Assignment → ℕ) (a : Assignment) → sum_over extent outer (sum_over extent inner f) a ≡ sum_over extent (outer ++ inner) f a
 sum_over_joined extent [] inner f a = refl
@@ -102,14 +93,10 @@ sums_join e outer inner operand a = sum_over_joined e.extent outer inner (value 
 -- sums in either order
 sum_added : (n : ℕ) (f g : ℕ → ℕ) → wrapping_add (sum_below n f) (sum_below n g) ≡ sum_below n (λ x. wrapping_add (f x) (g x))
 sum_added zero f g = add_none
-sum_added (suc n) f g = add_crossed (sum_below n f) (f n) (sum_below n g) (g n) ∙ ap (λ s. wrapping_add s (wrapping_add (f n) (g n))) (sum_added n f g)
-
-sum_of_none : (n : ℕ) → sum_below n (λ x. 0) ≡ 0
-sum_of_none zero = refl
-sum_of_none (suc n) = ap (λ s. wrapping_add s 0) (sum_of_none n) ∙ add_none
+sum_added (suc n) f g = plus_middle (sum_below n f) (f n) (sum_below n g) (g n) ∙ ap (λ s. wrapping_add s (wrapping_add (f n) (g n))) (sum_added n f g)
 
 sum_either : (n m : ℕ) (h : ℕ → ℕ → ℕ) → sum_below n (λ x. sum_below m (h x)) ≡ sum_below m (λ y. sum_below n (λ x. h x y))
-sum_either zero m h = sym (sum_of_none m)
+sum_either zero m h = sym (sum_below-zero m)
 sum_either (suc n) m h =
     ap (λ s. wrapping_add s (sum_below m (h n))) (sum_either n m h) ∙ sum_added m (λ y. sum_below n (λ x. h x y)) (h n)
 
@@ -137,43 +124,5 @@ sum_over_exchanged extent i j rest f a =
 pub sums_exchange : SumsExchange
 sums_exchange e i j rest operand a = sum_over_exchanged e.extent i j rest (value e operand) a
 
-without_here : (i x : ℕ) (xs : List ℕ) → eqb x i ≡ true → without i (x ∷ xs) ≡ xs
-without_here i x xs e = rw e refl
-
-without_later : (i x : ℕ) (xs : List ℕ) → eqb x i ≡ false → without i (x ∷ xs) ≡ x ∷ without i xs
-without_later i x xs e = rw e refl
-
-among_behind : (i x : ℕ) (xs : List ℕ) → eqb x i ≡ false → among (x ∷ xs) i ≡ among xs i
-among_behind i x xs e = rw e refl
-
--- an index may be listed first
-listed_first : (extent : ℕ → ℕ) (i : ℕ) (is : List ℕ) (f : Assignment → ℕ) (a : Assignment) → among is i ≡ true → sum_over extent is f a ≡ sum_over extent (i ∷ without i is) f a
-listed_first extent i [] f a m = absurd (cc)
-listed_first extent i (x ∷ xs) f a m =
-    elim (cases_Bool (eqb x i)) [
-      | inl here ↦ ap (λ k. sum_over extent (k ∷ xs) f a) (eqb-true x i here) ∙ ap (λ (rest : List ℕ). sum_over extent (i ∷ rest) f a) (sym (without_here i x xs here))
-      | inr not_here ↦
-          sum_below-same (extent x) _ (λ k. sum_over extent (i ∷ without i xs) f (with_number a x k)) (λ k l.
-          listed_first extent i xs f (with_number a x k) (sym (among_behind i x xs not_here) ∙ m))
-          ∙ sum_over_exchanged extent x i (without i xs) f a
-          ∙ ap (λ (rest : List ℕ). sum_over extent (i ∷ rest) f a) (sym (without_later i x xs not_here))
-    ]
-
-pub sum_over_unordered : (extent : ℕ → ℕ) (is js : List ℕ) (f : Assignment → ℕ) (a : Assignment) → is_distinct is ≡ true → is_distinct js ≡ true
-    → ((i : ℕ) → among is i ≡ among js i) → sum_over extent is f a ≡ sum_over extent js f a
-sum_over_unordered extent [] [] f a di dj same = refl
-sum_over_unordered extent (x ∷ xs) [] f a di dj same = absurd (let clash : true ≡ false = sym (among_first x xs) ∙ same x in cc)
-sum_over_unordered extent is (j ∷ js) f a di dj same =
-    listed_first extent j is f a (same j ∙ among_first j js)
-    ∙ sum_below-same (extent j) _ (λ x. sum_over extent js f (with_number a j x)) (λ x l.
-    sum_over_unordered extent (without j is) js f (with_number a j x) (distinct-without j is di) (distinct_later j js dj) rest_same)
-  where
-    rest_same : (i : ℕ) → among (without j is) i ≡ among js i
-    rest_same i =
-        elim (cases_eq i j) [
-          | inl at_j ↦ ap (among (without j is)) at_j ∙ among-without_same j is di ∙ sym (distinct_first j js dj) ∙ ap (among js) (sym at_j)
-          | inr not_j ↦ among-without_other j is i not_j ∙ same i ∙ among_behind i j js (ne_eqb j i (λ q. not_j (sym q)))
-        ]
-
 pub sums_have_no_order : SumsHaveNoOrder
-sums_have_no_order e is js operand a di dj same = sum_over_unordered e.extent is js (value e operand) a di dj same
+sums_have_no_order e is js operand a di dj same = sum_over_permuted e.extent is js (value e operand) a di dj same

@@ -4,12 +4,12 @@ use Rattle.std.specs.Int.{div_ceil}
 use Rattle.std.specs.List.{IsDistinct, AllByRecursion, list_all}
 use Rattle.std.specs.Str.{bytes_eq}
 use Rattle.std.proofs.lemmas.List.Elements.{All-from_recursion}
+use Rattle.std.proofs.lemmas.Bool.{not-true, and_parts}
 use Rattle.tce_space.specs.Name.{is_name}
 use Rattle.tce_space.specs.Box.{product}
 use Rattle.tce_space.specs.Tiling.{tile_words, tiles, padded_words}
 use Rattle.tce_space.proofs.Products.{le_times}
 use Rattle.tce_space.specs.Space.{Range, Index, IsRange, IsSpace, range_at, tiling_of}
-use Rattle.tce_grammar.proofs.Letters.{both_true}
 use Rattle.tce_declarations.specs.Declarations.{Tensor, IsTensor, IsDeclarations, HaveNames}
 use Rattle.tce_example.specs.Specification.{IsExtent, range_of, demo_space, demo_tensors, demo_declarations}
 
@@ -18,21 +18,17 @@ is_distinct : List (List ℕ) → Bool
 is_distinct [] = true
 is_distinct (x ∷ xs) = list_all (λ y. not (bytes_eq x y)) xs && is_distinct xs
 
-refused : (b : Bool) → not b ≡ true → b ≡ false
-refused true e = cc
-refused false e = refl
-
 all_apart : (x : List ℕ) (xs : List (List ℕ)) → list_all (λ y. not (bytes_eq x y)) xs ≡ true → AllByRecursion (λ y. bytes_eq x y ≡ false) xs
 all_apart x [] e = tt
 all_apart x (y ∷ ys) e =
-    let parts = both_true (not (bytes_eq x y)) (list_all (λ z. not (bytes_eq x z)) ys) e in
-    (refused (bytes_eq x y) parts.0, all_apart x ys parts.1)
+    let parts = and_parts (not (bytes_eq x y)) (list_all (λ z. not (bytes_eq x z)) ys) e in
+    (not-true (bytes_eq x y) parts.0, all_apart x ys parts.1)
 
 distinct : (xs : List (List ℕ)) → is_distinct xs ≡ true → IsDistinct bytes_eq xs
 unfolding is_distinct IsDistinct
 distinct [] e = tt
 distinct (x ∷ xs) e =
-    let parts = both_true (list_all (λ y. not (bytes_eq x y)) xs) (is_distinct xs) e in
+    let parts = and_parts (list_all (λ y. not (bytes_eq x y)) xs) (is_distinct xs) e in
     (all_apart x xs parts.0, distinct xs parts.1)
 
 ranges_named : (IsTrue (is_name (codes "V"))) × (IsTrue (is_name (codes "O")))

@@ -7,11 +7,9 @@ use Rattle.tce_tree.specs.ContractionTree.{multiply, leaf, binary, dims, loops}
 use Rattle.tce_tree.specs.Faults.{Fault, loops_fault, sum_fault, nodes_fault, fault_of}
 use Rattle.tce_tree.specs.Measure.{IsMeasured}
 use Rattle.tce_tree.proofs.FaultLaws.{is_measured}
+use Rattle.tce_round_trip.proofs.Meanings.{not_above}
 use Rattle.tce_example.specs.Specification.{IsExtent, demo_space, first_sum, second_sum, demo_tree}
 use Rattle.tce_example.proofs.Bounds.{demo_volume_le}
-
-not_above : (limit n : ℕ) → n ≤ limit → nat_lt limit n ≡ false
-not_above limit n h = grind arith
 
 -- few loops with few iterations have no fault
 loops_fine : (space : IndexSpace) (v set : ℕ) → nat_lt 10 (count set) ≡ false → volume_of space set ≤ 2 ^ 90 → loops_fault space v set ≡ None

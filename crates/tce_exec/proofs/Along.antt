@@ -1,19 +1,19 @@
 -- Blocks that are run one after the other.
 use Rattle.std.proofs.Common.{◌≡◌, ℕ, ◌+◌, ◌*◌, ◌<◌, ◌≤◌, ◌^◌, Bool, true, false, if◌then◌else◌, List, [], ◌∷◌, ◌++◌, map, length, drop, slice_get, slice_index, Option, Some, None, append_assoc, append-nil, length-append, refl, sym, ap, ◌∙◌, subst, arith}
 use Rattle.std.specs.Option.{option_map}
-use Rattle.std.specs.List.{All, AllByRecursion}
+use Rattle.std.specs.List.{All}
 use Rattle.std.specs.Int.{div_ceil}
 use Rattle.std.proofs.lemmas.List.{length-map}
 use Rattle.std.proofs.lemmas.List.Elements.{All-from_recursion}
 use Rattle.std.proofs.lemmas.List.Sums.{fold_push}
 use Rattle.tce_space.specs.Box.{product}
 use Rattle.tce_space.specs.Space.{IndexSpace, IsSpace, extent_at, edge_at}
-use Rattle.tce_space.specs.Tiling.{ArePositive, counts_along}
+use Rattle.tce_space.specs.Tiling.{counts_along}
 use Rattle.tce_space.proofs.Spaces.{index_limits}
 use Rattle.tce_tree.specs.Value.{Assignment}
 use Rattle.tce_tree.specs.WellFormed.{among}
-use Rattle.tce_tree.proofs.Lists.{among_first, among_later}
 use Rattle.tce_tree.proofs.NamedIndexes.{node_loops_declared}
+use Rattle.tce_tree.proofs.Assignments.{all_positive}
 use Rattle.tce_block.specs.Parts.{Part}
 use Rattle.tce_block.proofs.Cover.{length-blocks}
 use Rattle.tce_walk.specs.Parts.{after_part}
@@ -27,26 +27,14 @@ use Rattle.tce_windows.specs.Loops.{AreLoops as AreLoopsWith}
 use Rattle.tce_workspace.specs.Workspace.{Workspace, setting_in, state_in}
 use Rattle.tce_workspace.specs.Prepared.{IsPrepared}
 use Rattle.tce_workspace.specs.Steps.{IsKept, IsChanged}
-use Rattle.tce_workspace.proofs.Following.{kept_on, continued_on, changed_as}
+use Rattle.tce_workspace.proofs.Following.{kept_on, changed_as, changed_twice}
 use Rattle.tce_workspace.proofs.Holding.{places_hold_words}
-use Rattle.tce_workspace.proofs.Reading.{kept_own, continued_own}
+use Rattle.tce_workspace.proofs.Reading.{kept_own, continued_own, each_of}
 use Rattle.tce_workspace.proofs.Workspaces.{kept_setting}
 use Rattle.tce_exec.specs.Blocks.{loops_of, blocks_of, IsBlockOf}
 use Rattle.tce_exec.specs.Along.{after_parts, IsAlong}
 
 -- ---- two changes, one after the other
-
-both_mapped : (f g : State → State) (o : Option State) → option_map g (option_map f o) ≡ option_map (λ s. g (f s)) o
-both_mapped f g None = refl
-both_mapped f g (Some s) = refl
-
-changed_twice : (n m l : ℕ) (f g : State → State) (x y z : Workspace) → n + m ≤ l → IsKept x y → IsChanged f n x y → IsChanged g m y z → IsChanged (λ state. g (f state)) l x z
-changed_twice n m l f g x y z le k i j = record {
-  prepared = j.prepared;
-  state = j.state ∙ ap (option_map g) i.state ∙ both_mapped f g (state_in x);
-  few = omega (arith, le, i.few, j.few);
-  continued = continued_on x y z k i.continued j.continued;
-}
 
 mapped_same : (o : Option State) → o ≡ option_map (λ s. s) o
 mapped_same None = refl
@@ -140,10 +128,6 @@ stepped x y z tail a left part is along e kept changed =
 
 -- ---- the whole tail
 
-each : (P : ℕ → Type 0) (xs : List ℕ) → ((i : ℕ) → among xs i ≡ true → P i) → AllByRecursion P xs
-each P [] h = tt
-each P (x ∷ xs) h = (h x (among_first x xs), each P xs (λ i m. h i (among_later x xs i m)))
-
 pub loop_declared : (x : Workspace) (tail : Tail) (a : Assignment) → IsSpace x.places.space → IsPrepared x → IsTailAt (setting_in x) tail a
     → (i : ℕ) → among (loops_of tail) i ≡ true → i < length x.places.space.indexes
 loop_declared x tail a space is h i m =
@@ -152,11 +136,7 @@ loop_declared x tail a space is h i m =
 pub loops_declared : (x : Workspace) (tail : Tail) (a : Assignment) → IsSpace x.places.space → IsPrepared x → IsTailAt (setting_in x) tail a
     → All (λ i. i < length x.places.space.indexes) (loops_of tail)
 loops_declared x tail a space is h =
-    All-from_recursion (λ i. i < length x.places.space.indexes) (loops_of tail) (each (λ i. i < length x.places.space.indexes) (loops_of tail) (loop_declared x tail a space is h))
-
-positive : (f : ℕ → ℕ) (xs : List ℕ) → ((i : ℕ) → among xs i ≡ true → 0 < f i) → ArePositive (map f xs)
-positive f [] h = tt
-positive f (x ∷ xs) h = (h x (among_first x xs), positive f xs (λ i m. h i (among_later x xs i m)))
+    All-from_recursion (λ i. i < length x.places.space.indexes) (loops_of tail) (each_of (λ i. i < length x.places.space.indexes) (loops_of tail) (loop_declared x tail a space is h))
 
 -- the extents and edges of declared indexes are above 0
 pub record HasTurns (space : IndexSpace) : Type 0 where
@@ -179,7 +159,7 @@ ended x y tail a left space turns is words at along e =
     (λ state told.
     ap (λ l. after_parts s tail a l state) (sym all)
     ∙ parts_make_tails s tail a (edge_at x.places.space) state at loops
-    (positive (edge_at x.places.space) (loops_of tail) (λ i m. turns.edges i (loop_declared x tail a space is at i m)))
+    (all_positive (edge_at x.places.space) (loops_of tail) (λ i m. turns.edges i (loop_declared x tail a space is at i m)))
     (places_hold_words x is words state told))
     along.changed)
   where
@@ -200,5 +180,5 @@ edge_loops x tail a space is at = record {
   distinct = at.distinct;
   below = λ i m. omega (arith, loop_declared x tail a space is at i m, space.index_limit);
   as_many = edges_as_many x.places.space (loops_of tail);
-  some = positive (edge_at x.places.space) (loops_of tail) (λ i m. (has_turns x.places.space space).edges i (loop_declared x tail a space is at i m));
+  some = all_positive (edge_at x.places.space) (loops_of tail) (λ i m. (has_turns x.places.space space).edges i (loop_declared x tail a space is at i m));
 }

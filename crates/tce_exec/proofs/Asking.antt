@@ -20,6 +20,7 @@ use Rattle.tce_code.proofs.Emitted.{node-not_leaf}
 use Rattle.tce_walk.specs.Machine.{IsNodeAt, IsJoined}
 use Rattle.tce_walk.specs.declared.machine.Tail.{Tail}
 use Rattle.tce_tree.specs.WellFormed.{among}
+use Rattle.tce_tree.proofs.Assignments.{all_positive}
 use Rattle.tce_windows.specs.Turns.{IsTurn, turns_of}
 use Rattle.tce_windows.specs.declared.window.Window.{Window}
 use Rattle.tce_windows.proofs.Leaving.{parts_are_within, parts_are_apart}
@@ -34,15 +35,12 @@ use Rattle.tce_exec.specs.Blocks.{loops_of, AreOutside, IsWithin, HaveNone}
 use Rattle.tce_exec.specs.Windows.{IsOperandWindow, IsPlaceWindow}
 use Rattle.tce_exec.proofs.Operands.{left_place, right_place, sum_place}
 use Rattle.tce_exec.specs.TailBlocks.{IsAtBlock}
-use Rattle.tce_exec.proofs.Turning.{Reads, each_positive, loop_edge, block_turns, block_loops, node_at_turn, operand_within}
+use Rattle.tce_exec.proofs.Turning.{Reads, loop_edge, block_turns, block_loops, node_at_turn, operand_within}
 use Rattle.tce_exec.proofs.Placing.{Puts, place_within, place_apart}
 use Rattle.tce_exec.proofs.Leaving.{turns_at, joined_product}
+use Rattle.tce_exec.proofs.Edges.{same_lengths}
 
 -- ---- the first numbers of a block
-
-same_lengths : (f g : ℕ → ℕ) (xs : List ℕ) → length (map f xs) ≡ length (map g xs)
-same_lengths f g [] = refl
-same_lengths f g (x ∷ xs) = omega (arith, same_lengths f g xs)
 
 as_many : (extent edge : ℕ → ℕ) (order fs ls : List ℕ) → AreParts (map extent order) (map edge order) fs ls → length fs ≡ length order
 as_many extent edge [] [] [] h = refl
@@ -57,7 +55,7 @@ block_begins y tail a part h =
     as_many (extent_at y.places.space) (edge_at y.places.space) (loops_of tail) part.from part.len
     (fit_the_box (map (extent_at y.places.space) (loops_of tail)) (map (edge_at y.places.space) (loops_of tail)) (record {
       same_rank = same_lengths (edge_at y.places.space) (extent_at y.places.space) (loops_of tail);
-      positive = each_positive (edge_at y.places.space) (loops_of tail) (loop_edge y tail a part h);
+      positive = all_positive (edge_at y.places.space) (loops_of tail) (loop_edge y tail a part h);
     }) h.block.0 part h.block.1)
 
 -- the numbers at the first turn, where all other indexes have those of the loops round the tail

@@ -1,15 +1,15 @@
 -- Windows that are apart, and what stays where words change at the places of a window.
-use Rattle.std.proofs.Common.{◌≡◌, ℕ, ◌+◌, ◌<◌, ◌≤◌, true, Option, Some, None, List, map, length, slice_index, slice_get, refl, sym, ◌∙◌, subst, inl, inr, arith}
+use Rattle.std.proofs.Common.{◌≡◌, ℕ, ◌+◌, ◌<◌, ◌≤◌, true, List, map, length, slice_index, sym, ◌∙◌, inl, inr, arith}
 use Rattle.std.proofs.lemmas.Bool.{true≢false}
 use Rattle.tce_outside.specs.Files.{Files}
 use Rattle.tce_space.specs.Tiling.{Tiling, tile_number, place_in_tile}
 use Rattle.tce_space.proofs.Tilings.{place_in_tile-lt}
 use Rattle.tce_frames.specs.Held.{Held}
-use Rattle.tce_frames.specs.Current.{place, IsSameOutside, TilesFit}
+use Rattle.tce_frames.specs.Current.{place, IsSameOutside}
 use Rattle.tce_frames.proofs.Current.{clean_stay}
-use Rattle.tce_cache.specs.declared.array.ArrayRef.{ArrayRef}
-use Rattle.tce_cache.specs.Cache.{State as CacheState, IsCache, layout, stored, current_word, words_of_tile}
+use Rattle.tce_cache.specs.Cache.{State as CacheState, IsCache, layout, stored, current_word}
 use Rattle.tce_cache.proofs.Tiles.{outside_frames}
+use Rattle.tce_cache.proofs.Steps.{tiles_fit}
 use Rattle.tce_tree.specs.Fusion.{kept_dims}
 use Rattle.tce_tree.specs.Memory.{memory}
 use Rattle.tce_tree.specs.Value.{Assignment}
@@ -21,9 +21,11 @@ use Rattle.tce_operands.specs.Laws.{StandsBefore}
 use Rattle.tce_windows.specs.Turns.{Turns, IsTurn}
 use Rattle.tce_windows.specs.Windows.{DifferOnlyAt}
 use Rattle.tce_windows.specs.declared.window.Window.{Window}
+use Rattle.tce_workspace.proofs.Putting.{current_stays}
+use Rattle.tce_workspace.proofs.Touched.{tile_fits}
 use Rattle.tce_exec.specs.WindowLaws.{IsSlotOf, IsTileOf, WindowsAreApart, SlotsChangeAlone, TilesChangeAlone, ChangesKeepCells}
-use Rattle.tce_exec.proofs.Shown.{slot_turn, current_stays}
-use Rattle.tce_exec.proofs.Frames.{is_framed, tile_turn, tile_fits, in_different_frames, word_stays}
+use Rattle.tce_exec.proofs.Shown.{slot_turn}
+use Rattle.tce_exec.proofs.Frames.{is_framed, tile_turn, in_different_frames, word_stays}
 
 pub windows_are_apart : WindowsAreApart
 windows_are_apart = record {
@@ -66,20 +68,13 @@ slots_change p c files t v w old new laid before is differ = record {
 
 -- ---- words that change in a tile
 
-all_fit : (c : CacheState) → IsCache c → TilesFit (layout c)
-all_fit c cache array = by_array (slice_get c.arrays array) refl
-  where
-    by_array : (o : Option ArrayRef) → slice_get c.arrays array ≡ o → words_of_tile (slice_get c.arrays array) ≤ c.frame_words
-    by_array None e = subst (λ v. words_of_tile v ≤ c.frame_words) (sym e) (omega arith)
-    by_array (Some a) e = subst (λ v. words_of_tile v ≤ c.frame_words) (sym e) (cache.arrays.fit array a e)
-
 tiles_change : (c : CacheState) (files : Files) (t : Turns) (edge : ℕ → ℕ) (array : ℕ) (shape : Tiling) (indexes : List ℕ) (h : Held) (w : Window) (old new : List ℕ)
     → IsCache c → IsTileOf c t edge array shape indexes h w → h.marked ≡ true → length new ≡ length old → DifferOnlyAt t w old new
     → TilesChangeAlone c files t array shape indexes old new
 tiles_change c files t edge array shape indexes h w old new cache is marked len differ = record {
   ready = λ ready. record {
     files_of_held = ready.files_of_held;
-    clean = clean_stay (stored c files) (layout c) c.held old new array (tile_number shape (map t.first indexes)) h (all_fit c cache) cache.apart is.held
+    clean = clean_stay (stored c files) (layout c) c.held old new array (tile_number shape (map t.first indexes)) h (tiles_fit c cache) cache.apart is.held
         (λ unmarked. true≢false (sym marked ∙ unmarked)) outside ready.clean;
   };
   current = current;

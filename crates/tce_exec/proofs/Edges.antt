@@ -1,10 +1,11 @@
 -- The blocks of a box stay between its edges.
-use Rattle.std.proofs.Common.{◌≡◌, ℕ, suc, ◌+◌, ◌*◌, ◌%◌, ◌<◌, ◌≤◌, true, false, eqb, if◌then◌else◌, List, [], ◌∷◌, map, length, refl, sym, ap, ◌∙◌, subst, inl, inr, arith}
+use Rattle.std.proofs.Common.{◌≡◌, ℕ, suc, ◌+◌, ◌*◌, ◌%◌, ◌<◌, ◌≤◌, true, false, if◌then◌else◌, List, [], ◌∷◌, map, length, refl, sym, ap, ◌∙◌, subst, inl, inr, arith}
 use Rattle.std.proofs.Math.Nat.{mul-mod_left, zero-mod}
-use Rattle.std.proofs.lemmas.Bool.{cases_Bool, cases_eq, eq-eqb, ne_eqb, eqb-true, or_cases, false≢true}
+use Rattle.std.proofs.lemmas.Bool.{cases_Bool, cases_eq, eq-eqb, ne_eqb, false≢true}
 use Rattle.tce_space.specs.Tiling.{ArePositive}
 use Rattle.tce_tree.specs.Value.{assignment}
 use Rattle.tce_tree.specs.WellFormed.{among}
+use Rattle.tce_tree.proofs.Lists.{among_rest}
 use Rattle.tce_block.specs.Parts.{Part, beginnings}
 use Rattle.tce_block.specs.Laws.{AreParts}
 use Rattle.tce_block.proofs.Cover.{block_numbers}
@@ -17,9 +18,6 @@ record IsLoop (extent edge from len : ℕ) : Type 0 where
   some : 0 < len
   short : len ≤ edge
   inside : from + len ≤ extent
-
-among_later_one : (x : ℕ) (xs : List ℕ) (i : ℕ) → (i ≡ x → ⊥) → among (x ∷ xs) i ≡ true → among xs i ≡ true
-among_later_one x xs i ne m = elim (or_cases (eqb x i) (among xs i) m) [ inl e ↦ absurd (ne (sym (eqb-true x i e))) | inr r ↦ r ]
 
 -- each loop of a part, by its index
 loop_of : (extent edge : ℕ → ℕ) (order fs ls : List ℕ) (i : ℕ) → AreParts (map extent order) (map edge order) fs ls → among order i ≡ true
@@ -36,7 +34,7 @@ loop_of extent edge (x ∷ xs) (f ∷ fs) (l ∷ ls) i h m =
       | inr n ↦
           let from : assignment (x ∷ xs) (f ∷ fs) i ≡ assignment xs fs i = ap (λ b. if b then f else assignment xs fs i) (ne_eqb i x n) in
           let len : assignment (x ∷ xs) (l ∷ ls) i ≡ assignment xs ls i = ap (λ b. if b then l else assignment xs ls i) (ne_eqb i x n) in
-          let rest = loop_of extent edge xs fs ls i h.3 (among_later_one x xs i n m) in
+          let rest = loop_of extent edge xs fs ls i h.3 (among_rest x xs i n m) in
           record { some = omega (arith, rest.some, len); short = omega (arith, rest.short, len); inside = omega (arith, rest.inside, from, len) }
     ]
 
@@ -70,7 +68,7 @@ lens extent edge (x ∷ xs) (f ∷ fs) (l ∷ ls) h =
     let rest = lens extent edge xs fs ls h.3 in
     record { as_many = ap suc rest.as_many; some = (h.0, rest.some) }
 
-same_lengths : (f g : ℕ → ℕ) (xs : List ℕ) → length (map f xs) ≡ length (map g xs)
+pub same_lengths : (f g : ℕ → ℕ) (xs : List ℕ) → length (map f xs) ≡ length (map g xs)
 same_lengths f g [] = refl
 same_lengths f g (x ∷ xs) = omega (arith, same_lengths f g xs)
 

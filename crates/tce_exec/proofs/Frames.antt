@@ -1,6 +1,5 @@
 -- What the windows of tiles in frames show.
-use Rattle.std.proofs.Common.{◌≡◌, ℕ, suc, true, ◌+◌, ◌*◌, ◌<◌, ◌≤◌, Option, Some, None, List, [], ◌∷◌, map, slice_index, slice_get, refl, sym, ap, ap₂, ◌∙◌, subst, inl, inr, arith}
-use Rattle.std.specs.Option.{IsSomeAnd}
+use Rattle.std.proofs.Common.{◌≡◌, ℕ, suc, true, ◌+◌, ◌*◌, ◌<◌, ◌≤◌, Option, Some, None, List, [], ◌∷◌, map, slice_index, refl, sym, ap, ap₂, ◌∙◌, subst, inl, inr, arith}
 use Rattle.std.proofs.Math.Nat.{mul-le-mul_right}
 use Rattle.std.proofs.lemmas.List.{length-map}
 use Rattle.std.proofs.lemmas.Option.{same_Some}
@@ -15,28 +14,24 @@ use Rattle.tce_space.proofs.Tilings.{word_number_injective}
 use Rattle.tce_frames.specs.Held.{Held, look_up}
 use Rattle.tce_frames.specs.Current.{place, AreOther, word_of}
 use Rattle.tce_frames.proofs.Current.{current_held, frames_differ, places_differ, same_tile, below_found}
-use Rattle.tce_cache.specs.declared.array.ArrayRef.{ArrayRef}
 use Rattle.tce_cache.specs.Cache.{State as CacheState, IsCache, layout, stored, current_word}
-use Rattle.tce_tree.specs.ContractionTree.{operations, node_dims}
-use Rattle.tce_tree.specs.Fusion.{kept_dims, fused_at}
+use Rattle.tce_tree.specs.ContractionTree.{operations}
 use Rattle.tce_tree.specs.Value.{Assignment, Elements, assignment}
 use Rattle.tce_tree.specs.WellFormed.{among}
-use Rattle.tce_tree.proofs.Members.{node_dims_lt}
-use Rattle.tce_tree.proofs.Permutations.{among-members, distinct-members}
+use Rattle.tce_tree.proofs.Permutations.{distinct-members}
 use Rattle.tce_tree.proofs.Values.{map-same}
-use Rattle.tce_space.proofs.IndexSetLaws.{minus_lt}
+use Rattle.tce_tree.proofs.Assignments.{assignment_inside, same_at, numbers_inside}
 use Rattle.tce_space.specs.IndexSet.{IsIndexSet}
 use Rattle.tce_code.specs.Execution.{coordinates}
 use Rattle.tce_layout.specs.Places.{kept_extents, word_at, PlacesFill}
 use Rattle.tce_layout.proofs.Filling.{places_fill}
 use Rattle.tce_operands.specs.NodeStates.{Places, root, root_dims, current_cell, IsResult}
-use Rattle.tce_operands.specs.Laws.{HasShape}
-use Rattle.tce_operands.proofs.Assignments.{map-assignment, assignment_inside, same_at}
-use Rattle.tce_operands.proofs.Slots.{numbers_inside}
-use Rattle.tce_operands.proofs.States.{places_have_their_words}
+use Rattle.tce_operands.proofs.Assignments.{map-assignment}
+use Rattle.tce_operands.proofs.States.{places_have_their_words, listed}
 use Rattle.tce_windows.specs.Turns.{Turns, IsTurn}
 use Rattle.tce_windows.specs.Windows.{stands_at, ShowsNode, DifferOnlyAt}
 use Rattle.tce_windows.specs.declared.window.Window.{Window}
+use Rattle.tce_workspace.proofs.Touched.{tile_fits}
 use Rattle.tce_exec.specs.TilesOfBlocks.{StayInExtents, HasIndexes}
 use Rattle.tce_exec.specs.WindowLaws.{view_of, IsLaidOut, IsTileOf, TilesShowWords, TilesShowNodes}
 use Rattle.tce_exec.proofs.TileTurns.{turns_stay_in_one_tile}
@@ -53,13 +48,6 @@ pub within_tile : (shape : Tiling) (edge : ℕ → ℕ) (indexes : List ℕ) (b 
 within_tile shape edge indexes b has =
     subst (λ es. place_in_box es (remainders es (map b indexes)) < product es) (sym has.edges)
     (place-lt (map edge indexes) (remainders (map edge indexes) (map b indexes)) (remainders_in edge b indexes (subst ArePositive has.edges has.positive)))
-
-pub tile_fits : (c : CacheState) (array : ℕ) (shape : Tiling) → IsCache c → HasShape c array shape → tile_words shape ≤ c.frame_words
-tile_fits c array shape cache has = by_array (slice_get c.arrays array) refl has
-  where
-    by_array : (o : Option ArrayRef) → slice_get c.arrays array ≡ o → IsSomeAnd o (λ a. a.shape ≡ shape) → tile_words shape ≤ c.frame_words
-    by_array None e h = absurd h
-    by_array (Some a) e h = subst (λ s. tile_words s ≤ c.frame_words) h (cache.arrays.fit array a e)
 
 -- what is known of a tile that a frame holds
 pub record IsFramed (c : CacheState) (shape : Tiling) (h : Held) : Type 0 where
@@ -121,13 +109,6 @@ in_different_frames c a t b u j k g h cache found found' other l m e =
     ]
 
 -- ---- the places of the root
-
-root_dims-lt : (p : Places) → IsIndexSet (root_dims p)
-unfolding kept_dims
-root_dims-lt p = minus_lt (node_dims p.tree (root p)) (fused_at p.fusion (root p)) (node_dims_lt p.tree (root p))
-
-listed : (p : Places) (shape : Tiling) (i : ℕ) → IsResult p shape → among p.result i ≡ among (members (root_dims p)) i
-listed p shape i is = is.indexes i ∙ sym (among-members (root_dims p) i (root_dims-lt p))
 
 -- two assignments with one element have one place, and with one place one element
 one_place : (p : Places) (shape : Tiling) (a b : Assignment) → IsResult p shape → map a p.result ≡ map b p.result → coordinates (root_dims p) a ≡ coordinates (root_dims p) b

@@ -1,16 +1,15 @@
 -- Where the operands of a node and the places of nodes stand, at numbers of the node's loops.
-use Rattle.std.proofs.Common.{◌≡◌, ℕ, ◌+◌, ◌-◌, ◌<◌, true, false, not, ◌||◌, List, Some, None, refl, sym, ap, ◌∙◌, subst, inl, inr, arith}
+use Rattle.std.proofs.Common.{◌≡◌, ℕ, ◌+◌, ◌<◌, true, false, not, ◌||◌, Some, refl, sym, ap, ◌∙◌, subst, arith}
 use Rattle.std.proofs.lemmas.Bool.{and_parts, or_left, or_right, true≢false}
 use Rattle.tce_space.specs.IndexSet.{has, set_of}
 use Rattle.tce_space.proofs.IndexSetLaws.{has-minus}
-use Rattle.tce_tree.specs.ContractionTree.{ContractionTree, leaf, constant, binary, sum, dims, is_leaf, operations, node, node_dims, node_loops, left_tree, right_tree, parent}
+use Rattle.tce_tree.specs.ContractionTree.{ContractionTree, leaf, constant, binary, sum, dims, is_leaf, operations, node, node_loops, left_tree, right_tree, parent}
 use Rattle.tce_tree.specs.FlatTree.{IsTree, operand_of, left_operand, right_operand, first_number_of, left_of, right_of}
-use Rattle.tce_tree.specs.Fusion.{kept_dims, fused_at}
 use Rattle.tce_tree.specs.Value.{Assignment}
 use Rattle.tce_tree.specs.declared.node.Operand.{Operand}
 use Rattle.tce_tree.specs.declared.node.Operand.TheVariants.{Leaf, Constant, Node}
-use Rattle.tce_tree.proofs.Nodes.{size_bounds, node-root}
-use Rattle.tce_tree.proofs.Operands.{Stands, stands-node, stands-operand, parents_have_operands, left_is_before, right_is_before}
+use Rattle.tce_tree.proofs.Nodes.{size_bounds}
+use Rattle.tce_tree.proofs.Operands.{left_is_before, right_is_before}
 use Rattle.tce_tree.proofs.Parents.{dims_within_loops}
 use Rattle.tce_code.specs.Generation.{computing}
 use Rattle.tce_code.specs.Shape.{IsSum}
@@ -18,10 +17,12 @@ use Rattle.tce_code.proofs.Emitted.{node-not_leaf}
 use Rattle.tce_operands.specs.NodeStates.{root}
 use Rattle.tce_walk.specs.Tails.{is_constant, reads_constant}
 use Rattle.tce_walk.specs.Machine.{operation_of_node, IsNodeAt}
+use Rattle.tce_walk.proofs.Searching.{sum-node}
+use Rattle.tce_walk.proofs.KnownTails.{child-is}
 use Rattle.tce_workspace.specs.Workspace.{Workspace, setting_in}
 use Rattle.tce_workspace.specs.Prepared.{IsPrepared}
 use Rattle.tce_workspace.specs.Operands.{IsPlaceOf, IsReadable}
-use Rattle.tce_workspace.proofs.Operating.{readable_left, readable_right}
+use Rattle.tce_workspace.proofs.Operating.{readable_left, readable_right, kept_in_dims}
 use Rattle.tce_exec.specs.Windows.{HasPlace}
 
 -- ---- operands but constants
@@ -93,45 +94,13 @@ place_at_root x v a last h = let same : v ≡ root x.places = omega (arith, last
 
 -- ---- the places of a sum and of its operand
 
-sum_is : (c : ContractionTree) → IsSum c → (is : List ℕ) × (e : ContractionTree) × (c ≡ sum is e)
-sum_is (leaf t is) h = absurd h
-sum_is (constant k) h = absurd h
-sum_is (binary op l r) h = absurd h
-sum_is (sum is e) h = (is, e, refl)
-
-child_number : (first : ℕ) (e : ContractionTree) (u : ℕ) → operand_of first e ≡ Node u → (0 < operations e) × (u + 1 ≡ first + operations e)
-child_number first (leaf t is) u e = absurd (let k : ⊥ = cc in k)
-child_number first (constant n) u e = absurd (let k : ⊥ = cc in k)
-child_number first (binary op l r) u e = let s : first + operations l + operations r ≡ u = cc in (omega arith, omega arith)
-child_number first (sum is x) u e = let s : first + operations x ≡ u = cc in (omega arith, omega arith)
-
--- the operand of a sum above a node is the node
-operand_node : (tree : ContractionTree) (u v : ℕ) (is : List ℕ) (e : ContractionTree) → node tree v ≡ sum is e → u < operations tree → v < operations tree → parent tree u ≡ Some v → node tree u ≡ e
-unfolding left_of right_of
-operand_node tree u v is e at u_in v_in up =
-    elim ((parents_have_operands tree u v u_in v_in).0 up) [
-      | inl l ↦
-          let r = child_number (first_number_of tree v) e u (subst (λ c. left_operand (first_number_of tree v) c ≡ Node u) at l) in
-          let stands : Stands tree (first_number_of tree v) e = stands-operand tree (first_number_of tree v) is e (subst (Stands tree (first_number_of tree v)) at (stands-node tree v v_in)) in
-          let last : u ≡ first_number_of tree v + (operations e - 1) = omega (arith, r.0, r.1) in
-          ap (node tree) last ∙ stands.same (operations e - 1) (omega (arith, r.0)) ∙ node-root e (operations e - 1) (omega arith)
-      | inr k ↦ absurd (none (subst (λ c. right_operand (first_number_of tree v) c ≡ Some (Node u)) at k))
-    ]
-  where
-    none : None ≡ Some (Node u) → ⊥
-    none q = cc
-
 sum_dims : (tree : ContractionTree) (u v i : ℕ) → u < operations tree → v < operations tree → parent tree u ≡ Some v → IsSum (node tree v)
     → has (dims (node tree v)) i ≡ true → has (dims (node tree u)) i ≡ true
 sum_dims tree u v i u_in v_in up sums h =
-    let s = sum_is (node tree v) sums in
+    let s = sum-node (node tree v) sums in
     let within : has (dims (sum s.0 s.1)) i ≡ true = subst (λ c. has (dims c) i ≡ true) s.2 h in
-    subst (λ c. has (dims c) i ≡ true) (sym (operand_node tree u v s.0 s.1 s.2 u_in v_in up))
+    subst (λ c. has (dims c) i ≡ true) (sym (child-is tree u v s.0 s.1 s.2 u_in v_in up))
     (and_parts (has (dims s.1) i) (not (has (set_of s.0) i)) (sym (has-minus (dims s.1) (set_of s.0) i) ∙ within)).0
-
-kept_in_dims : (tree : ContractionTree) (fusion : List ℕ) (v i : ℕ) → has (kept_dims tree fusion v) i ≡ true → has (dims (node tree v)) i ≡ true
-unfolding kept_dims node_dims
-kept_in_dims tree fusion v i h = (and_parts (has (dims (node tree v)) i) (not (has (fused_at fusion v) i)) (sym (has-minus (dims (node tree v)) (fused_at fusion v) i) ∙ h)).0
 
 -- the place of a sum at numbers of the loops of its operand
 pub sum_place : (x : Workspace) (u v : ℕ) (a : Assignment) → IsNodeAt (setting_in x) u a → v < operations x.places.tree → parent x.places.tree u ≡ Some v → IsSum (node x.places.tree v) → IsPlaceOf x v a

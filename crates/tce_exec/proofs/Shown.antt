@@ -1,12 +1,11 @@
 -- What the windows of slots show.
-use Rattle.std.proofs.Common.{◌≡◌, ℕ, ◌+◌, ◌<◌, ◌≤◌, Bool, true, false, eqb, ltb, if◌then◌else◌, Option, Some, None, List, length, slice_index, refl, sym, ap, ap₂, ◌∙◌, subst, arith, ltb-true}
+use Rattle.std.proofs.Common.{◌≡◌, ℕ, ◌+◌, ◌<◌, Bool, true, false, eqb, ltb, if◌then◌else◌, List, length, slice_index, refl, sym, ap, ap₂, ◌∙◌, subst, arith, ltb-true}
 use Rattle.std.proofs.lemmas.Bool.{eqb-true}
 use Rattle.tce_outside.specs.Files.{Files}
 use Rattle.tce_space.specs.Box.{IsInside}
 use Rattle.tce_space.specs.Tiling.{Tiling}
-use Rattle.tce_frames.specs.Held.{Held, look_up}
-use Rattle.tce_frames.specs.Current.{place, word_of}
-use Rattle.tce_cache.specs.Cache.{State as CacheState, layout, stored, current_word}
+use Rattle.tce_frames.specs.Current.{place}
+use Rattle.tce_cache.specs.Cache.{State as CacheState}
 use Rattle.tce_tree.specs.ContractionTree.{operations}
 use Rattle.tce_tree.specs.Fusion.{kept_dims}
 use Rattle.tce_tree.specs.Memory.{memory}
@@ -23,6 +22,7 @@ use Rattle.tce_operands.proofs.States.{places_have_their_words}
 use Rattle.tce_windows.specs.Turns.{Turns, IsTurn}
 use Rattle.tce_windows.specs.Windows.{stands_at, ShowsNode}
 use Rattle.tce_windows.specs.declared.window.Window.{Window}
+use Rattle.tce_workspace.proofs.Putting.{current_stays}
 use Rattle.tce_exec.specs.WindowLaws.{view_of, IsSettingOf, IsLaidOut, IsSlotOf, SlotsShowNodes, SlotsShowWords}
 use Rattle.tce_exec.proofs.TileTurns.{slot_stands}
 
@@ -49,15 +49,6 @@ state_stays p old new before after u at inner top =
     (before (result_coordinates p at)) (after (result_coordinates p at))
     (λ t i. inner (ltb-true (u + 1) (operations p.tree) t) (are_inside-holds (kept_extents p.space p.tree p.fusion u) at i))
     (λ t j. top (omega (arith, eqb-true (u + 1) (operations p.tree) t)) (are_inside-holds (kept_extents p.space p.tree p.fusion (root p)) at j))
-
--- no current word changes where the words from the frames on stay
-pub current_stays : (c : CacheState) (files : Files) (old new : List ℕ) → ((q : ℕ) → c.at ≤ q → slice_index new q ≡ slice_index old q)
-    → (array tile k : ℕ) → current_word c files new array tile k ≡ current_word c files old array tile k
-current_stays c files old new same array tile k = by_look_up (look_up c.held array tile)
-  where
-    by_look_up : (o : Option Held) → word_of (stored c files) (layout c) new o array tile k ≡ word_of (stored c files) (layout c) old o array tile k
-    by_look_up None = refl
-    by_look_up (Some h) = same (place (layout c) h.frame + k) (omega arith)
 
 -- the setting of the places
 pub at_setting : (p : Places) (s : Setting) (P : Setting → Type 0) → IsSettingOf p s → ((e : Elements) → P (record { tree = p.tree; fusion = p.fusion; elements = e })) → P s

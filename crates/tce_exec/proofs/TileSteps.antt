@@ -5,7 +5,7 @@ use Rattle.std.proofs.Math.Seq.{drop-cons}
 use Rattle.std.proofs.lemmas.Bool.{cases_Bool}
 use Rattle.tce_space.specs.Box.{product}
 use Rattle.tce_space.specs.Tiling.{Tiling, IsTiling, ArePositive}
-use Rattle.tce_space.proofs.Products.{le_times}
+use Rattle.tce_space.proofs.Products.{le_times, drop_positive}
 use Rattle.tce_exec.specs.OperandWindows.{tile_step, AreTileSteps}
 
 -- the steps of some dimensions, and how many words stand behind one in front of them
@@ -19,11 +19,6 @@ product_behind : (es : List ℕ) (d : ℕ) → ArePositive es → product (drop 
 product_behind es zero p = omega arith
 product_behind [] (suc d) p = omega arith
 product_behind (e ∷ es) (suc d) p = le_trans (product_behind es d p.1) (le_times e (product es) p.0)
-
-positive_behind : (es : List ℕ) (d : ℕ) → ArePositive es → ArePositive (drop d es)
-positive_behind es zero p = p
-positive_behind [] (suc d) p = tt
-positive_behind (e ∷ es) (suc d) p = positive_behind es d p.1
 
 step_within : (es xs : List ℕ) (i : ℕ) → ArePositive es → tile_step es xs i ≤ length es * product es
 step_within [] xs i p = omega arith
@@ -60,7 +55,7 @@ are_small edges indexes steps d behind i some low known positive so_far = record
       let turned : behind * slice_index edges (d - 1) ≡ slice_index edges (d - 1) * product (drop d edges) = ap (λ b. b * slice_index edges (d - 1)) so_far.behind_is ∙ again (product (drop d edges)) (slice_index edges (d - 1)) in
       omega (arith, whole, turned, product_behind edges (d - 1) positive);
   step_low =
-      let within : tile_step (drop d edges) (drop d indexes) i ≤ length (drop d edges) * product (drop d edges) = step_within (drop d edges) (drop d indexes) i (positive_behind edges d positive) in
+      let within : tile_step (drop d edges) (drop d indexes) i ≤ length (drop d edges) * product (drop d edges) = step_within (drop d edges) (drop d indexes) i (drop_positive edges d positive) in
       let fewer : length (drop d edges) * product (drop d edges) ≤ length (drop d edges) * product edges = mul-le-mul_left (length (drop d edges)) (product_behind edges d positive) in
       let shorter : length (drop d edges) * product edges ≤ length edges * product edges = mul-le-mul_right (product edges) (length_behind edges d) in
       omega (arith, so_far.are.steps_are i known, within, fewer, shorter);

@@ -8,6 +8,7 @@ use Rattle.tce_tree.specs.Value.{Assignment}
 use Rattle.tce_tree.specs.WellFormed.{among}
 use Rattle.tce_layout.specs.Places.{steps_to}
 use Rattle.tce_operands.specs.Slots.{slot_word}
+use Rattle.tce_operands.proofs.States.{length-mapped}
 use Rattle.tce_layout.specs.declared.slot.Slot.{Slot}
 use Rattle.tce_windows.specs.Turns.{Turns, IsTurn}
 use Rattle.tce_windows.specs.Windows.{stands_at}
@@ -64,10 +65,6 @@ place_further t edge b (x ∷ xs) p stay turn =
     joined : (y f d n q r s : ℕ) → y ≡ f + d → q ≡ r + s → y * n + q ≡ f * n + r + (d * n + s)
     joined y f d n q r s e g = ap₂ (λ u v. u * n + v) e g ∙ omega arith
 
-mapped : (edge : ℕ → ℕ) (xs : List ℕ) → length (map edge xs) ≡ length xs
-mapped edge [] = refl
-mapped edge (x ∷ xs) = omega (arith, mapped edge xs)
-
 pub turns_stay_in_one_tile : TurnsStayInOneTile
 turns_stay_in_one_tile t edge shape indexes at w has stay is b turn = record {
   tile = ap (place (tile_counts shape)) same;
@@ -90,7 +87,7 @@ turns_stay_in_one_tile t edge shape indexes at w has stay is b turn = record {
 
     leads : place shape.edges (map far indexes) ≡ steps_to w.steps far
     leads =
-        tile_steps_place shape.edges indexes far (ap length has.edges ∙ mapped edge indexes) has.known
+        tile_steps_place shape.edges indexes far (ap length has.edges ∙ length-mapped edge indexes) has.known
         ∙ sym (steps_of_tile shape.edges indexes w.steps far is.steps_are)
 
     steps : stands_at w t.first b ≡ w.first + steps_to w.steps far

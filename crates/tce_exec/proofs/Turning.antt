@@ -1,11 +1,11 @@
 -- What is known of the turns of a block of a tail, and where the words stand that they read.
-use Rattle.std.proofs.Common.{◌≡◌, ℕ, ◌<◌, ◌^◌, Bool, true, false, IsTrue, List, [], ◌∷◌, map, length, slice_get, slice_index, Option, Some, None, refl, sym, ap, subst, arith}
+use Rattle.std.proofs.Common.{◌≡◌, ℕ, ◌<◌, ◌^◌, Bool, true, false, IsTrue, List, map, length, slice_get, slice_index, Option, Some, None, refl, sym, ap, subst, arith}
 use Rattle.std.specs.Option.{IsSomeAnd, ForSome, option_map}
 use Rattle.std.specs.FinMap as map_of
 use Rattle.tce_outside.specs.Files.{Files}
 use Rattle.tce_space.specs.IndexSet.{has}
 use Rattle.tce_space.specs.Space.{IsSpace, extent_at, edge_at}
-use Rattle.tce_space.specs.Tiling.{Tiling, ArePositive, tile_number, tile_words, place_in_tile}
+use Rattle.tce_space.specs.Tiling.{Tiling, tile_number, tile_words, place_in_tile}
 use Rattle.tce_space.proofs.Spaces.{index_limits}
 use Rattle.tce_frames.specs.Held.{Held}
 use Rattle.tce_cache.specs.declared.array.ArrayRef.{ArrayRef}
@@ -17,8 +17,8 @@ use Rattle.tce_tree.specs.WellFormed.{among}
 use Rattle.tce_tree.specs.declared.node.Operand.{Operand}
 use Rattle.tce_tree.specs.declared.node.Operand.TheVariants.{Leaf, Constant, Node}
 use Rattle.tce_tree.specs.declared.expr.Leaf.{Leaf as LeafReference}
-use Rattle.tce_tree.proofs.Lists.{among_first, among_later}
 use Rattle.tce_tree.proofs.NamedIndexes.{node_loops_declared}
+use Rattle.tce_tree.proofs.Assignments.{all_positive}
 use Rattle.tce_block.specs.Parts.{Part}
 use Rattle.tce_code.specs.Execution.{State}
 use Rattle.tce_operands.specs.NodeStates.{Places, current_cell}
@@ -65,15 +65,11 @@ loop_declared y tail a part h i m =
 pub loop_edge : (y : Workspace) (tail : Tail) (a : Assignment) (part : Part) → IsAtBlock y tail a part → (i : ℕ) → among (loops_of tail) i ≡ true → 0 < edge_at y.places.space i
 loop_edge y tail a part h i m = (index_limits y.places.space i h.space (loop_declared y tail a part h i m)).edge_some
 
-pub each_positive : (f : ℕ → ℕ) (xs : List ℕ) → ((i : ℕ) → among xs i ≡ true → 0 < f i) → ArePositive (map f xs)
-each_positive f [] h = tt
-each_positive f (x ∷ xs) h = (h x (among_first x xs), each_positive f xs (λ i m. h i (among_later x xs i m)))
-
 pub block_turns : (y : Workspace) (tail : Tail) (a : Assignment) (part : Part) → IsAtBlock y tail a part
     → AreTurnsOfBlock (extent_at y.places.space) (edge_at y.places.space) (loops_of tail) a part
 block_turns y tail a part h =
     blocks_stay_in_tiles (extent_at y.places.space) (edge_at y.places.space) (loops_of tail) a h.block.0 part
-    (each_positive (edge_at y.places.space) (loops_of tail) (loop_edge y tail a part h)) h.block.1
+    (all_positive (edge_at y.places.space) (loops_of tail) (loop_edge y tail a part h)) h.block.1
 
 pub block_loops : (y : Workspace) (tail : Tail) (a : Assignment) (part : Part) → IsAtBlock y tail a part → AreLoops (loops_of tail) part.len
 block_loops y tail a part h =

@@ -20,12 +20,13 @@ use Rattle.tce_tree.specs.Fusion.{kept_dims, fused_at}
 use Rattle.tce_tree.specs.Value.{Assignment, Elements, value, assignment}
 use Rattle.tce_tree.specs.WellFormed.{is_distinct}
 use Rattle.tce_tree.proofs.Nodes.{node-root}
+use Rattle.tce_tree.proofs.Assignments.{assignment_inside}
 use Rattle.tce_code.specs.Execution.{State, coordinates, exec}
 use Rattle.tce_code.specs.Program.{program_of}
 use Rattle.tce_code.specs.declared.op.Op.{Op}
 use Rattle.tce_operands.specs.NodeStates.{root, root_dims, state_of, current_cell}
 use Rattle.tce_operands.specs.Laws.{IsRootAt}
-use Rattle.tce_operands.proofs.Assignments.{map-assignment, assignment_inside}
+use Rattle.tce_operands.proofs.Assignments.{map-assignment}
 use Rattle.tce_operands.proofs.States.{places_have_their_words}
 use Rattle.tce_walk.specs.Touches.{touch_bound}
 use Rattle.tce_walk.specs.Machine.{after}
@@ -34,7 +35,7 @@ use Rattle.tce_workspace.specs.declared.evaluation.Evaluation.{Evaluation}
 use Rattle.tce_workspace.specs.Workspace.{Workspace, workspace, setting_in, state_in, result_shape}
 use Rattle.tce_workspace.specs.Prepared.{IsPrepared}
 use Rattle.tce_workspace.specs.Steps.{IsKept, IsContinued}
-use Rattle.tce_workspace.proofs.Following.{told_between}
+use Rattle.tce_workspace.proofs.Following.{told_between, named}
 use Rattle.tce_workspace.proofs.Workspaces.{touched_to, is_result}
 use Rattle.tce_exec.specs.Keeping.{IsLater}
 use Rattle.tce_exec.specs.Run.{IsZero, HasValues, IsRun}
@@ -125,19 +126,12 @@ ran_to x words held touches files ops tree is now kept continued distinct zero c
         told_after : (o p : Option Files) (gs : Files) → is_some p ≡ is_some o → p ≡ Some gs → (fs : Files) × (o ≡ Some fs)
         told_after o p gs tells now = told_between p o gs (sym tells) now
 
--- what is kept has these parts
-kept_named : (x y : Workspace) → IsKept x y → y ≡ touched_to x y.words y.cache.held y.cache.touches y.files
-kept_named x y k =
-    ap (λ c. record y { cache = c }) k.cache
-    ∙ ap (λ p. record y { cache = with_held x.cache y.cache.held y.cache.touches; places = p }) k.places
-    ∙ ap (λ t. record x { tensor = t; words = y.words; cache = with_held x.cache y.cache.held y.cache.touches; files = y.files }) k.tensor
-
 pub ran : (x y : Workspace) (ops : List Op) → IsTree x.places.tree → IsPrepared x → IsPrepared y → IsKept x y → IsContinued x y
     → IsTrue (is_distinct x.places.result) → IsZero x → IsCodeOf x.places.tree x.places.fusion ops
     → state_in y ≡ after (setting_in x) (program_of ops) zeros (state_in x)
     → y.cache.touches ≤ x.cache.touches + touch_bound x.places.space x.places.tree (program_of ops) → IsRun x y ops
 ran x y ops tree is now kept continued distinct zero code state few =
-    let e = kept_named x y kept in
+    let e = named x y kept in
     subst (λ w. IsRun x w ops) (sym e)
     (ran_to x y.words y.cache.held y.cache.touches y.files ops tree is (subst IsPrepared e now) (subst (IsKept x) e kept) (subst (IsContinued x) e continued) distinct zero code
     (subst (λ w. state_in w ≡ after (setting_in x) (program_of ops) zeros (state_in x)) e state) few)

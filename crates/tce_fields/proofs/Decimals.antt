@@ -14,8 +14,8 @@ use Rattle.std.proofs.lemmas.Str.Parse.{IsNumeralModel, numerals_by_value, parse
 use Rattle.tce_fields.specs.Digits.{starts_as_number}
 use Rattle.tce_fields.specs.Fields.{IsNumber, lacks}
 
-own : IsNumeralModel (AllDigits 10) (digits_value 10)
-own = numerals_by_value _ (search rules)
+pub decimal_model : IsNumeralModel (AllDigits 10) (digits_value 10)
+decimal_model = numerals_by_value _ (search rules)
 
 -- the digits behind the first ones, one after the other
 le_value_after : (n : ℕ) (ds : List ℕ) → n ≤ digits_value_after 10 n ds
@@ -47,7 +47,7 @@ decimal_value (c ∷ e ∷ cs) d some lead small =
     ∙ ap (λ x. x ++ (e ∷ cs)) (decimal_digit (0 * 10 + digit_value c) (omega (arith, d.0)) ∙ ap (λ x. x ∷ []) is)
 
 -- a text of digits without a leading 0 begins as a number
-digits_start : (ds : List ℕ) → AllDigits 10 ds → 0 < length ds → (get_or ds 0 0 ≡ 48 → length ds ≡ 1) → starts_as_number ds ≡ true
+pub digits_start : (ds : List ℕ) → AllDigits 10 ds → 0 < length ds → (get_or ds 0 0 ≡ 48 → length ds ≡ 1) → starts_as_number ds ≡ true
 digits_start [] all some lead = absurd (omega arith)
 digits_start (b ∷ []) all some lead =
     let here : IsInRange 48 57 b = digit_at (b ∷ []) 0 all (omega arith) in
@@ -71,12 +71,12 @@ decimal_start n small =
     digits_start (decimal n) numeral.1 numeral.0 (lead_of_decimal n small)
 
 -- what begins as a number has no sign, and a leading 0 stands alone
-no_sign : (ds : List ℕ) → starts_as_number ds ≡ true → get_or ds 0 0 ≢ 43
+pub no_sign : (ds : List ℕ) → starts_as_number ds ≡ true → get_or ds 0 0 ≢ 43
 no_sign [] e = cc
 no_sign (b ∷ []) e = λ sign. let f : starts_as_number (43 ∷ []) ≡ true = subst (λ x. starts_as_number (x ∷ []) ≡ true) sign e in absurd (cc)
 no_sign (b ∷ c ∷ bs) e = λ sign. let f : starts_as_number (43 ∷ c ∷ bs) ≡ true = subst (λ x. starts_as_number (x ∷ c ∷ bs) ≡ true) sign e in absurd (cc)
 
-lead_alone : (ds : List ℕ) → starts_as_number ds ≡ true → get_or ds 0 0 ≡ 48 → length ds ≡ 1
+pub lead_alone : (ds : List ℕ) → starts_as_number ds ≡ true → get_or ds 0 0 ≡ 48 → length ds ≡ 1
 lead_alone [] e first = cc
 lead_alone (b ∷ []) e first = refl
 lead_alone (b ∷ c ∷ bs) e first = let f : starts_as_number (48 ∷ c ∷ bs) ≡ true = subst (λ x. starts_as_number (x ∷ c ∷ bs) ≡ true) first e in absurd (cc)
@@ -84,7 +84,7 @@ lead_alone (b ∷ c ∷ bs) e first = let f : starts_as_number (48 ∷ c ∷ bs)
 -- the text of a number that was parsed is its decimal text
 parsed_text : {E : Type 0} (ds : List ℕ) (value : ℕ) (r : Result ℕ E) → starts_as_number ds ≡ true → ParsesUnsigned 128 10 ds r → r ≡ Ok value → ds ≡ decimal value
 parsed_text {E} ds value (Ok x) start h e =
-    let parsed : (AllDigits 10 ds × (0 < length ds) × (digits_value 10 ds < 2 ^ 128)) × (x ≡ digits_value 10 ds) = parse_plain own {E = E} 128 ds (Ok x) h (no_sign ds start) in
+    let parsed : (AllDigits 10 ds × (0 < length ds) × (digits_value 10 ds < 2 ^ 128)) × (x ≡ digits_value 10 ds) = parse_plain decimal_model {E = E} 128 ds (Ok x) h (no_sign ds start) in
     let same : x ≡ value = cc in
     sym (decimal_value ds parsed.0.0 parsed.0.1 (lead_alone ds start) (omega (arith, parsed.0.2)))
     ∙ ap decimal (sym parsed.1 ∙ same)

@@ -2,7 +2,7 @@
 use Rattle.std.proofs.Common.{◌≡◌, ◌≢◌, ℕ, ◌==◌, ◌↔◌, Bool, true, false, ◌&&◌, not, List, [], ◌∷◌, ◌++◌, length, Some, None, refl, sym, ap, subst, ◌∙◌, arith, eqb-true, nat_le, get_or, append-nil}
 use Rattle.std.specs.Prelude.{codes}
 use Rattle.std.specs.List.{list_all, join_with_byte}
-use Rattle.std.proofs.lemmas.Bool.{and_parts}
+use Rattle.std.proofs.lemmas.Bool.{and_parts, and_from}
 use Rattle.std.proofs.lemmas.List.Folds.{list_all-append}
 use Rattle.std.proofs.lemmas.Option.{none-some, same_Some}
 use Rattle.std.proofs.lemmas.Slice.Eq.{bytes_eq-Decides}
@@ -10,16 +10,12 @@ use Rattle.std.specs.Str.{bytes_eq}
 use Rattle.tce_space.specs.Name.{is_name, is_word_byte, starts_with_letter, is_letter, is_keyword}
 use Rattle.tce_fields.specs.Fields.{lacks, listed, AreParts, AreListed}
 
-both_hold : (a b : Bool) → a ≡ true → b ≡ true → (a && b) ≡ true
-both_hold true b p q = q
-both_hold false b p q = cc
-
 -- a byte that is none of a word's stands in no word
 word_lacks : (c : ℕ) (word : List ℕ) → is_word_byte c ≡ false → list_all is_word_byte word ≡ true → lacks c word ≡ true
 word_lacks c [] none all = refl
 word_lacks c (b ∷ bs) none all =
     let both = and_parts (is_word_byte b) (list_all is_word_byte bs) all in
-    both_hold (not (b == c)) (lacks c bs) (by_byte (b == c) refl both.0) (word_lacks c bs none both.1)
+    and_from (not (b == c)) (lacks c bs) (by_byte (b == c) refl both.0) (word_lacks c bs none both.1)
   where
     by_byte : (d : Bool) → (b == c) ≡ d → is_word_byte b ≡ true → not (b == c) ≡ true
     by_byte false e word = rw e refl
@@ -39,7 +35,7 @@ pub names_lack : (c : ℕ) (names : List (List ℕ)) → is_word_byte c ≡ fals
 names_lack c [] none all = refl
 names_lack c (name ∷ names) none all =
     let both = and_parts (is_name name) (list_all is_name names) all in
-    both_hold (lacks c name) (list_all (lacks c) names) (name_lacks c name none both.0) (names_lack c names none both.1)
+    and_from (lacks c name) (list_all (lacks c) names) (name_lacks c name none both.0) (names_lack c names none both.1)
 
 -- what lacks in the parts and is not the separator lacks in the text
 pub joined_lacks : (c separator : ℕ) (parts : List (List ℕ)) → (separator == c) ≡ false → list_all (lacks c) parts ≡ true → lacks c (join_with_byte separator parts) ≡ true
@@ -48,7 +44,7 @@ joined_lacks c separator (x ∷ []) differs all = (and_parts (lacks c x) true al
 joined_lacks c separator (x ∷ y ∷ parts) differs all =
     let both = and_parts (lacks c x) (list_all (lacks c) (y ∷ parts)) all in
     list_all-append (λ b. not (b == c)) x (separator ∷ join_with_byte separator (y ∷ parts))
-    ∙ both_hold (lacks c x) (lacks c (separator ∷ join_with_byte separator (y ∷ parts))) both.0
+    ∙ and_from (lacks c x) (lacks c (separator ∷ join_with_byte separator (y ∷ parts))) both.0
     (rw differs (joined_lacks c separator (y ∷ parts) differs both.1))
 
 -- no space stands in a list of names
@@ -106,9 +102,6 @@ no_names limit text found some split other value = (
       let e : false ≡ true = sym other ∙ ap (list_all is_name) same ∙ are.named in
       cc),
 )
-
-pub same_bytes : (xs ys : List ℕ) → bytes_eq xs ys ≡ true → xs ≡ ys
-same_bytes xs ys e = (bytes_eq-Decides xs ys).0 e
 
 pub other_bytes : (xs ys : List ℕ) → bytes_eq xs ys ≡ false → xs ≢ ys
 other_bytes xs ys e = λ same. let wrong : false ≡ true = sym e ∙ (bytes_eq-Decides xs ys).1 same in cc

@@ -1,5 +1,5 @@
 -- Declared indexes and their names.
-use Rattle.std.proofs.Common.{◌≡◌, ◌≢◌, ℕ, zero, suc, ◌+◌, ◌<◌, ◌≤◌, ◌==◌, ◌↔◌, Bool, true, false, ◌&&◌, ◌||◌, List, [], ◌∷◌, length, get_or, map, All, length-append, ◌++◌, ◌⊎◌, leb-true, cond, Option, Some, None, refl, sym, ap, subst, ◌∙◌, inl, inr, arith, nat_le, nat_lt, eqb-true}
+use Rattle.std.proofs.Common.{◌≡◌, ◌≢◌, ℕ, zero, suc, ◌+◌, ◌<◌, ◌≤◌, ◌↔◌, true, false, List, [], ◌∷◌, length, get_or, map, length-append, ◌++◌, ◌⊎◌, cond, Option, Some, None, refl, sym, ap, subst, ◌∙◌, inl, inr, arith, nat_lt}
 use Rattle.std.specs.Prelude.{IsUtf8}
 use Rattle.std.specs.Borrow.{Bor}
 use Rattle.std.specs.List.{list_all, position_or_len}
@@ -14,36 +14,17 @@ use Rattle.std.proofs.lemmas.Option.{none-some, same_Some}
 use Rattle.std.proofs.lemmas.Slice.Eq.{bytes_eq-Decides}
 use Rattle.std.proofs.lemmas.Str.{IsUtf8-from_ascii}
 use Rattle.tce_space.specs.IndexSet.{IsIndexSet, members, set_of}
-use Rattle.tce_space.specs.Name.{is_name, is_word_byte, is_letter, is_digit}
+use Rattle.tce_space.specs.Name.{is_name, is_word_byte}
 use Rattle.tce_space.specs.Space.{Index, IndexSpace, IsSpace, index_number, index_at, no_index}
 use Rattle.tce_fields.specs.Names.{IsNamed, AreNamed, IsSetNamed, names_of}
 use Rattle.tce_fields.specs.Reading.{texts}
 use lib.ListN.{get_or-append}
 use Rattle.std.proofs.Math.Seq.{get_or-append_seam}
 use Rattle.std.proofs.lemmas.List.{get_or_default}
-use Rattle.tce_space.proofs.IndexSetLaws.{set_of_lt, has-set_of, has_below}
-use Rattle.tce_space.proofs.Members.{sets_are_their_members}
-use Rattle.tce_fields.proofs.Listing.{name_parts, same_bytes}
-
--- names are ASCII
-either_true : (x y : Bool) → (x || y) ≡ true → (x ≡ true) ⊎ (y ≡ true)
-either_true true y e = inl refl
-either_true false y e = inr e
-
-letter_below : (b : ℕ) → is_letter b ≡ true → b < 128
-letter_below b is = elim (either_true (nat_le 65 b && nat_le b 90) (nat_le 97 b && nat_le b 122) is) [
-  | inl upper ↦ omega (arith, leb-true b 90 (and_parts (nat_le 65 b) (nat_le b 90) upper).1)
-  | inr lower ↦ omega (arith, leb-true b 122 (and_parts (nat_le 97 b) (nat_le b 122) lower).1)
-]
-
-word_byte_below : (b : ℕ) → is_word_byte b ≡ true → b < 128
-word_byte_below b is = elim (either_true (is_letter b || is_digit b) (b == 95) is) [
-  | inr line ↦ omega (arith, eqb-true b 95 line)
-  | inl more ↦ elim (either_true (is_letter b) (is_digit b) more) [
-    | inl letter ↦ letter_below b letter
-    | inr digit ↦ omega (arith, leb-true b 57 (and_parts (nat_le 48 b) (nat_le b 57) digit).1)
-  ]
-]
+use Rattle.tce_space.proofs.IndexSetLaws.{set_of_lt}
+use Rattle.tce_space.proofs.Members.{set_of_members}
+use Rattle.tce_space.proofs.Names.{word_byte_below, same_bytes}
+use Rattle.tce_fields.proofs.Listing.{name_parts}
 
 word_ascii : (w : List ℕ) → list_all is_word_byte w ≡ true → IsAscii w
 word_ascii [] is i = omega arith
@@ -159,18 +140,6 @@ pub name_each : (names : List (Bor (List ℕ))) (k : ℕ) → k < length names �
 name_each [] k l all = absurd (omega arith)
 name_each (name ∷ names) zero l all = (and_parts (is_name name.now) (list_all is_name (texts names)) all).0
 name_each (name ∷ names) (suc k) l all = name_each names k (omega arith) (and_parts (is_name name.now) (list_all is_name (texts names)) all).1
-
--- the set of the indexes, where they are its members in order
-set_of_members : (set : ℕ) → IsIndexSet set → set_of (members set) ≡ set
-set_of_members set is =
-    sets_are_their_members.same (set_of (members set)) set (set_of_lt (members set)) is
-    (λ i. (
-      (λ h. (sets_are_their_members.listed set i is).0 ((has-set_of (members set) i (low set is)).0 h)),
-      (λ h. (has-set_of (members set) i (low set is)).1 ((sets_are_their_members.listed set i is).1 h)),
-    ))
-  where
-    low : (set : ℕ) → IsIndexSet set → All (λ x. x < 24) (members set)
-    low set is k d l = has_below set (get_or (members set) k d) is ((sets_are_their_members.listed set (get_or (members set) k d) is).0 (k, l, get_or_default (members set) k (get_or (members set) k d) d l))
 
 pub set_found : (space : IndexSpace) (names : List (List ℕ)) (indexes : List ℕ) (set : ℕ) → set ≡ set_of indexes → members set ≡ indexes
     → ((value : List ℕ) → (Some indexes ≡ Some value) ↔ AreNamed space names value) → (value : ℕ) → (Some set ≡ Some value) ↔ IsSetNamed space names value

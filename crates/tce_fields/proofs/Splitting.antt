@@ -1,7 +1,7 @@
 -- The parts of a text are what was joined.
 use Rattle.std.proofs.Common.{◌≡◌, ◌≢◌, ℕ, ◌<◌, ◌≤◌, ◌==◌, ◌↔◌, Bool, true, false, not, List, [], ◌∷◌, ◌++◌, length, take, drop, ◌+◌, ◌-◌, length-drop, length-append, take_all, Some, None, refl, sym, ap, subst, ◌∙◌, arith, eq-eqb, nat_lt}
 use Rattle.std.specs.List.{list_all, join_with_byte, slice_split, onto_first, position, position_or_len}
-use Rattle.std.proofs.lemmas.Bool.{and_parts, ltb-true, ltb-false}
+use Rattle.std.proofs.lemmas.Bool.{and_parts, ltb-true, ltb-false, not-true}
 use Rattle.std.proofs.lemmas.List.Splits.{slice_split-cons_yes, slice_split-cons_no, slice_split_first, slice_split_none, join_with_byte-slice_split}
 use Rattle.std.proofs.lemmas.Bool.Decides.{nat_tests}
 use Rattle.std.proofs.lemmas.List.Sums.{fails_before_first}
@@ -11,21 +11,17 @@ use Rattle.tce_fields.specs.Fields.{lacks, AreParts}
 abbrev pub parts_at : ℕ → List ℕ → List (List ℕ)
 parts_at c text = slice_split (λ b. b == c) text
 
-not_true : (b : Bool) → not b ≡ true → b ≡ false
-not_true true e = cc
-not_true false e = refl
-
 split_lacking : (c : ℕ) (text : List ℕ) → lacks c text ≡ true → parts_at c text ≡ text ∷ []
 split_lacking c [] e = refl
 split_lacking c (b ∷ bs) e =
     let both = and_parts (not (b == c)) (lacks c bs) e in
-    slice_split-cons_no (λ b. b == c) b bs (not_true (b == c) both.0) ∙ ap (onto_first b) (split_lacking c bs both.1)
+    slice_split-cons_no (λ b. b == c) b bs (not-true (b == c) both.0) ∙ ap (onto_first b) (split_lacking c bs both.1)
 
 split_front : (c : ℕ) (text rest : List ℕ) → lacks c text ≡ true → parts_at c (text ++ c ∷ rest) ≡ text ∷ parts_at c rest
 split_front c [] rest e = slice_split-cons_yes (λ b. b == c) c rest (eq-eqb c c refl)
 split_front c (b ∷ bs) rest e =
     let both = and_parts (not (b == c)) (lacks c bs) e in
-    slice_split-cons_no (λ b. b == c) b (bs ++ c ∷ rest) (not_true (b == c) both.0) ∙ ap (onto_first b) (split_front c bs rest both.1)
+    slice_split-cons_no (λ b. b == c) b (bs ++ c ∷ rest) (not-true (b == c) both.0) ∙ ap (onto_first b) (split_front c bs rest both.1)
 
 pub split_joined : (c : ℕ) (parts : List (List ℕ)) → parts ≢ [] → list_all (lacks c) parts ≡ true → parts_at c (join_with_byte c parts) ≡ parts
 split_joined c [] some apart = absurd (some refl)
@@ -46,7 +42,7 @@ parts_apart c (b ∷ bs) = by_byte (b == c) refl (parts_apart c bs)
     by_byte true e behind = ap (list_all (lacks c)) (slice_split-cons_yes (λ b. b == c) b bs e) ∙ behind
     by_byte false e behind = ap (list_all (lacks c)) (slice_split-cons_no (λ b. b == c) b bs e) ∙ onto_lacking c b (parts_at c bs) e behind
 
-onto_some : (b : ℕ) (parts : List (List ℕ)) → onto_first b parts ≢ []
+pub onto_some : (b : ℕ) (parts : List (List ℕ)) → onto_first b parts ≢ []
 onto_some b [] = λ e. cc
 onto_some b (part ∷ parts) = λ e. cc
 

@@ -20,12 +20,10 @@ use Rattle.tce_command.specs.declared.trouble.ArrayTrouble.TheVariants as conten
 use Rattle.tce_command.specs.Refusals.{SameRefusal}
 use Rattle.tce_command.specs.declared.refusal.Refusal.{Refusal}
 use Rattle.tce_command.specs.declared.refusal.Refusal.TheVariants.{Specification, Missing, Array, Budget, Intermediates, Flat, Tensor, Misfit, Einsum, Spill, Symmetry, Disk, Memory}
+use Rattle.tce_source.proofs.Outcomes.{not_absent}
 use Rattle.tce_flat.specs.Tensors.{array_file}
 use Rattle.tce_flat.specs.Refusals.{IsFlatRefusal, IsArrayRefusal, IsFormRefusal}
 use Rattle.tce_flat.proofs.Lines.{Says, say_alike, say_same}
-
-pub not_absent : (P : List ℕ → Type 0) (found : Option (List ℕ)) → IsSomeAnd found P → found ≡ None → ⊥
-not_absent P found p e = subst (λ x. IsSomeAnd x P) e p
 
 abbrev pub missing_line : List ℕ → List ℕ
 missing_line name = codes "error 3: no file " ++ name ++ codes "\n"

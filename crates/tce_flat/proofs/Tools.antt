@@ -1,9 +1,8 @@
 -- What the tools answer, as refusals.
-use Rattle.std.proofs.Common.{◌≡◌, ◌≢◌, refl, subst, ◌∙◌, ◌⊎◌, inl, inr, ℕ, List, Option, Result, Ok, Err, IfOk, IfErr, String, Global, arith}
+use Rattle.std.proofs.Common.{◌≡◌, ◌≢◌, refl, subst, ◌∙◌, ◌⊎◌, inl, inr, ℕ, List, Option, Result, Ok, Err, IfOk, IfErr, String, Global}
 use Rattle.std.specs.String.{string_bytes}
 use Rattle.tce_flat.specs.Done.{report_text, IsPacking, IsUnpacking, IsConverting, IsPacked, IsUnpacked, IsConverted}
 use Rattle.std.specs.Option.{ForSome}
-use Rattle.tce_outside.specs.Fault.{HasCause, Rose}
 use Rattle.tce_outside.specs.Files.{Files, file}
 use Rattle.tce_space.specs.Tiling.{Tiling}
 use Rattle.tce_array.specs.declared.form.Form.{Form}
@@ -51,14 +50,6 @@ refused_for refuses told before spec tensor shape r same there p =
 -- a command that changed nothing before it moved elements changed nothing where that changed nothing
 pub unchanged_from : {A : Type 0} (told before after : Option Files) (r : Result A Refusal) → told ≡ before → IfErr r (λ a. a ≢ Disk → after ≡ told) → IfErr r (λ a. a ≢ Disk → after ≡ before)
 unchanged_from told before after r same p = if_err r (λ a q no. q no ∙ same) p
-
--- two calls after each other, of which only the second may have failed
-pub cause_from : (before then now : ℕ) (first failed : Type 0) → HasCause before then first → HasCause then now failed → HasCause before now failed
-cause_from before then now first failed a b = record { later = omega (arith, a.later, b.later); rose = λ f. rose_from (b.rose f) }
-  where
-    rose_from : Rose then now → Rose before now
-    rose_from (inl p) = inl (omega (arith, a.later, p))
-    rose_from (inr p) = inr p
 
 -- a tensor that was found, and moved after that, is moved as the command says
 pub packed_from : {E : Type 0} (r : Result (String Global) E) (told before after : Option Files) (spec tensor flat : List ℕ) (shape : Tiling)

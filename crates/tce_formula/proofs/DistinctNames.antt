@@ -3,14 +3,15 @@ use Rattle.std.proofs.Common.{◌≡◌, ℕ, ◌<◌, List, [], ◌∷◌, ◌+
 use Rattle.std.specs.Prelude.{is_none, unwrap_or, bytes_eq}
 use Rattle.std.specs.List.{list_any, list_all, IsDistinct, AllByRecursion}
 use Rattle.std.proofs.lemmas.List.Folds.{list_any-append}
-use Rattle.std.proofs.lemmas.Bool.{lt-ltb}
+use Rattle.std.proofs.lemmas.Bool.{lt-ltb, false_from_ne_true}
 use Rattle.tce_space.specs.Space.{index_number}
+use Rattle.tce_space.proofs.Names.{same_bytes, bytes_same}
 use Rattle.tce_tree.specs.WellFormed.{among, is_distinct}
 use Rattle.tce_declarations.specs.Declarations.{Declarations}
 use Rattle.tce_declarations.specs.DeclarationLines.{twice_after}
 use Rattle.tce_formula.specs.PlaceFaults.{undeclared_index}
 use Rattle.tce_formula.specs.Meaning.{indexes_of}
-use Rattle.tce_formula.proofs.KnownNames.{same_bytes, bytes_same, index_below, one_index, known}
+use Rattle.tce_formula.proofs.KnownNames.{index_below, one_index, known}
 use Rattle.tce_formula.proofs.Nothing.{none_found}
 
 abbrev stands : List (List ℕ) → List ℕ → Bool
@@ -19,10 +20,6 @@ stands names name = list_any (bytes_eq name) names
 or_false : (a b : Bool) → a ≡ false → b ≡ false → a || b ≡ false
 or_false true b h k = cc
 or_false false b h k = k
-
-not_true : (b : Bool) → (b ≡ true → ⊥) → b ≡ false
-not_true true h = absurd (h refl)
-not_true false h = refl
 
 stands_behind : (earlier : List (List ℕ)) (n m : List ℕ) → stands earlier m ≡ true → stands (earlier ++ n ∷ []) m ≡ true
 stands_behind earlier n m h = list_any-append (bytes_eq m) earlier (n ∷ []) ∙ ap (λ b. b || list_any (bytes_eq m) (n ∷ [])) h
@@ -40,7 +37,7 @@ fresh : (earlier names : List (List ℕ)) (m : List ℕ) → stands earlier m �
 fresh earlier [] m h none = refl
 fresh earlier (n ∷ ns) m h none =
     let parts = none_found (list_any (bytes_eq n) earlier) n (twice_after (earlier ++ n ∷ []) ns) none in
-    let other : bytes_eq m n ≡ false = not_true (bytes_eq m n) (λ same.
+    let other : bytes_eq m n ≡ false = false_from_ne_true (bytes_eq m n) (λ same.
     let e : m ≡ n = same_bytes m n same in
     let again : list_any (bytes_eq n) earlier ≡ true = subst (λ (x : List ℕ). list_any (bytes_eq x) earlier ≡ true) e h in
     let clash : true ≡ false = sym again ∙ parts.0 in cc) in
@@ -77,7 +74,7 @@ distinct_numbers d earlier (n ∷ ns) none once =
     let parts = none_found (is_none (index_number d.space n)) n (undeclared_index d.space ns) none in
     let later = none_found (list_any (bytes_eq n) earlier) n (twice_after (earlier ++ n ∷ []) ns) once in
     let apart : among (indexes_of d.space ns) (unwrap_or (index_number d.space n) 0) ≡ false =
-    not_true (among (indexes_of d.space ns) (unwrap_or (index_number d.space n) 0)) (λ h.
+    false_from_ne_true (among (indexes_of d.space ns) (unwrap_or (index_number d.space n) 0)) (λ h.
     let again : stands ns n ≡ true = among_known d n (unwrap_or (index_number d.space n) 0) ns (known (index_number d.space n) parts.0) parts.1 h in
     let never : stands ns n ≡ false = fresh (earlier ++ n ∷ []) ns n (stands_last earlier n) later.1 in
     let clash : true ≡ false = sym again ∙ never in cc) in

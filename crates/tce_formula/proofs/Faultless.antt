@@ -7,10 +7,12 @@ use Rattle.std.proofs.lemmas.List.Elements.{All-get_or}
 use Rattle.std.proofs.lemmas.List.{length-map}
 use Rattle.std.proofs.lemmas.Map.Steps.{length-le_from_distinct_below}
 use Rattle.tce_space.specs.Space.{IndexSpace, index_number, index_at}
+use Rattle.tce_space.proofs.Names.{bytes_same}
 use Rattle.std.proofs.lemmas.Bool.{lt-ltb}
 use Rattle.tce_grammar.specs.Grammar.{AreSome}
 use Rattle.tce_grammar.specs.Formula as formula
 use Rattle.tce_grammar.specs.Formula.{Formula, operations}
+use Rattle.tce_grammar.proofs.Chains.{map_none}
 use Rattle.tce_tree.specs.ContractionTree as tree
 use Rattle.tce_tree.specs.WellFormed.{indexes_below, sums_distinct}
 use Rattle.tce_declarations.specs.Declarations.{Declarations, IsTensor, IsDeclarations, tensor_number, tensor_at, no_tensor}
@@ -23,8 +25,8 @@ use Rattle.tce_formula.specs.Meaning.{meaning, indexes_of, tensor_of}
 use Rattle.tce_formula.specs.Lengths.{IsShort}
 use Rattle.tce_formula.specs.Contraction.{FitsTensor, LeavesFit, sums_some, has_tensor}
 use Rattle.tce_formula.proofs.Joined.{all_joined}
-use Rattle.tce_formula.proofs.KnownNames.{known, tensor_below, one_tensor, bytes_same}
-use Rattle.tce_formula.proofs.Nothing.{none_or, none_joined, none_mapped, none_found, from_not}
+use Rattle.tce_formula.proofs.KnownNames.{known, tensor_below, one_tensor}
+use Rattle.tce_formula.proofs.Nothing.{none_or, none_joined, none_found, from_not}
 use Rattle.tce_formula.proofs.DistinctNames.{distinct_numbers, numbers_below, distinct_is}
 
 pub same_operations : (d : Declarations) (f : Formula) → tree.operations (meaning d f) ≡ operations f
@@ -149,7 +151,7 @@ ranges_are d [] (r ∷ rs) none rank fits = absurd (omega arith)
 ranges_are d (n ∷ ns) [] none rank fits = absurd (omega arith)
 ranges_are d (n ∷ ns) (r ∷ rs) none rank fits =
     let parts = none_found (is_none (index_number d.space n)) n (undeclared_index d.space ns) none in
-    let found : cond (not (has_range d.space n r)) (Some (n, r)) (find (λ (at : List ℕ × ℕ). not (has_range d.space at.0 at.1)) (zip ns rs)) ≡ None = none_mapped (λ (at : List ℕ × ℕ). at.0) _ fits in
+    let found : cond (not (has_range d.space n r)) (Some (n, r)) (find (λ (at : List ℕ × ℕ). not (has_range d.space at.0 at.1)) (zip ns rs)) ≡ None = map_none (λ (at : List ℕ × ℕ). at.0) _ fits in
     let here = none_found (not (has_range d.space n r)) (n, r) _ found in
     let first : (index_at d.space (unwrap_or (index_number d.space n) 0)).of_range ≡ r = of_known d n r (index_number d.space n) parts.0 (from_not (has_range d.space n r) here.0) in
     let later : map (λ i. (index_at d.space i).of_range) (indexes_of d.space ns) ≡ rs = ranges_are d ns rs parts.1 (omega arith) (ap (option_map (λ (at : List ℕ × ℕ). at.0)) here.1) in

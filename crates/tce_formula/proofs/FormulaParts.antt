@@ -5,6 +5,7 @@ use Rattle.std.specs.Option.{option_or}
 use Rattle.std.specs.List.{list_all}
 use Rattle.tce_space.specs.IndexSet.{set_of}
 use Rattle.tce_grammar.specs.Formula.{Formula, operations}
+use Rattle.tce_grammar.proofs.Chains.{map_none}
 use Rattle.tce_tree.specs.ContractionTree.{ContractionTree, dims, operations as node_count}
 use Rattle.tce_tree.specs.WellFormed.{indexes_below, sums_distinct}
 use Rattle.tce_tree.specs.Faults.{fault_of}
@@ -21,7 +22,7 @@ use Rattle.tce_formula.specs.Contraction.{IsContraction}
 use Rattle.tce_declarations.specs.FaultCode.{Shows}
 use Rattle.tce_declarations.specs.declared.fault.SpecFault.{SpecFault}
 use Rattle.tce_formula.proofs.ShownFaults.{shown_1}
-use Rattle.tce_formula.proofs.Nothing.{none_or, none_mapped, none_found}
+use Rattle.tce_formula.proofs.Nothing.{none_or, none_found}
 use Rattle.tce_formula.proofs.DistinctNames.{distinct_numbers, numbers_below}
 use Rattle.tce_formula.proofs.Faultless.{same_operations, indexes_declared, sums_once, short_leaf, short_formula, fits_tensor, leaves_fit, not_operand, sums_listed}
 
@@ -38,7 +39,7 @@ pub record HasNoFault (d : Declarations) (result : List ℕ) (indexes : List (Li
   pub once : first_at listed_twice (places f) ≡ None
   pub apart : first_at (tensor_named result) (places f) ≡ None
 
-unfaulted : (b : Bool) (fault : Fault) → fault_if (not b) fault ≡ None → b ≡ true
+pub unfaulted : (b : Bool) (fault : Fault) → fault_if (not b) fault ≡ None → b ≡ true
 unfaulted true fault h = refl
 unfaulted false fault h = cc
 
@@ -57,10 +58,10 @@ no_fault line d result indexes f none =
     let e = none_or range _ c.1 in
     let g = none_or twice _ e.1 in
     let h = none_or operand None g.1 in
-    let at_names = none_or (undeclared d (reference result indexes)) (first_at (undeclared d) (places f)) (none_mapped (unknown_name line) _ a.0) in
-    let at_rank = none_or (other_rank d (reference result indexes)) (first_at (other_rank d) (places f)) (none_mapped (rank_differs line) _ c.0) in
-    let at_range = none_or (other_range d (reference result indexes)) (first_at (other_range d) (places f)) (none_mapped (range_differs line) _ e.0) in
-    let at_twice = none_or (twice_after [] indexes) (first_at listed_twice (places f)) (none_mapped (index_twice line) _ g.0) in
+    let at_names = none_or (undeclared d (reference result indexes)) (first_at (undeclared d) (places f)) (map_none (unknown_name line) _ a.0) in
+    let at_rank = none_or (other_rank d (reference result indexes)) (first_at (other_rank d) (places f)) (map_none (rank_differs line) _ c.0) in
+    let at_range = none_or (other_range d (reference result indexes)) (first_at (other_range d) (places f)) (map_none (range_differs line) _ e.0) in
+    let at_twice = none_or (twice_after [] indexes) (first_at listed_twice (places f)) (map_none (index_twice line) _ g.0) in
     record {
       result_declared = at_names.0;
       declared = at_names.1;
@@ -71,7 +72,7 @@ no_fault line d result indexes f none =
       ranges = at_range.1;
       result_once = at_twice.0;
       once = at_twice.1;
-      apart = none_mapped (result_is_operand line) _ h.0;
+      apart = map_none (result_is_operand line) _ h.0;
     }
 
 six : (a b c d e f rest : Option Fault)

@@ -1,16 +1,10 @@
 -- Names and the numbers under which they are declared.
-use Rattle.std.proofs.Common.{◌≡◌, ℕ, ◌<◌, List, length, true, false, Option, Some, None, get_or, refl, sym, ◌∙◌}
+use Rattle.std.proofs.Common.{◌≡◌, ℕ, ◌<◌, List, length, false, Option, Some, None, get_or, refl, sym, ◌∙◌}
 use Rattle.std.specs.Prelude.{is_none, unwrap_or, bytes_eq}
 use Rattle.std.proofs.lemmas.List.Quantifiers.{position-Some}
-use Rattle.std.proofs.lemmas.Slice.Eq.{bytes_eq-Decides}
 use Rattle.tce_space.specs.Space.{Index, IndexSpace, index_number, no_index}
+use Rattle.tce_space.proofs.Names.{same_bytes}
 use Rattle.tce_declarations.specs.Declarations.{Tensor, tensor_number, no_tensor}
-
-pub same_bytes : (xs ys : List ℕ) → bytes_eq xs ys ≡ true → xs ≡ ys
-same_bytes xs ys h = (bytes_eq-Decides xs ys).0 h
-
-pub bytes_same : (xs : List ℕ) → bytes_eq xs xs ≡ true
-bytes_same xs = (bytes_eq-Decides xs xs).1 refl
 
 pub index_below : (space : IndexSpace) (name : List ℕ) (i : ℕ) → index_number space name ≡ Some i → i < length space.indexes
 index_below space name i e = (position-Some (λ (x : Index). bytes_eq x.name name) space.indexes i no_index e).0

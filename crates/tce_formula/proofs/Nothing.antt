@@ -1,6 +1,5 @@
 -- What holds where a column finds nothing.
 use Rattle.std.proofs.Common.{◌≡◌, ℕ, List, ◌++◌, Bool, true, false, not, Option, Some, None, refl, sym, ◌∙◌, cond}
-use Rattle.std.specs.Prelude.{option_map}
 use Rattle.std.specs.Option.{option_or}
 use Rattle.tce_formula.specs.Places.{Place, first_at}
 use Rattle.tce_formula.proofs.Joined.{first_joined}
@@ -15,13 +14,6 @@ none_or (Some x) b h = absurd (some_none x h)
 pub none_joined : (found : Place → Option (List ℕ)) (xs ys : List Place) → first_at found (xs ++ ys) ≡ None
     → (first_at found xs ≡ None) × (first_at found ys ≡ None)
 none_joined found xs ys h = none_or (first_at found xs) (first_at found ys) (sym (first_joined found xs ys) ∙ h)
-
-pub none_mapped : {A B : Type 0} (f : A → B) (o : Option A) → option_map f o ≡ None → o ≡ None
-none_mapped f None h = refl
-none_mapped f (Some x) h = absurd (some_none (f x) h)
-  where
-    some_none : {A : Type 0} (x : A) → Some x ≡ None → ⊥
-    some_none x h = cc
 
 -- a search that finds nothing
 pub none_found : {A : Type 0} (b : Bool) (x : A) (rest : Option A) → cond b (Some x) rest ≡ None → (b ≡ false) × (rest ≡ None)

@@ -1,18 +1,11 @@
 -- Names that stand twice in a list, one place at a time.
-use Rattle.std.proofs.Common.{◌≡◌, ℕ, zero, suc, ◌+◌, ◌<◌, List, [], ◌∷◌, ◌++◌, length, take, drop, get_or, true, false, ◌||◌, Some, Bor, IsTrue, refl, ap, ◌∙◌, arith, cond, add-one, drop-cons}
+use Rattle.std.proofs.Common.{◌≡◌, ℕ, suc, ◌+◌, ◌<◌, List, [], ◌∷◌, ◌++◌, length, take, drop, get_or, true, false, ◌||◌, Some, Bor, refl, ap, ◌∙◌, cond, add-one, drop-cons}
 use Rattle.std.proofs.Math.Seq.{take-suc}
 use Rattle.std.proofs.lemmas.List.{map-append}
 use Rattle.std.specs.List.{list_any}
 use Rattle.std.specs.Str.{bytes_eq}
-use Rattle.tce_space.specs.Name.{is_name}
 use Rattle.tce_grammar.specs.Code.{names}
-use Rattle.tce_grammar.specs.Grammar.{AreNames}
 use Rattle.tce_declarations.specs.DeclarationLines.{twice_after}
-
-pub name_at : (xs : List (Bor (List ℕ))) (k : ℕ) (d : Bor (List ℕ)) → AreNames (names xs) → k < length xs → IsTrue (is_name (get_or xs k d).now)
-name_at [] k d h lt = absurd (omega arith)
-name_at (x ∷ xs) zero d h lt = h.0
-name_at (x ∷ xs) (suc k) d h lt = name_at xs k d h.1 (omega arith)
 
 any_names : (n : List ℕ) (xs : List (Bor (List ℕ))) → list_any (bytes_eq n) (names xs) ≡ list_any (λ (other : Bor (List ℕ)). bytes_eq n other.now) xs
 any_names n [] = refl

@@ -1,15 +1,16 @@
 -- One index more in an order that ascends.
-use Rattle.std.proofs.Common.{◌≡◌, ℕ, zero, suc, ◌+◌, ◌-◌, ◌<◌, ◌≤◌, Bool, true, false, cond, List, [], ◌∷◌, ◌++◌, length, get_or, filter, count_by, All, AllPairs, IsPermutation, insert, slice_index, sym, ap, ◌∙◌, subst, inl, inr, arith, zero-add, add-one, append-nil}
+use Rattle.std.proofs.Common.{◌≡◌, ℕ, zero, suc, ◌+◌, ◌-◌, ◌<◌, ◌≤◌, Bool, true, List, [], ◌∷◌, ◌++◌, length, get_or, filter, count_by, All, AllPairs, IsPermutation, insert, slice_index, sym, ap, ◌∙◌, subst, inl, inr, arith}
 use Rattle.std.specs.List.{range_with_len}
 use Rattle.std.proofs.lemmas.Bool.{cases_eq, cases_order}
 use Rattle.std.proofs.lemmas.List.{get_or_default}
 use Rattle.std.proofs.lemmas.List.Edits.{get_or-insert_at, get_or-insert_below, get_or-insert_above, length-insert}
-use Rattle.std.proofs.lemmas.List.Elements.{All-filter, filter-append}
+use Rattle.std.proofs.lemmas.List.Elements.{All-filter}
 use Rattle.std.proofs.lemmas.List.FromFn.{get_or-range_with_len, length-range_with_len}
 use Rattle.std.proofs.lemmas.List.Sorted.{IsPermutation-to_front, IsPermutation-cons, IsPermutation-insert, IsPermutation-trans, length_permutation, All-permutation}
 use Rattle.std.proofs.lemmas.List.Sums.{length-filter}
 use Rattle.tce_space.specs.IndexSet.{has, members, count}
-use Rattle.tce_space.proofs.IndexSetLaws.{range_more, count-range_more, count-range_yes, count-members}
+use Rattle.tce_space.proofs.IndexSetLaws.{count-range_more, count-range_yes, count-members}
+use Rattle.tce_space.proofs.Ranges.{filter_one}
 use Rattle.tce_fusion.specs.Scope.{StandsBefore}
 
 all_in_range : (n : ℕ) → All (λ x. x < n) (range_with_len 0 n)
@@ -45,18 +46,6 @@ order_room set i order l h few perm =
   where
     full : i < 24 → i + 1 + (24 - (i + 1)) ≡ 24
     full l = omega arith
-
-range_next : (i : ℕ) → range_with_len 0 (i + 1) ≡ range_with_len 0 i ++ i ∷ []
-range_next i = ap (range_with_len 0) (add-one i) ∙ range_more 0 i ∙ ap (λ k. range_with_len 0 i ++ k ∷ []) (zero-add i)
-
-filter_one : (p : ℕ → Bool) (i : ℕ) → p i ≡ true → filter p (range_with_len 0 (i + 1)) ≡ filter p (range_with_len 0 i) ++ i ∷ []
-filter_one p i h =
-    ap (filter p) (range_next i) ∙ filter-append p (range_with_len 0 i) (i ∷ []) ∙ ap (λ b. filter p (range_with_len 0 i) ++ cond b (i ∷ []) []) h
-
-pub filter_same : (p : ℕ → Bool) (i : ℕ) → p i ≡ false → filter p (range_with_len 0 (i + 1)) ≡ filter p (range_with_len 0 i)
-filter_same p i h =
-    ap (filter p) (range_next i) ∙ filter-append p (range_with_len 0 i) (i ∷ []) ∙ ap (λ b. filter p (range_with_len 0 i) ++ cond b (i ∷ []) []) h
-    ∙ append-nil (filter p (range_with_len 0 i))
 
 pub insert_permutes : (p : ℕ → Bool) (i place : ℕ) (order : List ℕ) → p i ≡ true → IsPermutation (filter p (range_with_len 0 i)) order
     → IsPermutation (filter p (range_with_len 0 (i + 1))) (insert order place i)

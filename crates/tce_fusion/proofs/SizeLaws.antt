@@ -1,13 +1,11 @@
 -- The size of a node is within the volume of its loops.
-use Rattle.std.proofs.Common.{◌≡◌, ℕ, ◌+◌, ◌^◌, ◌<◌, ◌≤◌, true, not, sum_by, Option, Some, None, SomeIff, IsSome, refl, sym, ap, ◌∙◌, le_trans}
-use Rattle.std.specs.List.{range_with_len}
+use Rattle.std.proofs.Common.{◌≡◌, ℕ, ◌^◌, ◌<◌, ◌≤◌, true, not, Option, Some, None, SomeIff, IsSome, refl, sym, ◌∙◌, le_trans}
 use Rattle.std.proofs.lemmas.Bool.{and_parts}
-use Rattle.std.proofs.lemmas.List.Sums.{sum_by_push}
 use Rattle.tce_space.specs.IndexSet.{has, minus}
 use Rattle.tce_space.specs.Space.{IndexSpace, IsSpace, IsDeclared, extent_at, volume_of}
 use Rattle.tce_space.proofs.IndexSetLaws.{has-minus}
 use Rattle.tce_space.proofs.Spaces.{index_limits}
-use Rattle.tce_space.proofs.VolumeLaws.{range_next, volume_within}
+use Rattle.tce_space.proofs.VolumeLaws.{volume_within}
 use Rattle.tce_tree.specs.ContractionTree.{ContractionTree, operations, node, node_dims, node_loops}
 use Rattle.tce_tree.specs.Measure.{IsMeasured}
 use Rattle.tce_tree.proofs.NamedIndexes.{node_loops_declared}
@@ -31,9 +29,6 @@ kept_small space tree v set s m h =
     (volume_within (extent_at space) (minus (node_dims tree v) set) (node_loops tree v) (λ i k. kept_loop tree v set i h k)
     (λ i k. (index_limits space i s (node_loops_declared space tree v h s.index_limit m.declared i k)).some))
     (m.limit v h)
-
-pub sum_next : (f : ℕ → ℕ) (n : ℕ) → sum_by f (range_with_len 0 (n + 1)) ≡ sum_by f (range_with_len 0 n) + f n
-sum_next f n = ap (sum_by f) (range_next n) ∙ sum_by_push f (range_with_len 0 n) n
 
 -- what a call gave that gives a value exactly under a condition
 pub some_where : (o : Option ℕ) (P : Type 0) (v : ℕ) → SomeIff o P v → P → IsSome o

@@ -4,6 +4,7 @@ use Rattle.std.specs.List.{list_all, AllByRecursion, before_first, position_or_l
 use Rattle.std.proofs.lemmas.List.Splits.{slice_split_at}
 use Rattle.std.proofs.lemmas.List.Folds.{list_all-append}
 use Rattle.std.proofs.lemmas.List.Elements.{All-from_recursion}
+use Rattle.std.proofs.lemmas.Bool.{and_parts}
 use Rattle.tce_space.specs.Name.{is_name}
 use Rattle.tce_grammar.specs.Lines.{lines, ended, without_return, without_comment}
 use Rattle.tce_grammar.specs.Tokens.{Token, word, number, symbol, tokens, IsToken}
@@ -12,7 +13,6 @@ use Rattle.tce_grammar.specs.Grammar.{Written, listed, sign, bracketed, spelling
 use Rattle.tce_grammar.specs.Printed.{token_text, Front, kind, is_spaced, printed_behind, nothing}
 use Rattle.tce_grammar.specs.Canonical.{written_of, grouped_if, canonical_tokens, canonical_line, canonical_text, joined_lines, IsFormula, IsStatement, AreStatements}
 use Rattle.tce_grammar.specs.Laws.{IsPlainLine}
-use Rattle.tce_grammar.proofs.Letters.{both_true}
 use Rattle.tce_grammar.proofs.Formulas.{IsNameText, name_text}
 use Rattle.tce_grammar.proofs.FirstLines.{feed, split_some, ended_more}
 use Rattle.tce_grammar.proofs.TokenTexts.{is_plain, word_run, number_run, mark, word_plain}
@@ -21,7 +21,7 @@ use Rattle.tce_grammar.proofs.WrittenForms.{written_is, written_meaning, written
 
 -- the tokens of a canonical line are tokens
 
-all_joined : {A : Type 0} (P : A → Type 0) (xs ys : List A) → AllByRecursion P xs → AllByRecursion P ys → AllByRecursion P (xs ++ ys)
+pub all_joined : {A : Type 0} (P : A → Type 0) (xs ys : List A) → AllByRecursion P xs → AllByRecursion P ys → AllByRecursion P (xs ++ ys)
 all_joined P [] ys a b = b
 all_joined P (x ∷ xs) ys a b = (a.0, all_joined P xs ys a.1 b)
 
@@ -123,7 +123,7 @@ plain_byte b is =
 all_plain : (text : List ℕ) → list_all is_plain text ≡ true → AllByRecursion IsPlain text
 all_plain [] all = tt
 all_plain (b ∷ bs) all =
-    let both : (is_plain b ≡ true) × (list_all is_plain bs ≡ true) = both_true (is_plain b) (list_all is_plain bs) all in
+    let both : (is_plain b ≡ true) × (list_all is_plain bs ≡ true) = and_parts (is_plain b) (list_all is_plain bs) all in
     (plain_byte b both.0, all_plain bs both.1)
 
 no_comment : (text : List ℕ) → AllByRecursion IsPlain text → before_first (λ b. b == 35) text ≡ text

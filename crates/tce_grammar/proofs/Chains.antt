@@ -7,7 +7,7 @@ use Rattle.tce_grammar.specs.Reading.{Stops, ahead}
 use Rattle.tce_grammar.specs.Reading.{Reads, ◌>>=◌, behind, names_at, summed_at, sum_at, chain, chain_at, closed_by, enclosed_within, formula_within}
 use Rattle.tce_grammar.proofs.Formulas.{chain_stops, chain_goes}
 
-map_none : {A B : Type 0} (f : A → B) (m : Option A) → option_map f m ≡ None → m ≡ None
+pub map_none : {A B : Type 0} (f : A → B) (m : Option A) → option_map f m ≡ None → m ≡ None
 map_none f None e = refl
 map_none f (Some x) e = cc
 

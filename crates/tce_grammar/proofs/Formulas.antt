@@ -1,6 +1,6 @@
 -- A formula that is written is read again.
 use Rattle.std.proofs.Common.{◌≡◌, ℕ, zero, suc, ◌+◌, ◌-◌, ◌<◌, ◌≤◌, ◌==◌, IsTrue, List, [], ◌∷◌, ◌++◌, length, Option, Some, refl, ◌∙◌, ap, append_assoc, arith, nat_lt, Bool, true, false, ◌&&◌, nat_le, not, ◌||◌, if◌then◌else◌, length-append, inl, inr}
-use Rattle.std.proofs.lemmas.Bool.{leb-true, lt-ltb, le-ltb, cases_lt, cond_both}
+use Rattle.std.proofs.lemmas.Bool.{leb-true, lt-ltb, le-ltb, cases_lt, cond_both, and_parts}
 use Rattle.std.specs.Prelude.{codes}
 use Rattle.std.specs.List.{list_all}
 use Rattle.std.specs.Str.{bytes_eq}
@@ -107,10 +107,6 @@ brackets_read (n ∷ m ∷ ns) rest are = names_read 93 n (m ∷ ns) rest refl r
 
 -- factors
 
-both_true : (a b : Bool) → (a && b) ≡ true → (a ≡ true) × (b ≡ true)
-both_true true b e = (refl, e)
-both_true false b e = cc
-
 none_of_five : (a b c d e : Bool) → not (a || (b || (c || (d || (e || false))))) ≡ true → (a ≡ false) × (b ≡ false) × (c ≡ false) × (d ≡ false) × (e ≡ false)
 none_of_five true b c d e h = cc
 none_of_five false true c d e h = cc
@@ -124,7 +120,7 @@ pub no_word : (w : List ℕ) → IsTrue (is_name w)
     → (bytes_eq w (codes "range") ≡ false) × (bytes_eq w (codes "tile") ≡ false) × (bytes_eq w (codes "index") ≡ false) × (bytes_eq w (codes "tensor") ≡ false) × (bytes_eq w (codes "sum") ≡ false)
 unfolding is_name
 no_word w is =
-    let a : (starts_with_letter w && nat_le (length w) 16 && list_all is_word_byte w ≡ true) × (not (is_keyword w) ≡ true) = both_true _ _ is in
+    let a : (starts_with_letter w && nat_le (length w) 16 && list_all is_word_byte w ≡ true) × (not (is_keyword w) ≡ true) = and_parts _ _ is in
     none_of_five (bytes_eq w (codes "range")) (bytes_eq w (codes "tile")) (bytes_eq w (codes "index")) (bytes_eq w (codes "tensor")) (bytes_eq w (codes "sum")) a.1
 
 -- what the letters of a name are
@@ -136,9 +132,9 @@ pub record IsNameText (w : List ℕ) : Type 0 where
 pub name_text : (w : List ℕ) → IsTrue (is_name w) → IsNameText w
 unfolding is_name
 name_text w is =
-    let a : (starts_with_letter w && nat_le (length w) 16 && list_all is_word_byte w ≡ true) × (not (is_keyword w) ≡ true) = both_true _ _ is in
-    let b : (starts_with_letter w && nat_le (length w) 16 ≡ true) × (list_all is_word_byte w ≡ true) = both_true _ _ a.0 in
-    let c : (starts_with_letter w ≡ true) × (nat_le (length w) 16 ≡ true) = both_true _ _ b.0 in
+    let a : (starts_with_letter w && nat_le (length w) 16 && list_all is_word_byte w ≡ true) × (not (is_keyword w) ≡ true) = and_parts _ _ is in
+    let b : (starts_with_letter w && nat_le (length w) 16 ≡ true) × (list_all is_word_byte w ≡ true) = and_parts _ _ a.0 in
+    let c : (starts_with_letter w ≡ true) × (nat_le (length w) 16 ≡ true) = and_parts _ _ b.0 in
     record { starts = c.0; short = leb-true (length w) 16 c.1; letters = b.1 }
 
 joined_low : (o : Arithmetic) → 2 < precedence o → ⊥

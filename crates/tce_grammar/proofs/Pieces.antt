@@ -1,6 +1,6 @@
 -- The pieces of a line, from the left.
-use Rattle.std.proofs.Common.{◌≡◌, ℕ, suc, List, [], ◌∷◌, ◌++◌, take, drop, length, map, not, Bool, true, false, Option, Some, None, refl, sym, ◌∙◌, ap, arith, ◌||◌, ◌==◌, ◌+◌, ◌-◌, ◌<◌, ◌⊎◌, inl, inr, append_assoc, get_or}
-use Rattle.std.proofs.lemmas.Bool.{eqb-true}
+use Rattle.std.proofs.Common.{◌≡◌, ℕ, suc, List, [], ◌∷◌, ◌++◌, take, drop, length, map, not, Bool, true, false, Option, Some, None, refl, sym, ◌∙◌, ap, arith, ◌==◌, ◌+◌, ◌-◌, ◌<◌, inl, inr, append_assoc, get_or}
+use Rattle.std.proofs.lemmas.Bool.{eqb-true, or_cases}
 use Rattle.std.proofs.lemmas.List.{append-nil}
 use Rattle.tce_grammar.specs.Reading.{piece_len}
 use Rattle.std.specs.Prelude.{option_map, filter}
@@ -80,12 +80,8 @@ dropped p ps h = rw h refl
 some_not_blank : (b : ℕ) (x : List ℕ) → is_blank b ≡ false → list_all is_blank (b ∷ x) ≡ false
 some_not_blank b x is = rw is refl
 
-either_true : (x y : Bool) → (x || y) ≡ true → (x ≡ true) ⊎ (y ≡ true)
-either_true true y e = inl refl
-either_true false y e = inr e
-
 pub blank_no_word : (b : ℕ) → is_blank b ≡ true → is_word_byte b ≡ false
-blank_no_word b is = elim (either_true (b == 32) (b == 9) is) [
+blank_no_word b is = elim (or_cases (b == 32) (b == 9) is) [
   | inl space ↦ ap is_word_byte (eqb-true b 32 space)
   | inr tab ↦ ap is_word_byte (eqb-true b 9 tab)
 ]

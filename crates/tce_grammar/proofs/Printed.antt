@@ -2,11 +2,11 @@
 use Rattle.std.proofs.Common.{◌≡◌, ℕ, suc, List, [], ◌∷◌, ◌++◌, take, drop, length, Bool, true, false, Option, Some, refl, sym, ◌∙◌, ap, arith, append_assoc, if◌then◌else◌}
 use Rattle.std.specs.List.{prefix_len, list_all, AllByRecursion}
 use Rattle.std.proofs.lemmas.List.{append-nil}
+use Rattle.std.proofs.lemmas.Bool.{and_parts}
 use Rattle.tce_space.specs.Name.{is_word_byte}
 use Rattle.tce_grammar.specs.Reading.{piece_len}
 use Rattle.tce_grammar.specs.Tokens.{Token, word, number, symbol, is_blank, starts_word, token_of, tokens, IsToken}
 use Rattle.tce_grammar.specs.Printed.{token_text, Front, letters, kind, is_sign, is_spaced, spaced_text, printed_behind, Printing, with_token, with_tokens}
-use Rattle.tce_grammar.proofs.Letters.{both_true}
 use Rattle.tce_grammar.proofs.TokenTexts.{IsRun, word_run, number_run, IsMark, mark}
 use Rattle.tce_grammar.proofs.Pieces.{tokens_first, tokens_blank, token_first, prefix_more, prefix_none, blank_no_word}
 
@@ -24,7 +24,7 @@ prefix_stops (c ∷ cs) stop = prefix_none c cs stop
 prefix_whole : (w rest : List ℕ) → list_all is_word_byte w ≡ true → starts_word rest ≡ false → prefix_len is_word_byte (w ++ rest) ≡ length w
 prefix_whole [] rest all stop = prefix_stops rest stop
 prefix_whole (b ∷ bs) rest all stop =
-    let both : (is_word_byte b ≡ true) × (list_all is_word_byte bs ≡ true) = both_true (is_word_byte b) (list_all is_word_byte bs) all in
+    let both : (is_word_byte b ≡ true) × (list_all is_word_byte bs ≡ true) = and_parts (is_word_byte b) (list_all is_word_byte bs) all in
     prefix_more b (bs ++ rest) both.0 ∙ ap suc (prefix_whole bs rest both.1 stop)
 
 take_front : (w rest : List ℕ) → take (length w) (w ++ rest) ≡ w
@@ -39,7 +39,7 @@ drop_front (b ∷ bs) rest = drop_front bs rest
 run_read : (w rest : List ℕ) (t : Token) → IsRun w t → starts_word rest ≡ false → tokens (w ++ rest) ≡ token_first (Some t) (tokens rest)
 run_read [] rest t is stop = absurd (is.some refl)
 run_read (b ∷ bs) rest t is stop =
-    let both : (is_word_byte b ≡ true) × (list_all is_word_byte bs ≡ true) = both_true (is_word_byte b) (list_all is_word_byte bs) is.letters in
+    let both : (is_word_byte b ≡ true) × (list_all is_word_byte bs ≡ true) = and_parts (is_word_byte b) (list_all is_word_byte bs) is.letters in
     let len : piece_len (b ∷ (bs ++ rest)) ≡ length (b ∷ bs) = omega (arith, prefix_whole (b ∷ bs) rest is.letters stop) in
     tokens_first b (bs ++ rest) (word_not_blank b both.0)
     ∙ ap (λ n. token_first (token_of (take n (b ∷ (bs ++ rest)))) (tokens (drop n (b ∷ (bs ++ rest))))) len

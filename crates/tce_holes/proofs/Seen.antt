@@ -1,7 +1,6 @@
 -- What a disk shows is what the disk inside it shows.
 use Rattle.std.proofs.Common.{◌≡◌, ◌∙◌, ℕ, List, Option, Result, Ok, Err, ap, subst}
 use Rattle.tce_outside.specs.Files.{Files, others, holding_zeros, IsKeptOrZeros}
-use Rattle.tce_outside.specs.Fault.{HasCause}
 
 pub made_seen : (name : List ℕ) (len : ℕ) (inside seen new : Option Files) → inside ≡ seen → new ≡ holding_zeros name len inside → new ≡ holding_zeros name len seen
 made_seen name len inside seen new same made = made ∙ ap (holding_zeros name len) same
@@ -11,9 +10,6 @@ zeros_seen name inside seen new same kept = subst (λ told. IsKeptOrZeros name t
 
 pub others_seen : (name : List ℕ) (inside seen new : Option Files) → inside ≡ seen → others name new ≡ others name inside → others name new ≡ others name seen
 others_seen name inside seen new same kept = kept ∙ ap (others name) same
-
-pub cause_seen : (inside seen new : ℕ) (failed : Type 0) → inside ≡ seen → HasCause inside new failed → HasCause seen new failed
-cause_seen inside seen new failed same cause = subst (λ n. HasCause n new failed) same cause
 
 pub no_failure : {T E : Type 0} → (x : T) (e : E) (r : Result T E) → r ≡ Ok x → r ≡ Err e → ⊥
 no_failure x e r went failed = cc

@@ -1,19 +1,13 @@
 -- What lies in holes stays 0.
-use Rattle.std.proofs.Common.{◌≡◌, ◌∙◌, ◌⊎◌, ℕ, ◌+◌, ◌<◌, ◌≤◌, List, [], ◌++◌, ◌-◌, cond, length, take, drop, replicate, slice_index, Option, Some, None, unwrap_or, ap, sym, refl, inl, inr, arith, length-append, length-drop}
-use Rattle.std.proofs.lemmas.List.{get_or-replicate, length-replicate, length-take-le, get_or_append_left, get_or-append_right, get_or-take, get_or-drop}
-use Rattle.std.proofs.lemmas.Cmp.{nat_list_cmp_total}
+use Rattle.std.proofs.Common.{◌≡◌, ◌∙◌, ◌⊎◌, ℕ, ◌+◌, ◌<◌, ◌≤◌, List, [], length, replicate, slice_index, Option, Some, None, unwrap_or, ap, sym, refl, arith}
+use Rattle.std.proofs.lemmas.List.{get_or-replicate, length-replicate}
 use Rattle.std.proofs.lemmas.Option.{none-some}
 use Rattle.std.specs.Option.{ForSome, IsSomeAnd}
-use Rattle.std.specs.FinMap.{get-insert}
 use Rattle.tce_outside.specs.Files.{Files, file, with_file, with_part, overwritten, HasPart, holding, written}
-use Rattle.tce_outside.proofs.Places.{tied_decides}
+use Rattle.tce_outside.proofs.Overwrites.{length-overwritten, get_or-overwritten_other}
+use Rattle.tce_outside.proofs.Files.{file-with_file}
 use Rattle.tce_holes.specs.declared.holes.Holes.{Holes}
 use Rattle.tce_holes.specs.Holes.{IsHole, AreZeros}
-
-file_with : (files : Files) (name bytes : List ℕ) → file (with_file files name bytes) name ≡ Some bytes
-file_with files name bytes =
-    get-insert nat_list_cmp_total files name bytes name
-    ∙ ap (λ b. cond b (Some bytes) (file files name)) ((tied_decides name name).1 refl)
 
 -- where no hole is known
 pub none_zeros : (told : Option Files) (name : List ℕ) (h : Holes) → ((p : ℕ) → IsHole h p → ⊥) → AreZeros told name h
@@ -25,37 +19,12 @@ made_zeros None told' known name h n e same = λ fs is. absurd (none-some fs (sy
 made_zeros (Some files) told' known name h n e same = λ fs is bytes there p low hole.
     let pair : Some (with_file files name (replicate n 0)) ≡ Some fs = sym e ∙ is in
     let whole : with_file files name (replicate n 0) ≡ fs = cc in
-    let found : Some (replicate n 0) ≡ Some bytes = sym (file_with files name (replicate n 0)) ∙ ap (λ gs. file gs name) whole ∙ ap (file fs) (sym same) ∙ there in
+    let found : Some (replicate n 0) ≡ Some bytes = sym (file-with_file files name (replicate n 0)) ∙ ap (λ gs. file gs name) whole ∙ ap (file fs) (sym same) ∙ there in
     let is_bytes : replicate n 0 ≡ bytes = cc in
     let below : p < length {A = ℕ} (replicate n 0) = rw is_bytes low in
     ap (λ xs. slice_index xs p) (sym is_bytes) ∙ get_or-replicate n p 0 0 (simp length-replicate at below)
 
--- ---- a read of a hole
-
 -- ---- a write
-length-overwritten : (old : List ℕ) (at : ℕ) (bs : List ℕ) → at + length bs ≤ length old → length (overwritten old at bs) ≡ length old
-length-overwritten old at bs h =
-    let before = length-take-le at old (omega arith) in
-    let behind = length-drop (at + length bs) old in
-    let both = length-append (take at old ++ bs) (drop (at + length bs) old) in
-    let first = length-append (take at old) bs in
-    omega arith
-
-get_or-overwritten_other : (old : List ℕ) (at : ℕ) (bs : List ℕ) (j : ℕ) → at + length bs ≤ length old → (j < at) ⊎ (at + length bs ≤ j) → slice_index (overwritten old at bs) j ≡ slice_index old j
-get_or-overwritten_other old at bs j h out =
-    let before : length (take at old) ≡ at = length-take-le at old (omega arith) in
-    let first : length (take at old ++ bs) ≡ at + length bs = omega (arith, length-append (take at old) bs) in
-    elim out [
-      | inl low ↦
-          get_or_append_left (take at old ++ bs) (drop (at + length bs) old) 0 j (omega arith)
-          ∙ get_or_append_left (take at old) bs 0 j (omega arith)
-          ∙ get_or-take at old j 0 low
-      | inr high ↦
-          let there : at + length bs + (j - (at + length bs)) ≡ j = omega arith in
-          get_or-append_right (take at old ++ bs) (drop (at + length bs) old) (at + length bs) j 0 first high
-          ∙ get_or-drop (at + length bs) old (j - (at + length bs)) 0
-          ∙ ap (slice_index old) there
-    ]
 
 written_in : (files fs : Files) (known name : List ℕ) (at p : ℕ) (bytes now : List ℕ) (o : Option (List ℕ)) → file files name ≡ o → IsSomeAnd o (λ old. at + length bytes ≤ length old)
     → with_part files name at bytes ≡ fs → known ≡ name → file fs known ≡ Some now → (p < at) ⊎ (at + length bytes ≤ p)
@@ -63,7 +32,7 @@ written_in : (files fs : Files) (known name : List ℕ) (at p : ℕ) (bytes now 
 written_in files fs known name at p bytes now None e inside same names there out still low = absurd inside
 written_in files fs known name at p bytes now (Some old) e inside same names there out still low =
     let made : file (with_part files name at bytes) name ≡ Some (overwritten old at bytes) =
-    file_with files name (overwritten (unwrap_or (file files name) []) at bytes) ∙ ap (λ o. Some (overwritten (unwrap_or o []) at bytes)) e in
+    file-with_file files name (overwritten (unwrap_or (file files name) []) at bytes) ∙ ap (λ o. Some (overwritten (unwrap_or o []) at bytes)) e in
     let found : Some (overwritten old at bytes) ≡ Some now = sym made ∙ ap (λ gs. file gs name) same ∙ ap (file fs) (sym names) ∙ there in
     let is_now : overwritten old at bytes ≡ now = cc in
     let len : length now ≡ length old = ap length (sym is_now) ∙ length-overwritten old at bytes inside in

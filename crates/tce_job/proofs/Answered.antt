@@ -1,9 +1,8 @@
 -- What a run answers and leaves, where its tests are passed and changed no file.
-use Rattle.std.proofs.Common.{◌≡◌, ℕ, ◌≤◌, List, Option, Result, Ok, Err, inl, inr, arith}
+use Rattle.std.proofs.Common.{◌≡◌, ℕ, List, Option, Result, Ok, Err, inr}
 use Rattle.std.specs.Prelude.{OnOk, IfOk, IfErr}
 use Rattle.std.specs.Option.{ForSome}
 use Rattle.tce_outside.specs.Files.{Files}
-use Rattle.tce_outside.specs.Fault.{Rose, HasCause, TellsFaults}
 use Rattle.tce_array.specs.declared.form.Form.{Form}
 use Rattle.tce_nesting.specs.declared.plan.Plan.{Plan}
 use Rattle.tce_search.specs.LeastPlan.{IsLeastPlan}
@@ -55,25 +54,9 @@ pub room_of : {A : Type 0} (s : Specification) (budget : ℕ) (plan : Plan) (bef
 room_of s budget plan before after (Ok answer) least free may = tt
 room_of s budget plan before after (Err fault) least free may = room_left fault s budget plan before after least free may
 
--- two calls, the last of which may fail
-rose_later : (a b c : ℕ) → a ≤ b → Rose b c → Rose a c
-rose_later a b c later (inl rose) = inl (omega arith)
-rose_later a b c later (inr end) = inr end
-
-pub later_cause : {P Q R : Type 0} (a b c : ℕ) → HasCause a b P → (R → Q) → HasCause b c Q → HasCause a c R
-later_cause a b c first failed last = record { later = omega (arith, first.later, last.later); rose = λ r. rose_later a b c first.later (last.rose (failed r)) }
-
--- a call that is answered had no fault
-pub answered_quiet : {A E : Type 0} {f : E} (a b : ℕ) (x : A) (given : Result A E) → given ≡ Ok x → TellsFaults a b (given ≡ Err f) → b ≡ a
-answered_quiet a b x given is told = told (λ failed. absurd (cc))
-
 -- an answer is no failure
 pub answered : {A E Q : Type 0} {f : E} (x : A) (given : Result A E) → given ≡ Ok x → given ≡ Err f → Q
 answered x given is failed = absurd (cc)
-
--- the same call with another answer
-pub cause_as : {P Q : Type 0} (a b : ℕ) → (Q → P) → HasCause a b P → HasCause a b Q
-cause_as a b from cause = record { later = cause.later; rose = λ failed. cause.rose (from failed) }
 
 pub same_fault : {A B E : Type 0} {f : E} (x : E) (given : Result A E) (told : Result B E) → given ≡ Err x → told ≡ Err x → told ≡ Err f → given ≡ Err f
 same_fault x given told is was failed = cc

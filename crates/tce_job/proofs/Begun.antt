@@ -70,7 +70,7 @@ indexes_below space [] s h = refl
 indexes_below space (i ∷ is) s h =
     and_from (ltb i 24) (list_all (λ j. ltb j 24) is) (lt-ltb i 24 (index_declared space i s (h 0 0 (omega arith)))) (indexes_below space is s (λ k d l. h (suc k) d (omega arith)))
 
-result_indexes : (s : Specification) → IsSpecification s → list_all (λ j. ltb j 24) s.indexes ≡ true
+pub result_indexes : (s : Specification) → IsSpecification s → list_all (λ j. ltb j 24) s.indexes ≡ true
 result_indexes s rules =
     indexes_below s.declarations.space s.indexes rules.declarations.space
     (subst (All (λ r. r < length s.declarations.space.ranges)) (sym rules.contraction.result_fits.ranges)

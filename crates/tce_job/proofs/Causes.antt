@@ -16,7 +16,7 @@ use Rattle.tce_spec.specs.Specification.{Specification}
 use Rattle.tce_spec.specs.Operands.{shape_of}
 use Rattle.tce_tensors.specs.TensorFiles.{file_of}
 use Rattle.tce_tensors.specs.declared.opening.Refused.{Refused}
-use Rattle.tce_tensors.specs.Opened.{operand, operand_count, HasArray, HasOperands, form_at, IsOpened, AreOpened, IsRefusedAt, IsRefused}
+use Rattle.tce_tensors.specs.Opened.{operand, operand_count, HasArray, HasOperands, form_at, IsOpened, AreOpened, IsRefusedAt, IsRefused, IsRefusedOn}
 use Rattle.tce_job.specs.declared.fault.JobFault.{JobFault}
 use Rattle.tce_job.specs.declared.fault.JobFault.TheVariants.{BudgetTooSmall, IntermediatesTooLarge, Array, Disk, Memory}
 use Rattle.tce_job.specs.Refusals.{IsLeastMemory, IsAffordable, IsCause, MayBeRefused, MustBeRefused, NamesDeclared, CanRun, IsFree}
@@ -41,12 +41,12 @@ fault_in (Ok form) = array_fault.Disk
 fault_in (Err f) = f
 
 -- an array has no fault
-no_fault : (shape : Tiling) (found : Option (List ℕ)) (f : ArrayFault) → IsSomeAnd found (IsArray shape) → IsFault shape found f → f ≢ array_fault.Disk → ⊥
+pub no_fault : (shape : Tiling) (found : Option (List ℕ)) (f : ArrayFault) → IsSomeAnd found (IsArray shape) → IsFault shape found f → f ≢ array_fault.Disk → ⊥
 no_fault shape None f h fault real = h
 no_fault shape (Some bytes) f h fault real =
     true≢false (ap opens (agree shape (Some bytes) (Ok (form_of bytes)) (Err f) (refl, h) fault (λ e. true≢false (ap opens e)) (λ e. real (ap fault_in e))))
 
-one_fault : (shape : Tiling) (found : Option (List ℕ)) (f g : ArrayFault) → IsFault shape found f → IsFault shape found g → f ≢ array_fault.Disk → g ≢ array_fault.Disk → f ≡ g
+pub one_fault : (shape : Tiling) (found : Option (List ℕ)) (f g : ArrayFault) → IsFault shape found f → IsFault shape found g → f ≢ array_fault.Disk → g ≢ array_fault.Disk → f ≡ g
 one_fault shape found f g p q nf ng = ap fault_in (agree shape found (Err f) (Err g) p q (λ e. nf (ap fault_in e)) (λ e. ng (ap fault_in e)))
 
 -- an operand that is refused has no array
@@ -55,7 +55,7 @@ no_array files s d r p real has =
     no_fault (shape_of s r.tensor) (file files (file_of s r.tensor)) r.fault (subst (HasArray files s) (sym p.tensor) has) p.fault real
 
 -- the first operand that is refused is one, with one fault
-one_refused : (files : Files) (s : Specification) (r q : Refused) → IsRefused files s r → IsRefused files s q → r.fault ≢ array_fault.Disk → q.fault ≢ array_fault.Disk → (r.tensor ≡ q.tensor) × (r.fault ≡ q.fault)
+pub one_refused : (files : Files) (s : Specification) (r q : Refused) → IsRefused files s r → IsRefused files s q → r.fault ≢ array_fault.Disk → q.fault ≢ array_fault.Disk → (r.tensor ≡ q.tensor) × (r.fault ≡ q.fault)
 one_refused files s r q (d, p) (e, o) nr nq =
     elim (cases_lt d e) [
       | inl before ↦ absurd (no_array files s d r p nr (o.before d before))
@@ -87,15 +87,11 @@ pub can_run : (told : Option Files) (s : Specification) (budget : ℕ) (forms : 
     → ForSome told (λ files. CanRun files s budget)
 can_run told s budget forms able opened files is = record { affordable = able; operands = have_operands files s forms (opened files is) }
 
-none_refused : (files : Files) (s : Specification) (r : Refused) → HasOperands files s (operand_count s) → IsRefused files s r → r.fault ≢ array_fault.Disk → ⊥
+pub none_refused : (files : Files) (s : Specification) (r : Refused) → HasOperands files s (operand_count s) → IsRefused files s r → r.fault ≢ array_fault.Disk → ⊥
 none_refused files s r has (d, p) real = no_array files s d r p real (has d p.one_of_them)
 
--- an operand is refused where the disk tells its files
-abbrev pub IsRefusedIfTold : Option Files → Specification → Refused → Type 0
-IsRefusedIfTold told s refused = ForSome told (λ files. IsRefused files s refused)
-
 -- what is known where it tells nothing is left out
-only_told : (told : Option Files) (s : Specification) (budget : ℕ) (f : JobFault) → IsCause (MayBeRefused told s) s budget f → IsCause (IsRefusedIfTold told s) s budget f
+only_told : (told : Option Files) (s : Specification) (budget : ℕ) (f : JobFault) → IsCause (MayBeRefused told s) s budget f → IsCause (IsRefusedOn told s) s budget f
 only_told told s budget (BudgetTooSmall n) p = p
 only_told told s budget (IntermediatesTooLarge n) p = p
 only_told told s budget (Array t fault) p = (p.0, p.1.1, p.2)
@@ -111,12 +107,12 @@ names_declared told s budget Disk p = tt
 names_declared told s budget Memory p = tt
 
 -- two reasons are one, but for faults
-both : (told : Option Files) (s : Specification) (t u : ℕ) (f g : ArrayFault) → IsRefusedIfTold told s (record { tensor = t; fault = f }) → MustBeRefused told s (record { tensor = u; fault = g })
+both : (told : Option Files) (s : Specification) (t u : ℕ) (f g : ArrayFault) → IsRefusedOn told s (record { tensor = t; fault = f }) → MustBeRefused told s (record { tensor = u; fault = g })
     → f ≢ array_fault.Disk → g ≢ array_fault.Disk → (t ≡ u) × (f ≡ g)
 both None s t u f g may must nf ng = absurd must
 both (Some files) s t u f g may must nf ng = one_refused files s (record { tensor = t; fault = f }) (record { tensor = u; fault = g }) (may files refl) must nf ng
 
-pub one_told_reason : (told : Option Files) (s : Specification) (budget : ℕ) (f due : JobFault) → IsCause (IsRefusedIfTold told s) s budget f → (IsFree due → ⊥) → IsCause (MustBeRefused told s) s budget due
+pub one_told_reason : (told : Option Files) (s : Specification) (budget : ℕ) (f due : JobFault) → IsCause (IsRefusedOn told s) s budget f → (IsFree due → ⊥) → IsCause (MustBeRefused told s) s budget due
     → (f ≡ due) ⊎ IsFree f
 one_told_reason told s budget Disk due p free q = inr tt
 one_told_reason told s budget Memory due p free q = inr tt
@@ -148,7 +144,7 @@ no_reason told s budget (IntermediatesTooLarge m) able has free q = let small = 
 no_reason None s budget (Array u g) able has free q = q.1
 no_reason (Some files) s budget (Array u g) able has free q = none_refused files s (record { tensor = u; fault = g }) (has files refl) q.1 q.2
 
-granted_err : (files : Files) (s : Specification) (budget : ℕ) (f : JobFault) → CanRun files s budget → IsCause (IsRefusedIfTold (Some files) s) s budget f → IsFree f
+granted_err : (files : Files) (s : Specification) (budget : ℕ) (f : JobFault) → CanRun files s budget → IsCause (IsRefusedOn (Some files) s) s budget f → IsFree f
 granted_err files s budget Disk can p = tt
 granted_err files s budget Memory can p = tt
 granted_err files s budget (BudgetTooSmall m) can p = absurd (omega (arith, can.affordable.enough, p.0, p.1))
@@ -156,8 +152,8 @@ granted_err files s budget (IntermediatesTooLarge m) can p = let small = can.aff
 granted_err files s budget (Array u g) can p = absurd (none_refused files s (record { tensor = u; fault = g }) can.operands (p.1 files refl) p.2)
 
 -- so where the disk tells its files, all that is there makes a refusal a free one
-pub granted_told : (told : Option Files) (s : Specification) (budget : ℕ) (f : JobFault) → IsCause (IsRefusedIfTold told s) s budget f → ForSome told (λ files. CanRun files s budget → IsFree f)
-granted_told told s budget f why files is can = granted_err files s budget f can (subst (λ (o : Option Files). IsCause (IsRefusedIfTold o s) s budget f) is why)
+pub granted_told : (told : Option Files) (s : Specification) (budget : ℕ) (f : JobFault) → IsCause (IsRefusedOn told s) s budget f → ForSome told (λ files. CanRun files s budget → IsFree f)
+granted_told told s budget f why files is can = granted_err files s budget f can (subst (λ (o : Option Files). IsCause (IsRefusedOn o s) s budget f) is why)
 
 pub granted : (told : Option Files) (s : Specification) (budget : ℕ) (f : JobFault) → IsCause (MayBeRefused told s) s budget f → ForSome told (λ files. CanRun files s budget → IsFree f)
 granted told s budget f why = granted_told told s budget f (only_told told s budget f why)

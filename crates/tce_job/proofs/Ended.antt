@@ -7,7 +7,7 @@ use Rattle.std.proofs.Common.{cond, ◌⊎◌, inl, inr, take, drop, ◌≤◌, 
 use Rattle.std.proofs.lemmas.Option.{none-some}
 use Rattle.std.proofs.lemmas.Bool.{true≢false, false≢true}
 use Rattle.tce_outside.specs.Files.{Files, file, with_file, without_file, with_part, overwritten, others, holding, written, bytes_before, bytes_from, IsKeptOrZeros}
-use Rattle.tce_outside.proofs.Files.{without_file-with_file}
+use Rattle.tce_outside.proofs.Files.{without_file-with_file, file-with_file}
 use Rattle.tce_outside.proofs.Told.{other_files, disks_tell}
 use Rattle.tce_cache.proofs.Tiles.{told_from}
 use Rattle.std.proofs.Math.Seq.{drop-append_seam}
@@ -20,11 +20,12 @@ use Rattle.tce_array.specs.Forms.{form_len, head, head_len}
 use Rattle.tce_array.specs.Files.{AreBytes, IsPadding, LeavesNoHalf, BeginsWithZeros}
 use Rattle.tce_array.proofs.Heads.{begins_still, with_head, zeros_at, zeros_begin}
 use Rattle.tce_array.proofs.Contents.{length-head}
-use Rattle.tce_array.proofs.MadeFiles.{file-with_file, with_file-with_file}
+use Rattle.tce_array.proofs.MadeFiles.{with_file-with_file}
 use Rattle.tce_cache.specs.declared.array.ArrayRef.{ArrayRef}
 use Rattle.tce_cache.specs.Cache.{State as CacheState, OnlyWritableDiffers, word_of_tile}
 use Rattle.tce_cache.specs.Transfer.{contents, word_in_file}
-use Rattle.tce_cache.specs.Touch.{front, AreWritten, KeepsArrays}
+use Rattle.tce_cache.specs.Touch.{AreWritten, KeepsArrays}
+use Rattle.tce_cache.proofs.Steps.{front_has}
 use Rattle.tce_tree.specs.Value.{value, assignment}
 use Rattle.tce_formula.specs.Contraction.{has_tensor}
 use Rattle.tce_spec.specs.Specification.{Specification, IsSpecification}
@@ -50,16 +51,6 @@ use Rattle.tce_job.specs.Run.{IsBegun}
 use Rattle.tce_job.proofs.Begun.{workspace_with, workspace_for, array_of, result_at, result_shape_is}
 
 -- ---- files that keep their fronts
-
--- a file with the same front as one that has the length of its array has it
-has_length : (a : ArrayRef) (now was : Option (List ℕ)) → option_map (front a) now ≡ option_map (front a) was → IsSomeAnd was (λ bytes. length bytes ≡ form_len a.form a.shape)
-    → IsSomeAnd now (λ bytes. length bytes ≡ form_len a.form a.shape)
-has_length a None None e h = absurd h
-has_length a (Some x) None e h = absurd h
-has_length a None (Some y) e h = absurd (cc)
-has_length a (Some x) (Some y) e h =
-    let same : front a x ≡ front a y = cc in
-    ap (λ (q : ℕ × List ℕ). q.0) same ∙ h
 
 -- a file is the result but for its head
 abbrev pub LacksHead : Specification → Files → Option (List ℕ) → Type 0
@@ -174,8 +165,8 @@ module _ (s : Specification) (fs : Files) (p : Prepared) (rules : IsSpecificatio
         let long : length (made_result s) ≡ form_len a.form a.shape = (made_zero s).whole ∙ sym (ap₂ form_len own.form own.shape) in
         let in_start : IsSomeAnd (file fs a.file.bytes) (λ bytes. length bytes ≡ form_len a.form a.shape) = subst (λ o. IsSomeAnd o (λ bytes. length bytes ≡ form_len a.form a.shape)) (sym made) long in
         let in_run : IsSomeAnd (file hs a.file.bytes) (λ bytes. length bytes ≡ form_len a.form a.shape) =
-        has_length a (file hs a.file.bytes) (file fs a.file.bytes) (run.continued.fronts fs refl hs refl s.result a found) in_start in
-        (in_run, has_length a (file gs a.file.bytes) (file hs a.file.bytes) ((arrays hs refl gs refl).fronts s.result a here) in_run)
+        front_has a (file fs a.file.bytes) (file hs a.file.bytes) (run.continued.fronts fs refl hs refl s.result a found) in_start in
+        (in_run, front_has a (file hs a.file.bytes) (file gs a.file.bytes) ((arrays hs refl gs refl).fronts s.result a here) in_run)
 
     as_result : (files : Files) (a : ArrayRef) → IsResultArray s a → IsSomeAnd (file files a.file.bytes) (λ bytes. length bytes ≡ form_len a.form a.shape)
         → IsSomeAnd (file files (file_of s s.result)) (λ found. length found ≡ form_len One (shape_of s s.result))

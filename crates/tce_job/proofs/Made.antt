@@ -2,8 +2,8 @@
 use Rattle.std.proofs.Common.{◌≡◌, ℕ, ◌≤◌, ◌⊎◌, List, Option, Some, None, inl, inr, refl, sym, ◌∙◌, subst}
 use Rattle.std.specs.Option.{ForSome}
 use Rattle.tce_outside.specs.Files.{Files, file, with_file, holding}
+use Rattle.tce_outside.proofs.Files.{file-with_file}
 use Rattle.tce_array.specs.declared.form.Form.{Form}
-use Rattle.tce_array.proofs.MadeFiles.{file-with_file}
 use Rattle.tce_nesting.specs.declared.plan.Plan.{Plan}
 use Rattle.tce_search.specs.LeastPlan.{IsLeastPlan}
 use Rattle.tce_spec.specs.Specification.{Specification, IsSpecification}

@@ -2,14 +2,12 @@
 use Rattle.std.specs.Prelude.{◌≡◌, ◌⊎◌, ℕ, ◌≤◌, List, [], ◌∷◌, ◌++◌, Option, Result, IfOk, IfErr, OnErr}
 use Rattle.std.specs.Option.{ForSome, option_map}
 use Rattle.tce_outside.specs.Files.{Files, others, holding}
-use Rattle.tce_array.specs.declared.form.Form.{Form}
 use Rattle.tce_nesting.specs.declared.plan.Plan.{Plan}
 use Rattle.tce_search.specs.LeastPlan.{IsLeastPlan}
 use Rattle.tce_code.specs.Program.{program_of}
 use Rattle.tce_walk.specs.Touches.{touch_bound}
 use Rattle.tce_spec.specs.Specification.{Specification}
 use Rattle.tce_tensors.specs.Laws.{made_result}
-use Rattle.tce_tensors.specs.Opened.{AreOpened, operand_count}
 use Rattle.tce_tensors.specs.ResultBytes.{with_result}
 use Rattle.tce_tensors.specs.TensorFiles.{file_of}
 use Rattle.tce_job.specs.declared.fault.JobFault.{JobFault}
@@ -23,10 +21,6 @@ use Rattle.tce_job.specs.Run.{IsReported}
 -- a least plan of the specification's tree
 abbrev pub IsLeastPlanOf : Specification → Plan → Type 0
 IsLeastPlanOf s plan = IsLeastPlan s.declarations.space s.tree plan
-
--- the files of all operands are there, in these forms
-abbrev pub AreOpenedIn : Option Files → Specification → List Form → Type 0
-AreOpenedIn told s forms = ForSome told (λ files. AreOpened files s forms (operand_count s))
 
 -- all that a run needs is there
 abbrev pub CanRunIn : Option Files → Specification → ℕ → Type 0

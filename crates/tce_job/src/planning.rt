@@ -4,9 +4,10 @@ ghost use Rattle.tce_space.specs.Limits.{max_memory};
 ghost use Rattle.tce_outside.specs.Fault.{HasCause, TellsFaults};
 ghost use Rattle.tce_array.specs.declared.fault.ArrayFault.TheVariants as array_fault;
 ghost use Rattle.tce_search.specs.LeastPlan.{IsLeastPlan};
+ghost use Rattle.tce_tensors.specs.Opened.{AreOpenedOn};
 ghost use Rattle.tce_job.specs.declared.fault.JobFault.{JobFault as Fault};
 ghost use Rattle.tce_job.specs.Refusals.{IsAffordable, IsCause, IsOpeningFault, IsFaultOf};
-ghost use Rattle.tce_job.specs.Told.{IsLeastPlanOf, AreOpenedIn, IsRefusalOf};
+ghost use Rattle.tce_job.specs.Told.{IsLeastPlanOf, IsRefusalOf};
 
 use crate::fault::JobFault;
 use std::alloc::Global;
@@ -59,7 +60,7 @@ fn fault_of(refused: Refused) -> JobFault
 ///
 /// It is refused with `Array` and the first operand by first use that is refused, or with `Disk`.
 pub fn opened_forms<D: Disk>(spec: &Spec, disk: &mut D) -> Result<Forms, JobFault>
-    ensures opened { IfOk result (λ forms. AreOpenedIn (D.files disk.old) spec.now forms.0) }
+    ensures opened { IfOk result (λ forms. AreOpenedOn (D.files disk.old) spec.now forms.0) }
     ensures refused { IfErr result (IsOpeningFault (D.files disk.old) spec.now) }
     ensures same { D.files disk.new ≡ D.files disk.old }
     ensures cause { HasCause (D.faults disk.old) (D.faults disk.new) (result ≡ Err Fault.Disk) }
@@ -81,7 +82,7 @@ pub fn tested<D: Disk>(
     ensures plan { IfOk result (λ pair. IsLeastPlanOf spec.now pair.0) }
     ensures small { IfOk result (λ pair. pair.0.memory ≤ max_memory) }
     ensures affordable { OnOk result (IsAffordable spec.now budget) }
-    ensures opened { IfOk result (λ pair. AreOpenedIn (D.files disk.old) spec.now pair.1.0) }
+    ensures opened { IfOk result (λ pair. AreOpenedOn (D.files disk.old) spec.now pair.1.0) }
     ensures refused { IfErr result (IsRefusalOf (D.files disk.old) spec.now budget) }
     ensures same { D.files disk.new ≡ D.files disk.old }
     ensures cause { HasCause (D.faults disk.old) (D.faults disk.new) (result ≡ Err Fault.Disk) }

@@ -8,11 +8,12 @@ ghost use Rattle.tce_code.specs.CodeFor.{IsCodeFor};
 ghost use Rattle.tce_code.specs.Plan.{plan_of};
 ghost use Rattle.tce_tensors.specs.Takings.{least_budget, tile_take};
 ghost use Rattle.tce_tensors.specs.Laws.{LeavesNoHalfResult};
+ghost use Rattle.tce_tensors.specs.Opened.{AreOpenedOn};
 ghost use Rattle.tce_job.specs.declared.fault.JobFault.{JobFault as Fault};
 ghost use Rattle.tce_job.specs.Refusals.{IsFree};
 ghost use Rattle.tce_job.specs.Prepared.{IsCarriedPlan, IsPrepared, IsEmptyCache, IsReport};
 ghost use Rattle.tce_job.specs.Run.{IsBegun};
-ghost use Rattle.tce_job.specs.Told.{AreOpenedIn, FailsOrKeeps, MakesResult, ResultAlone, Takes, MayTake};
+ghost use Rattle.tce_job.specs.Told.{FailsOrKeeps, MakesResult, ResultAlone, Takes, MayTake};
 
 use crate::bytes::Bytes;
 use crate::fault::JobFault;
@@ -208,7 +209,7 @@ pub fn begin<D: Disk, R: Room>(
     requires limit { budget ≤ max_memory }
     requires plan { IsCarriedPlan spec.now.declarations.space spec.now.tree planned.plan }
     requires small { planned.plan.memory ≤ max_memory }
-    requires opened { AreOpenedIn (D.files disk.old) spec.now planned.forms.0 }
+    requires opened { AreOpenedOn (D.files disk.old) spec.now planned.forms.0 }
     ensures begun { IfOk result (IsBegun spec.now (D.files disk.new)) }
     ensures prepared { IfOk result (IsPrepared spec.now budget planned.forms.0) }
     ensures plan { IfOk result (λ p. p.plan ≡ planned.plan) }

@@ -5,11 +5,12 @@ ghost use Rattle.tce_outside.specs.Files.{others};
 ghost use Rattle.tce_outside.specs.Fault.{HasCause, TellsFaults};
 ghost use Rattle.tce_tensors.specs.Laws.{LeavesNoHalfResult};
 ghost use Rattle.tce_tensors.specs.Takings.{least_budget};
+ghost use Rattle.tce_tensors.specs.Opened.{AreOpenedOn};
 ghost use Rattle.tce_job.specs.declared.fault.JobFault.{JobFault as Fault};
 ghost use Rattle.tce_job.specs.Refusals.{IsFree};
 ghost use Rattle.tce_job.specs.Prepared.{IsCarriedPlan, IsReport};
 ghost use Rattle.tce_job.specs.Run.{IsBegun};
-ghost use Rattle.tce_job.specs.Told.{AreOpenedIn, CanRunIn, IsRefusalOf, RefusesExactly, GrantsAble, FailsOrKeeps, WritesResult, ResultAlone, Takes, MayTake, Reports, LeavesRoom, TouchesWithin};
+ghost use Rattle.tce_job.specs.Told.{CanRunIn, IsRefusalOf, RefusesExactly, GrantsAble, FailsOrKeeps, WritesResult, ResultAlone, Takes, MayTake, Reports, LeavesRoom, TouchesWithin};
 
 use crate::fault::JobFault;
 use crate::planning::tested;
@@ -82,7 +83,7 @@ pub fn run_by<D: Disk, R: Room>(
     requires limit { budget ≤ max_memory }
     requires plan { IsCarriedPlan spec.now.declarations.space spec.now.tree planned.plan }
     requires small { planned.plan.memory ≤ max_memory }
-    requires opened { AreOpenedIn (D.files disk.old) spec.now planned.forms.0 }
+    requires opened { AreOpenedOn (D.files disk.old) spec.now planned.forms.0 }
     ensures told { OnOk result (WritesResult spec.now (D.files disk.old) (D.files disk.new)) }
     ensures report { IfOk result (IsReport spec.now budget planned.plan) }
     ensures taken { OnOk result

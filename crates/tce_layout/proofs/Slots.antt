@@ -7,7 +7,7 @@ use Rattle.std.specs.List.{sum_by, range_with_len}
 use Rattle.tce_space.specs.IndexSet.{has}
 use Rattle.tce_space.specs.Space.{IndexSpace, IsSpace, IsDeclared, volume_of}
 use Rattle.tce_space.proofs.IndexSetLaws.{has-minus}
-use Rattle.tce_space.proofs.VolumeLaws.{range_next}
+use Rattle.tce_space.proofs.Ranges.{range_next}
 use Rattle.tce_tree.specs.ContractionTree.{ContractionTree, operations, node_dims}
 use Rattle.tce_tree.specs.Fusion.{fused_at, kept_dims}
 use Rattle.tce_tree.specs.Measure.{IsMeasured}

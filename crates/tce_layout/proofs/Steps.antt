@@ -1,5 +1,5 @@
 -- Row-major steps over the members of a set.
-use Rattle.std.proofs.Common.{◌≡◌, ℕ, zero, suc, ◌+◌, ◌-◌, ◌*◌, ◌<◌, ◌≤◌, true, false, List, [], ◌∷◌, map, filter, length, slice_set, fold, sum_by, refl, sym, ap, ap₂, ◌∙◌, subst, inl, inr, arith, le_trans, mul_comm, length-set, get_or-set_same, get_or-set_other}
+use Rattle.std.proofs.Common.{◌≡◌, ℕ, zero, suc, ◌+◌, ◌-◌, ◌*◌, ◌<◌, ◌≤◌, true, false, List, ◌∷◌, map, filter, length, slice_set, sum_by, refl, sym, ap, ap₂, ◌∙◌, subst, inl, inr, arith, le_trans, mul_comm, length-set, get_or-set_same, get_or-set_other}
 use Rattle.std.specs.List.{range_with_len}
 use Rattle.std.specs.Prelude.{slice_index}
 use Rattle.std.proofs.lemmas.Bool.{cases_Bool, cases_eq}
@@ -7,7 +7,7 @@ use Rattle.std.proofs.lemmas.List.Sums.{sum_by-cons}
 use Rattle.tce_space.specs.Box.{product, place}
 use Rattle.tce_space.specs.IndexSet.{has, members, volume}
 use Rattle.tce_space.specs.Space.{IndexSpace, extent_at, volume_of}
-use Rattle.tce_space.proofs.Products.{le_times}
+use Rattle.tce_space.proofs.Products.{le_times, fold-product}
 use Rattle.tce_layout.specs.Layout.{members_from, step_of}
 use Rattle.tce_layout.specs.Places.{steps_to}
 
@@ -33,13 +33,6 @@ size_yes extent set k l h = ap (λ is. product (map extent is)) (from_yes set k 
 
 pub size_no : (extent : ℕ → ℕ) (set k : ℕ) → k < 24 → has set k ≡ false → size_from extent set k ≡ size_from extent set (k + 1)
 size_no extent set k l h = ap (λ is. product (map extent is)) (from_no set k l h)
-
-fold-product : (extent : ℕ → ℕ) (is : List ℕ) (n : ℕ) → fold (λ p i. p * extent i) n is ≡ n * product (map extent is)
-fold-product extent [] n = omega arith
-fold-product extent (i ∷ is) n = fold-product extent is (n * extent i) ∙ again n (extent i) (product (map extent is))
-  where
-    again : (a b c : ℕ) → a * b * c ≡ a * (b * c)
-    again a b c = omega arith
 
 pub size-all : (extent : ℕ → ℕ) (set : ℕ) → size_from extent set 0 ≡ volume extent set
 unfolding volume members

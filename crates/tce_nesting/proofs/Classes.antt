@@ -26,9 +26,6 @@ false_left x y h = (or_parts x y h).0
 false_right : (x y : Bool) → (x || y) ≡ false → y ≡ false
 false_right x y h = (or_parts x y h).1
 
-both_false : (x y : Bool) → x ≡ false → y ≡ false → (x || y) ≡ false
-both_false x y p q = or_from x y p q
-
 -- ---- allowed
 
 -- no index outside the fused set is above one inside that is not reached yet
@@ -48,7 +45,7 @@ allows_further fused reached wider c cs union within = (λ h. forth h, λ h. bac
         let parts = above-cons c cs i j x in
         elim parts.1 [
           | inl here ↦ both_ways (has fused i) out (within i here)
-          | inr later ↦ h i j out inn (union j ∙ both_false (has reached j) (has c j) far parts.0) later
+          | inr later ↦ h i j out inn (union j ∙ or_from (has reached j) (has c j) far parts.0) later
         ]
 
 pub allows_stop : (fused reached wider c : ℕ) (cs : List ℕ) → ((i : ℕ) → has wider i ≡ (has reached i || has c i)) → (((i : ℕ) → IsTrue (has c i) → IsTrue (has fused i)) → ⊥) → ((i : ℕ) → IsTrue (has fused i) → IsTrue (has wider i)) ↔ AllowsBeyond fused reached (c ∷ cs)
@@ -57,7 +54,7 @@ allows_stop fused reached wider c cs union beyond = (λ h. forth h, λ h. back h
     forth : ((i : ℕ) → IsTrue (has fused i) → IsTrue (has wider i)) → AllowsBeyond fused reached (c ∷ cs)
     forth h i j out inn far x =
         let parts = above-cons c cs i j x in
-        both_ways (has wider j) (union j ∙ both_false (has reached j) (has c j) far parts.0) (h j inn)
+        both_ways (has wider j) (union j ∙ or_from (has reached j) (has c j) far parts.0) (h j inn)
 
     back : AllowsBeyond fused reached (c ∷ cs) → (i : ℕ) → IsTrue (has fused i) → IsTrue (has wider i)
     back h j inn = elim (cases_Bool (has wider j)) [

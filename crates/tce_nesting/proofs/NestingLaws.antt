@@ -18,7 +18,7 @@ above-unplaced (c ∷ cs) i j out =
     ap (λ (x : Bool). not x && (has c i || above cs i j)) parts.0 ∙ ap (λ (x : Bool). has c i || x) (above-unplaced cs i j parts.1)
 
 -- no set of a nesting has an index beyond the limit
-no_class_beyond : (cs : List ℕ) → IsNesting cs → in_class cs 24 ≡ false
+pub no_class_beyond : (cs : List ℕ) → IsNesting cs → in_class cs 24 ≡ false
 no_class_beyond [] nesting = refl
 no_class_beyond (c ∷ cs) nesting = or_from (has c 24) (in_class cs 24) (has-beyond c 24 nesting.0 (omega arith)) (no_class_beyond cs nesting.3)
 

@@ -1,20 +1,21 @@
 -- The list of the subsets of a set has each of them, in the order of their numbers.
-use Rattle.std.proofs.Common.{◌≡◌, ℕ, suc, zero, ◌+◌, ◌-◌, ◌*◌, ◌<◌, ◌≤◌, ◌^◌, Bool, true, false, cond, not, ◌&&◌, inl, inr, refl, arith, ◌∙◌, sym, ap, subst, List, [], ◌∷◌, ◌++◌, length, get_or, map, count_by, bit_and, min}
+use Rattle.std.proofs.Common.{◌≡◌, ℕ, suc, zero, ◌+◌, ◌-◌, ◌*◌, ◌<◌, ◌≤◌, ◌^◌, Bool, true, false, cond, not, ◌&&◌, inl, inr, refl, arith, ◌∙◌, sym, ap, subst, List, [], ◌∷◌, ◌++◌, length, get_or, map, count_by}
 use Rattle.std.proofs.Common.{length-append}
 use Rattle.std.specs.Prelude.{IsTrue}
 use Rattle.std.specs.Int.{bit_at}
 use Rattle.std.specs.List.{All, Contains, range_with_len}
 use Rattle.std.specs.List.Sorted.{IsStrictlyIncreasing}
-use Rattle.std.proofs.lemmas.Bool.{cases_Bool, cases_eq, cases_lt, both_ways, eq-eqb}
+use Rattle.std.proofs.lemmas.Bool.{cases_Bool, cases_eq, both_ways}
 use Rattle.std.proofs.lemmas.List.{length-map, get_or-map}
 use Rattle.std.proofs.lemmas.List.Elements.{All-head, All-tail, All-cons, All-nil, All-weaker, All-append, All-map, All-contains, Contains-append_left, Contains-append_right}
-use Rattle.std.proofs.lemmas.Nat.{pow-add, pow_below, or_disjoint, and_le_r}
-use Rattle.std.proofs.lemmas.Nat.Bits.{bit_at_above, bit_at_and, bit_at_ones, bit_at-lt, and_pow, same_from_bits}
+use Rattle.std.proofs.lemmas.Nat.{pow-add, pow_below, or_disjoint}
+use Rattle.std.proofs.lemmas.Nat.Bits.{bit_at_above, and_pow}
 use Rattle.tce_space.specs.IndexSet.{IsIndexSet, IsWithin, has, minus, with_index, count}
-use Rattle.tce_space.proofs.IndexSetLaws.{has-empty, has-minus, has-beyond, has_below, has-with_same, has-with_other, with_lt, minus_lt, same_set, pow_in_limit, count-members, count-range_yes, count-range_no}
+use Rattle.tce_space.proofs.IndexSetLaws.{has-empty, has-minus, has-beyond, has-with_same, has-with_other, with_lt, minus_lt, same_set, pow_in_limit, count-members, count-range_yes, count-range_no}
 use Rattle.tce_tree.specs.ContractionTree.{ContractionTree, operations, node, node_dims, node_loops}
 use Rattle.tce_tree.proofs.Nodes.{size_bounds}
 use Rattle.tce_tree.proofs.Parents.{dims_within_loops}
+use Rattle.tce_states.proofs.Choices.{parts_are_index_sets}
 use Rattle.tce_nesting.specs.Subsets.{AreSubsets, widened}
 
 -- the subsets of the members below `i`, least first
@@ -176,29 +177,6 @@ complete_below set (suc i) low s small within below = elim (cases_Bool (has s i)
       | inr other ↦ has-less_other s i j (omega arith) other ∙ below j (omega arith)
     ]
 
--- a part of an index set is one
-pub part_is_set : (s set : ℕ) → IsIndexSet set → IsWithin s set → IsIndexSet s
-unfolding has
-part_is_set s set limit within =
-    let same : bit_and s (2 ^ 24 - 1) ≡ s = same_from_bits (bit_and s (2 ^ 24 - 1)) s (λ i. bit_at_and s (2 ^ 24 - 1) i ∙ at_bit i) in
-    let small : bit_and s (2 ^ 24 - 1) ≤ 2 ^ 24 - 1 = and_le_r s (2 ^ 24 - 1) in
-    omega (arith, same, small)
-  where
-    high_bit : (i : ℕ) → 24 ≤ i → bit_at s i ≡ 0
-    high_bit i high = elim (cases_eq (bit_at s i) 1) [
-      | inl one ↦ absurd (let low : i < 24 = has_below set i limit (within i (eq-eqb (bit_at s i) 1 one)) in omega (arith, low, high))
-      | inr other ↦ let few : bit_at s i < 2 = bit_at-lt s i in omega arith
-    ]
-
-    at_bit : (i : ℕ) → min (bit_at s i) (bit_at (2 ^ 24 - 1) i) ≡ bit_at s i
-    at_bit i = elim (cases_lt i 24) [
-      | inl low ↦
-          let one : bit_at (2 ^ 24 - 1) i ≡ 1 = bit_at_ones 24 i low in
-          let few : bit_at s i < 2 = bit_at-lt s i in
-          rw one (omega arith)
-      | inr high ↦ let zero_bit : bit_at s i ≡ 0 = high_bit i high in rw zero_bit (omega arith)
-    ]
-
 -- ---- each of them is a subset
 
 sound_below : (set i : ℕ) → i ≤ 24 → All (λ s. IsWithin s set) (subsets_below set i)
@@ -291,7 +269,7 @@ are_subsets set limit = record {
   each = λ s. (
     (λ inn. All-contains (λ t. IsWithin t set) (subsets_below set 24) s (sound_below set 24 (omega arith)) inn),
     (λ within.
-        let small = part_is_set s set limit within in
+        let small = parts_are_index_sets s set limit within in
         complete_below set 24 (omega arith) s small within (λ j high. has-beyond s j small high)),
   );
   ascend = rising_increases (subsets_below set 24) (subsets_below-rising set 24 (omega arith));

@@ -1,19 +1,18 @@
 -- The words of slots are those of places.
-use Rattle.std.proofs.Common.{◌≡◌, ℕ, zero, suc, ◌+◌, ◌*◌, ◌<◌, ◌≤◌, true, List, [], ◌∷◌, map, slice_index, sum_by, sym, ap, ◌∙◌, inl, inr, arith}
+use Rattle.std.proofs.Common.{◌≡◌, ℕ, zero, suc, ◌+◌, ◌*◌, ◌<◌, ◌≤◌, List, map, slice_index, sum_by, sym, ap, ◌∙◌, inl, inr, arith}
 use Rattle.std.specs.List.{range_with_len}
 use Rattle.std.proofs.lemmas.Bool.{cases_eq}
-use Rattle.std.proofs.lemmas.List.Sums.{sum_by_push}
-use Rattle.tce_space.specs.Box.{place, product, IsInside}
-use Rattle.tce_space.specs.IndexSet.{has, members}
+use Rattle.tce_space.specs.Box.{place, product}
+use Rattle.tce_space.specs.IndexSet.{members}
 use Rattle.tce_space.specs.Space.{IndexSpace, extent_at}
 use Rattle.tce_space.proofs.Boxes.{place-lt}
-use Rattle.tce_space.proofs.VolumeLaws.{range_next}
+use Rattle.tce_space.proofs.Ranges.{sum_next}
 use Rattle.tce_tree.specs.ContractionTree.{ContractionTree, operations}
 use Rattle.tce_tree.specs.Fusion.{kept_dims}
 use Rattle.tce_tree.specs.Memory.{size_before}
 use Rattle.tce_tree.specs.Value.{Assignment}
-use Rattle.tce_tree.specs.WellFormed.{among}
-use Rattle.tce_tree.proofs.Lists.{among_first, among_later, among-filter}
+use Rattle.tce_tree.proofs.Assignments.{numbers_inside}
+use Rattle.tce_tree.proofs.Permutations.{members_has}
 use Rattle.tce_code.specs.Execution.{coordinates}
 use Rattle.tce_layout.specs.Layout.{slot_at, IsLayout}
 use Rattle.tce_layout.specs.Places.{kept_extents, word_at, steps_to, IsPlace}
@@ -25,9 +24,6 @@ use Rattle.tce_operands.specs.Slots.{slot_word, IsSlotAt, SlotsLeadToPlaces}
 
 -- ---- sums over the numbers below a limit
 
-pub range_sum_next : (f : ℕ → ℕ) (n : ℕ) → sum_by f (range_with_len 0 (n + 1)) ≡ sum_by f (range_with_len 0 n) + f n
-range_sum_next f n = ap (sum_by f) (range_next n) ∙ sum_by_push f (range_with_len 0 n) n
-
 pub range_sum_le : (f : ℕ → ℕ) (n m : ℕ) → n ≤ m → sum_by f (range_with_len 0 n) ≤ sum_by f (range_with_len 0 m)
 range_sum_le f n zero l = let same : n ≡ 0 = omega arith in omega (arith, ap (λ k. sum_by f (range_with_len 0 k)) same)
 range_sum_le f n (suc m) l =
@@ -35,7 +31,7 @@ range_sum_le f n (suc m) l =
       | inl e ↦ omega (arith, ap (λ k. sum_by f (range_with_len 0 k)) e)
       | inr e ↦
           let next : m + 1 ≡ suc m = omega arith in
-          omega (arith, range_sum_le f n m (omega arith), range_sum_next f m, ap (λ k. sum_by f (range_with_len 0 k)) next)
+          omega (arith, range_sum_le f n m (omega arith), sum_next f m, ap (λ k. sum_by f (range_with_len 0 k)) next)
     ]
 
 -- a slot's word after the steps of the indexes below `n`
@@ -43,7 +39,7 @@ abbrev pub word_so_far : Slot → List ℕ → ℕ → ℕ
 word_so_far slot numbers n = slot.offset + sum_by (λ k. slice_index slot.steps k * slice_index numbers k) (range_with_len 0 n)
 
 pub word_next : (slot : Slot) (numbers : List ℕ) (n : ℕ) → word_so_far slot numbers (n + 1) ≡ word_so_far slot numbers n + slice_index slot.steps n * slice_index numbers n
-word_next slot numbers n = omega (arith, range_sum_next (λ k. slice_index slot.steps k * slice_index numbers k) n)
+word_next slot numbers n = omega (arith, sum_next (λ k. slice_index slot.steps k * slice_index numbers k) n)
 
 pub word_within : (slot : Slot) (numbers : List ℕ) (n : ℕ) → n < 24 → word_so_far slot numbers (n + 1) ≤ slot_word slot (slice_index numbers)
 unfolding steps_to
@@ -54,14 +50,6 @@ unfolding steps_to
 word_ends slot numbers n e = ap (word_so_far slot numbers) e
 
 -- ---- places
-
-pub numbers_inside : (extent : ℕ → ℕ) (a : Assignment) (xs : List ℕ) → ((i : ℕ) → among xs i ≡ true → a i < extent i) → IsInside (map extent xs) (map a xs)
-numbers_inside extent a [] h = tt
-numbers_inside extent a (x ∷ xs) h = (h x (among_first x xs), numbers_inside extent a xs (λ i m. h i (among_later x xs i m)))
-
-pub members_has : (set i : ℕ) → among (members set) i ≡ true → has set i ≡ true
-unfolding members
-members_has set i m = (among-filter (has set) (range_with_len 0 24) i m).0
 
 pub is_place : (space : IndexSpace) (tree : ContractionTree) (fusion : List ℕ) (v : ℕ) (a : Assignment) → IsSlotAt space tree fusion v a
     → IsPlace space tree fusion v (coordinates (kept_dims tree fusion v) a)

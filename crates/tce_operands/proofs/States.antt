@@ -26,8 +26,9 @@ use Rattle.tce_tree.specs.Memory.{size_before}
 use Rattle.tce_tree.specs.Value.{Assignment, assignment}
 use Rattle.tce_tree.specs.WellFormed.{among}
 use Rattle.tce_tree.proofs.Members.{node_dims_lt}
-use Rattle.tce_tree.proofs.Permutations.{among-members, distinct-members}
+use Rattle.tce_tree.proofs.Permutations.{among-members, distinct-members, members_has}
 use Rattle.tce_tree.proofs.Values.{map-same}
+use Rattle.tce_tree.proofs.Assignments.{assignment-at, assignment_inside, same_at, numbers_inside}
 use Rattle.tce_code.specs.Execution.{State, coordinates, with_word, cleared}
 use Rattle.tce_layout.specs.Layout.{slot_at, IsLayout}
 use Rattle.tce_layout.specs.Places.{kept_extents, word_at, IsPlace}
@@ -36,8 +37,8 @@ use Rattle.tce_layout.proofs.Slots.{before_le}
 use Rattle.tce_operands.specs.Slots.{slot_word}
 use Rattle.tce_operands.specs.NodeStates.{Places, are_inside, node_word, root, root_dims, result_coordinates, root_word, state_of, current_cell, IsResult}
 use Rattle.tce_operands.specs.Laws.{HasShape, StandsBefore, IsRootAt, PutsChangeOnePlace, ClearedSlotsAreCleared, TilePutsChangeOnePlace, TouchesKeepStates, PlacesHaveTheirWords, TouchedTilesShowElements}
-use Rattle.tce_operands.proofs.Assignments.{are_inside-true, are_inside-holds, assignment-at, map-assignment, assignment_inside, same_at}
-use Rattle.tce_operands.proofs.Slots.{numbers_inside, members_has, is_place, stands_between, slot_ends}
+use Rattle.tce_operands.proofs.Assignments.{are_inside-true, are_inside-holds, map-assignment}
+use Rattle.tce_operands.proofs.Slots.{is_place, stands_between, slot_ends}
 
 -- ---- states that are as before but at one place, or but at one node
 
@@ -181,7 +182,7 @@ root_dims-lt : (p : Places) → IsIndexSet (root_dims p)
 unfolding kept_dims
 root_dims-lt p = minus_lt (node_dims p.tree (root p)) (fused_at p.fusion (root p)) (node_dims_lt p.tree (root p))
 
-listed : (p : Places) (shape : Tiling) (i : ℕ) → IsResult p shape → among p.result i ≡ among (members (root_dims p)) i
+pub listed : (p : Places) (shape : Tiling) (i : ℕ) → IsResult p shape → among p.result i ≡ among (members (root_dims p)) i
 listed p shape i is = is.indexes i ∙ sym (among-members (root_dims p) i (root_dims-lt p))
 
 -- the element of an assignment
@@ -211,7 +212,7 @@ place_from p shape a at is long e =
     ∙ map-same (members (root_dims p)) (assignment (members (root_dims p)) at) a
     (λ i m. same_at p.result (assignment (members (root_dims p)) at) a i e (listed p shape i is ∙ m))
 
-length-mapped : (f : ℕ → ℕ) (xs : List ℕ) → length (map f xs) ≡ length xs
+pub length-mapped : (f : ℕ → ℕ) (xs : List ℕ) → length (map f xs) ≡ length xs
 length-mapped f [] = refl
 length-mapped f (x ∷ xs) = omega (arith, length-mapped f xs)
 
@@ -227,7 +228,7 @@ before_frames p c u at laid before inner inside =
     let fill = places_fill p.space p.tree p.fusion p.slots laid in
     omega (arith, before, fill.below u at (record { node = inner; inside = inside }))
 
-words_are : (c : CacheState) (array : ℕ) (shape : Tiling) → HasShape c array shape → words_of_tile (slice_get c.arrays array) ≡ tile_words shape
+pub words_are : (c : CacheState) (array : ℕ) (shape : Tiling) → HasShape c array shape → words_of_tile (slice_get c.arrays array) ≡ tile_words shape
 words_are c array shape h = by_array (slice_get c.arrays array) h
   where
     by_array : (o : Option ArrayRef) → IsSomeAnd o (λ a. a.shape ≡ shape) → words_of_tile o ≡ tile_words shape

@@ -15,9 +15,10 @@ use Rattle.tce_tree.proofs.NamedIndexes.{has-set_of_list, indexes_below-node}
 use Rattle.tce_tree.proofs.Nodes.{node-left, node-right_at, node-operand, node-root, size_bounds}
 use Rattle.tce_tree.proofs.Operands.{Stands, stands-node, stands-left, stands-right, stands-operand}
 use Rattle.tce_tree.proofs.Values.{value-depends, sum_below-same}
+use Rattle.tce_tree.proofs.Assignments.{with-same, with-other}
 use Rattle.tce_pieces.specs.Pieces.{Cuts, reference_to, unless_cut, rest_of, except, piece, tensors_below}
 use Rattle.tce_pieces.specs.Laws.{IsArrayOf, HaveTensors, HoldNodes, HoldPieces}
-use Rattle.tce_pieces.proofs.Places.{with-same, with-other, inside_same, assignment-member, member_inside, members_inside}
+use Rattle.tce_pieces.proofs.Places.{inside_same, assignment-member, member_inside, members_inside}
 
 -- sums of values that are the same wherever the numbers lie in their extents
 sum_over-inside : (f g : ℕ → ℕ) (set : ℕ) (is : List ℕ) (v w : Assignment → ℕ) → ((i : ℕ) → f i ≡ g i)

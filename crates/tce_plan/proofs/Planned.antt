@@ -14,7 +14,3 @@ memory_refused told spec a is = λ files there. subst (IsPlanRefusal files spec)
 pub no_failure : {A : Type 0} (r : Result A Refusal) → IfErr r (λ a. a ≡ Memory) → r ≡ Err Disk → ⊥
 no_failure (Ok x) only failed = absurd (cc)
 no_failure (Err a) only failed = absurd (cc)
-
--- an answer is none
-pub no_answer : {A : Type 0} (x : A) (r : Result A Refusal) → r ≡ Ok x → r ≡ Err Disk → ⊥
-no_answer x r is failed = absurd (cc)

@@ -3,13 +3,12 @@ use Rattle.std.proofs.Common.{◌≡◌, ℕ, zero, suc, ◌<◌, ◌≤◌, Boo
 use Rattle.std.specs.List.{range_with_len}
 use Rattle.std.proofs.lemmas.Bool.{cases_Bool}
 use Rattle.std.proofs.lemmas.List.{get_or_default}
-use Rattle.std.proofs.lemmas.List.Sums.{count_by-le-length}
-use Rattle.tce_space.specs.IndexSet.{has, count, members}
+use Rattle.tce_space.specs.IndexSet.{has, members}
 use Rattle.tce_space.specs.Space.{IndexSpace}
 use Rattle.tce_tree.specs.ContractionTree.{ContractionTree, operations}
 use Rattle.tce_tree.specs.Fusion.{FusionFits, OrdersFit, fused_at, order_at}
 use Rattle.tce_tree.specs.WellFormed.{IsDeclaredTree}
-use Rattle.tce_tree.proofs.Conditions.{order-has, fused_low, count_in_order}
+use Rattle.tce_tree.proofs.Conditions.{order-has, fused_low}
 use Rattle.tce_tree.proofs.Lists.{index-among}
 use Rattle.tce_tree.proofs.NamedIndexes.{node_loops_declared}
 
@@ -37,13 +36,3 @@ unfolding members
 fused_declared space tree fusion v few declared fit inside =
     filter_passes (has (fused_at fusion v)) (λ i. i < length space.indexes)
     (λ i h. node_loops_declared space tree v inside few declared i (fused_low tree fusion fit v i inside h)) (range_with_len 0 24)
-
--- no more indexes are fused than the order of the node has
-pub fused_few : (tree : ContractionTree) (fusion : List ℕ) (orders : List (List ℕ)) (v : ℕ) → FusionFits tree fusion → OrdersFit tree orders → v < operations tree
-    → count (fused_at fusion v) ≤ length (order_at orders v)
-fused_few tree fusion orders v fit carried inside =
-    omega (
-      arith,
-      count_in_order tree orders carried (fused_at fusion v) v inside (λ i h. fused_low tree fusion fit v i inside h),
-      count_by-le-length (has (fused_at fusion v)) (order_at orders v),
-    )

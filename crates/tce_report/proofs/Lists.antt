@@ -1,11 +1,11 @@
 -- Lists of names as they are pushed.
-use Rattle.std.proofs.Common.{◌≡◌, ℕ, suc, ◌+◌, ◌<◌, List, [], ◌∷◌, ◌++◌, length, get_or, take, refl, ap, subst, sym, ◌∙◌, append_assoc, length-append, arith}
-use Rattle.std.specs.List.{join_with_byte, All}
+use Rattle.std.proofs.Common.{◌≡◌, ℕ, ◌+◌, ◌<◌, List, [], ◌∷◌, ◌++◌, length, get_or, take, refl, ap, sym, ◌∙◌, append_assoc, length-append}
+use Rattle.std.specs.List.{join_with_byte}
 use Rattle.std.proofs.lemmas.List.{take_more, map-append}
 use Rattle.tce_space.specs.Space.{IndexSpace, index_at}
 use Rattle.tce_report.specs.Names.{names_of, index_list}
 
-join_push : (c : ℕ) (x : List ℕ) (xs : List (List ℕ)) (y : List ℕ) → join_with_byte c (x ∷ (xs ++ y ∷ [])) ≡ join_with_byte c (x ∷ xs) ++ c ∷ y
+pub join_push : (c : ℕ) (x : List ℕ) (xs : List (List ℕ)) (y : List ℕ) → join_with_byte c (x ∷ (xs ++ y ∷ [])) ≡ join_with_byte c (x ∷ xs) ++ c ∷ y
 join_push c x [] y = refl
 join_push c x (z ∷ zs) y = ap (λ t. x ++ (c ∷ t)) (join_push c z zs y) ∙ sym (append_assoc x (c ∷ join_with_byte c (z ∷ zs)) (c ∷ y))
 
@@ -28,10 +28,6 @@ name_pushed space x rest i d old line comma new l is_line is_comma is_new =
     ∙ ap (λ t. t ++ 44 ∷ (index_at space (get_or rest i d)).name) is_line
     ∙ append_assoc old (index_list space (x ∷ take i rest)) (44 ∷ (index_at space (get_or rest i d)).name)
     ∙ ap (λ t. old ++ t) (list_more space x rest i d l)
-
--- what holds of each number of a list holds of those behind the first
-pub below_tail : (n : ℕ) (xs : List ℕ) (y : ℕ) (ys : List ℕ) → xs ≡ y ∷ ys → All (λ i. i < n) xs → (k d : ℕ) → k < length ys → get_or ys k d < n
-below_tail n xs y ys is all k d l = subst (All (λ i. i < n)) is all (suc k) d (omega arith)
 
 pub longer_by_one : (line new : List ℕ) (b : ℕ) → new ≡ line ++ b ∷ [] → length new ≡ length line + 1
 longer_by_one line new b is = ap length is ∙ length-append line (b ∷ [])

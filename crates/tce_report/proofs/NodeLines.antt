@@ -1,18 +1,16 @@
 -- The lines of nodes, from their parts.
-use Rattle.std.proofs.Common.{◌≡◌, ℕ, ◌+◌, List, [], ◌∷◌, ◌++◌, codes, slice_index, eqb, true, false, ap, ap₂, sym, ◌∙◌, append_assoc, rules, tests}
+use Rattle.std.proofs.Common.{◌≡◌, ℕ, ◌+◌, List, [], ◌∷◌, ◌++◌, codes, slice_index, eqb, false, ap, ap₂, sym, ◌∙◌, append_assoc, rules, tests}
 use Rattle.std.specs.Fmt.{decimal}
 use Rattle.std.specs.List.{flat_map, range_with_len}
 use Rattle.std.proofs.lemmas.List.{flat_map_more}
+use Rattle.std.proofs.lemmas.Bool.{eq-eqb}
 use Rattle.tce_space.specs.Space.{IndexSpace}
+use Rattle.tce_space.proofs.Ranges.{range_next}
 use Rattle.tce_tree.specs.ContractionTree.{ContractionTree, operations, node}
 use Rattle.tce_tree.specs.FlatTree.{kind_of}
 use Rattle.tce_tree.specs.Fusion.{fused_at, order_at}
 use Rattle.tce_tree.specs.declared.node.Kind.{Kind}
 use Rattle.tce_report.specs.NodeLine.{Stated, node_line, line_saying, loops_text, set_text}
-use Rattle.tce_fields.proofs.Ranges.{range_next}
-
-same_test : (a b : ℕ) → a ≡ b → eqb a b ≡ true
-same_test a b is = search (rules, tests)
 
 other_test : (a b : ℕ) → (a ≡ b → ⊥) → eqb a b ≡ false
 other_test a b other = search (rules, tests)
@@ -22,7 +20,7 @@ pub root_line : (space : IndexSpace) (tree : ContractionTree) (s : Stated) (v : 
     → new ≡ node_line space tree s v
 unfolding node_line line_saying
 root_line space tree s v kind order line new is is_kind is_order is_line is_new =
-    rw (same_test (v + 1) (operations tree) is)
+    rw (eq-eqb (v + 1) (operations tree) is)
     (is_new ∙ ap (λ t. t ++ codes " result") (is_line ∙ ap₂ (λ k o. loops_text space v k o) is_kind is_order))
 
 pub inner_line : (space : IndexSpace) (tree : ContractionTree) (s : Stated) (v : ℕ) (kind : Kind) (order : List ℕ) (fused size : ℕ) (line new : List ℕ) → (v + 1 ≡ operations tree → ⊥)

@@ -1,7 +1,7 @@
 -- What a written line says of a node.
-use Rattle.std.proofs.Common.{◌≡◌, ℕ, ◌+◌, ◌<◌, ◌≤◌, ◌==◌, ◌^◌, ◌↔◌, if◌then◌else◌, Bool, true, false, List, [], ◌∷◌, ◌++◌, length, get_or, codes, All, Option, Some, None, refl, sym, ap, subst, ◌∙◌, arith, eq-eqb, suc, ◌&&◌}
+use Rattle.std.proofs.Common.{◌≡◌, ℕ, ◌+◌, ◌<◌, ◌≤◌, ◌==◌, ◌^◌, ◌↔◌, if◌then◌else◌, Bool, true, false, List, [], ◌∷◌, ◌++◌, length, get_or, codes, All, Option, Some, None, refl, sym, ap, subst, ◌∙◌, arith, eq-eqb, suc}
 use Rattle.std.specs.Fmt.{decimal}
-use Rattle.std.proofs.lemmas.Bool.{ne_eqb, false≢true}
+use Rattle.std.proofs.lemmas.Bool.{ne_eqb, false≢true, and_from}
 use Rattle.std.proofs.lemmas.List.FromFn.{length-range_with_len}
 use Rattle.std.proofs.lemmas.List.Sums.{count_by-le-length, length-filter}
 use Rattle.std.proofs.lemmas.List.Sorted.{length_permutation}
@@ -199,19 +199,15 @@ few_loops : (tree : ContractionTree) (v : ℕ) → IsTree tree → v < operation
 unfolding count
 few_loops tree v is inside = is.few_loops v inside
 
-members_few : (set : ℕ) → length (members set) ≤ 24
+pub members_few : (set : ℕ) → length (members set) ≤ 24
 unfolding members
 members_few set = omega (arith, length-filter (has set) (range_with_len 0 24), count_by-le-length (has set) (range_with_len 0 24), length-range_with_len 0 24)
 
-both_hold : (a b : Bool) → a ≡ true → b ≡ true → (a && b) ≡ true
-both_hold true b p q = q
-both_hold false b p q = cc
-
 -- declared indexes have names
-names_named : (space : IndexSpace) (indexes : List ℕ) → IsSpace space → All (λ i. i < length space.indexes) indexes → list_all is_name (names_of space indexes) ≡ true
+pub names_named : (space : IndexSpace) (indexes : List ℕ) → IsSpace space → All (λ i. i < length space.indexes) indexes → list_all is_name (names_of space indexes) ≡ true
 names_named space [] is all = refl
 names_named space (i ∷ indexes) is all =
-    both_hold (is_name (index_at space i).name) (list_all is_name (names_of space indexes)) (is.indexes i no_index (all 0 0 (omega arith))).0
+    and_from (is_name (index_at space i).name) (list_all is_name (names_of space indexes)) (is.indexes i no_index (all 0 0 (omega arith))).0
     (names_named space indexes is (λ k d l. all (suc k) d (omega arith)))
 
 pub saying_form : (space : IndexSpace) (tree : ContractionTree) (v : ℕ) (s : Said) → IsSpace space → IsTree tree → IsDeclaredTree space tree → v < operations tree → MaySay tree v s

@@ -1,5 +1,5 @@
 -- Lines without a fault leave declarations with the rules of declarations.
-use Rattle.std.proofs.Common.{◌≡◌, ℕ, ◌+◌, ◌<◌, ◌≤◌, ◌^◌, ◌&&◌, not, Bool, true, false, IsTrue, List, [], ◌∷◌, ◌++◌, length, map, get_or, cond, Option, Some, None, is_some, refl, sym, ap, subst, ◌∙◌, arith, nat_lt, nat_le, append_assoc, append-nil, length-append, ◌||◌}
+use Rattle.std.proofs.Common.{◌≡◌, ℕ, ◌+◌, ◌<◌, ◌≤◌, ◌^◌, ◌&&◌, not, true, false, IsTrue, List, [], ◌∷◌, ◌++◌, length, map, get_or, Option, Some, None, is_some, refl, sym, ap, subst, ◌∙◌, arith, nat_lt, nat_le, append_assoc, append-nil, length-append, ◌||◌}
 use Rattle.std.specs.Prelude.{is_none, option_map, position}
 use Rattle.std.specs.List.{AllByRecursion, IsDistinct, list_any}
 use Rattle.std.specs.Str.{bytes_eq}
@@ -8,30 +8,24 @@ use Rattle.std.proofs.lemmas.Bool.Decides.{nat_tests}
 use Rattle.std.proofs.lemmas.Map.Keys.{IsDistinct-push}
 use Rattle.std.proofs.lemmas.List.{length-map, map-append, get_or_append_left}
 use Rattle.std.proofs.lemmas.List.Elements.{All-push, All-from_recursion, recursion_from_All}
+use Rattle.std.proofs.lemmas.Bool.{and_parts}
 use Rattle.tce_space.specs.Name.{is_name}
 use Rattle.tce_space.specs.Space.{Range, Index, IndexSpace, IsRange, range_number, no_range, tiling_of}
 use Rattle.tce_space.specs.Tiling.{Tiling, tile_words, padded_words}
-use Rattle.tce_space.proofs.Spaces.{starts}
+use Rattle.tce_space.proofs.Spaces.{starts, name_len}
 use Rattle.tce_grammar.specs.Grammar.{Statement, AreNames, range, index, declaration, formula}
+use Rattle.tce_grammar.proofs.Chains.{map_none}
+use Rattle.tce_grammar.proofs.CanonicalLines.{all_joined}
 use Rattle.tce_declarations.specs.Declarations.{Declarations, IsDeclarations, IsTensor, Tensor, nothing_declared}
 use Rattle.tce_declarations.specs.DeclarationLines.{HasNames, statement_fault, with_statement, range_fault, index_fault, tensor_fault, with_range, with_indexes, with_tensor, index_names, twice_after, number_of_range, numbers_of_ranges}
-use Rattle.tce_declarations.specs.Faults.{Fault, fault_if, name_twice, unknown_name, bad_number, limit_passed, range_count, index_count}
+use Rattle.tce_declarations.specs.Faults.{fault_if, name_twice, unknown_name, bad_number, limit_passed, range_count, index_count}
 use Rattle.tce_declarations.specs.Numbers.{value_of, is_range_number, is_range_size, leads_with_zero, edge_of}
 use Rattle.tce_declarations.proofs.Names.{some_if_any}
-use Rattle.tce_declarations.proofs.Keeping.{Faultless, faultless, numbers_declared}
-use Rattle.tce_formula.proofs.Nothing.{none_or, none_mapped, none_found}
-use Rattle.tce_round_trip.proofs.Lookups.{all_joined}
-use Rattle.tce_round_trip.proofs.SpaceNames.{of_and, of_not_and}
-use Rattle.tce_round_trip.proofs.Lengths.{name_short}
+use Rattle.tce_declarations.proofs.Keeping.{Faultless, faultless, numbers_declared, not_faulty, at_most, less_than, number_known}
+use Rattle.tce_formula.proofs.Nothing.{none_or, none_found}
+use Rattle.tce_formula.proofs.FormulaParts.{unfaulted}
+use Rattle.tce_round_trip.proofs.SpaceNames.{of_not_and}
 use Rattle.tce_round_trip.proofs.Heads.{group_names}
-
-is_not : (b : Bool) (f : Fault) → fault_if b f ≡ None → b ≡ false
-is_not true f e = cc
-is_not false f e = refl
-
-holds : (b : Bool) (f : Fault) → fault_if (not b) f ≡ None → b ≡ true
-holds true f e = refl
-holds false f e = cc
 
 -- a name that is not found stands in no list of names
 unlisted : {A : Type 0} (name : A → List ℕ) (xs : List A) (n : List ℕ) → is_some (position (λ (x : A). bytes_eq (name x) n) xs) ≡ false → list_any (bytes_eq n) (map name xs) ≡ false
@@ -61,7 +55,7 @@ IsSized extent edge = (0 < extent) × (extent < 2 ^ 32) × (0 < edge) × (edge �
 
 number_sized : (digits : List ℕ) → is_range_number digits ≡ true → (0 < value_of digits) × (value_of digits < 2 ^ 32)
 number_sized digits h =
-    let outer = of_and (not (leads_with_zero digits) && nat_lt 0 (value_of digits)) (nat_lt (value_of digits) (2 ^ 32)) h in
+    let outer = and_parts (not (leads_with_zero digits) && nat_lt 0 (value_of digits)) (nat_lt (value_of digits) (2 ^ 32)) h in
     let inner = of_not_and (leads_with_zero digits) (nat_lt 0 (value_of digits)) outer.0 in
     (below 0 (value_of digits) inner.1, below (value_of digits) (2 ^ 32) outer.1)
   where
@@ -73,19 +67,13 @@ sized extent None h =
     let is = number_sized extent h in
     (is.0, is.1, omega arith, omega (arith, is.0))
 sized extent (Some edge) h =
-    let outer = of_and (is_range_number extent) (is_range_number edge && nat_le (value_of edge) (value_of extent)) h in
-    let inner = of_and (is_range_number edge) (nat_le (value_of edge) (value_of extent)) outer.1 in
+    let outer = and_parts (is_range_number extent) (is_range_number edge && nat_le (value_of edge) (value_of extent)) h in
+    let inner = and_parts (is_range_number edge) (nat_le (value_of edge) (value_of extent)) outer.1 in
     let is = number_sized extent outer.0 in
     (is.0, is.1, (number_sized edge inner.0).0, most (value_of edge) (value_of extent) inner.1)
   where
     most : (a b : ℕ) → nat_le a b ≡ true → a ≤ b
     most a b h = grind (arith, nat_tests)
-
-under : (limit n : ℕ) → nat_le limit n ≡ false → n < limit
-under limit n e = grind (arith, nat_tests)
-
-within : (limit n : ℕ) → nat_lt limit n ≡ false → n ≤ limit
-within limit n e = grind (arith, nat_tests)
 
 -- further ranges leave the shapes of tensors
 same_along : {X : Type 0} (f : Range → X) (ranges more : List Range) (rs : List ℕ) → AllByRecursion (λ r. r < length ranges) rs
@@ -120,9 +108,9 @@ range_keeps line d name extent edge rules named none =
     let one = none_or (fault_if (is_some (range_number d.space name)) (name_twice line name)) _ none in
     let two = none_or (fault_if (not (is_range_size extent edge)) (bad_number line)) _ one.1 in
     let three = none_or (fault_if (nat_le 16 (length d.space.ranges)) (limit_passed line range_count)) None two.1 in
-    let new = is_not (is_some (range_number d.space name)) (name_twice line name) one.0 in
-    let size = sized extent edge (holds (is_range_size extent edge) (bad_number line) two.0) in
-    let room = under 16 (length d.space.ranges) (is_not (nat_le 16 (length d.space.ranges)) (limit_passed line range_count) three.0) in
+    let new = not_faulty (is_some (range_number d.space name)) (name_twice line name) one.0 in
+    let size = sized extent edge (unfaulted (is_range_size extent edge) (bad_number line) two.0) in
+    let room = less_than 16 (length d.space.ranges) (not_faulty (nat_le 16 (length d.space.ranges)) (limit_passed line range_count) three.0) in
     let r : Range = record { name = name; extent = value_of extent; edge = edge_of edge } in
     let is_range : IsRange r = record { named = named; some = size.0; limit = size.1; edge_some = size.2; edge_limit = size.3 } in
     let count : length (d.space.ranges ++ r ∷ []) ≡ length d.space.ranges + 1 = length-append d.space.ranges (r ∷ []) in
@@ -142,11 +130,6 @@ range_keeps line d name extent edge rules named none =
 
 -- indexes
 
-known_range : (space : IndexSpace) (name : List ℕ) → is_none (range_number space name) ≡ false → number_of_range space name < length space.ranges
-known_range space name known =
-    let found = numbers_declared space (name ∷ []) (ap (λ b. cond b (Some name) None) known) in
-    found 0 16 (omega arith)
-
 entries_named : (space : IndexSpace) (r : ℕ) (names : List (List ℕ)) → AreNames names → r < length space.ranges
     → AllByRecursion (λ (i : Index). IsTrue (is_name i.name) × (i.of_range < length space.ranges)) (map (λ name. record { name = name; of_range = r }) names)
 entries_named space r [] are below = tt
@@ -162,9 +145,9 @@ index_keeps line d of_range names rules named none =
     let one = none_or (option_map (name_twice line) (twice_after (index_names space) names)) _ none in
     let two = none_or (fault_if (is_none (range_number space of_range)) (unknown_name line of_range)) _ one.1 in
     let three = none_or (fault_if (nat_lt 24 (length space.indexes + length names)) (limit_passed line index_count)) None two.1 in
-    let once = none_mapped (name_twice line) (twice_after (index_names space) names) one.0 in
-    let below = known_range space of_range (is_not (is_none (range_number space of_range)) (unknown_name line of_range) two.0) in
-    let few = within 24 (length space.indexes + length names) (is_not (nat_lt 24 (length space.indexes + length names)) (limit_passed line index_count) three.0) in
+    let once = map_none (name_twice line) (twice_after (index_names space) names) one.0 in
+    let below = number_known space of_range (not_faulty (is_none (range_number space of_range)) (unknown_name line of_range) two.0) in
+    let few = at_most 24 (length space.indexes + length names) (not_faulty (nat_lt 24 (length space.indexes + length names)) (limit_passed line index_count) three.0) in
     let name : Index → List ℕ = λ (x : Index). x.name in
     let names_are : map name (space.indexes ++ entries) ≡ index_names space ++ names = map-append name space.indexes entries ∙ ap (λ ns. index_names space ++ ns) (group_names number names) in
     record {
@@ -192,7 +175,7 @@ tensor_keeps line d name ranges rules named none =
     let fine : Faultless d name ranges = faultless line d name ranges none in
     let t : Tensor = record { name = name; ranges = numbers_of_ranges d.space ranges } in
     let is : IsTensor d.space t = record {
-      short = name_short name named;
+      short = name_len name named;
       rank = omega (arith, length-map ranges (number_of_range d.space), fine.rank);
       declared = numbers_declared d.space ranges fine.known;
       tile_room = fine.tile_room;

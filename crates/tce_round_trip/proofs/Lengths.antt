@@ -1,8 +1,7 @@
 -- Canonical texts are short.
 use Rattle.std.proofs.Common.{◌≡◌, ℕ, ◌+◌, ◌*◌, ◌≤◌, Bool, true, false, IsTrue, List, [], ◌∷◌, ◌++◌, length, map, cond, arith, length-append}
-use Rattle.std.proofs.lemmas.Bool.{and_parts}
-use borrow.Author.Tests.{leb-true}
 use Rattle.tce_space.specs.Name.{is_name}
+use Rattle.tce_space.proofs.Spaces.{name_len}
 use Rattle.tce_grammar.specs.Tokens.{Token, word, symbol}
 use Rattle.tce_grammar.specs.Grammar.{Statement, AreNames, listed, bracketed}
 use Rattle.tce_grammar.specs.Printed.{token_text, Front, kind, is_spaced, spaced_text, printed_behind, nothing}
@@ -41,21 +40,14 @@ text_short (s ∷ ss) =
     let text = length-append (canonical_line s ++ 10 ∷ []) (canonical_text ss) in
     omega (arith, line, text, printed_short nothing (canonical_tokens s), text_short ss)
 
-pub name_short : (w : List ℕ) → IsTrue (is_name w) → length w ≤ 16
-unfolding is_name
-name_short w h =
-    let fronts = and_parts _ _ h in
-    let lens = and_parts _ _ (and_parts _ _ fronts.0).0 in
-    leb-true _ _ lens.1
-
 pub listed_short : (names : List (List ℕ)) → AreNames names → width (listed names) ≤ 19 * length names
 listed_short [] are = omega arith
-listed_short (n ∷ []) are = omega (arith, name_short n are.0)
-listed_short (n ∷ m ∷ ns) are = omega (arith, name_short n are.0, listed_short (m ∷ ns) are.1)
+listed_short (n ∷ []) are = omega (arith, name_len n are.0)
+listed_short (n ∷ m ∷ ns) are = omega (arith, name_len n are.0, listed_short (m ∷ ns) are.1)
 
 pub bracketed_short : (name : List ℕ) (names : List (List ℕ)) → IsTrue (is_name name) → AreNames names → width (bracketed name names) ≤ 21 + 19 * length names
-bracketed_short name names is are = omega (arith, name_short name is, listed_short names are, width_joined (listed names) (symbol 93 ∷ []))
+bracketed_short name names is are = omega (arith, name_len name is, listed_short names are, width_joined (listed names) (symbol 93 ∷ []))
 
 pub words_short : (names : List (List ℕ)) → AreNames names → width (map word names) ≤ 17 * length names
 words_short [] are = omega arith
-words_short (n ∷ ns) are = omega (arith, name_short n are.0, words_short ns are.1)
+words_short (n ∷ ns) are = omega (arith, name_len n are.0, words_short ns are.1)

@@ -1,5 +1,5 @@
 -- What is found by name where names differ.
-use Rattle.std.proofs.Common.{◌≡◌, ℕ, zero, suc, ◌<◌, Bool, true, false, not, ◌==◌, List, [], ◌∷◌, ◌++◌, length, map, get_or, cond, Some, None, is_some, refl, sym, ap, subst, ◌∙◌, arith, append_assoc, nat_lt}
+use Rattle.std.proofs.Common.{◌≡◌, ℕ, zero, suc, ◌<◌, true, false, not, ◌==◌, List, [], ◌∷◌, ◌++◌, length, map, get_or, cond, Some, None, is_some, refl, sym, ap, subst, ◌∙◌, arith, append_assoc, nat_lt}
 use Rattle.std.specs.Prelude.{position}
 use Rattle.std.specs.List.{IsDistinct, AllByRecursion, list_any, prefix_len}
 use Rattle.std.specs.Str.{bytes_eq}
@@ -7,14 +7,9 @@ use Rattle.std.proofs.lemmas.Slice.Eq.{bytes_eq-Decides}
 use Rattle.std.proofs.lemmas.Cmp.{nat_list_eq_equiv}
 use Rattle.tce_declarations.specs.DeclarationLines.{twice_after}
 use Rattle.tce_declarations.proofs.Names.{some_if_any}
-use Rattle.std.proofs.lemmas.Bool.{lt-ltb, eq-eqb}
-
-pub bytes_same : (xs : List ℕ) → bytes_eq xs xs ≡ true
-bytes_same xs = (bytes_eq-Decides xs xs).1 refl
-
-pub all_joined : {A : Type 0} (P : A → Type 0) (xs ys : List A) → AllByRecursion P xs → AllByRecursion P ys → AllByRecursion P (xs ++ ys)
-all_joined P [] ys a b = b
-all_joined P (x ∷ xs) ys a b = (a.0, all_joined P xs ys a.1 b)
+use Rattle.std.proofs.lemmas.Bool.{lt-ltb, eq-eqb, false_from_ne_true}
+use Rattle.std.proofs.lemmas.Option.{same_Some}
+use Rattle.tce_space.proofs.Names.{bytes_same}
 
 -- an element differs from a later one
 apart_at : {A : Type 0} (name : A → List ℕ) (n : List ℕ) (xs : List A) (i : ℕ) (d : A) → AllByRecursion (λ y. bytes_eq n y ≡ false) (map name xs) → i < length xs
@@ -51,22 +46,15 @@ none_before (x ∷ xs) m later distinct =
     let apart : bytes_eq m x ≡ false = nat_list_eq_equiv.symm m x ∙ apart_inside x xs m later distinct.0 in
     rw apart (none_before xs m later distinct.1)
 
-pub not_true : (b : Bool) → (b ≡ true → ⊥) → b ≡ false
-not_true true h = absurd (h refl)
-not_true false h = refl
-
-some_same : (i j : ℕ) → Some i ≡ Some j → i ≡ j
-some_same i j e = cc
-
 -- different elements have different names
 pub names_differ : {A : Type 0} (name : A → List ℕ) (xs : List A) (i j : ℕ) (d : A) → IsDistinct bytes_eq (map name xs) → i < length xs → j < length xs → (i == j) ≡ false
     → bytes_eq (name (get_or xs i d)) (name (get_or xs j d)) ≡ false
 names_differ {A} name xs i j d distinct below_i below_j other =
-    not_true (bytes_eq (name (get_or xs i d)) (name (get_or xs j d))) (λ same.
+    false_from_ne_true (bytes_eq (name (get_or xs i d)) (name (get_or xs j d))) (λ same.
     let equal : name (get_or xs i d) ≡ name (get_or xs j d) = (bytes_eq-Decides (name (get_or xs i d)) (name (get_or xs j d))).0 same in
     let found : Some i ≡ Some j =
     sym (found_at name xs i d distinct below_i) ∙ ap (λ n. position (λ (x : A). bytes_eq (name x) n) xs) equal ∙ found_at name xs j d distinct below_j in
-    let clash : true ≡ false = sym (eq-eqb i j (some_same i j found)) ∙ other in
+    let clash : true ≡ false = sym (eq-eqb i j (same_Some i j found)) ∙ other in
     cc)
 
 -- an element behind those that stand first has a name that they have not

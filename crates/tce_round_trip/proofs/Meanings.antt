@@ -4,7 +4,7 @@ use Rattle.std.specs.Prelude.{is_none, option_map, find, zip}
 use Rattle.std.specs.Option.{option_or, option_map_or}
 use Rattle.std.specs.List.{list_all, IsDistinct}
 use Rattle.std.specs.Str.{bytes_eq}
-use Rattle.std.proofs.lemmas.Bool.{eq-eqb}
+use Rattle.std.proofs.lemmas.Bool.{eq-eqb, or_parts, and_parts}
 use Rattle.std.proofs.lemmas.Bool.Decides.{nat_tests}
 use Rattle.std.proofs.lemmas.List.{length-map}
 use Rattle.tce_space.specs.IndexSet.{set_of}
@@ -27,7 +27,7 @@ use Rattle.tce_formula.proofs.Joined.{first_joined, all_joined}
 use Rattle.tce_canonical.specs.Statements.{formula_of, index_names}
 use Rattle.tce_spec.specs.Specification.{ConstantsAreWords}
 use Rattle.tce_round_trip.proofs.Lookups.{names_differ, once}
-use Rattle.tce_round_trip.proofs.SpaceNames.{AreIndexes, of_and, of_or, index_found, distinct_names}
+use Rattle.tce_round_trip.proofs.SpaceNames.{AreIndexes, index_found, distinct_names}
 use Rattle.tce_round_trip.proofs.NumbersBack.{indexes_back, indexes_known, tensor_found, tensor_back, value_back, constant_fine}
 use Rattle.tce_round_trip.proofs.WrittenStatements.{fit_indexes, sum_indexes, sum_operand, binary_operands, same_count}
 
@@ -139,10 +139,10 @@ all_once d rules (leaf t is) declared distinct = refl
 all_once d rules (constant n) declared distinct = refl
 all_once d rules (binary op left right) declared distinct =
     let parts = binary_operands d op left right declared in
-    let each = of_and (sums_distinct left) (sums_distinct right) distinct in
+    let each = and_parts (sums_distinct left) (sums_distinct right) distinct in
     joined_none listed_twice (places (formula_of d left)) (places (formula_of d right)) (all_once d rules left parts.0 each.0) (all_once d rules right parts.1 each.1)
 all_once d rules (sum is operand) declared distinct =
-    let each = of_and (is_distinct is) (sums_distinct operand) distinct in
+    let each = and_parts (is_distinct is) (sums_distinct operand) distinct in
     neither (twice_after [] (index_names d.space is)) _ (names_once d.space rules.space is (sum_indexes d is operand declared) each.0)
     (all_once d rules operand (sum_operand d is operand declared) each.1)
 
@@ -155,7 +155,7 @@ all_other d rules result below (leaf t is) fits other =
     neither _ None (ap (λ b. cond b (Some (tensor_at d t).name) None) apart) refl
 all_other d rules result below (constant n) fits other = refl
 all_other d rules result below (binary op left right) fits other =
-    let parts = of_or (has_tensor result left) (has_tensor result right) other in
+    let parts = or_parts (has_tensor result left) (has_tensor result right) other in
     joined_none (tensor_named (tensor_at d result).name) (places (formula_of d left)) (places (formula_of d right))
     (all_other d rules result below left fits.0 parts.0) (all_other d rules result below right fits.1 parts.1)
 all_other d rules result below (sum is operand) fits other = all_other d rules result below operand fits other

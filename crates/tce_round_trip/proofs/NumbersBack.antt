@@ -3,7 +3,7 @@ use Rattle.std.proofs.Common.{◌≡◌, ℕ, zero, suc, ◌<◌, ◌≤◌, ◌
 use Rattle.std.specs.Prelude.{find, is_none, unwrap_or}
 use Rattle.std.specs.Fmt.{decimal}
 use Rattle.std.proofs.lemmas.Fmt.{first_decimal, decimal_digit}
-use Rattle.std.proofs.lemmas.Bool.{lt-ltb}
+use Rattle.std.proofs.lemmas.Bool.{lt-ltb, and_from}
 use Rattle.std.proofs.lemmas.Bool.Decides.{nat_tests}
 use Rattle.std.specs.List.{AllByRecursion}
 use Rattle.tce_space.specs.Space.{IndexSpace, IsSpace, index_at, index_number, range_at, range_number}
@@ -89,16 +89,12 @@ constant_fine n h =
 small : (n : ℕ) → n < 2 ^ 32 → n < 2 ^ 64
 small n h = omega arith
 
-both : (a b : Bool) → a ≡ true → b ≡ true → (a && b) ≡ true
-both true b e f = f
-both false b e f = cc
-
 range_number_fine : (n : ℕ) → 0 < n → n < 2 ^ 32 → is_range_number (decimal n) ≡ true
 range_number_fine n some h =
     let lead : leads_with_zero (decimal n) ≡ false = no_zero_leads n (small n h) in
     let value : value_of (decimal n) ≡ n = value_back n (small n h) in
     let tests : is_range_number (decimal n) ≡ (not false && nat_lt 0 n && nat_lt n (2 ^ 32)) = λ i. not (lead i) && nat_lt 0 (value i) && nat_lt (value i) (2 ^ 32) in
-    tests ∙ both (nat_lt 0 n) (nat_lt n (2 ^ 32)) (lt-ltb 0 n some) (lt-ltb n (2 ^ 32) h)
+    tests ∙ and_from (nat_lt 0 n) (nat_lt n (2 ^ 32)) (lt-ltb 0 n some) (lt-ltb n (2 ^ 32) h)
 
 at_most : (a b : ℕ) → a ≤ b → nat_le a b ≡ true
 at_most a b h = grind (arith, nat_tests)
@@ -112,8 +108,8 @@ size_fine extent edge some limit edge_some edge_limit = by_test (edge == 1)
         let small_edge : edge < 2 ^ 32 = omega (arith, limit, edge_limit) in
         let values : nat_le (value_of (decimal edge)) (value_of (decimal extent)) ≡ nat_le edge extent =
         λ i. nat_le (value_back edge (small edge small_edge) i) (value_back extent (small extent limit) i) in
-        both (is_range_number (decimal extent)) _ (range_number_fine extent some limit)
-        (both (is_range_number (decimal edge)) _ (range_number_fine edge edge_some small_edge) (values ∙ at_most edge extent edge_limit))
+        and_from (is_range_number (decimal extent)) _ (range_number_fine extent some limit)
+        (and_from (is_range_number (decimal edge)) _ (range_number_fine edge edge_some small_edge) (values ∙ at_most edge extent edge_limit))
 
 pub edge_back : (edge : ℕ) → edge < 2 ^ 64 → edge_of (edge_digits edge) ≡ edge
 edge_back edge h = by_test (edge == 1) refl

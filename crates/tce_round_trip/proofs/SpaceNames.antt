@@ -1,8 +1,8 @@
 -- Names of ranges, indexes and tensors, and their numbers.
-use Rattle.std.proofs.Common.{◌≡◌, ℕ, zero, suc, ◌<◌, ◌≤◌, Bool, true, false, not, ◌||◌, ◌&&◌, ◌==◌, List, [], ◌∷◌, length, map, get_or, Some, refl, ap, arith, nat_lt}
+use Rattle.std.proofs.Common.{◌≡◌, ℕ, zero, suc, ◌<◌, ◌≤◌, Bool, true, false, not, ◌&&◌, ◌==◌, List, [], ◌∷◌, length, map, get_or, Some, refl, ap, arith, nat_lt}
 use Rattle.std.specs.List.{IsDistinct, AllByRecursion, list_all}
 use Rattle.std.specs.Str.{bytes_eq}
-use Rattle.std.proofs.lemmas.Bool.{ltb-false}
+use Rattle.std.proofs.lemmas.Bool.{ltb-false, or_parts, and_parts}
 use Rattle.std.proofs.lemmas.Bool.Decides.{nat_tests}
 use Rattle.tce_space.specs.Space.{Range, Index, IndexSpace, IsSpace, range_at, index_at, range_number, index_number, no_range, no_index}
 use Rattle.tce_tree.specs.WellFormed.{among, is_distinct}
@@ -17,22 +17,14 @@ range_found space rules r below = found_at (λ (x : Range). x.name) space.ranges
 abbrev pub AreIndexes : IndexSpace → List ℕ → Type 0
 AreIndexes space is = AllByRecursion (λ i. i < length space.indexes) is
 
-pub of_and : (a b : Bool) → (a && b) ≡ true → (a ≡ true) × (b ≡ true)
-of_and true b h = (refl, h)
-of_and false b h = cc
-
 pub of_not_and : (a b : Bool) → (not a && b) ≡ true → (a ≡ false) × (b ≡ true)
 of_not_and true b h = cc
 of_not_and false b h = (refl, h)
 
-pub of_or : (a b : Bool) → (a || b) ≡ false → (a ≡ false) × (b ≡ false)
-of_or true b h = cc
-of_or false b h = (refl, h)
-
 pub all_below : (n : ℕ) (is : List ℕ) → list_all (λ i. nat_lt i n) is ≡ true → AllByRecursion (λ i. i < n) is
 all_below n [] h = tt
 all_below n (i ∷ is) h =
-    let parts = of_and (nat_lt i n) (list_all (λ i. nat_lt i n) is) h in
+    let parts = and_parts (nat_lt i n) (list_all (λ i. nat_lt i n) is) h in
     let here : i < n = grind (arith, nat_tests, parts.0) in
     (here, all_below n is parts.1)
 
@@ -63,7 +55,7 @@ apart : (space : IndexSpace) → IsSpace space → (i : ℕ) (is : List ℕ) →
     → AllByRecursion (λ y. bytes_eq (index_at space i).name y ≡ false) (names space is)
 apart space rules i [] below are other = tt
 apart space rules i (j ∷ js) below are other =
-    let parts = of_or (j == i) (among js i) other in
+    let parts = or_parts (j == i) (among js i) other in
     let flipped : (i == j) ≡ false = grind (arith, nat_tests, parts.0) in
     (names_differ (λ (x : Index). x.name) space.indexes i j no_index rules.index_names below are.0 flipped, apart space rules i js below are.1 parts.1)
 

@@ -7,8 +7,10 @@ use Rattle.std.proofs.lemmas.Fmt.{length-decimal-le}
 use Rattle.std.proofs.lemmas.List.{length-map}
 use Rattle.std.proofs.lemmas.List.Elements.{recursion_from_All}
 use Rattle.std.proofs.lemmas.Map.Steps.{length-le_from_distinct_below}
+use Rattle.std.proofs.lemmas.Bool.{and_parts}
 use Rattle.tce_space.specs.Name.{is_name}
 use Rattle.tce_space.specs.Space.{Range, Index, IndexSpace, IsRange, IsSpace, range_at, index_at}
+use Rattle.tce_space.proofs.Spaces.{name_len}
 use Rattle.tce_tree.specs.ContractionTree as trees
 use Rattle.tce_tree.specs.ContractionTree.{ContractionTree, leaf, constant, binary, sum}
 use Rattle.tce_tree.specs.WellFormed.{IsDeclaredTree, sums_distinct, is_distinct, indexes_below}
@@ -26,8 +28,7 @@ use Rattle.tce_spec.specs.Specification.{Specification}
 use Rattle.tce_round_trip.specs.Canonical.{canonical_of}
 use Rattle.tce_spec.specs.Specification.{ConstantsAreWords}
 use Rattle.tce_round_trip.specs.RoundTrip.{IsWritable}
-use Rattle.tce_round_trip.proofs.SpaceNames.{of_and}
-use Rattle.tce_round_trip.proofs.Lengths.{width, width_joined, widths, widths_joined, text_short, name_short, listed_short, bracketed_short, words_short}
+use Rattle.tce_round_trip.proofs.Lengths.{width, width_joined, widths, widths_joined, text_short, listed_short, bracketed_short, words_short}
 use Rattle.tce_round_trip.proofs.WrittenStatements.{IsGroup, range_named, ranges_named, indexes_named, groups_are, tensor_ranges, fit_indexes, sum_indexes, sum_operand, binary_operands}
 use Rattle.tce_round_trip.proofs.Heads.{all_of, groups_of, of_group}
 
@@ -45,7 +46,7 @@ range_short r is =
     let range : length (codes "range") ≡ 5 = refl in
     let extent = digits_short r.extent is.limit in
     let edge = edge_short (r.edge == 1) r.edge (digits_short r.edge (omega (arith, is.limit, is.edge_limit))) in
-    omega (arith, range, extent, edge, name_short r.name is.named)
+    omega (arith, range, extent, edge, name_len r.name is.named)
 
 ranges_short : (rs : List Range) → AllByRecursion IsRange rs → widths (map range_statement rs) ≤ 51 * length rs
 ranges_short [] are = omega arith
@@ -60,7 +61,7 @@ some_long (n ∷ ns) some = omega arith
 group_short : (space : IndexSpace) → IsSpace space → (g : Group) → IsGroup space g → width (canonical_tokens (index_statement space g)) + 1 ≤ 41 * length g.names
 group_short space rules g is =
     let index : length (codes "index") ≡ 5 = refl in
-    omega (arith, index, name_short (range_at space g.of_range).name (range_named space rules g.of_range is.declared), words_short g.names is.named, some_long g.names is.some)
+    omega (arith, index, name_len (range_at space g.of_range).name (range_named space rules g.of_range is.declared), words_short g.names is.named, some_long g.names is.some)
 
 groups_short : (space : IndexSpace) → IsSpace space → (gs : List Group) → AllByRecursion (IsGroup space) gs → widths (map (index_statement space) gs) ≤ 41 * length (all_of gs)
 groups_short space rules [] are = omega arith
@@ -109,7 +110,7 @@ sign_short subtract = refl
 
 few_indexes : (d : Declarations) → IsDeclarations d → (is : List ℕ) (operand : ContractionTree) → IsDeclaredTree d.space (sum is operand) → is_distinct is ≡ true → length is ≤ 24
 few_indexes d rules is operand declared distinct =
-    let below = (of_and (list_all (λ i. nat_lt i (length d.space.indexes)) is) (indexes_below (length d.space.indexes) operand) declared).0 in
+    let below = (and_parts (list_all (λ i. nat_lt i (length d.space.indexes)) is) (indexes_below (length d.space.indexes) operand) declared).0 in
     let few : length is ≤ length d.space.indexes =
     length-le_from_distinct_below is (length d.space.indexes) (distinct_is is distinct) (λ q h. member_below (length d.space.indexes) is q below h) in
     omega (arith, few, rules.space.index_limit)
@@ -122,7 +123,7 @@ tree_short d rules named (constant n) fits declared distinct words =
     omega (arith, digits)
 tree_short d rules named (binary op left right) fits declared distinct words =
     let parts = binary_operands d op left right declared in
-    let each = of_and (sums_distinct left) (sums_distinct right) distinct in
+    let each = and_parts (sums_distinct left) (sums_distinct right) distinct in
     let a : Written = written_of (formula_of d left) in
     let b : Written = written_of (formula_of d right) in
     let first_test : Bool = nat_lt (level a) (precedence op) in
@@ -137,7 +138,7 @@ tree_short d rules named (binary op left right) fits declared distinct words =
       tree_short d rules named right fits.1 parts.1 each.1 words.1,
     )
 tree_short d rules named (sum is operand) fits declared distinct words =
-    let each = of_and (is_distinct is) (sums_distinct operand) distinct in
+    let each = and_parts (is_distinct is) (sums_distinct operand) distinct in
     let names : List (List ℕ) = index_names d.space is in
     let inner : List Token = spelling (written_of (formula_of d operand)) in
     let three : length (codes "sum") ≡ 3 = refl in

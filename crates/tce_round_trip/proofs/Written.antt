@@ -57,7 +57,7 @@ record HasRules (h : Head) : Type 0 where
   pub declarations : IsDeclarations h.declarations
   pub named : IsNamed h.written
 
-no_fault : {A : Type 0} (fault : Option Fault) (next : Result A Fault) (x : A) → unless fault next ≡ Ok x → (fault ≡ None) × (next ≡ Ok x)
+pub no_fault : {A : Type 0} (fault : Option Fault) (next : Result A Fault) (x : A) → unless fault next ≡ Ok x → (fault ≡ None) × (next ≡ Ok x)
 no_fault None next x is = (refl, is)
 no_fault (Some f) next x is = cc
 

@@ -2,6 +2,7 @@
 use Rattle.std.proofs.Common.{◌≡◌, ℕ, ◌<◌, ◌≤◌, ◌+◌, ◌==◌, Bool, true, false, List, [], ◌∷◌, length, map, cond, IsTrue, refl, sym, subst, arith, nat_lt}
 use Rattle.std.specs.List.{AllByRecursion, list_all}
 use Rattle.std.proofs.lemmas.List.Elements.{recursion_from_All}
+use Rattle.std.proofs.lemmas.Bool.{and_parts}
 use Rattle.tce_space.specs.Name.{is_name}
 use Rattle.tce_space.specs.Space.{Range, Index, IndexSpace, IsRange, IsSpace, range_at, index_at, no_range, no_index}
 use Rattle.tce_tree.specs.ContractionTree as trees
@@ -10,12 +11,12 @@ use Rattle.tce_tree.specs.WellFormed.{IsDeclaredTree, indexes_below}
 use Rattle.tce_grammar.specs.Formula.{operations}
 use Rattle.tce_grammar.specs.Grammar.{AreNames, AreSome}
 use Rattle.tce_grammar.specs.Canonical.{IsFormula, IsStatement, AreStatements}
+use Rattle.tce_grammar.proofs.CanonicalLines.{all_joined}
 use Rattle.tce_declarations.specs.Declarations.{Declarations, IsDeclarations, IsTensor, Tensor, HaveNames, tensor_at, no_tensor}
 use Rattle.tce_formula.specs.Contraction.{FitsTensor, LeavesFit, sums_some, IsContraction}
 use Rattle.tce_canonical.specs.Statements.{Group, groups, in_group, range_statement, index_statement, tensor_statement, formula_statement, formula_of, range_names, index_names, statements}
 use Rattle.tce_spec.specs.Specification.{ConstantsAreWords}
-use Rattle.tce_round_trip.proofs.Lookups.{all_joined}
-use Rattle.tce_round_trip.proofs.SpaceNames.{AreIndexes, of_and, all_below, of_ranges}
+use Rattle.tce_round_trip.proofs.SpaceNames.{AreIndexes, all_below, of_ranges}
 use Rattle.tce_round_trip.proofs.NumbersBack.{AreRanges, number_is, edge_is}
 
 -- ranges
@@ -88,15 +89,15 @@ fit_indexes d rules t is fits =
 
 pub sum_indexes : (d : Declarations) (is : List ℕ) (operand : ContractionTree) → IsDeclaredTree d.space (sum is operand) → AreIndexes d.space is
 sum_indexes d is operand declared =
-    all_below (length d.space.indexes) is (of_and (list_all (λ i. nat_lt i (length d.space.indexes)) is) (indexes_below (length d.space.indexes) operand) declared).0
+    all_below (length d.space.indexes) is (and_parts (list_all (λ i. nat_lt i (length d.space.indexes)) is) (indexes_below (length d.space.indexes) operand) declared).0
 
 pub sum_operand : (d : Declarations) (is : List ℕ) (operand : ContractionTree) → IsDeclaredTree d.space (sum is operand) → IsDeclaredTree d.space operand
 sum_operand d is operand declared =
-    (of_and (list_all (λ i. nat_lt i (length d.space.indexes)) is) (indexes_below (length d.space.indexes) operand) declared).1
+    (and_parts (list_all (λ i. nat_lt i (length d.space.indexes)) is) (indexes_below (length d.space.indexes) operand) declared).1
 
 pub binary_operands : (d : Declarations) (op : trees.Arithmetic) (left right : ContractionTree) → IsDeclaredTree d.space (binary op left right)
     → IsDeclaredTree d.space left × IsDeclaredTree d.space right
-binary_operands d op left right declared = of_and (indexes_below (length d.space.indexes) left) (indexes_below (length d.space.indexes) right) declared
+binary_operands d op left right declared = and_parts (indexes_below (length d.space.indexes) left) (indexes_below (length d.space.indexes) right) declared
 
 names_some : (space : IndexSpace) (is : List ℕ) → nat_lt 0 (length is) ≡ true → AreSome (index_names space is)
 names_some space [] some = λ e. absurd (none some)
@@ -112,10 +113,10 @@ tree_written d rules named (leaf t is) fits declared some words =
 tree_written d rules named (constant n) fits declared some words = number_is n words
 tree_written d rules named (binary op left right) fits declared some words =
     let parts = binary_operands d op left right declared in
-    let somes = of_and (sums_some left) (sums_some right) some in
+    let somes = and_parts (sums_some left) (sums_some right) some in
     (tree_written d rules named left fits.0 parts.0 somes.0 words.0, tree_written d rules named right fits.1 parts.1 somes.1 words.1)
 tree_written d rules named (sum is operand) fits declared some words =
-    let somes = of_and (nat_lt 0 (length is)) (sums_some operand) some in (
+    let somes = and_parts (nat_lt 0 (length is)) (sums_some operand) some in (
       names_some d.space is somes.0,
       indexes_named d.space rules.space is (sum_indexes d is operand declared),
       tree_written d rules named operand fits (sum_operand d is operand declared) somes.1 words,

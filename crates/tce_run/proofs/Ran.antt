@@ -1,9 +1,8 @@
 -- What the command leaves, by what the run of its specification leaves.
-use Rattle.std.proofs.Common.{◌≡◌, ◌⊎◌, ℕ, ◌/◌, ◌≤◌, List, Option, Result, Ok, Err, inl, inr, ap, ◌∙◌, subst, arith}
+use Rattle.std.proofs.Common.{◌≡◌, ◌⊎◌, ℕ, ◌/◌, ◌≤◌, List, Option, inr, ap, ◌∙◌, subst, arith}
 use Rattle.std.proofs.Math.Nat.{mul-div-le, mul-le-mul_left}
 use Rattle.std.specs.Option.{ForSome, option_map}
 use Rattle.tce_outside.specs.Files.{Files, others}
-use Rattle.tce_outside.specs.Fault.{HasCause, Rose, TellsFaults}
 use Rattle.tce_spec.specs.Specification.{Specification}
 use Rattle.tce_spec.specs.Operands.{largest_tile}
 use Rattle.tce_tensors.specs.TensorFiles.{file_of}
@@ -65,19 +64,3 @@ others_stay before middle after spec s same specified stay half = inr (record {
   others_are = stay ∙ ap (others (file_of s s.result)) same;
   no_half = subst (λ o. LeavesNoHalfResult s o after) same half;
 })
-
--- two calls, the last of which may fail
-rose_later : (a b c : ℕ) → a ≤ b → Rose b c → Rose a c
-rose_later a b c later (inl rose) = inl (omega arith)
-rose_later a b c later (inr end) = inr end
-
-pub both_causes : {P Q R : Type 0} (a b c : ℕ) → HasCause a b P → HasCause b c Q → (R → Q) → HasCause a c R
-both_causes a b c first last failed = record { later = omega (arith, first.later, last.later); rose = λ r. rose_later a b c first.later (last.rose (failed r)) }
-
--- the same call with another answer
-pub cause_as : {P Q : Type 0} (a b : ℕ) → (Q → P) → HasCause a b P → HasCause a b Q
-cause_as a b from cause = record { later = cause.later; rose = λ failed. cause.rose (from failed) }
-
--- a call that is answered had no fault
-pub ok_quiet : {A B : Type 0} {f : B} (a b : ℕ) (x : A) (given : Result A B) → given ≡ Ok x → TellsFaults a b (given ≡ Err f) → b ≡ a
-ok_quiet a b x given is told = told (λ failed. absurd (cc))

@@ -5,7 +5,7 @@ use Rattle.tce_array.specs.declared.fault.ArrayFault.TheVariants as array_fault
 use Rattle.tce_spec.specs.Specification.{Specification}
 use Rattle.tce_tensors.specs.TensorFiles.{name_of, file_of}
 use Rattle.tce_tensors.specs.declared.opening.Refused.{Refused}
-use Rattle.tce_tensors.specs.Opened.{IsRefused}
+use Rattle.tce_tensors.specs.Opened.{IsRefused, IsRefusedOn}
 use Rattle.tce_job.specs.declared.fault.JobFault.{JobFault}
 use Rattle.tce_job.specs.declared.fault.JobFault.TheVariants as faults
 use Rattle.tce_job.specs.Refusals.{IsCause, MustBeRefused, CanRun, IsFree as IsFreeFault}
@@ -81,8 +81,8 @@ cause_map P Q s budget (faults.Array t fault) h p = (p.0, h (record { tensor = t
 cause_map P Q s budget faults.Disk h p = tt
 cause_map P Q s budget faults.Memory h p = tt
 
-may : (files : Files) (s : Specification) (budget : ℕ) (f : JobFault) → IsCause (IsRefused files s) s budget f → IsCause (causes.IsRefusedIfTold (Some files) s) s budget f
-may files s budget f = cause_map (IsRefused files s) (causes.IsRefusedIfTold (Some files) s) s budget f (λ r p others told. let same : files ≡ others = cc in subst (λ x. IsRefused x s r) same p)
+may : (files : Files) (s : Specification) (budget : ℕ) (f : JobFault) → IsCause (IsRefused files s) s budget f → IsCause (IsRefusedOn (Some files) s) s budget f
+may files s budget f = cause_map (IsRefused files s) (IsRefusedOn (Some files) s) s budget f (λ r p others told. let same : files ≡ others = cc in subst (λ x. IsRefused x s r) same p)
 
 must : (files : Files) (s : Specification) (budget : ℕ) (f : JobFault) → IsCause (IsRefused files s) s budget f → IsCause (MustBeRefused (Some files) s) s budget f
 must files s budget f = cause_map (IsRefused files s) (MustBeRefused (Some files) s) s budget f (λ r p. p)

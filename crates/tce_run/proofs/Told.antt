@@ -9,10 +9,11 @@ use Rattle.tce_tensors.specs.declared.opening.Refused.{Refused}
 use Rattle.tce_tensors.specs.Opened.{IsRefused}
 use Rattle.tce_job.specs.declared.fault.JobFault.{JobFault}
 use Rattle.tce_job.specs.declared.fault.JobFault.TheVariants as faults
-use Rattle.tce_job.specs.Refusals.{IsCause, CanRun}
+use Rattle.tce_job.specs.Refusals.{IsCause, CanRun, IsFree as IsFreeFault}
 use Rattle.tce_job.specs.Prepared.{IsRoomLeft as JobRoomLeft, HasTaken}
 use Rattle.tce_command.specs.declared.refusal.Refusal.{Refusal}
 use Rattle.tce_command.specs.declared.refusal.Refusal.TheVariants.{Missing, Array, Disk, Memory}
+use Rattle.tce_command.specs.Refusals.{IsFree}
 use Rattle.tce_source.specs.Source.{HasSpecification}
 use Rattle.tce_run.specs.Refusals.{IsFirstRefused, IsJobRefusal}
 use Rattle.tce_run.specs.Done.{IsTaking, IsRoomLeft}
@@ -107,3 +108,11 @@ told_room before middle s spec budget faults.Disk a taken after same specified t
     subst (λ b. IsRoomLeft b before taken after spec budget) (sym told) (one_taking before middle s spec budget taken after same specified tested p)
 told_room before middle s spec budget faults.Memory a taken after same specified told tested p =
     subst (λ b. IsRoomLeft b before taken after spec budget) (sym told) (one_taking before middle s spec budget taken after same specified tested p)
+
+-- what tells a free fault is free
+pub told_free : (s : Specification) (f : JobFault) (a : Refusal) → IsToldAs s f a → IsFreeFault f → IsFree a
+told_free s (faults.BudgetTooSmall n) a told free = absurd free
+told_free s (faults.IntermediatesTooLarge n) a told free = absurd free
+told_free s (faults.Array t fault) a told free = absurd free
+told_free s faults.Disk a told free = subst IsFree (sym told) tt
+told_free s faults.Memory a told free = subst IsFree (sym told) tt

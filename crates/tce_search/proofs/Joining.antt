@@ -19,7 +19,6 @@ use Rattle.tce_states.proofs.Reached.{root_is_reached}
 use Rattle.tce_states.proofs.Unfused.{some_rows_join}
 use Rattle.tce_candidates.specs.declared.candidate.Candidate.{Candidate}
 use Rattle.tce_candidates.specs.Laws.{rows_of}
-use Rattle.tce_candidates.specs.Reached.{IsStateOf}
 use Rattle.tce_search.specs.declared.root.WholeFusion.{WholeFusion}
 use Rattle.tce_search.specs.CandidateLists.{tables_of, leaf_candidate, left_candidates, right_candidates, Searched, IsKept, AreFound}
 use Rattle.tce_search.specs.LeastPlan.{IsBelowFusions}
@@ -89,9 +88,6 @@ module _ (space : IndexSpace) (tree : ContractionTree) (found : Searched) (root 
           (λ (c : Candidate). c.row) (right_candidates tree found.lists root)
           (λ m e inner quiet. bound k d low m e inner (rw is quiet)))
 
-  state_of : (subtree : ContractionTree) (candidate : Candidate) → IsStateOf space subtree candidate → reached.IsStateOf space subtree candidate.sets.items candidate.row
-  state_of subtree candidate state = record { count = state.count; within = state.within; exists = state.has_state; relation = state.relation; cost_is = state.cost }
-
   inside : root < operations tree
   inside = omega (arith, last)
 
@@ -120,8 +116,8 @@ module _ (space : IndexSpace) (tree : ContractionTree) (found : Searched) (root 
       let count = made_sets whole from in
       let left_sets = sets_kept space (left_below tree root) found.least from.left left_is in
       let right_sets = sets_kept space (right_below tree root) found.least from.right right_is in
-      let left = state_of (left_below tree root) from.left (full_is_state space (left_below tree root) found.least from.left left_is (omega (arith, full, count, root_sizes, left_sets, right_sets))) in
-      let right = state_of (right_below tree root) from.right (full_is_state space (right_below tree root) found.least from.right right_is (omega (arith, full, count, root_sizes, left_sets, right_sets))) in
+      let left = full_is_state space (left_below tree root) found.least from.left left_is (omega (arith, full, count, root_sizes, left_sets, right_sets)) in
+      let right = full_is_state space (right_below tree root) found.least from.right right_is (omega (arith, full, count, root_sizes, left_sets, right_sets)) in
       rw (from.made.sets_are, from.made.memory_is)
       (root_is_reached space tree from.left.sets.items from.right.sets.items from.left.row from.right.row (omega (arith, last))
       (subst (λ r. reached.IsStateOf space (left_below tree r) from.left.sets.items from.left.row) is_root left)

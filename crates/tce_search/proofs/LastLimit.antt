@@ -1,35 +1,19 @@
 -- The fusion that fuses nothing is legal, and takes less memory than the last limit.
-use Rattle.std.proofs.Common.{◌≡◌, ℕ, zero, suc, ◌+◌, ◌-◌, ◌*◌, ◌^◌, ◌<◌, ◌≤◌, List, replicate, refl, ap, ◌∙◌, subst, sym, arith, sum_by}
+use Rattle.std.proofs.Common.{◌≡◌, ℕ, ◌+◌, ◌-◌, ◌*◌, ◌^◌, ◌<◌, ◌≤◌, List, replicate, ◌∙◌, subst, sym, arith, sum_by}
 use Rattle.std.specs.List.{All, range_with_len}
-use Rattle.std.proofs.lemmas.Bool.{both_ways}
-use Rattle.std.proofs.lemmas.List.{length-replicate}
 use Rattle.std.proofs.lemmas.List.FromFn.{length-range_with_len, get_or-range_with_len}
 use Rattle.std.proofs.lemmas.List.Sums.{sum_by-le}
-use Rattle.tce_space.specs.IndexSet.{has}
 use Rattle.tce_space.specs.Space.{IndexSpace, IsSpace}
-use Rattle.tce_space.proofs.IndexSetLaws.{has-empty}
 use Rattle.tce_tree.specs.ContractionTree.{ContractionTree, left_tree, right_tree, operations}
-use Rattle.tce_tree.specs.Fusion.{fused_at, kept_dims, FusionFits}
+use Rattle.tce_tree.specs.Fusion.{fused_at, kept_dims}
 use Rattle.tce_tree.specs.Measure.{IsMeasured}
 use Rattle.tce_tree.specs.Memory.{size_at, size_before, memory}
 use Rattle.tce_fusion.specs.Scope.{IsLegal}
 use Rattle.tce_fusion.proofs.SizeLaws.{kept_small}
 use Rattle.tce_states.specs.State.{first_right}
 use Rattle.tce_states.proofs.Legality.{legal_from_states}
-use Rattle.tce_states.proofs.Unfused.{joined_unfused, state_unfused}
+use Rattle.tce_states.proofs.Unfused.{joined_unfused, state_unfused, zeros_fuse_nothing, zeros_fit}
 use Rattle.tce_search.specs.LeastPlan.{IsBelowFusions}
-
-zeros_fuse_nothing : (n v : ℕ) → fused_at (replicate n 0) v ≡ 0
-zeros_fuse_nothing zero v = refl
-zeros_fuse_nothing (suc n) zero = refl
-zeros_fuse_nothing (suc n) (suc v) = zeros_fuse_nothing n v
-
-pub zeros_fit : (tree : ContractionTree) → FusionFits tree (replicate (operations tree) 0)
-zeros_fit tree = record {
-  each = length-replicate (operations tree) 0;
-  within = λ v v_in i m. absurd (both_ways (has (fused_at (replicate (operations tree) 0) v) i) (ap (λ s. has s i) (zeros_fuse_nothing (operations tree) v) ∙ has-empty i) m);
-  root = zeros_fuse_nothing (operations tree) (operations tree - 1);
-}
 
 pub zeros_legal : (tree : ContractionTree) → IsLegal tree (replicate (operations tree) 0)
 zeros_legal tree =

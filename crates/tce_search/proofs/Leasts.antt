@@ -2,14 +2,11 @@
 use Rattle.std.proofs.Common.{◌≡◌, ◌⊎◌, ℕ, ◌+◌, ◌<◌, ◌≤◌, Option, Some, None, List, length, get_or, inl, inr, sym, subst}
 use Rattle.std.specs.Prelude.{IfSome}
 use Rattle.std.specs.List.{All, AllWithin, Contains}
-use Rattle.std.proofs.lemmas.List.Elements.{All-from_all_within, AllWithin-more, AllWithin-upto, Contains-get_or, at_read}
+use Rattle.std.proofs.lemmas.List.Elements.{All-from_all_within, AllWithin-more, AllWithin-upto, at_read}
 use Rattle.tce_candidates.specs.declared.candidate.Candidate.{Candidate}
 use Rattle.tce_candidates.specs.Candidates.{LeavesRoom, HaveRoom}
 use Rattle.tce_search.specs.Root.{IsMadeOf, IsMadeOfSome, IsAtMost, IsBound}
 use Rattle.tce_search.specs.declared.root.WholeFusion.{WholeFusion}
-
-pub read_contains : (xs : List Candidate) (k : ℕ) (x : Candidate) → k < length xs → x ≡ get_or xs k x → Contains xs x
-read_contains xs k x low is = subst (Contains xs) (sym is) (Contains-get_or xs k x low)
 
 pub holds_read : (P : Candidate → Type 0) (xs : List Candidate) (k : ℕ) (x : Candidate) → All P xs → k < length xs → x ≡ get_or xs k x → P x
 holds_read P xs k x all low is = subst P (sym is) (all k x low)

@@ -11,12 +11,12 @@ use Rattle.tce_tree.specs.ContractionTree.{ContractionTree, leaf, constant, is_l
 use Rattle.tce_tree.specs.FlatTree.{IsBefore, left_of, right_of}
 use Rattle.tce_tree.specs.declared.node.Operand.{Operand}
 use Rattle.tce_tree.specs.declared.node.Operand.TheVariants.{Leaf, Constant, Node}
-use Rattle.tce_tree.proofs.Nodes.{size_bounds}
+use Rattle.tce_tree.proofs.Nodes.{size_bounds, node_of_some}
 use Rattle.tce_tree.proofs.Operands.{left_before, right_before}
 use Rattle.tce_states.specs.Row.{rows_at}
 use Rattle.tce_states.specs.Cover.{operand_rows, right_operand_rows, left_rows, right_rows}
 use Rattle.tce_states.specs.Reached.{tree_of_operand, tree_of_right, left_below, right_below}
-use Rattle.tce_states.proofs.Operands.{operations-node, node_of_some}
+use Rattle.tce_states.proofs.Operands.{operations-node}
 use Rattle.tce_states.proofs.Reached.{operands_are_joined}
 use Rattle.tce_candidates.specs.declared.candidate.Candidate.{Candidate}
 use Rattle.tce_candidates.specs.Candidates.{IsLimited, HaveRoom, AreOperands}

@@ -22,8 +22,7 @@ use Rattle.tce_sequence.specs.BatchDone.{IsBatchLeft, IsBatchRoomLeft, IsBatchRu
 use Rattle.tce_sequence.specs.BatchOfFormulas.{AreRun, IsFormulaFault}
 use Rattle.tce_sequence.specs.BatchRefusals.{IsBatchRefusal, IsFormulaRefusal, IsToldAt, IsToldWithout}
 use Rattle.tce_run.proofs.Ran.{within}
-use Rattle.tce_run.proofs.Told.{told_disk, disk_told}
-use Rattle.tce_sequence.proofs.BatchReasons.{told_free}
+use Rattle.tce_run.proofs.Told.{told_disk, disk_told, told_free}
 
 -- A fault names a formula.
 
@@ -175,7 +174,7 @@ pub batch_others : (before middle after : Option Files) (spec : List ℕ) (formu
 batch_others before middle after spec formulas same specified stay =
     inr (record { formulas = formulas; specified = specified; others_are = subst (λ (o : Option Files). OnlyResultsDiffer formulas o after) same stay })
 
-within_each : (formulas : List Specification) (budget : ℕ) → All (λ (s : Specification). tile_take s budget ≤ budget) formulas
+pub within_each : (formulas : List Specification) (budget : ℕ) → All (λ (s : Specification). tile_take s budget ≤ budget) formulas
 within_each formulas budget = λ k d less. within (get_or formulas k d) budget
 
 pub batch_ran : (before middle after : Option Files) (taken taken_after : List (ℕ × ℕ)) (spec : List ℕ) (budget : ℕ) (formulas : List Specification) (report : List ℕ) → middle ≡ before

@@ -14,6 +14,7 @@ use Rattle.tce_command.specs.Refusals.{IsFree, SameRefusal}
 use Rattle.tce_command.specs.declared.refusal.Refusal.{Refusal}
 use Rattle.tce_source.proofs.Outcomes.{one_batch, one_batch_refusal, not_both_batch}
 use Rattle.tce_run.specs.Told.{IsToldAs}
+use Rattle.tce_run.proofs.Told.{told_free}
 use Rattle.tce_sequence.specs.BatchDone.{CanRunFormulas, IsBatchRun}
 use Rattle.tce_sequence.specs.BatchRefusals.{CanRunBatch, IsFormulaRefusal, IsBatchRefusal}
 use Rattle.tce_sequence.proofs.Alike.{arrays_alike, same_alike}
@@ -25,14 +26,6 @@ told_alike s (faults.IntermediatesTooLarge n) a b p q = same_alike a b (p ∙ sy
 told_alike s (faults.Array t u) a b p q = arrays_alike (name_of s t) u a b p q
 told_alike s faults.Disk a b p q = same_alike a b (p ∙ sym q)
 told_alike s faults.Memory a b p q = same_alike a b (p ∙ sym q)
-
--- what may come anywhere is told so
-pub told_free : (s : Specification) (f : JobFault) (a : Refusal) → IsToldAs s f a → IsFreeFault f → IsFree a
-told_free s (faults.BudgetTooSmall n) a told free = absurd free
-told_free s (faults.IntermediatesTooLarge n) a told free = absurd free
-told_free s (faults.Array t u) a told free = absurd free
-told_free s faults.Disk a told free = subst IsFree (sym told) tt
-told_free s faults.Memory a told free = subst IsFree (sym told) tt
 
 -- an operand is known to be refused where the disk tells its files
 known : (files : Files) (f : JobFault) → IsKnown (Some files) f

@@ -1,11 +1,10 @@
 -- What the command leaves that runs a tree in pieces, by what the runs of the pieces leave.
-use Rattle.std.proofs.Common.{◌≡◌, ◌⊎◌, inl, inr, ℕ, ◌≤◌, List, All, get_or, Option, Result, Err, refl, sym, subst, ◌∙◌, ap}
+use Rattle.std.proofs.Common.{◌≡◌, ◌⊎◌, inl, inr, ℕ, List, Option, Result, Err, refl, sym, subst, ◌∙◌, ap}
 use Rattle.std.specs.Option.{ForSome}
 use Rattle.tce_outside.specs.Files.{Files}
 use Rattle.tce_array.specs.declared.fault.ArrayFault.{ArrayFault}
 use Rattle.tce_array.specs.declared.fault.ArrayFault.TheVariants as array_fault
 use Rattle.tce_spec.specs.Specification.{Specification}
-use Rattle.tce_tensors.specs.Takings.{tile_take}
 use Rattle.tce_job.specs.Several.{OnlyResultsDiffer}
 use Rattle.tce_spill.specs.declared.fault.SpillFault.{SpillFault}
 use Rattle.tce_spill.specs.declared.fault.SpillFault.TheVariants as faults
@@ -22,6 +21,7 @@ use Rattle.tce_sequence.specs.SpillDone.{IsSpillLeft, IsSpillRoomLeft, IsSpillRu
 use Rattle.tce_sequence.specs.SpillOfSource.{ArePiecesRun, IsPieceFault}
 use Rattle.tce_sequence.specs.SpillRefusals.{IsOfFiles, IsSpillRefusal, IsToldAs}
 use Rattle.tce_sequence.proofs.SpillReasons.{told_free}
+use Rattle.tce_sequence.proofs.BatchRan.{within_each}
 
 -- an array is refused for its file
 pub of_files : (told : Option Files) (s : Specification) (budget limit : ℕ) (f : SpillFault) → IsSpillCause told s budget limit f → IsOfFiles f
@@ -114,9 +114,6 @@ spill_others before middle after spec limit s same specified (inr stay) =
       specified = specified;
       others_are = subst (λ (o : Option Files). WithCuts s limit (λ cut. OnlyResultsDiffer (pieces_of s cut) o after)) same stay;
     })
-
-within_each : (pieces : List Specification) (budget : ℕ) → All (λ (p : Specification). tile_take p budget ≤ budget) pieces
-within_each pieces budget = λ k d less. within (get_or pieces k d) budget
 
 pub spill_ran : (before middle after : Option Files) (taken taken_after : List (ℕ × ℕ)) (spec : List ℕ) (budget limit : ℕ) (s : Specification) (report : List ℕ) → middle ≡ before
     → ForSome before (λ files. HasSpecification files spec s) → ArePiecesRun middle after taken taken_after s budget limit report → IsSpillRun before after taken taken_after spec budget limit report

@@ -1,5 +1,5 @@
 -- The file of a specification has one outcome.
-use Rattle.std.proofs.Common.{◌≡◌, refl, sym, ap, subst, ◌∙◌, ◌⊎◌, inl, inr, ℕ, List, ◌++◌, Option, Some, None, Ok, Err, codes}
+use Rattle.std.proofs.Common.{◌≡◌, refl, sym, ap, subst, ◌∙◌, ◌⊎◌, inl, inr, ℕ, List, ◌++◌, Option, Some, None, Ok, Err, codes, Result}
 use Rattle.std.specs.Option.{IsSomeAnd}
 use Rattle.tce_outside.specs.Files.{Files, file}
 use Rattle.tce_spec.specs.Specification.{Specification as Specified}
@@ -40,7 +40,7 @@ same_of : (Has : List ℕ → SpecFault → Type 0) (found : Option (List ℕ)) 
 same_of Has None f g alike p q = absurd p
 same_of Has (Some text) f g alike p q = alike text p q
 
-not_absent : (P : List ℕ → Type 0) (found : Option (List ℕ)) → IsSomeAnd found P → found ≡ None → ⊥
+pub not_absent : (P : List ℕ → Type 0) (found : Option (List ℕ)) → IsSomeAnd found P → found ≡ None → ⊥
 not_absent P found p e = subst (λ x. IsSomeAnd x P) e p
 
 -- where the faults of each text are told alike, a file is refused for one reason
@@ -101,3 +101,6 @@ one_batch_of (Some text) batch other p q = let e = batch_only text (Ok batch) p 
 
 pub one_batch : (files : Files) (spec : List ℕ) (batch other : List Specified) → HasBatch files spec batch → HasBatch files spec other → batch ≡ other
 one_batch files spec batch other p q = one_batch_of (file files spec) batch other p q
+
+pub ok_no_disk : {U : Type 0} (x : U) (given : Result U Refusal) → given ≡ Ok x → given ≡ Err Disk → ⊥
+ok_no_disk x given p q = let same : Ok x ≡ Err Disk = sym p ∙ q in absurd (cc)

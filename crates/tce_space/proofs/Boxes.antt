@@ -137,3 +137,9 @@ placed_end ns xs d passed all l p = done (drop d ns) (drop d xs) (drop_all d ns 
     done [] [] e p = omega (arith, p.sum)
     done [] (x ∷ xs) e p = absurd p.inside
     done (n ∷ ns) xs e p = absurd (cc)
+
+pub inside_joined : (ns ms xs ys : List ℕ) → IsInside ns xs → IsInside ms ys → IsInside (ns ++ ms) (xs ++ ys)
+inside_joined [] ms [] ys h k = k
+inside_joined [] ms (x ∷ xs) ys h k = absurd h
+inside_joined (n ∷ ns) ms [] ys h k = absurd h
+inside_joined (n ∷ ns) ms (x ∷ xs) ys h k = (h.0, inside_joined ns ms xs ys h.1 k)

@@ -25,7 +25,7 @@ count_at (n ∷ ns) (e ∷ es) zero h l = refl
 count_at (n ∷ ns) (e ∷ es) (suc d) h l = count_at ns es d (omega arith) (omega arith)
 
 -- where the extents are some, the tiles are
-some_tile : (n e : ℕ) → 0 < n → 0 < e → 0 < div_ceil n e
+pub some_tile : (n e : ℕ) → 0 < n → 0 < e → 0 < div_ceil n e
 some_tile n e some positive = above (div_ceil n e) (div_ceil_times n e positive).0
   where
     above : (c : ℕ) → n ≤ c * e → 0 < c
@@ -40,7 +40,7 @@ counts_by_recursion (n ∷ ns) (e ∷ es) h p = (some_tile n e h.0.0 p.0, counts
 pub counts_positive : (ns es : List ℕ) → All (λ n. (0 < n) × (n < 2 ^ 32)) ns → ArePositive es → ArePositive (counts_along ns es)
 counts_positive ns es h p = counts_by_recursion ns es (recursion_from_All (λ n. (0 < n) × (n < 2 ^ 32)) ns h) p
 
-positive_by_recursion : (ns : List ℕ) → AllByRecursion (λ n. (0 < n) × (n < 2 ^ 32)) ns → ArePositive ns
+pub positive_by_recursion : (ns : List ℕ) → AllByRecursion (λ n. (0 < n) × (n < 2 ^ 32)) ns → ArePositive ns
 positive_by_recursion [] h = tt
 positive_by_recursion (n ∷ ns) h = (h.0.0, positive_by_recursion ns h.1)
 

@@ -26,7 +26,7 @@ pub one_shl : (k : ℕ) → k < 24 → 1 * 2 ^ k % 2 ^ 32 ≡ 2 ^ k
 one_shl k h = rw one-mul (mod-eq_of_lt (omega (arith, pow_below k h)))
 
 -- a bit is 0 or 1, so tests on bits are tests on the least and the greatest
-bit_cases : (b : ℕ) → b < 2 → (b ≡ 0) ⊎ (b ≡ 1)
+pub bit_cases : (b : ℕ) → b < 2 → (b ≡ 0) ⊎ (b ≡ 1)
 bit_cases zero l = inl refl
 bit_cases (suc zero) l = inr refl
 bit_cases (suc (suc n)) l = absurd (omega arith)
@@ -131,7 +131,7 @@ set_of_lt is = all_with_lt 0 is (omega arith)
 pub has_below : (a i : ℕ) → IsIndexSet a → has a i ≡ true → i < 24
 has_below a i p h = elim (cases_lt i 24) [ inl l ↦ l | inr g ↦ absurd (false≢true (sym (has-beyond a i p g) ∙ h)) ]
 
-same_bit : (a b : ℕ) → a < 2 → b < 2 → eqb a 1 ≡ eqb b 1 → a ≡ b
+pub same_bit : (a b : ℕ) → a < 2 → b < 2 → eqb a 1 ≡ eqb b 1 → a ≡ b
 same_bit a b p q e =
     elim (bit_cases a p) [
       | inl x ↦ elim (bit_cases b q) [ inl y ↦ x ∙ sym y | inr y ↦ absurd (false≢true (rw (x, y) at e)) ]

@@ -8,3 +8,5 @@ pub mod Products
 pub mod Counts
 pub mod Members
 pub mod Examples
+pub mod Names
+pub mod Ranges

@@ -1,14 +1,15 @@
 -- The members of a set, in order.
-use Rattle.std.proofs.Common.{◌≡◌, ℕ, zero, suc, ◌+◌, ◌<◌, Bool, true, false, cond, IsTrue, ◌↔◌, List, [], ◌∷◌, filter, get_or, Contains, inl, inr, refl, sym, ap, ◌∙◌, subst, arith}
+use Rattle.std.proofs.Common.{◌≡◌, ℕ, zero, suc, ◌+◌, ◌<◌, Bool, true, false, cond, IsTrue, ◌↔◌, List, [], ◌∷◌, filter, get_or, Contains, inl, inr, refl, sym, ap, ◌∙◌, subst, arith, All}
 use Rattle.std.specs.List.{range_with_len}
 use Rattle.std.specs.List.Sorted.{IsStrictlyIncreasing}
 use Rattle.std.proofs.lemmas.Bool.{cases_Bool}
+use Rattle.std.proofs.lemmas.List.{get_or_default}
 use Rattle.std.proofs.lemmas.List.Elements.{filter_passes, All-contains}
 use Rattle.std.proofs.lemmas.List.FromFn.{get_or-range_with_len, length-range_with_len}
 use Rattle.std.proofs.lemmas.List.Kept.{IsStrictlyIncreasing-filter}
-use Rattle.tce_space.specs.IndexSet.{IsIndexSet, has, members}
+use Rattle.tce_space.specs.IndexSet.{IsIndexSet, has, members, set_of}
 use Rattle.tce_space.specs.Laws.{SetsAreTheirMembers}
-use Rattle.tce_space.proofs.IndexSetLaws.{same_set, has_below}
+use Rattle.tce_space.proofs.IndexSetLaws.{same_set, has_below, set_of_lt, has-set_of}
 
 -- what passes the test is kept
 Contains-filter : (p : ℕ → Bool) (xs : List ℕ) (x : ℕ) → Contains xs x → p x ≡ true → Contains (filter p xs) x
@@ -52,3 +53,15 @@ sets_are_their_members = record {
   listed = listed;
   ascend = ascend;
 }
+
+-- the list of a set's members has that set
+pub set_of_members : (set : ℕ) → IsIndexSet set → set_of (members set) ≡ set
+set_of_members set is =
+    sets_are_their_members.same (set_of (members set)) set (set_of_lt (members set)) is
+    (λ i. (
+      (λ h. (sets_are_their_members.listed set i is).0 ((has-set_of (members set) i (low set is)).0 h)),
+      (λ h. (has-set_of (members set) i (low set is)).1 ((sets_are_their_members.listed set i is).1 h)),
+    ))
+  where
+    low : (set : ℕ) → IsIndexSet set → All (λ x. x < 24) (members set)
+    low set is k d l = has_below set (get_or (members set) k d) is ((sets_are_their_members.listed set (get_or (members set) k d) is).0 (k, l, get_or_default (members set) k (get_or (members set) k d) d l))

@@ -1,5 +1,5 @@
 -- Products of lists.
-use Rattle.std.proofs.Common.{◌≡◌, ℕ, zero, suc, ◌+◌, ◌*◌, ◌/◌, ◌↔◌, ◌<◌, ◌≤◌, List, [], ◌∷◌, ◌++◌, length, take, drop, get_or, sym, ap, ◌∙◌, arith, take-append-drop}
+use Rattle.std.proofs.Common.{◌≡◌, ℕ, zero, suc, ◌+◌, ◌*◌, ◌/◌, ◌↔◌, ◌<◌, ◌≤◌, List, [], ◌∷◌, ◌++◌, length, take, drop, get_or, sym, ap, ◌∙◌, arith, take-append-drop, map, fold}
 use Rattle.std.proofs.Math.Nat.{mul-le-mul_left, le-div_iff_mul-le}
 use Rattle.std.proofs.lemmas.List.{take_more}
 use Rattle.tce_space.specs.Box.{product}
@@ -16,7 +16,7 @@ product_positive (x ∷ xs) h =
     let rest : 0 < product xs = product_positive xs h.1 in
     omega (arith, mul-le-mul_left (product xs) first)
 
-drop_positive : (xs : List ℕ) (n : ℕ) → ArePositive xs → ArePositive (drop n xs)
+pub drop_positive : (xs : List ℕ) (n : ℕ) → ArePositive xs → ArePositive (drop n xs)
 drop_positive xs zero h = h
 drop_positive [] (suc n) h = tt
 drop_positive (x ∷ xs) (suc n) h = drop_positive xs n h.1
@@ -52,3 +52,10 @@ within_quotient a b m h = (
 pub positive_push : (xs : List ℕ) (y : ℕ) → ArePositive xs → 0 < y → ArePositive (xs ++ y ∷ [])
 positive_push [] y h l = (l, tt)
 positive_push (x ∷ xs) y h l = (h.0, positive_push xs y h.1 l)
+
+pub fold-product : (f : ℕ → ℕ) (is : List ℕ) (n : ℕ) → fold (λ p i. p * f i) n is ≡ n * product (map f is)
+fold-product f [] n = omega arith
+fold-product f (i ∷ is) n = fold-product f is (n * f i) ∙ again n (f i) (product (map f is))
+  where
+    again : (a b c : ℕ) → a * b * c ≡ a * (b * c)
+    again a b c = omega arith

@@ -121,7 +121,7 @@ starts = record {
 }
 
 -- no name has more than 16 bytes
-name_len : (w : List ℕ) → IsTrue (is_name w) → length w ≤ 16
+pub name_len : (w : List ℕ) → IsTrue (is_name w) → length w ≤ 16
 unfolding is_name
 name_len w h =
     let fronts = and_parts _ _ h in

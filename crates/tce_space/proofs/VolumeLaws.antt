@@ -1,13 +1,10 @@
 -- The product of the extents of a set's members, member by member.
-use Rattle.std.proofs.Common.{◌≡◌, ℕ, zero, suc, ◌+◌, ◌-◌, ◌*◌, ◌^◌, ◌<◌, ◌≤◌, true, false, cond, List, [], ◌∷◌, ◌++◌, filter, refl, sym, ap, ◌∙◌, subst, arith, zero-add, add-one, append-nil, ◌⊎◌, inl, inr, le_trans, mul-le-mul}
+use Rattle.std.proofs.Common.{◌≡◌, ℕ, zero, suc, ◌+◌, ◌-◌, ◌*◌, ◌^◌, ◌<◌, ◌≤◌, true, false, cond, List, [], ◌∷◌, ◌++◌, filter, refl, sym, ap, ◌∙◌, subst, arith, add-one, append-nil, ◌⊎◌, inl, inr, le_trans, mul-le-mul}
 use Rattle.std.specs.List.{fold, range_with_len}
 use Rattle.std.proofs.lemmas.Bool.{cases_Bool}
 use Rattle.std.proofs.lemmas.List.Elements.{filter-append}
 use Rattle.tce_space.specs.IndexSet.{has, members, volume}
-use Rattle.tce_space.proofs.IndexSetLaws.{range_more}
-
-pub range_next : (i : ℕ) → range_with_len 0 (i + 1) ≡ range_with_len 0 i ++ i ∷ []
-range_next i = ap (range_with_len 0) (add-one i) ∙ range_more 0 i ∙ ap (λ k. range_with_len 0 i ++ k ∷ []) (zero-add i)
+use Rattle.tce_space.proofs.Ranges.{range_next}
 
 fold_push : (f : ℕ → ℕ → ℕ) (a : ℕ) (xs : List ℕ) (y : ℕ) → fold f a (xs ++ y ∷ []) ≡ f (fold f a xs) y
 fold_push f a [] y = refl

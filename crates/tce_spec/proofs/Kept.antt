@@ -6,13 +6,14 @@ use Rattle.tce_tree.specs.WellFormed.{sums_distinct}
 use Rattle.tce_tree.specs.Faults.{fault_of}
 use Rattle.tce_grammar.specs.Formula as formula
 use Rattle.tce_grammar.specs.Formula.{Formula, operations}
+use Rattle.tce_grammar.proofs.Chains.{map_none}
 use Rattle.tce_declarations.specs.Declarations.{Declarations, IsDeclarations}
 use Rattle.tce_declarations.specs.Faults.{Fault, fault_if, too_many_nodes, tree}
 use Rattle.tce_formula.specs.FormulaFaults.{formula_fault}
 use Rattle.tce_formula.specs.Lengths.{IsShort}
 use Rattle.tce_formula.specs.Meaning.{meaning}
 use Rattle.tce_formula.specs.Rules.{places_fault, tree_fault}
-use Rattle.tce_formula.proofs.Nothing.{none_or, none_mapped}
+use Rattle.tce_formula.proofs.Nothing.{none_or}
 use Rattle.tce_formula.proofs.FormulaParts.{fault_parts, is_ready}
 use Rattle.tce_spec.specs.Specification.{ConstantsAreWords}
 
@@ -44,6 +45,6 @@ line_keeps line d result indexes f rules none =
     record {
       few = subst (λ n. n ≤ 32) (sym ready.same_count) (not_more (operations f) line parts.0);
       distinct = ready.distinct;
-      faultless = none_mapped (tree line) _ (none_or _ _ later.1).0;
+      faultless = map_none (tree line) _ (none_or _ _ later.1).0;
       constants = words_of d f ready.short;
     }

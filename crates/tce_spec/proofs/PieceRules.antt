@@ -6,6 +6,7 @@ use Rattle.std.proofs.lemmas.List.{length_push, map-append}
 use Rattle.std.proofs.lemmas.Map.Keys.{IsDistinct-push}
 use Rattle.tce_space.specs.IndexSet.{members, count, set_of}
 use Rattle.tce_space.specs.Space.{index_at}
+use Rattle.tce_space.proofs.Members.{set_of_members}
 use Rattle.tce_tree.specs.ContractionTree.{ContractionTree, dims, operations, node, node_dims}
 use Rattle.tce_tree.specs.FlatTree.{first_number_of}
 use Rattle.tce_tree.specs.WellFormed.{is_distinct, sums_distinct, IsDeclaredTree}
@@ -19,7 +20,7 @@ use Rattle.tce_declarations.specs.Declarations.{Tensor, IsTensor, IsDeclarations
 use Rattle.tce_formula.specs.Contraction.{LeavesFit, IsContraction}
 use Rattle.tce_pieces.specs.Pieces.{Cuts, stored, except, piece}
 use Rattle.tce_pieces.specs.Storable.{storable}
-use Rattle.tce_pieces.proofs.Rest.{dims_rest, set_of_members}
+use Rattle.tce_pieces.proofs.Rest.{dims_rest}
 use Rattle.tce_spec.specs.Specification.{Specification, IsSpecification, ConstantsAreWords}
 use Rattle.tce_spec.specs.Operands.{references}
 use Rattle.tce_spec.specs.PieceSpecification.{CanCut, array_of, source, sources, target, target_indexes, place_in, piece_of}

@@ -1,10 +1,11 @@
 -- What a piece reads: tensors that the whole reads, and arrays of cut nodes.
-use Rattle.std.proofs.Common.{◌≡◌, ◌⊎◌, ℕ, suc, ◌+◌, ◌-◌, ◌<◌, ◌≤◌, Bool, true, false, not, ◌||◌, cond, List, [], ◌∷◌, ◌++◌, length, map, get_or, eqb, eq-eqb, ne_eqb, eqb-true, ltb, lt-ltb, refl, sym, ap, ◌∙◌, subst, inl, inr, arith}
+use Rattle.std.proofs.Common.{◌≡◌, ◌⊎◌, ℕ, suc, ◌+◌, ◌-◌, ◌<◌, ◌≤◌, Bool, true, false, not, cond, List, [], ◌∷◌, ◌++◌, length, map, get_or, eqb, eq-eqb, ne_eqb, eqb-true, ltb, lt-ltb, refl, sym, ap, ◌∙◌, subst, inl, inr, arith}
 use Rattle.std.specs.Prelude.{⊤}
 use Rattle.std.specs.List.{fold, list_any, AllByRecursion}
-use Rattle.std.proofs.lemmas.Bool.{cases_Bool, cases_eq, cases_lt, and_parts, or_cases, or_left, or_right, false≢true}
+use Rattle.std.proofs.lemmas.Bool.{cases_Bool, cases_eq, cases_lt, and_parts, or_cases, or_left, or_right, false≢true, or_parts, or_from}
 use Rattle.std.proofs.lemmas.List.{length_push, length-map, get_or-map, get_or_append_left, get_or-append_right}
 use Rattle.std.proofs.lemmas.Bool.Decides.{nat_tests}
+use Rattle.std.proofs.lemmas.List.Folds.{list_any-append}
 use Rattle.tce_space.specs.IndexSet.{members}
 use Rattle.tce_space.specs.Space.{index_at}
 use Rattle.tce_tree.specs.ContractionTree.{ContractionTree, leaf, constant, binary, sum, dims, operations, node, node_dims}
@@ -39,20 +40,12 @@ each_of_once p xs a = each_folded p xs [] a tt
 
 -- ---- members
 
-or_assoc : (a b c : Bool) → (a || (b || c)) ≡ ((a || b) || c)
-or_assoc true b c = refl
-or_assoc false b c = refl
-
-any_append : (p : ℕ → Bool) (xs ys : List ℕ) → list_any p (xs ++ ys) ≡ (list_any p xs || list_any p ys)
-any_append p [] ys = refl
-any_append p (x ∷ xs) ys = ap (λ b. p x || b) (any_append p xs ys) ∙ or_assoc (p x) (list_any p xs) (list_any p ys)
-
 stays_new : (seen : List ℕ) (t u : ℕ) → list_any (eqb t) seen ≡ true → list_any (eqb t) (with_new seen u) ≡ true
 stays_new seen t u h = by_test (list_any (eqb u) seen)
   where
     by_test : (b : Bool) → list_any (eqb t) (cond b seen (seen ++ u ∷ [])) ≡ true
     by_test true = h
-    by_test false = any_append (eqb t) seen (u ∷ []) ∙ or_left (list_any (eqb t) seen) (list_any (eqb t) (u ∷ [])) h
+    by_test false = list_any-append (eqb t) seen (u ∷ []) ∙ or_left (list_any (eqb t) seen) (list_any (eqb t) (u ∷ [])) h
 
 comes_new : (seen : List ℕ) (t : ℕ) → list_any (eqb t) (with_new seen t) ≡ true
 comes_new seen t = by_test (list_any (eqb t) seen) refl
@@ -60,9 +53,9 @@ comes_new seen t = by_test (list_any (eqb t) seen) refl
     by_test : (b : Bool) → list_any (eqb t) seen ≡ b → list_any (eqb t) (cond b seen (seen ++ t ∷ [])) ≡ true
     by_test true e = e
     by_test false e =
-        any_append (eqb t) seen (t ∷ []) ∙ or_right (list_any (eqb t) seen) (list_any (eqb t) (t ∷ [])) (or_left (eqb t t) false (eq-eqb t t refl))
+        list_any-append (eqb t) seen (t ∷ []) ∙ or_right (list_any (eqb t) seen) (list_any (eqb t) (t ∷ [])) (or_left (eqb t t) false (eq-eqb t t refl))
 
-stays_folded : (xs seen : List ℕ) (t : ℕ) → list_any (eqb t) seen ≡ true → list_any (eqb t) (fold with_new seen xs) ≡ true
+pub stays_folded : (xs seen : List ℕ) (t : ℕ) → list_any (eqb t) seen ≡ true → list_any (eqb t) (fold with_new seen xs) ≡ true
 stays_folded [] seen t h = h
 stays_folded (x ∷ xs) seen t h = stays_folded xs (with_new seen x) t (stays_new seen t x h)
 
@@ -141,10 +134,6 @@ cut_is_read s cut v u c inside is is_cut =
           ∙ sym (ap (λ (t : Tensor). t.ranges) (source_stored s u));
     }
 
-no_parts : (a b : Bool) → (a || b) ≡ false → (a ≡ false) × (b ≡ false)
-no_parts true b h = absurd (false≢true (sym h))
-no_parts false b h = (refl, h)
-
 unless_leaves : (p : ℕ → List ℕ → Type 0) (cut : Cuts) (u : ℕ) (c rest : ContractionTree) → (cut u ≡ true → p (stored u) (members (dims c))) → LeavesAre p rest
     → LeavesAre p (unless_cut cut u c rest)
 unless_leaves p cut u c rest one more = elim (cases_Bool (cut u)) [ inl t ↦ rw t (one t) | inr f ↦ rw f more ]
@@ -170,7 +159,7 @@ leaves_read s cut v first (leaf t is) few st fits none =
     }
 leaves_read s cut v first (constant k) few st fits none = tt
 leaves_read s cut v first (binary op l r) few st fits none =
-    let parts = no_parts (has_tensor s.result l) (has_tensor s.result r) none in
+    let parts = or_parts (has_tensor s.result l) (has_tensor s.result r) none in
     let a = leaves_read s cut v first l few (stands-left s.tree first op l r st) fits.0 parts.0 in
     let b = leaves_read s cut v (first + operations l) r few (stands-right s.tree first op l r st) fits.1 parts.1 in
     unless_read s cut v first (first + operations l + operations r) (binary op l r)
@@ -223,15 +212,11 @@ leaves_fit_own s cut v us target (binary op l r) read among =
     (leaves_fit_own s cut v us target l read.0 (each_left _ (references l) (references r) among), leaves_fit_own s cut v us target r read.1 (each_right _ (references l) (references r) among))
 leaves_fit_own s cut v us target (sum is x) read among = leaves_fit_own s cut v us target x read among
 
-none_of_both : (a b : Bool) → a ≡ false → b ≡ false → (a || b) ≡ false
-none_of_both true b p q = p
-none_of_both false b p q = q
-
 pub result_apart : (us : List ℕ) (c : ContractionTree) → AllByRecursion (λ t. list_any (eqb t) us ≡ true) (references c) → has_tensor (length us) (renumbered (place_in us) c) ≡ false
 result_apart us (leaf t is) among = let inside = (place_is us t among.0).inside in ne_eqb (place_in us t) (length us) (λ q. absurd (omega (arith, inside, q)))
 result_apart us (constant k) among = refl
 result_apart us (binary op l r) among =
-    none_of_both (has_tensor (length us) (renumbered (place_in us) l)) (has_tensor (length us) (renumbered (place_in us) r))
+    or_from (has_tensor (length us) (renumbered (place_in us) l)) (has_tensor (length us) (renumbered (place_in us) r))
     (result_apart us l (each_left _ (references l) (references r) among)) (result_apart us r (each_right _ (references l) (references r) among))
 result_apart us (sum is x) among = result_apart us x among
 
@@ -258,7 +243,7 @@ pub absent_node : (r : ℕ) (c : ContractionTree) (v : ℕ) → v < operations c
 absent_node r (leaf t is) v inside h = absurd (omega arith)
 absent_node r (constant k) v inside h = absurd (omega arith)
 absent_node r (binary op a b) v inside h =
-    let parts = no_parts (has_tensor r a) (has_tensor r b) h in
+    let parts = or_parts (has_tensor r a) (has_tensor r b) h in
     elim (cases_lt v (operations a)) [
       | inl x ↦ ap (has_tensor r) (node-left op a b v x) ∙ absent_node r a v x parts.0
       | inr x ↦ elim (cases_lt v (operations a + operations b)) [

@@ -28,7 +28,7 @@ computed_only text found is =
     is.same ∙ ap (λ (ls : List Line). if nat_lt (2 ^ 16) (length text) then Err too_long else outcome ls) (lines_only (lines text) is.of_lines is.are_lines)
 
 -- where nothing is found, the program can only answer want of memory
-shows_none : (o : Option Fault) (f : SpecFault) → Shows None f → Shows o f
+pub shows_none : (o : Option Fault) (f : SpecFault) → Shows None f → Shows o f
 shows_none o Memory s = tt
 shows_none o (Tree line tree_faults.Memory) s = absurd s
 shows_none o f s = cc

@@ -4,6 +4,7 @@ use Rattle.std.specs.Prelude.{IsTrue}
 use Rattle.std.proofs.lemmas.Bool.{cases_Bool, cases_eq, cases_lt, eq-eqb, or_left, or_right, or_cases, and_parts, and_from, false≢true, true≢false, both_ways}
 use Rattle.tce_space.specs.IndexSet.{set_of, members}
 use Rattle.tce_space.specs.Space.{IndexSpace}
+use Rattle.tce_space.proofs.Members.{set_of_members}
 use Rattle.tce_tree.specs.ContractionTree.{ContractionTree, leaf, constant, binary, sum, dims, operations, node, in_subtree}
 use Rattle.tce_tree.specs.FlatTree.{first_number_of}
 use Rattle.tce_tree.proofs.Members.{dims_lt}
@@ -11,7 +12,7 @@ use Rattle.tce_tree.proofs.Nodes.{size, size_bounds, size_nested, node-root}
 use Rattle.tce_tree.proofs.Operands.{Stands, stands-node, stands-left, stands-right, stands-operand}
 use Rattle.tce_tree.proofs.Parents.{subtree_is, subtree_from, find-range_some, find-range_finds}
 use Rattle.tce_pieces.specs.Pieces.{Cuts, unless_cut, rest_of, except, piece, is_root, IsRootOver}
-use Rattle.tce_pieces.proofs.Rest.{set_of_members, dims_rest}
+use Rattle.tce_pieces.proofs.Rest.{dims_rest}
 use Rattle.tce_spill.specs.Parts.{IsRest, IsPart, FitsMemory}
 use Rattle.tce_spill.specs.Laws.{AreAmong}
 use Rattle.tce_spill.proofs.Parts.{parts_take_no_more}

@@ -1,5 +1,5 @@
 -- The ranges of a node's dims, and whether the node may be stored.
-use Rattle.std.proofs.Common.{◌≡◌, ℕ, zero, suc, ◌+◌, ◌-◌, ◌<◌, ◌≤◌, Bool, true, false, cond, List, [], ◌∷◌, ◌++◌, length, filter, map, length-append, append-nil, leb, ltb, lt-ltb, le-leb, leb-true, ltb-true, refl, sym, ap, ◌∙◌, inl, inr, arith}
+use Rattle.std.proofs.Common.{◌≡◌, ℕ, zero, suc, ◌+◌, ◌-◌, ◌<◌, ◌≤◌, Bool, true, false, cond, List, [], ◌∷◌, ◌++◌, length, filter, map, length-append, leb, ltb, lt-ltb, le-leb, leb-true, ltb-true, refl, sym, ap, ◌∙◌, inl, inr, arith}
 use Rattle.std.specs.List.{range_with_len}
 use Rattle.std.proofs.lemmas.Bool.{cases_Bool}
 use Rattle.std.proofs.lemmas.List.{map-append, length-map}
@@ -7,6 +7,7 @@ use Rattle.std.proofs.lemmas.List.Elements.{filter-append}
 use Rattle.tce_space.specs.IndexSet.{has, count, members}
 use Rattle.tce_space.specs.Space.{IndexSpace}
 use Rattle.tce_space.proofs.IndexSetLaws.{range_more}
+use Rattle.tce_space.proofs.Ranges.{filter_one}
 use Rattle.tce_tree.specs.ContractionTree.{ContractionTree, operations, node_dims}
 use Rattle.tce_pieces.specs.Storable.{shape_of_node, has_room, storable}
 
@@ -18,18 +19,12 @@ filter-more p n =
     ap (λ k. filter p (range_with_len 0 k)) next ∙ ap (filter p) (range_more 0 n) ∙ filter-append p (range_with_len 0 n) ((0 + n) ∷ [])
     ∙ ap (λ k. filter p (range_with_len 0 n) ++ cond (p k) (k ∷ []) []) at
 
-pub filter-yes : (p : ℕ → Bool) (n : ℕ) → p n ≡ true → filter p (range_with_len 0 (n + 1)) ≡ filter p (range_with_len 0 n) ++ n ∷ []
-filter-yes p n t = filter-more p n ∙ ap (λ b. filter p (range_with_len 0 n) ++ cond b (n ∷ []) []) t
-
-pub filter-no : (p : ℕ → Bool) (n : ℕ) → p n ≡ false → filter p (range_with_len 0 (n + 1)) ≡ filter p (range_with_len 0 n)
-filter-no p n f = filter-more p n ∙ ap (λ b. filter p (range_with_len 0 n) ++ cond b (n ∷ []) []) f ∙ append-nil (filter p (range_with_len 0 n))
-
 -- one range more
 pub ranges-yes : (f : ℕ → ℕ) (p : ℕ → Bool) (n r : ℕ) (before after : List ℕ) → p n ≡ true → before ≡ map f (filter p (range_with_len 0 n)) → r ≡ f n → after ≡ before ++ r ∷ []
     → after ≡ map f (filter p (range_with_len 0 (n + 1)))
 ranges-yes f p n r before after t so_far here is =
     is ∙ ap (λ xs. xs ++ r ∷ []) so_far ∙ ap (λ x. map f (filter p (range_with_len 0 n)) ++ x ∷ []) here
-    ∙ sym (map-append f (filter p (range_with_len 0 n)) (n ∷ [])) ∙ ap (map f) (sym (filter-yes p n t))
+    ∙ sym (map-append f (filter p (range_with_len 0 n)) (n ∷ [])) ∙ ap (map f) (sym (filter_one p n t))
 
 grows : (p : ℕ → Bool) (n m : ℕ) → length (filter p (range_with_len 0 n)) ≤ length (filter p (range_with_len 0 (n + m)))
 grows p n zero = let same : n ≡ n + 0 = omega arith in let is = ap (λ k. length (filter p (range_with_len 0 k))) same in omega (arith, is)
@@ -45,7 +40,7 @@ pub room_before : (f : ℕ → ℕ) (set n : ℕ) (xs : List ℕ) → n < 24 →
 unfolding count members
 room_before f set n xs low t is =
     let counted = ap length is ∙ length-map (filter (has set) (range_with_len 0 n)) f in
-    let next = ap length (filter-yes (has set) n t) ∙ length-append (filter (has set) (range_with_len 0 n)) (n ∷ []) in
+    let next = ap length (filter_one (has set) n t) ∙ length-append (filter (has set) (range_with_len 0 n)) (n ∷ []) in
     let end : n + 1 + (24 - (n + 1)) ≡ 24 = omega (arith, low) in
     let all = ap (λ k. length (filter (has set) (range_with_len 0 k))) end in
     omega (arith, counted, next, all, grows (has set) (n + 1) (24 - (n + 1)))

@@ -1,7 +1,6 @@
 -- A piece's operands are there when its turn comes, and it can be afforded.
-use Rattle.std.proofs.Common.{◌≡◌, ◌≢◌, ℕ, zero, suc, ◌+◌, ◌-◌, ◌<◌, ◌≤◌, max, true, cond, List, [], ◌∷◌, length, get_or, eqb, ne_eqb, Some, refl, sym, ap, ◌∙◌, subst, inl, inr, arith}
+use Rattle.std.proofs.Common.{◌≡◌, ◌≢◌, ℕ, zero, suc, ◌+◌, ◌-◌, ◌<◌, ◌≤◌, true, cond, List, length, get_or, eqb, ne_eqb, Some, refl, sym, ap, ◌∙◌, subst, inl, inr, arith}
 use Rattle.std.specs.Prelude.{IsSomeAnd}
-use Rattle.std.specs.List.{fold}
 use Rattle.std.proofs.lemmas.Bool.{cases_eq, cases_lt, or_cases, true≢false, false≢true}
 use Rattle.tce_outside.specs.Files.{Files, file}
 use Rattle.tce_space.specs.Tiling.{Tiling, tile_words}
@@ -23,7 +22,7 @@ use Rattle.tce_tensors.specs.TensorFiles.{file_of}
 use Rattle.tce_tensors.specs.Opened.{operand, operand_count, HasArray, HasOperands}
 use Rattle.tce_tensors.specs.Laws.{IsOperand}
 use Rattle.tce_tensors.proofs.Operands.{in_tree, is_operand}
-use Rattle.tce_tensors.proofs.Tiles.{result_within, operand_within}
+use Rattle.tce_tensors.proofs.Tiles.{result_within, operand_within, all_within}
 use Rattle.tce_job.specs.Refusals.{IsAffordable}
 use Rattle.tce_spill.proofs.Renumbered.{renumbered_is_alike}
 use Rattle.tce_spill_job.specs.Pieces.{source_file, largest_below, largest_of}
@@ -106,13 +105,6 @@ array_below s cut (suc n) u less is_cut =
           omega (arith, here)
       | inr q ↦ let front = array_below s cut n u (omega (arith, less, q)) is_cut in omega (arith, front)
     ]
-
-all_within : (f : ℕ → ℕ) (first bound : ℕ) (ts : List ℕ) → first ≤ bound → ((k : ℕ) → k < length ts → f (get_or ts k 0) ≤ bound)
-    → fold (λ largest t. max largest (f t)) first ts ≤ bound
-all_within f first bound [] one all = one
-all_within f first bound (t ∷ ts) one all =
-    let here : f t ≤ bound = all 0 (omega arith) in
-    all_within f (max first (f t)) bound ts (omega arith) (λ k h. all (suc k) (omega arith))
 
 module _ (s : Specification) (cut : Cuts) (v : ℕ) (is : IsPiece s cut v) where
   abbrev own : Specification

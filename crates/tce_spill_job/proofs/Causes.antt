@@ -1,27 +1,21 @@
 -- The pieces are not run for one reason.
-use Rattle.std.proofs.Common.{inl, inr, ◌⊎◌, ◌≡◌, ◌≢◌, ℕ, zero, suc, ◌*◌, ◌<◌, ◌≤◌, max, cond, List, length, Option, Some, None, Ok, Err, refl, sym, subst, ◌∙◌, ap, ap₂, arith}
+use Rattle.std.proofs.Common.{inl, inr, ◌⊎◌, ◌≡◌, ℕ, zero, suc, ◌*◌, ◌<◌, ◌≤◌, max, cond, List, length, Option, Some, None, refl, sym, ◌∙◌, ap, ap₂, arith}
 use Rattle.std.specs.Prelude.{⊤, IsSomeAnd}
 use Rattle.std.specs.Option.{ForSome}
-use Rattle.std.proofs.lemmas.Bool.{cases_lt, true≢false}
-use Rattle.tce_outside.specs.Files.{Files, file}
-use Rattle.tce_space.specs.Tiling.{Tiling, tile_words}
+use Rattle.tce_outside.specs.Files.{Files}
+use Rattle.tce_space.specs.Tiling.{tile_words}
 use Rattle.tce_array.specs.declared.fault.ArrayFault.{ArrayFault}
 use Rattle.tce_array.specs.declared.fault.ArrayFault.TheVariants as array_fault
-use Rattle.tce_array.specs.Forms.{form_of, IsArray}
-use Rattle.tce_array.specs.Faults.{IsFault}
-use Rattle.tce_array.proofs.OneAnswer.{agree}
 use Rattle.tce_tree.specs.ContractionTree.{operations}
 use Rattle.tce_pieces.specs.Pieces.{Cuts}
 use Rattle.tce_pieces.specs.Storable.{shape_of_node}
 use Rattle.tce_spec.specs.Specification.{Specification}
-use Rattle.tce_spec.specs.Operands.{shape_of}
 use Rattle.tce_spec.specs.PieceSpecification.{source}
 use Rattle.tce_declarations.specs.Declarations.{Tensor}
 use Rattle.tce_spec.proofs.PieceSources.{source_declared}
-use Rattle.tce_tensors.specs.TensorFiles.{file_of, name_of}
-use Rattle.tce_tensors.specs.declared.opening.Refused.{Refused}
-use Rattle.tce_tensors.specs.Opened.{operand, operand_count, HasArray, HasOperands, IsRefusedAt, IsRefused}
-use Rattle.tce_job.proofs.Causes.{opens, fault_in}
+use Rattle.tce_tensors.specs.TensorFiles.{name_of}
+use Rattle.tce_tensors.specs.Opened.{operand, operand_count, HasOperands, IsRefused}
+use Rattle.tce_job.proofs.Causes.{one_refused, none_refused}
 use Rattle.tce_spill.specs.Refusals.{IsCutFault, IsFree}
 use Rattle.tce_spill.specs.declared.fault.SpillFault.{SpillFault}
 use Rattle.tce_spill.specs.declared.fault.SpillFault.TheVariants.{TooManyTensors, LimitTooSmall, BudgetTooSmall, Array, Disk, Memory}
@@ -29,39 +23,6 @@ use Rattle.tce_spill.proofs.Limits.{cuts_are_one}
 use Rattle.tce_spill.proofs.Turns.{one_fault as one_cut_fault}
 use Rattle.tce_spill_job.specs.Pieces.{largest_below, largest_of}
 use Rattle.tce_spill_job.specs.Refusals.{AreCut, IsRefusedSource, IsSpillCause, IsKnown, IsSameFault, IsTestFault, IsLateFault, IsTensorRefused}
-
--- ---- an operand that is refused
-
-no_fault : (shape : Tiling) (found : Option (List ℕ)) (f : ArrayFault) → IsSomeAnd found (IsArray shape) → IsFault shape found f → f ≢ array_fault.Disk → ⊥
-no_fault shape None f h fault real = h
-no_fault shape (Some bytes) f h fault real =
-    true≢false (ap opens (agree shape (Some bytes) (Ok (form_of bytes)) (Err f) (refl, h) fault (λ e. true≢false (ap opens e)) (λ e. real (ap fault_in e))))
-
-one_fault : (shape : Tiling) (found : Option (List ℕ)) (f g : ArrayFault) → IsFault shape found f → IsFault shape found g → f ≢ array_fault.Disk → g ≢ array_fault.Disk → f ≡ g
-one_fault shape found f g p q nf ng = ap fault_in (agree shape found (Err f) (Err g) p q (λ e. nf (ap fault_in e)) (λ e. ng (ap fault_in e)))
-
-no_array : (files : Files) (s : Specification) (d : ℕ) (r : Refused) → IsRefusedAt files s d r → r.fault ≢ array_fault.Disk → HasArray files s (operand s d) → ⊥
-no_array files s d r p real has =
-    no_fault (shape_of s r.tensor) (file files (file_of s r.tensor)) r.fault (subst (HasArray files s) (sym p.tensor) has) p.fault real
-
-one_refused : (files : Files) (s : Specification) (r q : Refused) → IsRefused files s r → IsRefused files s q → r.fault ≢ array_fault.Disk → q.fault ≢ array_fault.Disk → (r.tensor ≡ q.tensor) × (r.fault ≡ q.fault)
-one_refused files s r q (d, p) (e, o) nr nq =
-    elim (cases_lt d e) [
-      | inl before ↦ absurd (no_array files s d r p nr (o.before d before))
-      | inr past ↦ elim (cases_lt e d) [
-        | inl before ↦ absurd (no_array files s e q o nq (p.before e before))
-        | inr not_past ↦
-            let same : d ≡ e = omega arith in
-            let tensors : r.tensor ≡ q.tensor = p.tensor ∙ ap (operand s) same ∙ sym o.tensor in (
-              tensors,
-              one_fault (shape_of s q.tensor) (file files (file_of s q.tensor)) r.fault q.fault
-                  (subst (λ t. IsFault (shape_of s t) (file files (file_of s t)) r.fault) tensors p.fault) o.fault nr nq,
-            )
-      ]
-    ]
-
-none_refused : (files : Files) (s : Specification) (r : Refused) → HasOperands files s (operand_count s) → IsRefused files s r → r.fault ≢ array_fault.Disk → ⊥
-none_refused files s r has (d, p) real = no_array files s d r p real (has d p.one_of_them)
 
 -- ---- the largest tile is one
 

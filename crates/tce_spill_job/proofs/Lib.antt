@@ -10,5 +10,4 @@ pub mod Turns
 pub mod Others
 pub mod Ready
 pub mod PlannedRuns
-pub mod Counted
 pub mod Spared

@@ -1,12 +1,10 @@
 -- No file differs but those of the pieces.
-use Rattle.std.proofs.Common.{inl, inr, ◌≡◌, ◌≢◌, ℕ, zero, suc, ◌<◌, ◌≤◌, true, cond, List, [], ◌∷◌, ◌++◌, map, Option, Some, None, refl, sym, subst, ◌∙◌, ap, arith}
+use Rattle.std.proofs.Common.{inl, inr, ◌≡◌, ℕ, zero, suc, ◌<◌, ◌≤◌, true, cond, List, [], ◌∷◌, ◌++◌, map, Option, Some, None, refl, sym, subst, ◌∙◌, ap, arith}
 use Rattle.std.specs.List.{AllByRecursion}
-use Rattle.std.specs.Option.{option_map}
 use Rattle.std.proofs.lemmas.Bool.{cases_eq}
 use Rattle.std.proofs.lemmas.List.{map-append}
 use Rattle.std.proofs.lemmas.List.Elements.{recursion_from_All}
-use Rattle.tce_outside.specs.Files.{Files, file, others}
-use Rattle.tce_outside.proofs.Told.{other_files}
+use Rattle.tce_outside.specs.Files.{Files, file}
 use Rattle.tce_tree.specs.ContractionTree.{operations}
 use Rattle.tce_pieces.specs.Pieces.{Cuts, is_root}
 use Rattle.tce_spec.specs.Specification.{Specification}
@@ -14,18 +12,12 @@ use Rattle.tce_spec.specs.PieceSpecification.{piece_of}
 use Rattle.tce_tensors.specs.TensorFiles.{file_of}
 use Rattle.tce_tensors.specs.ResultBytes.{with_result}
 use Rattle.tce_job.specs.Several.{files_after, OnlyResultsDiffer}
+use Rattle.tce_job.proofs.Several.{found, IsApart, one_other}
 use Rattle.tce_spill.specs.declared.fault.SpillFault.{SpillFault}
 use Rattle.tce_spill.specs.declared.fault.SpillFault.TheVariants.{TooManyTensors, LimitTooSmall, BudgetTooSmall, Array, Disk, Memory}
 use Rattle.tce_spill_job.specs.Pieces.{roots_below, pieces_below, pieces_of}
 use Rattle.tce_spill_job.specs.Left.{files_at, IsLeftBy}
 use Rattle.tce_spill_job.proofs.Values.{other_with}
-
-abbrev found : List ℕ → Option Files → Option (Option (List ℕ))
-found name told = option_map (λ files. file files name) told
-
--- a piece whose result has another name
-abbrev IsApart : List ℕ → Specification → Type 0
-IsApart name p = name ≢ file_of p p.result
 
 each_left : (P : Specification → Type 0) (xs ys : List Specification) → AllByRecursion P (xs ++ ys) → AllByRecursion P xs
 each_left P [] ys all = tt
@@ -66,12 +58,6 @@ module _ (P : Specification → Type 0) (s : Specification) (cut : Cuts) where
 after_others : (ss : List Specification) (files : Files) (name : List ℕ) → AllByRecursion (IsApart name) ss → file (files_after ss files) name ≡ file files name
 after_others [] files name all = refl
 after_others (p ∷ ss) files name all = after_others ss (with_result p files) name all.1 ∙ other_with p files name all.0
-
-one_other : (name other : List ℕ) (now after : Option Files) → name ≢ other → others other after ≡ others other now → found name after ≡ found name now
-one_other name other None None apart same = refl
-one_other name other None (Some files) apart same = absurd (cc)
-one_other name other (Some files) None apart same = absurd (cc)
-one_other name other (Some now) (Some after) apart same = ap Some (other_files other name now after same apart)
 
 at_others : (before : Option Files) (s : Specification) (cut : Cuts) (n : ℕ) (name : List ℕ) → AllByRecursion (IsApart name) (pieces_below s cut n) → found name (files_at before s cut n) ≡ found name before
 at_others None s cut n name all = refl

@@ -1,12 +1,13 @@
 -- Runs of pieces by the plans that were found with the cuts.
-use Rattle.std.proofs.Common.{◌≡◌, ◌⊎◌, ℕ, ◌+◌, ◌<◌, ◌≤◌, ◌^◌, true, List, [], ◌∷◌, ◌++◌, length, get_or, set, replicate, All, Option, Some, None, unwrap_or, refl, sym, ap, ◌∙◌, subst, inl, inr, arith}
+use Rattle.std.proofs.Common.{◌≡◌, ◌⊎◌, ℕ, ◌+◌, ◌<◌, ◌≤◌, ◌^◌, true, List, [], ◌∷◌, ◌++◌, length, get_or, set, Option, Some, None, unwrap_or, refl, sym, ap, ◌∙◌, subst, inl, inr, arith}
 use Rattle.std.specs.Prelude.{IsSome}
 use Rattle.std.proofs.lemmas.Bool.{cases_lt}
-use Rattle.std.proofs.lemmas.List.{length-replicate, get_or-replicate, get_or_past, get_or-set_other}
+use Rattle.std.proofs.lemmas.List.{length-replicate, get_or_past, get_or-set_other}
 use Rattle.tce_tree.specs.ContractionTree.{operations, node_dims}
 use Rattle.tce_states.specs.Row.{Row, rows_at}
 use Rattle.tce_nesting.specs.declared.plan.Plan.{Plan}
-use Rattle.tce_nesting.specs.Plan.{PlanFits, RowFits}
+use Rattle.tce_nesting.specs.Plan.{PlanFits}
+use Rattle.tce_nesting.proofs.RowLists.{no_rows, empty_fits}
 use Rattle.tce_report.specs.NodeLine.{stated}
 use Rattle.tce_report.specs.Report.{run_text}
 use Rattle.tce_array.specs.declared.form.Form.TheVariants.{One}
@@ -24,17 +25,6 @@ use Rattle.tce_job.proofs.Causes.{least_memory}
 use Rattle.tce_spill.specs.Planned.{IsLeastButRows, IsPlanOfPiece, HavePlansFrom}
 
 -- ---- one run
-
--- lists without rows
-no_rows : (count v : ℕ) → rows_at (replicate count []) v ≡ []
-no_rows count v =
-    elim (cases_lt v count) [
-      | inl less ↦ get_or-replicate count v [] [] less
-      | inr past ↦ get_or_past (replicate count []) v [] (omega (arith, past, length-replicate {A = List Row} count []))
-    ]
-
-empty_fits : (dims : ℕ) (rows : List Row) → rows ≡ [] → All (RowFits dims) rows
-empty_fits dims rows none = subst (All (RowFits dims)) (sym none) (λ k d less. absurd (omega (arith, less)))
 
 module _ (s : Specification) (budget : ℕ) (plan : Plan) (affordable : IsAffordable s budget) (h : IsLeastButRows s.declarations.space s.tree plan) where
   own_fits : PlanFits s.tree plan

@@ -6,7 +6,6 @@ use Rattle.std.proofs.lemmas.List.{append_assoc, append-nil}
 use Rattle.std.proofs.lemmas.List.Elements.{All-from_recursion}
 use Rattle.tce_tree.specs.ContractionTree.{operations}
 use Rattle.tce_nesting.specs.declared.plan.Plan.{Plan}
-use Rattle.tce_search.specs.LeastPlan.{IsLeastPlan}
 use Rattle.tce_pieces.specs.Pieces.{Cuts, piece, is_root}
 use Rattle.tce_spec.specs.Specification.{Specification}
 use Rattle.tce_spec.specs.PieceSpecification.{piece_of, sources, place_in}
@@ -17,6 +16,7 @@ use Rattle.tce_job.specs.Prepared.{taking_of, HasTaken as HasTakenOne}
 use Rattle.tce_job.specs.Run.{IsReported as IsRunReported}
 use Rattle.tce_job.specs.Several.{takings_of, HasTakenEach}
 use Rattle.tce_job.proofs.Several.{zip_more, takings_more}
+use Rattle.tce_job.specs.Told.{IsLeastPlanOf}
 use Rattle.tce_spill.specs.Parts.{FitsMemory}
 use Rattle.tce_spill.specs.CutsFor.{MeetLimit}
 use Rattle.tce_spill.proofs.Renumbered.{renumbered_is_alike}
@@ -24,10 +24,6 @@ use Rattle.tce_spill_job.specs.Pieces.{roots_below, pieces_below}
 use Rattle.tce_spill_job.specs.Reports.{piece_line, lines_of, wrote_line, AreLeast, HasRun, HasRunAll, IsReported}
 use Rattle.tce_spill_job.specs.Left.{HasTakenTo}
 use Rattle.tce_spill_job.proofs.Roots.{roots_more, roots_same, pieces_more, pieces_same}
-
--- a least plan of a piece
-abbrev Least : Specification → Plan → Type 0
-Least p plan = IsLeastPlan p.declarations.space p.tree plan
 
 lines_more : (s : Specification) (cut : Cuts) (budget : ℕ) (vs : List ℕ) (plans : List Plan) (v : ℕ) (plan : Plan) → AreLeast (map (piece_of s cut) vs) plans
     → lines_of s cut budget (vs ++ v ∷ []) (plans ++ plan ∷ []) ≡ lines_of s cut budget vs plans ++ piece_line v plan.memory (tile_take (piece_of s cut v) budget)
@@ -49,11 +45,11 @@ module _ (s : Specification) (cut : Cuts) (n budget : ℕ) (before now after : L
       → after ≡ now ++ taking_of p budget plan ∷ [] → after ≡ before ++ takings_of budget (pieces_below s cut (n + 1)) (plans ++ plan ∷ [])
   more_taken plans plan root all is then =
       then ∙ ap (λ xs. xs ++ taking_of p budget plan ∷ []) is ∙ append_assoc before (takings_of budget (pieces_below s cut n) plans) (taking_of p budget plan ∷ [])
-      ∙ ap (λ xs. before ++ xs) (sym (takings_more Least budget (pieces_below s cut n) plans p plan all))
+      ∙ ap (λ xs. before ++ xs) (sym (takings_more IsLeastPlanOf budget (pieces_below s cut n) plans p plan all))
       ∙ ap (λ ps. before ++ takings_of budget ps (plans ++ plan ∷ [])) (sym (pieces_more s cut n root))
 
-  more_least : (plans : List Plan) (plan : Plan) → is_root s.tree cut n ≡ true → AreLeast (pieces_below s cut n) plans → Least p plan → AreLeast (pieces_below s cut (n + 1)) (plans ++ plan ∷ [])
-  more_least plans plan root all one = subst (λ ps. AreLeast ps (plans ++ plan ∷ [])) (sym (pieces_more s cut n root)) (zip_more Least (pieces_below s cut n) plans p plan all one)
+  more_least : (plans : List Plan) (plan : Plan) → is_root s.tree cut n ≡ true → AreLeast (pieces_below s cut n) plans → IsLeastPlanOf p plan → AreLeast (pieces_below s cut (n + 1)) (plans ++ plan ∷ [])
+  more_least plans plan root all one = subst (λ ps. AreLeast ps (plans ++ plan ∷ [])) (sym (pieces_more s cut n root)) (zip_more IsLeastPlanOf (pieces_below s cut n) plans p plan all one)
 
   pub taken_more : is_root s.tree cut n ≡ true → HasTakenEach (pieces_below s cut n) budget before now → HasTakenOne p budget now after → HasTakenEach (pieces_below s cut (n + 1)) budget before after
   taken_more root front one = record {
@@ -107,7 +103,7 @@ all_reported s cut budget before after text new run then = record {
 
 -- ---- the limit
 
-pub within_limit : (s : Specification) (cut : Cuts) (v limit : ℕ) (plan : Plan) → FitsMemory s.declarations.space (piece s.tree cut v) limit → Least (piece_of s cut v) plan → plan.memory ≤ limit
+pub within_limit : (s : Specification) (cut : Cuts) (v limit : ℕ) (plan : Plan) → FitsMemory s.declarations.space (piece s.tree cut v) limit → IsLeastPlanOf (piece_of s cut v) plan → plan.memory ≤ limit
 within_limit s cut v limit plan fits least =
     let alike = renumbered_is_alike s.declarations.space (piece s.tree cut v) (place_in (sources s cut v)) in
     let below = least.least.least fits.fusion ((alike.fits fits.fusion).1 fits.fits) ((alike.legal fits.fusion).1 fits.legal) in

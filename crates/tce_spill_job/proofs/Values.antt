@@ -1,8 +1,7 @@
 -- The values of the pieces, over the files that the pieces in front of them left, are those of their nodes over the files at the start.
-use Rattle.std.proofs.Common.{◌≡◌, ◌≢◌, ◌⊎◌, ℕ, ◌+◌, ◌-◌, ◌^◌, ◌<◌, ◌≤◌, true, false, cond, List, [], ◌∷◌, length, map, get_or, eqb, eq-eqb, ne_eqb, ltb, lt-ltb, ltb-true, Option, Some, unwrap_or, All, suc, refl, sym, ap, ◌∙◌, subst, inl, inr, arith}
-use Rattle.std.proofs.lemmas.Bool.{cases_Bool, cases_eq, cases_lt, and_from, or_cases, or_left, or_right, false≢true, true≢false}
-use Rattle.std.specs.List.{list_all, IsDistinct}
-use Rattle.std.proofs.lemmas.List.{get_or_past}
+use Rattle.std.proofs.Common.{◌≡◌, ◌≢◌, ◌⊎◌, ℕ, ◌+◌, ◌-◌, ◌^◌, ◌<◌, ◌≤◌, true, false, cond, List, [], ◌∷◌, length, map, get_or, eqb, eq-eqb, ne_eqb, ltb, lt-ltb, ltb-true, Option, Some, unwrap_or, refl, sym, ap, ◌∙◌, subst, inl, inr, arith}
+use Rattle.std.proofs.lemmas.Bool.{cases_Bool, cases_eq, and_from, or_cases, or_left, or_right, false≢true, true≢false}
+use Rattle.std.specs.List.{IsDistinct}
 use Rattle.std.proofs.lemmas.List.Elements.{All-from_recursion}
 use Rattle.std.proofs.lemmas.Simd.{map-map}
 use Rattle.tce_base.specs.Word.{word}
@@ -11,7 +10,7 @@ use Rattle.tce_outside.proofs.Files.{without_file-with_file, file-with_file}
 use Rattle.tce_outside.proofs.Told.{other_files}
 use Rattle.tce_space.specs.IndexSet.{has, members}
 use Rattle.tce_space.specs.Box.{IsInside}
-use Rattle.tce_space.specs.Space.{IndexSpace, Index, IsSpace, index_at, no_index, range_at, extent_at, tiling_of}
+use Rattle.tce_space.specs.Space.{IndexSpace, index_at, range_at, extent_at, tiling_of}
 use Rattle.tce_space.specs.Tiling.{Tiling, IsTiling}
 use Rattle.tce_array.specs.declared.form.Form.TheVariants.{One}
 use Rattle.tce_array.specs.Forms.{form_of, cell, form_bytes, array_bytes}
@@ -27,12 +26,13 @@ use Rattle.tce_tree.proofs.Members.{dims_lt}
 use Rattle.tce_tree.proofs.NamedIndexes.{indexes_below-le, has-set_of_list}
 use Rattle.tce_tree.proofs.Nodes.{node-root}
 use Rattle.tce_tree.proofs.Values.{value-lt}
-use Rattle.tce_declarations.specs.Declarations.{Declarations, Tensor, IsTensor, HaveNames, tensor_at, no_tensor}
+use Rattle.tce_tree.proofs.Assignments.{assignment_inside}
+use Rattle.tce_declarations.specs.Declarations.{Declarations, Tensor, IsTensor, HaveNames, tensor_at}
 use Rattle.tce_formula.specs.Contraction.{LeavesFit, has_tensor}
 use Rattle.tce_pieces.specs.Pieces.{Cuts, stored, is_root, tensors_below}
 use Rattle.tce_pieces.specs.Storable.{shape_of_node, storable}
 use Rattle.tce_pieces.specs.Laws.{HoldNodes}
-use Rattle.tce_pieces.proofs.Places.{member_inside, with-same, with-other}
+use Rattle.tce_pieces.proofs.Places.{member_inside}
 use Rattle.tce_spec.specs.Specification.{Specification, IsSpecification}
 use Rattle.tce_spec.specs.Operands.{shape_of}
 use Rattle.tce_spec.specs.PieceSpecification.{source, sources, target_indexes, array_of, piece_of}
@@ -46,6 +46,7 @@ use Rattle.tce_tensors.proofs.Names.{different_files}
 use Rattle.tce_tensors.proofs.Operands.{not_result}
 use Rattle.tce_tensors.proofs.Results.{result_tiling}
 use Rattle.tce_tensors.proofs.Shapes.{shapes_are_tilings}
+use Rattle.tce_job.proofs.Begun.{result_indexes}
 use Rattle.tce_spill_job.specs.Pieces.{source_file}
 use Rattle.tce_spill_job.specs.Values.{node_element, node_bytes, HasRunTo, IsSpilled}
 use Rattle.tce_spill_job.proofs.Sources.{source_shape, operand_is_declared, file_is, shape_is, array_shape, own_file, own_shape, own_read, target_last, target_array, result_file, result_shape, files_apart, stored_is}
@@ -62,28 +63,6 @@ same_arrays shape f g tiling small same =
 small_word : (n : ℕ) → n < 2 ^ 64 → word n ≡ n
 unfolding word
 small_word n low = omega (arith, low)
-
--- numbers below their extents
-later_number : (j : ℕ) (js : List ℕ) (i : ℕ) → (i ≡ j → ⊥) → among (j ∷ js) i ≡ true → among js i ≡ true
-later_number j js i ne m =
-    elim (or_cases (eqb j i) (among js i) m) [
-      | inl e ↦ absurd (false≢true (sym (ne_eqb j i (λ q. ne (sym q))) ∙ e))
-      | inr r ↦ r
-    ]
-
-number_inside : (extent : ℕ → ℕ) (js at : List ℕ) (i : ℕ) → IsInside (map extent js) at → among js i ≡ true → assignment js at i < extent i
-number_inside extent [] at i h m = absurd (false≢true m)
-number_inside extent (j ∷ js) [] i h m = absurd h
-number_inside extent (j ∷ js) (x ∷ xs) i h m =
-    elim (cases_eq i j) [
-      | inl q ↦
-          let first : x < extent j = h.0 in
-          let here : assignment (j ∷ js) (x ∷ xs) i ≡ x = ap (assignment (j ∷ js) (x ∷ xs)) q ∙ with-same (assignment js xs) j x in
-          omega (arith, first, here, ap extent q)
-      | inr q ↦
-          let later : assignment js xs i < extent i = number_inside extent js xs i h.1 (later_number j js i q m) in
-          omega (arith, later, with-other (assignment js xs) j x i q)
-    ]
 
 tensors_are_below : (d : Declarations) (tree : ContractionTree) → length d.tensors ≤ 32 → LeavesFit d tree → tensors_below 32 tree ≡ true
 tensors_are_below d (leaf t is) few fits = lt-ltb t 32 (omega (arith, few, fits.declared))
@@ -116,24 +95,6 @@ tensor_tiling s t rules is =
       tensors = All-from_recursion (IsTensor s.declarations.space) (t ∷ []) (is, tt);
       tensor_names = (tt, tt);
     }) (omega arith)
-
-index_declared : (space : IndexSpace) (i : ℕ) → IsSpace space → (index_at space i).of_range < length space.ranges → i < 24
-index_declared space i is h =
-    elim (cases_lt i (length space.indexes)) [
-      | inl below ↦ omega (arith, is.index_limit)
-      | inr past ↦ absurd (omega (arith, h, is.range_limit, ap (λ (x : Index). x.of_range) (get_or_past space.indexes i no_index past)))
-    ]
-
-indexes_low : (space : IndexSpace) (is : List ℕ) → IsSpace space → All (λ r. r < length space.ranges) (map (λ i. (index_at space i).of_range) is) → list_all (λ j. ltb j 24) is ≡ true
-indexes_low space [] s h = refl
-indexes_low space (i ∷ is) s h =
-    and_from (ltb i 24) (list_all (λ j. ltb j 24) is) (lt-ltb i 24 (index_declared space i s (h 0 0 (omega arith)))) (indexes_low space is s (λ k d l. h (suc k) d (omega arith)))
-
-result_indexes : (s : Specification) → IsSpecification s → list_all (λ j. ltb j 24) s.indexes ≡ true
-result_indexes s rules =
-    indexes_low s.declarations.space s.indexes rules.declarations.space
-    (subst (All (λ r. r < length s.declarations.space.ranges)) (sym rules.contraction.result_fits.ranges)
-    (rules.declarations.tensors s.result no_tensor rules.contraction.result_fits.declared).declared)
 
 -- an index of the tree's dims is one of the result
 in_result : (s : Specification) → IsSpecification s → (i : ℕ) → has (dims s.tree) i ≡ true → among s.indexes i ≡ true
@@ -273,7 +234,7 @@ module _ (start : Files) (s : Specification) (cut : Cuts) (rules : IsSpecificati
         ∙ same_arrays shape f g (result_tiling s rules) (λ coords. value-lt own p.tree (assignment p.indexes coords)) (λ coords at.
         ap (λ is. value own p.tree (assignment is coords)) listed
         ∙ piece_value (assignment s.indexes coords) (λ i m.
-        number_inside (extent_at space) s.indexes coords i (subst (λ ns. IsInside ns coords) extents at)
+        assignment_inside (extent_at space) s.indexes coords i (subst (λ ns. IsInside ns coords) extents at)
         (in_result s rules i (ap (λ c. has (dims c) i) (sym root) ∙ m)))
         ∙ ap (λ c. value e c (assignment s.indexes coords)) root)
 

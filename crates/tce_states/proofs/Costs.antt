@@ -9,8 +9,9 @@ use Rattle.tce_tree.specs.ContractionTree.{ContractionTree, leaf, constant, bina
 use Rattle.tce_tree.proofs.Operands.{Stands, stands-whole}
 use Rattle.tce_tree.specs.Fusion.{kept_dims}
 use Rattle.tce_tree.specs.Memory.{memory, size_at, size_before}
+use Rattle.tce_tree.proofs.Nodes.{operations-leaf}
 use Rattle.tce_states.specs.State.{root_number, first_right, fused_at_root, size_left, cost, operands_cost}
-use Rattle.tce_states.proofs.Operands.{by_operands, operations-leaf, operations-node, node-at_root, left_operand_at, right_operand_at}
+use Rattle.tce_states.proofs.Operands.{by_operands, operations-node, node-at_root, left_operand_at, right_operand_at}
 
 range-append : (a m n : ℕ) → range_with_len a (m + n) ≡ range_with_len a m ++ range_with_len (a + m) n
 range-append a zero n =

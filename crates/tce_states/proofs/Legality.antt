@@ -7,7 +7,7 @@ use Rattle.tce_space.proofs.IndexSetLaws.{has-empty}
 use Rattle.tce_tree.specs.ContractionTree.{ContractionTree, leaf, constant, binary, sum, is_leaf, left_tree, right_tree, dims, loops, operations, node, node_loops, parent}
 use Rattle.tce_tree.specs.FlatTree.{first_number_of}
 use Rattle.tce_tree.specs.Fusion.{FusionFits, fused_at}
-use Rattle.tce_tree.proofs.Nodes.{size_bounds}
+use Rattle.tce_tree.proofs.Nodes.{size_bounds, node_of_some, operations-leaf}
 use Rattle.tce_tree.proofs.Operands.{Stands, stands-whole, stands-node}
 use Rattle.tce_fusion.specs.Scope.{scope, IsSubset, IsLegal}
 use Rattle.tce_fusion.specs.Tops.{AreNested}
@@ -15,7 +15,7 @@ use Rattle.tce_fusion.proofs.Illegal.{subset_or_not, legal_from_none, none_from_
 use Rattle.tce_fusion.proofs.ScopeLaws.{is_spanned, parent_of, parent-is, parent_of_is}
 use Rattle.tce_states.specs.Relation.{Allows}
 use Rattle.tce_states.specs.State.{root_number, first_right, fused_at_root, operands_joined, IsJoined, IsStep, HasState, HasStates}
-use Rattle.tce_states.proofs.Operands.{by_operands, operations-leaf, operations-node, node_of_some, left_dims_within, right_dims_within, root_inside, node-at_root, first-at_root, fused_within, fused_within_loops, IsOperand, left_operand_at, right_operand_at}
+use Rattle.tce_states.proofs.Operands.{by_operands, operations-node, left_dims_within, right_dims_within, root_inside, node-at_root, first-at_root, fused_within, fused_within_loops, IsOperand, left_operand_at, right_operand_at}
 use Rattle.tce_states.proofs.Links.{linked_up, fused_between}
 use Rattle.tce_states.proofs.Tells.{join_tells}
 

@@ -1,7 +1,7 @@
 -- The operands of a subtree in the whole tree: where they stand, and laws by induction over them.
 use Rattle.std.proofs.Common.{◌≡◌, ℕ, ◌+◌, ◌-◌, ◌<◌, ◌≤◌, true, false, Some, List, refl, ap, ◌∙◌, subst, arith}
 use Rattle.std.specs.Prelude.{IsTrue}
-use Rattle.std.proofs.lemmas.Bool.{false≢true, true≢false, or_left, or_right, both_ways}
+use Rattle.std.proofs.lemmas.Bool.{true≢false, or_left, or_right, both_ways}
 use Rattle.tce_space.specs.IndexSet.{has, IsWithin}
 use Rattle.tce_space.proofs.IndexSetLaws.{has-union, has-empty}
 use Rattle.tce_tree.specs.ContractionTree.{ContractionTree, leaf, constant, binary, sum, is_leaf, left_tree, right_tree, dims, loops, operations, node, node_dims, parent}
@@ -20,23 +20,11 @@ by_operands P at_leaf at_node (constant number) = at_leaf (constant number) refl
 by_operands P at_leaf at_node (binary op l r) = at_node (binary op l r) refl (by_operands P at_leaf at_node l) (by_operands P at_leaf at_node r)
 by_operands P at_leaf at_node (sum indexes e) = at_node (sum indexes e) refl (by_operands P at_leaf at_node e) (at_leaf (constant 0) refl)
 
-pub operations-leaf : (t : ContractionTree) → is_leaf t ≡ true → operations t ≡ 0
-operations-leaf (leaf tensor indexes) h = refl
-operations-leaf (constant number) h = refl
-operations-leaf (binary op l r) h = absurd (false≢true h)
-operations-leaf (sum indexes e) h = absurd (false≢true h)
-
 pub operations-node : (t : ContractionTree) → is_leaf t ≡ false → operations t ≡ operations (left_tree t) + operations (right_tree t) + 1
 operations-node (leaf tensor indexes) h = absurd (true≢false h)
 operations-node (constant number) h = absurd (true≢false h)
 operations-node (binary op l r) h = refl
 operations-node (sum indexes e) h = omega arith
-
-pub node_of_some : (t : ContractionTree) → 0 < operations t → is_leaf t ≡ false
-node_of_some (leaf tensor indexes) h = absurd (omega arith)
-node_of_some (constant number) h = absurd (omega arith)
-node_of_some (binary op l r) h = refl
-node_of_some (sum indexes e) h = refl
 
 -- a node's operands' dims are loops of it
 pub left_dims_within : (t : ContractionTree) → is_leaf t ≡ false → IsWithin (dims (left_tree t)) (loops t)

@@ -9,13 +9,13 @@ use Rattle.tce_space.proofs.IndexSetLaws.{has-empty}
 use Rattle.tce_tree.specs.ContractionTree.{ContractionTree, leaf, constant, binary, sum, is_leaf, left_tree, right_tree, dims, loops, operations, node, node_dims, node_loops}
 use Rattle.tce_tree.specs.FlatTree.{operand_of, left_operand, right_operand, first_number_of, left_of, right_of}
 use Rattle.tce_tree.specs.Fusion.{fused_at, FusionFits}
-use Rattle.tce_tree.proofs.Nodes.{size_bounds, node-root}
+use Rattle.tce_tree.proofs.Nodes.{size_bounds, node-root, node_of_some}
 use Rattle.tce_tree.proofs.Operands.{Stands, stands-whole, stands-node}
 use Rattle.tce_states.specs.Relation.{Relation, above, none, joined, cut, HasNoConflict, Allows}
 use Rattle.tce_states.specs.State.{root_number, first_right, fused_at_root, state, operands_joined, HasState, size_left, cost, operands_cost}
 use Rattle.tce_states.specs.Row.{Row, leaf_row, rows_joined, step_relation, IsStepRow}
 use Rattle.tce_states.specs.Reached.{IsStateOf, sets_of_step, IsLegalWith, tree_of_operand, tree_of_right, left_below, right_below}
-use Rattle.tce_states.proofs.Operands.{by_operands, operations-node, node_of_some, node-at_root, left_operand_at, right_operand_at}
+use Rattle.tce_states.proofs.Operands.{by_operands, operations-node, node-at_root, left_operand_at, right_operand_at}
 use Rattle.tce_states.proofs.Tells.{state-leaf, state-node}
 use Rattle.tce_states.proofs.Legality.{state_from_leaf, state_from_parts, state_parts, legal_from_states}
 use Rattle.tce_states.proofs.Costs.{cost-leaf, cost-node, costs_add_up}

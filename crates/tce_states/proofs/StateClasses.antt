@@ -8,12 +8,12 @@ use Rattle.tce_tree.specs.FlatTree.{first_number_of}
 use Rattle.tce_tree.specs.Fusion.{FusionFits, fused_at}
 use Rattle.tce_tree.proofs.Lists.{same_truth}
 use Rattle.tce_tree.proofs.Members.{node_dims_lt}
-use Rattle.tce_tree.proofs.Nodes.{size_bounds}
+use Rattle.tce_tree.proofs.Nodes.{size_bounds, node_of_some}
 use Rattle.tce_tree.proofs.Operands.{stands-node}
 use Rattle.tce_states.specs.Relation.{Relation, none, above, joined, cut, HasNoConflict}
 use Rattle.tce_states.specs.Classes.{in_class, AreClassesOf}
 use Rattle.tce_states.specs.State.{root_number, first_right, fused_at_root, state, operands_joined, HasState}
-use Rattle.tce_states.proofs.Operands.{by_operands, node_of_some, fused_within_loops}
+use Rattle.tce_states.proofs.Operands.{by_operands, fused_within_loops}
 use Rattle.tce_states.proofs.Tells.{state-leaf, state-node, range_end}
 use Rattle.tce_states.proofs.Legality.{state_parts}
 use Rattle.tce_states.proofs.Choices.{parts_are_index_sets}
@@ -26,7 +26,7 @@ Divides r = (i j k : ℕ) → r k j ≡ true → (r k i ≡ true) ⊎ (r i j ≡
 divides-none : Divides none
 divides-none i j k h = absurd (false≢true h)
 
-divides-joined : (r s : Relation) → Divides r → Divides s → Divides (joined r s)
+pub divides-joined : (r s : Relation) → Divides r → Divides s → Divides (joined r s)
 divides-joined r s first second i j k h =
     elim (or_cases (r k j) (s k j) h) [
       | inl x ↦ elim (first i j k x) [ inl y ↦ inl (or_left (r k i) (s k i) y) | inr y ↦ inr (or_left (r i j) (s i j) y) ]

@@ -5,14 +5,14 @@ use Rattle.std.proofs.lemmas.Bool.{false_from_ne_true, or_cases, or_parts, and_p
 use Rattle.tce_space.specs.IndexSet.{has}
 use Rattle.tce_tree.specs.ContractionTree.{ContractionTree, leaf, constant, binary, sum, is_leaf, left_tree, right_tree, operations, node}
 use Rattle.tce_tree.specs.FlatTree.{first_number_of}
-use Rattle.tce_tree.proofs.Nodes.{size_bounds}
+use Rattle.tce_tree.proofs.Nodes.{size_bounds, node_of_some, operations-leaf}
 use Rattle.tce_tree.proofs.Operands.{Stands, stands-node}
 use Rattle.tce_tree.proofs.Parents.{subtree_is, subtree_from}
 use Rattle.tce_fusion.specs.Scope.{scope}
 use Rattle.tce_fusion.proofs.ScopeLaws.{is_spanned}
 use Rattle.tce_states.specs.Relation.{Relation, none, joined, cut}
 use Rattle.tce_states.specs.State.{root_number, first_right, fused_at_root, state, operands_joined, GoesFurther}
-use Rattle.tce_states.proofs.Operands.{by_operands, operations-leaf, operations-node, node_of_some, IsOperand, left_operand_at, right_operand_at}
+use Rattle.tce_states.proofs.Operands.{by_operands, operations-node, IsOperand, left_operand_at, right_operand_at}
 use Rattle.tce_states.proofs.Links.{linked_up, linked_below, linked_above}
 
 -- a node of a range that the scope of i at r has, and that of j lacks

@@ -9,11 +9,12 @@ use Rattle.tce_space.proofs.IndexSetLaws.{has-empty}
 use Rattle.tce_tree.specs.ContractionTree.{ContractionTree, is_leaf, left_tree, right_tree, operations, node_loops}
 use Rattle.tce_tree.specs.Fusion.{fused_at, FusionFits}
 use Rattle.tce_tree.proofs.Operands.{stands-whole}
+use Rattle.tce_tree.proofs.Nodes.{node_of_some}
 use Rattle.tce_states.specs.Relation.{Relation, joined, HasNoConflict}
 use Rattle.tce_states.specs.State.{root_number, first_right, fused_at_root, state, operands_joined, IsJoined, HasState, cost}
 use Rattle.tce_states.specs.Row.{Row, StandsFor, rows_joined}
 use Rattle.tce_states.specs.Cover.{left_rows, right_rows, NodesCovered}
-use Rattle.tce_states.proofs.Operands.{by_operands, node_of_some, left_operand_at, right_operand_at}
+use Rattle.tce_states.proofs.Operands.{by_operands, left_operand_at, right_operand_at}
 use Rattle.tce_states.proofs.Steps.{rows_stand_together}
 use Rattle.tce_states.proofs.Tells.{state-leaf, state-node}
 use Rattle.tce_states.proofs.Legality.{loops_at_root, state_from_leaf, state_from_parts}
@@ -43,12 +44,12 @@ module _ (fusion : List ℕ) (unfused : (v : ℕ) → fused_at fusion v ≡ 0) w
       state_from_parts fusion first t node_t (left first) (right (first_right first t))
       (joined_unfused t first, λ i j li out inn ij. both_ways (has (fused_at_root fusion first t) j) (not_fused (root_number first t) j) inn)) c
 
-zeros_fuse_nothing : (n v : ℕ) → fused_at (replicate n 0) v ≡ 0
+pub zeros_fuse_nothing : (n v : ℕ) → fused_at (replicate n 0) v ≡ 0
 zeros_fuse_nothing zero v = refl
 zeros_fuse_nothing (suc n) zero = refl
 zeros_fuse_nothing (suc n) (suc v) = zeros_fuse_nothing n v
 
-zeros_fit : (tree : ContractionTree) → FusionFits tree (replicate (operations tree) 0)
+pub zeros_fit : (tree : ContractionTree) → FusionFits tree (replicate (operations tree) 0)
 zeros_fit tree = record {
   each = length-replicate (operations tree) 0;
   within = λ v v_in i m. absurd (both_ways (has (fused_at (replicate (operations tree) 0) v) i) (ap (λ s. has s i) (zeros_fuse_nothing (operations tree) v) ∙ has-empty i) m);

@@ -1,8 +1,8 @@
 -- Four turns of the loop outside the innermost one at once, each of which adds a row with a factor.
-use Rattle.std.proofs.Common.{◌≡◌, ◌∙◌, refl, sym, ap, ap₂, subst, ℕ, ◌+◌, ◌*◌, ◌%◌, ◌^◌, ◌<◌, ◌≤◌, List, [], ◌∷◌, length, slice_index, arith}
+use Rattle.std.proofs.Common.{◌≡◌, ◌∙◌, refl, sym, ap, ap₂, subst, ℕ, ◌+◌, ◌*◌, ◌<◌, ◌≤◌, List, [], ◌∷◌, length, slice_index, arith}
 use mathlib.Core.Path.{fun_ext}
-use Rattle.std.proofs.Math.Nat.{mul_comm}
 use Rattle.tce_base.specs.Word.{wrapping_add, wrapping_mul}
+use Rattle.tce_base.proofs.Words.{times_comm}
 use Rattle.tce_words.specs.Rows.{IsRowAdded, AreFourRowsAdded}
 use Rattle.tce_words.specs.Run.{IsWithin, AreApart as RunsAreApart, IsRun}
 use Rattle.tce_strides.specs.declared.loops.Loop.{Loop}
@@ -106,13 +106,8 @@ four_more rows along out left right x m old now next given is le made added =
     row_more rows along out left right (x + 2) (x + 3) (left + x * rows.left + 2 * rows.left) (right + x * rows.right + 2 * rows.right) old added.after_two added.after_three given (omega arith) (omega arith) (omega arith) (omega arith) two added.three in
     row_more rows along out left right (x + 3) m (left + x * rows.left + 3 * rows.left) (right + x * rows.right + 3 * rows.right) old added.after_three next given (omega arith) (omega arith) (omega arith) (omega arith) three added.four
 
--- the operands the other way round
-swapped : (x y : ℕ) → wrapping_mul x y ≡ wrapping_mul y x
-unfolding wrapping_mul
-swapped x y = ap (λ n. n % 2 ^ 64) (mul_comm x y)
-
 pub made_swapped : (left right place : List ℕ → ℕ) (turns : List (List ℕ)) (old new : List ℕ) → IsMade (turned Grow old left right) place turns old new → IsMade (turned Grow old right left) place turns old new
 made_swapped left right place turns old new made =
     let same : turned Grow old left right ≡ turned Grow old right left =
-    fun_ext (λ w. fun_ext (λ xs. ap (wrapping_add w) (swapped (slice_index old (left xs)) (slice_index old (right xs))))) in
+    fun_ext (λ w. fun_ext (λ xs. ap (wrapping_add w) (times_comm (slice_index old (left xs)) (slice_index old (right xs))))) in
     subst (λ word. IsMade word place turns old new) same made

@@ -1,27 +1,15 @@
 -- The sums that loops leave.
-use Rattle.std.proofs.Common.{◌≡◌, ◌∙◌, refl, sym, ap, ℕ, zero, suc, ◌+◌, ◌%◌, ◌<◌, ◌^◌, eqb, if◌then◌else◌, List, [], ◌∷◌, map, length, slice_index, inl, inr, arith, add_assoc, zero-add}
+use Rattle.std.proofs.Common.{◌≡◌, ◌∙◌, refl, sym, ap, ℕ, zero, suc, ◌+◌, ◌<◌, ◌^◌, eqb, if◌then◌else◌, List, [], ◌∷◌, map, length, slice_index, inl, inr, zero-add}
 use Rattle.std.specs.List.{flat_map, range_with_len, fold}
-use Rattle.std.proofs.Math.Nat.{add-mod-mod, mod-add-mod}
 use Rattle.std.proofs.lemmas.Bool.{cases_Bool}
 use Rattle.std.proofs.lemmas.List.Sums.{fold-append}
 use Rattle.tce_base.specs.Word.{wrapping_add}
+use Rattle.tce_base.proofs.Words.{plus_assoc, plus-zero, plus-lt}
 use Rattle.tce_space.specs.Box.{places, IsInside}
 use Rattle.tce_tree.specs.Value.{Assignment, with_number, sum_below, sum_over}
 use Rattle.tce_strides.specs.Results.{assigned, AreAssigned}
 use Rattle.tce_strides.specs.Turns.{IsMade}
 use Rattle.tce_strides.proofs.Folds.{each_inside, flat_more, fold_same, fold_under}
-
-plus_assoc : (x y z : ℕ) → wrapping_add (wrapping_add x y) z ≡ wrapping_add x (wrapping_add y z)
-unfolding wrapping_add
-plus_assoc x y z = mod-add-mod (x + y) (2 ^ 64) z ∙ ap (λ n. n % 2 ^ 64) (add_assoc x y z) ∙ sym (add-mod-mod x (y + z) (2 ^ 64))
-
-plus-zero : (x : ℕ) → x < 2 ^ 64 → wrapping_add x 0 ≡ x
-unfolding wrapping_add
-plus-zero x h = omega arith
-
-plus-lt : (x y : ℕ) → wrapping_add x y < 2 ^ 64
-unfolding wrapping_add
-plus-lt x y = omega arith
 
 -- the turns of one loop, where each number's turns add one sum
 numbers_add : (step : ℕ → List ℕ → ℕ) (ns : List ℕ) (s : ℕ → ℕ) (n w : ℕ) → w < 2 ^ 64

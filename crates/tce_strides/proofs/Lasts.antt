@@ -8,8 +8,8 @@ use Rattle.tce_space.specs.Tiling.{ArePositive}
 use Rattle.tce_tree.specs.WellFormed.{among, is_distinct}
 use Rattle.tce_tree.specs.Value.{Assignment, with_number}
 use Rattle.tce_tree.proofs.Lists.{among_first, among_later, among_cases, distinct_first, distinct_later, same_truth}
+use Rattle.tce_tree.proofs.Assignments.{with-same, with-other}
 use Rattle.tce_block.specs.Last.{last_of_box}
-use Rattle.tce_block.proofs.BoxSums.{with-same, with-other}
 use Rattle.tce_block.proofs.LastBlocks.{agrees, last_place, AreGiven, last_agreeing}
 use Rattle.tce_strides.specs.Results.{assigned, HasNumbers}
 use Rattle.tce_strides.specs.Turns.{IsMade}
@@ -42,7 +42,7 @@ all_given extent fixed b (i ∷ rest) some h =
     (all_given extent fixed b rest some.1 (λ j m. h j (among_later i rest j m)))
 
 -- an index that no loop has stays
-assigned_out : (a : Assignment) (indexes xs : List ℕ) (j : ℕ) → among indexes j ≡ false → assigned a indexes xs j ≡ a j
+pub assigned_out : (a : Assignment) (indexes xs : List ℕ) (j : ℕ) → among indexes j ≡ false → assigned a indexes xs j ≡ a j
 assigned_out a [] xs j out = refl
 assigned_out a (i ∷ rest) [] j out = refl
 assigned_out a (i ∷ rest) (x ∷ xs) j out =

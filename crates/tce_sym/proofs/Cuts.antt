@@ -2,7 +2,7 @@
 use Rattle.std.proofs.Common.{◌≡◌, ◌∙◌, ℕ, ◌+◌, ◌-◌, ◌*◌, ◌<◌, List, [], ◌∷◌, ◌++◌, length, take, drop, get_or, set, refl, sym, ap, subst, arith, length-append, append_assoc, take-append-drop}
 use Rattle.std.proofs.lemmas.List.{drop_more, drop-drop, length-take-le, length-drop, set_at}
 use Rattle.tce_space.specs.Box.{product, IsInside}
-use Rattle.tce_space.proofs.Boxes.{length_inside}
+use Rattle.tce_space.proofs.Boxes.{length_inside, inside_joined}
 use Rattle.tce_space.proofs.Products.{product-append}
 use Rattle.tce_sym.specs.declared.symmetry.Symmetry.{Symmetry}
 use Rattle.tce_sym.specs.Storage.{at_first, at_second, at_others, exchanged}
@@ -46,12 +46,6 @@ inside_parts [] ms [] ys e h = (tt, h)
 inside_parts [] ms (x ∷ xs) ys e h = absurd (cc)
 inside_parts (n ∷ ns) ms [] ys e h = absurd (cc)
 inside_parts (n ∷ ns) ms (x ∷ xs) ys e h = let rest = inside_parts ns ms xs ys (omega arith) h.1 in ((h.0, rest.0), rest.1)
-
-pub inside_joined : (ns ms xs ys : List ℕ) → IsInside ns xs → IsInside ms ys → IsInside (ns ++ ms) (xs ++ ys)
-inside_joined [] ms [] ys h k = k
-inside_joined [] ms (x ∷ xs) ys h k = absurd h
-inside_joined (n ∷ ns) ms [] ys h k = absurd h
-inside_joined (n ∷ ns) ms (x ∷ xs) ys h k = (h.0, inside_joined ns ms xs ys h.1 k)
 
 pub record AreInside (s : Symmetry) (ns xs : List ℕ) : Type 0 where
   pub front : IsInside (before s ns) (before s xs)

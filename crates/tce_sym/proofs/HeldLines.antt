@@ -13,7 +13,7 @@ use Rattle.tce_sym.specs.declared.lines.Grid.{Grid}
 use Rattle.tce_sym.specs.Storage.{stored_word}
 use Rattle.tce_sym.specs.Lines.{IsGrid, AreLines}
 
-no_mark : (n slot : ℕ) → slice_index (replicate {A = ℕ} n 0) slot ≡ 0
+pub no_mark : (n slot : ℕ) → slice_index (replicate {A = ℕ} n 0) slot ≡ 0
 no_mark zero slot = refl
 no_mark (suc n) zero = refl
 no_mark (suc n) (suc slot) = no_mark n slot

@@ -1,30 +1,11 @@
 -- A file has one right answer.
-use Rattle.std.proofs.Common.{◌≡◌, ◌≢◌, ◌∙◌, ℕ, ◌<◌, ◌≤◌, Bool, true, false, List, length, take, slice_index, Option, Some, None, Result, Ok, Err, refl, sym, ap, inl, inr, arith, if◌then◌else◌, get_or, subst}
-use Rattle.std.proofs.lemmas.Bool.{cases_lt}
-use Rattle.std.proofs.lemmas.List.{get_or-take}
-use Rattle.tce_array.specs.Faults.{DifferFirst}
+use Rattle.std.proofs.Common.{◌≡◌, ◌≢◌, ◌∙◌, ℕ, ◌<◌, ◌≤◌, Bool, true, false, List, length, take, Option, Some, None, Result, Ok, Err, refl, sym, ap, inl, inr, arith, if◌then◌else◌, get_or, subst}
+use Rattle.tce_array.proofs.OneAnswer.{first_alone, not_same}
 use Rattle.tce_sym.specs.declared.symmetry.Symmetry.{Symmetry}
 use Rattle.tce_sym.specs.declared.fault.SymFault.{SymFault}
 use Rattle.tce_sym.specs.declared.fault.SymFault.TheVariants.{NoFile, BadLength, BadHeader, Disk}
 use Rattle.tce_sym.specs.Storage.{AreRight, IsHead, IsStored, number_at, stored_len}
 use Rattle.tce_sym.specs.Faults.{IsWrongAt, IsWrongLength, IsAnswer, IsOnlyAnswer}
-
--- the first place at which two lists differ is one
-first_alone : (xs ys : List ℕ) (p q : ℕ) → DifferFirst xs ys p → DifferFirst xs ys q → p ≡ q
-first_alone xs ys p q h k =
-    elim (cases_lt p q) [
-      | inl below ↦ absurd (h.differ (before p q below k.same))
-      | inr above ↦ elim (cases_lt q p) [
-        | inl below ↦ absurd (k.differ (before q p below h.same))
-        | inr same ↦ omega arith
-      ]
-    ]
-  where
-    before : (i n : ℕ) → i < n → take n xs ≡ take n ys → slice_index xs i ≡ slice_index ys i
-    before i n l e = sym (get_or-take n xs i 0 l) ∙ ap (λ l. slice_index l i) e ∙ get_or-take n ys i 0 l
-
-not_same : (xs ys : List ℕ) (p : ℕ) → DifferFirst xs ys p → xs ≡ ys → ⊥
-not_same xs ys p h e = h.differ (ap (λ l. slice_index l p) e)
 
 -- a head tells one symmetry
 sign_alone : (a b : Bool) (n : ℕ) → n ≡ (if a then 1 else 0) → n ≡ (if b then 1 else 0) → a ≡ b

@@ -1,5 +1,5 @@
 -- Pieces of an array file, tile by tile.
-use Rattle.std.proofs.Common.{◌≡◌, ◌∙◌, ◌⊎◌, ℕ, zero, suc, ◌+◌, ◌-◌, ◌<◌, ◌≤◌, true, false, nat_lt, if◌then◌else◌, List, length, replicate, slice_index, min, sym, refl, ap, arith, inl, inr}
+use Rattle.std.proofs.Common.{◌≡◌, ◌∙◌, ◌⊎◌, ℕ, ◌+◌, ◌-◌, ◌<◌, ◌≤◌, true, false, nat_lt, if◌then◌else◌, List, length, replicate, slice_index, min, sym, ap, arith, inl, inr}
 use Rattle.std.proofs.lemmas.Bool.{cases_lt}
 use borrow.Rule.Slice.PartMut.{put_mid}
 use Rattle.tce_space.specs.Tiling.{Tiling, IsTiling, word_number, padded_words}
@@ -13,6 +13,7 @@ use Rattle.tce_tools.proofs.Shuffles.{copied, kept}
 use Rattle.tce_tools.proofs.Stored.{bare_same}
 use Rattle.tce_sym.specs.declared.tile_rows.TileRow.{TileRow}
 use Rattle.tce_sym.specs.TileRows.{IsTileRow, AreWords}
+use Rattle.tce_sym.proofs.HeldLines.{no_mark}
 
 -- the elements of the first words, and zeros in place of the others
 abbrev pub first_words : Tiling → (List ℕ → ℕ) → ℕ → List ℕ → ℕ
@@ -44,11 +45,6 @@ piece_change s f vs done len t size room values = record {
   padding = λ k l none. values.padding k (omega (arith, size)) none;
 }
 
-pub all_zeros : (n k : ℕ) → slice_index (replicate {A = ℕ} n 0) k ≡ 0
-all_zeros zero k = refl
-all_zeros (suc n) zero = refl
-all_zeros (suc n) (suc k) = all_zeros n k
-
 -- the words of a row more, of which those that are no elements stay 0
 pub record AreFilled (s : Tiling) (f : List ℕ → ℕ) (from count : ℕ) (words : List ℕ) : Type 0 where
   pub values : AreWords s f from count words
@@ -57,7 +53,7 @@ pub record AreFilled (s : Tiling) (f : List ℕ → ℕ) (from count : ℕ) (wor
 pub none_filled : (s : Tiling) (f : List ℕ → ℕ) (from n : ℕ) (words : List ℕ) → words ≡ replicate {A = ℕ} n 0 → AreFilled s f from 0 words
 none_filled s f from n words is = record {
   values = record { elements = λ k l xs h at. absurd (omega arith); padding = λ k l none. absurd (omega arith) };
-  zeros = λ k h. ap (λ l. slice_index l k) is ∙ all_zeros n k;
+  zeros = λ k h. ap (λ l. slice_index l k) is ∙ no_mark n k;
 }
 
 pub more_filled : (s : Tiling) (f : List ℕ → ℕ) (from filled len used : ℕ) (row : TileRow) (old ws : List ℕ) → IsTiling s → IsTileRow s (from + filled) row → len ≤ row.len → used ≡ min row.used len

@@ -1,9 +1,10 @@
 -- The places of stored elements.
-use Rattle.std.proofs.Common.{◌≡◌, ◌∙◌, ℕ, zero, suc, ◌+◌, ◌*◌, ◌/◌, ◌%◌, ◌<◌, ◌≤◌, List, Bool, true, false, sym, ap, subst, arith}
+use Rattle.std.proofs.Common.{◌≡◌, ◌∙◌, ℕ, ◌+◌, ◌*◌, ◌/◌, ◌%◌, ◌<◌, ◌≤◌, List, Bool, true, false, sym, ap, subst, arith}
 use Rattle.std.proofs.Math.Nat.{mul-le-mul_left}
 use Rattle.std.proofs.lemmas.Nat.{div_below, mod_below, div-add-mod', div-mul-add, mod-mul-add}
 use Rattle.tce_space.specs.Box.{product, place, IsInside}
 use Rattle.tce_space.proofs.Boxes.{row_lt, place-lt, place_injective, places_every, length_inside}
+use Rattle.tce_array.proofs.Padding.{some_factor}
 use Rattle.tce_sym.specs.declared.symmetry.Symmetry.{Symmetry}
 use Rattle.tce_sym.specs.Storage.{AreRight, IsPair, at_first, at_second, at_others, pairs, stored_place, stored_count}
 use Rattle.tce_sym.specs.Laws.{IsStoredAt, PlacesAreTheirs}
@@ -55,14 +56,10 @@ apart extents s xs ys r h k e =
     parts_same s xs ys r.ordered (omega (arith, r.inside, length_inside extents xs h.inside)) (omega (arith, r.inside, length_inside extents ys k.inside))
     (place_injective (at_others s extents) (at_others s xs) (at_others s ys) x.others y.others o) two.0 two.1
 
-some : (e q k : ℕ) → k < e * q → 0 < q
-some e zero k h = absurd (omega arith)
-some e (suc q) k h = omega arith
-
 every : (extents : List ℕ) (s : Symmetry) (k : ℕ) → AreRight extents s → k < stored_count extents s → (xs : List ℕ) × IsStoredAt extents s xs × (stored_place extents s xs ≡ k)
 every extents s k r h =
     let q : ℕ = pairs s.negated (at_first s extents) in
-    let positive : 0 < pairs s.negated (at_first s extents) = some (product (at_others s extents)) q k h in
+    let positive : 0 < pairs s.negated (at_first s extents) = some_factor (product (at_others s extents)) q k h in
     let o = places_every (at_others s extents) (k / q) (div_below k q (product (at_others s extents)) positive h) in
     let t = pairs_every s.negated (at_first s extents) (k % q) (mod_below k q positive) in
     let lower : t.first < at_first s extents = lower_is s.negated t.first t.second (at_first s extents) t.pair t.below in

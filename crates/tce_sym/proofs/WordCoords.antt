@@ -10,7 +10,8 @@ use Rattle.tce_space.specs.Box.{product, place, IsInside}
 use Rattle.tce_space.specs.Tiling.{Tiling, IsTiling, counts_along, divided, remainders, joined, tile_counts, tile_words, padded_words, tiles, word_number, ArePositive}
 use Rattle.tce_space.proofs.Boxes.{place-lt, place_injective, length_inside}
 use Rattle.tce_space.proofs.Tilings.{divided_inside, remainders_inside, joined_back}
-use Rattle.tce_space.proofs.Counts.{positive_at}
+use Rattle.tce_space.proofs.Counts.{positive_at, some_tile}
+use Rattle.tce_space.proofs.Products.{product_positive}
 use Rattle.tce_array.proofs.Padding.{word_at_place}
 use Rattle.tce_tools.specs.Runs.{IsRowMajor, moved}
 use Rattle.tce_tools.proofs.Rows.{last_of, last_is, moved_inside, moved_place}
@@ -22,25 +23,9 @@ drop_set [] d v h = absurd (omega arith)
 drop_set (x ∷ xs) zero v h = refl
 drop_set (x ∷ xs) (suc d) v h = drop_set xs d v (omega arith)
 
-some_count : (n e : ℕ) → 0 < n → 0 < e → 0 < div_ceil n e
-some_count n e some positive = above (div_ceil n e) (div_ceil_times n e positive).0
-  where
-    above : (c : ℕ) → n ≤ c * e → 0 < c
-    above zero h = absurd (omega arith)
-    above (suc c) h = omega arith
-
-product_some : (es : List ℕ) → ArePositive es → 0 < product es
-product_some [] p = omega arith
-product_some (e ∷ es) p = both e (product es) p.0 (product_some es p.1)
-  where
-    both : (a b : ℕ) → 0 < a → 0 < b → 0 < a * b
-    both zero b h k = absurd (omega arith)
-    both (suc a) zero h k = absurd (omega arith)
-    both (suc a) (suc b) h k = omega arith
-
 edge_le : (es : List ℕ) (d : ℕ) → ArePositive es → d < length es → get_or es d 0 ≤ product es
 edge_le [] d p l = absurd (omega arith)
-edge_le (e ∷ es) zero p l = (let one : 1 ≤ product es = omega (arith, product_some es p.1) in let more : e * 1 ≤ e * product es = mul-le-mul_left e one in omega arith)
+edge_le (e ∷ es) zero p l = (let one : 1 ≤ product es = omega (arith, product_positive es p.1) in let more : e * 1 ≤ e * product es = mul-le-mul_left e one in omega arith)
 edge_le (e ∷ es) (suc d) p l =
     (let rest : get_or es d 0 ≤ product es = edge_le es d p.1 (omega arith) in
     let one : 1 ≤ e = omega (arith, p.0) in
@@ -67,7 +52,7 @@ dim_at s ns es d t n e l =
 
 pub digit_small : (n e t i : ℕ) → IsDim n e → t % div_ceil n e * e + i % e < 2 ^ 33
 digit_small n e t i d =
-    let below : t % div_ceil n e < div_ceil n e = mod_below t (div_ceil n e) (some_count n e d.some d.positive) in
+    let below : t % div_ceil n e < div_ceil n e = mod_below t (div_ceil n e) (some_tile n e d.some d.positive) in
     let next : t % div_ceil n e + 1 ≤ div_ceil n e = omega arith in
     let all : e * (t % div_ceil n e + 1) ≤ e * div_ceil n e = mul-le-mul_left e next in
     let top : div_ceil n e * e < n + e = (div_ceil_times n e d.positive).1 in
@@ -105,7 +90,7 @@ tail_more n e ns es xs inner t place_all tile_all some positive r =
     record {
       tile = (t % c) ∷ r.tile;
       digits = (inner % e) ∷ r.digits;
-      tile_in = (mod_below t (div_ceil n e) (some_count n e some positive), r.tile_in);
+      tile_in = (mod_below t (div_ceil n e) (some_tile n e some positive), r.tile_in);
       digits_in = (mod_below inner e positive, r.digits_in);
       coords = ap (λ l. (t % c * e + inner % e) ∷ l) r.coords;
       inner_is = regroup (inner / e) e (inner % e) (product es) (place es r.digits) ∙ ap (λ z. z * product es + place es r.digits) (div-add-mod' inner e) ∙ r.inner_is;
@@ -161,7 +146,7 @@ pub tail_end : (s : Tiling) (word : ℕ) (ns es xs : List ℕ) (j inner t : ℕ)
     → IsTail (drop j ns) (drop j es) (drop j xs) inner t (word % tile_words s) (word / tile_words s) → IsWordOf s word xs
 tail_end s word ns es xs j inner t tiling h n e none r =
     let m : ℕ = tile_words s in
-    let some : 0 < tile_words s = product_some s.edges tiling.positive in
+    let some : 0 < tile_words s = product_positive s.edges tiling.positive in
     let turned : word < tiles s * tile_words s = omega (arith, h) in
     let number : word / tile_words s * tile_words s + word % tile_words s ≡ word = div-add-mod' word (tile_words s) in
     let all : IsTail ns es xs inner t (word % tile_words s) (word / tile_words s) = subst (λ (i : ℕ). IsTail (drop i ns) (drop i es) (drop i xs) inner t (word % tile_words s) (word / tile_words s)) none r in

@@ -5,7 +5,7 @@ use Rattle.std.proofs.lemmas.Cmp.{nat_list_cmp_total}
 use Rattle.std.specs.Option.{IsSomeAnd, option_map}
 use Rattle.std.specs.FinMap.{same_map, slice_cmp-IsAntisymmetric, nat_cmp-IsAntisymmetric}
 use Rattle.tce_outside.specs.Files.{Files, file, with_file, overwritten}
-use Rattle.tce_outside.proofs.Files.{without_file-with_file}
+use Rattle.tce_outside.proofs.Files.{without_file-with_file, file-with_file}
 use Rattle.tce_outside.proofs.Places.{same_name}
 use Rattle.tce_outside.proofs.Told.{other_files}
 use Rattle.tce_space.specs.Tiling.{Tiling, IsTiling, tile_words, tiles, tile_number, place_in_tile, word_number}
@@ -16,7 +16,6 @@ use Rattle.tce_array.specs.Forms.{word_at, head, head_len, form_len}
 use Rattle.tce_array.specs.Files.{AreBytes, IsPadding, IsCompleted}
 use Rattle.tce_array.proofs.Heads.{completed}
 use Rattle.tce_tensors.proofs.Made.{with_head_bytes}
-use Rattle.tce_array.proofs.MadeFiles.{file-with_file}
 use Rattle.tce_cache.specs.declared.array.ArrayRef.{ArrayRef}
 use Rattle.tce_cache.specs.Cache.{State, words_of_tile, word_of_tile, stored, current_word}
 use Rattle.tce_cache.specs.Touch.{front}

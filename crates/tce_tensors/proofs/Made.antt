@@ -1,7 +1,6 @@
 -- The file of a result as it is made.
-use Rattle.std.proofs.Common.{◌≡◌, ℕ, zero, suc, ◌+◌, ◌/◌, ◌^◌, ◌<◌, List, [], ◌∷◌, ◌++◌, length, drop, get_or, replicate, mod-lt, lit<, sym, ap, ◌∙◌, subst, arith}
+use Rattle.std.proofs.Common.{◌≡◌, ℕ, zero, suc, ◌+◌, List, [], ◌∷◌, ◌++◌, length, drop, get_or, replicate, sym, ap, ◌∙◌, subst, arith}
 use Rattle.std.specs.List.{flat_map}
-use Rattle.std.specs.Int.{bytes_low_first, byte_at}
 use Rattle.std.proofs.lemmas.List.{get_or-replicate, get_or-drop, length-replicate}
 use Rattle.tce_outside.specs.Files.{overwritten}
 use Rattle.tce_base.specs.Word.{word_bytes}
@@ -13,29 +12,15 @@ use Rattle.tce_array.proofs.Contents.{word_of_file}
 use Rattle.tce_array.proofs.Fitting.{words_fit}
 use Rattle.tce_array.proofs.Zeros.{zero_array, zeros_with_head}
 use Rattle.tce_array.proofs.Heads.{with_head, completed}
+use Rattle.tce_cache.proofs.Bytes.{joined_are, low_first_are}
 use Rattle.tce_spec.specs.Specification.{Specification}
 use Rattle.tce_spec.specs.Operands.{shape_of}
 use Rattle.tce_tensors.specs.Laws.{IsMade}
 
--- lists of bytes behind one another
-append_bytes : (xs ys : List ℕ) → AreBytes xs → AreBytes ys → AreBytes (xs ++ ys)
-append_bytes [] ys h k i = k i
-append_bytes (x ∷ xs) ys h k zero = h 0
-append_bytes (x ∷ xs) ys h k (suc i) = append_bytes xs ys (λ j. h (suc j)) k i
-
-low_byte : (i w : ℕ) → byte_at i w < 256
-low_byte zero w = mod-lt w (lit< tt)
-low_byte (suc i) w = mod-lt (w / 256 ^ suc i) (lit< tt)
-
-low_bytes : (i n w : ℕ) → AreBytes (bytes_low_first i n w)
-low_bytes i zero w k = omega arith
-low_bytes i (suc n) w zero = low_byte i w
-low_bytes i (suc n) w (suc k) = low_bytes (suc i) n w k
-
 words_are_bytes : (ws : List ℕ) → AreBytes (flat_map (word_bytes 8) ws)
 unfolding word_bytes
 words_are_bytes [] i = omega arith
-words_are_bytes (w ∷ ws) i = append_bytes (word_bytes 8 w) (flat_map (word_bytes 8) ws) (low_bytes 0 8 w) (words_are_bytes ws) i
+words_are_bytes (w ∷ ws) i = joined_are (word_bytes 8 w) (flat_map (word_bytes 8) ws) (low_first_are 0 8 w) (words_are_bytes ws) i
 
 magic_bytes : AreBytes (84 ∷ 67 ∷ 65 ∷ 82 ∷ 82 ∷ 65 ∷ 89 ∷ 49 ∷ [])
 magic_bytes zero = omega arith
@@ -51,19 +36,19 @@ magic_bytes (suc (suc (suc (suc (suc (suc (suc (suc i)))))))) = omega arith
 -- each file of the first form is bytes
 pub file_bytes : (s : Tiling) (element : List ℕ → ℕ) → AreBytes (form_bytes One s element)
 file_bytes s element =
-    append_bytes (head One s) (flat_map (word_bytes 8) (words s element))
-    (append_bytes (84 ∷ 67 ∷ 65 ∷ 82 ∷ 82 ∷ 65 ∷ 89 ∷ 49 ∷ []) (flat_map (word_bytes 8) (lead One (length s.extents) ++ s.extents ++ s.edges)) magic_bytes (words_are_bytes (lead One (length s.extents) ++ s.extents ++ s.edges)))
+    joined_are (head One s) (flat_map (word_bytes 8) (words s element))
+    (joined_are (84 ∷ 67 ∷ 65 ∷ 82 ∷ 82 ∷ 65 ∷ 89 ∷ 49 ∷ []) (flat_map (word_bytes 8) (lead One (length s.extents) ++ s.extents ++ s.edges)) magic_bytes (words_are_bytes (lead One (length s.extents) ++ s.extents ++ s.edges)))
     (words_are_bytes (words s element))
 
 head_bytes : (s : Tiling) → AreBytes (head One s)
 head_bytes s =
-    append_bytes (84 ∷ 67 ∷ 65 ∷ 82 ∷ 82 ∷ 65 ∷ 89 ∷ 49 ∷ []) (flat_map (word_bytes 8) (lead One (length s.extents) ++ s.extents ++ s.edges)) magic_bytes (words_are_bytes (lead One (length s.extents) ++ s.extents ++ s.edges))
+    joined_are (84 ∷ 67 ∷ 65 ∷ 82 ∷ 82 ∷ 65 ∷ 89 ∷ 49 ∷ []) (flat_map (word_bytes 8) (lead One (length s.extents) ++ s.extents ++ s.edges)) magic_bytes (words_are_bytes (lead One (length s.extents) ++ s.extents ++ s.edges))
 
 -- a file with a head written over it is bytes
 pub with_head_bytes : (s : Tiling) (found : List ℕ) → AreBytes found → AreBytes (overwritten found 0 (head One s))
 with_head_bytes s found are =
     subst AreBytes (sym (with_head One s found))
-    (append_bytes (head One s) (drop (head_len One s) found) (head_bytes s) (λ i. omega (arith, get_or-drop (head_len One s) found i 0, are (head_len One s + i))))
+    (joined_are (head One s) (drop (head_len One s) found) (head_bytes s) (λ i. omega (arith, get_or-drop (head_len One s) found i 0, are (head_len One s + i))))
 
 zero_bytes : (n : ℕ) → AreBytes (replicate n 0)
 zero_bytes zero i = omega arith

@@ -8,6 +8,7 @@ use Rattle.tce_formula.specs.Contraction.{has_tensor}
 use Rattle.tce_spec.specs.Specification.{Specification, IsSpecification}
 use Rattle.tce_spec.specs.Operands.{references, with_new, operands}
 use Rattle.tce_spec.proofs.Seen.{all_once}
+use Rattle.tce_spec.proofs.PieceSources.{stays_folded}
 use Rattle.tce_tensors.specs.Opened.{operand_count, operand}
 use Rattle.tce_tensors.specs.Laws.{IsOperand}
 
@@ -40,18 +41,6 @@ referred t (binary op l r) h =
     ]
 referred t (sum is x) h = referred t x h
 
--- what was seen stays
-stays : (t x : ℕ) (seen : List ℕ) → list_any (eqb t) seen ≡ true → list_any (eqb t) (with_new seen x) ≡ true
-stays t x seen h = by_test (list_any (eqb x) seen)
-  where
-    by_test : (b : Bool) → list_any (eqb t) (cond b seen (seen ++ x ∷ [])) ≡ true
-    by_test true = h
-    by_test false = list_any-append (eqb t) seen (x ∷ []) ∙ or_left _ _ h
-
-kept : (t : ℕ) (xs seen : List ℕ) → list_any (eqb t) seen ≡ true → list_any (eqb t) (fold with_new seen xs) ≡ true
-kept t [] seen h = h
-kept t (x ∷ xs) seen h = kept t xs (with_new seen x) (stays t x seen h)
-
 -- what is met is seen then
 enters : (t x : ℕ) (seen : List ℕ) → eqb t x ≡ true → list_any (eqb t) (with_new seen x) ≡ true
 enters t x seen same = by_test (list_any (eqb x) seen) refl
@@ -64,7 +53,7 @@ met : (t : ℕ) (xs seen : List ℕ) → list_any (eqb t) xs ≡ true → list_a
 met t [] seen h = absurd (cc)
 met t (x ∷ xs) seen h =
     elim (or_cases (eqb t x) (list_any (eqb t) xs) h) [
-      | inl here ↦ kept t xs (with_new seen x) (enters t x seen here)
+      | inl here ↦ stays_folded xs (with_new seen x) t (enters t x seen here)
       | inr later ↦ met t xs (with_new seen x) later
     ]
 

@@ -28,7 +28,7 @@ first_within f first (t ∷ ts) =
     omega arith
 
 -- and none is larger than a bound of all
-all_within : (f : ℕ → ℕ) (first bound : ℕ) (ts : List ℕ) → first ≤ bound → ((k : ℕ) → k < length ts → f (get_or ts k 0) ≤ bound)
+pub all_within : (f : ℕ → ℕ) (first bound : ℕ) (ts : List ℕ) → first ≤ bound → ((k : ℕ) → k < length ts → f (get_or ts k 0) ≤ bound)
     → fold (λ largest t. max largest (f t)) first ts ≤ bound
 all_within f first bound [] one all = one
 all_within f first bound (t ∷ ts) one all =

@@ -6,7 +6,7 @@ use Rattle.std.proofs.lemmas.Nat.{mod_below, div-add-mod', same_from_place}
 use Rattle.tce_space.specs.Box.{product, place, IsInside}
 use Rattle.tce_space.specs.Tiling.{Tiling, IsTiling, ArePositive, counts_along, tile_counts, tile_words, tile_number, place_in_tile, word_number, elements, padded_words}
 use Rattle.tce_space.proofs.Counts.{positive_at, count_at, length-counts_along, elements_le, counts_positive, sizes_positive}
-use Rattle.tce_space.proofs.Products.{product_positive}
+use Rattle.tce_space.proofs.Products.{product_positive, drop_positive}
 use Rattle.tce_space.proofs.Tilings.{place_in_tile-lt}
 use Rattle.tce_tools.specs.declared.band.Band.{Band}
 use Rattle.tce_tools.specs.declared.band.Behind.{Behind}
@@ -14,11 +14,6 @@ use Rattle.tce_tools.specs.Runs.{IsRowMajor}
 use Rattle.tce_tools.specs.Bands.{IsBand, IsBehind}
 use Rattle.tce_tools.proofs.Coords.{smaller, product_more}
 use Rattle.tce_tools.proofs.Steps.{IsBounded, bounded, place_behind}
-
-positive_behind : (ns : List ℕ) (d : ℕ) → ArePositive ns → ArePositive (drop d ns)
-positive_behind ns zero h = h
-positive_behind [] (suc d) h = tt
-positive_behind (n ∷ ns) (suc d) h = positive_behind ns d h.1
 
 counts_behind : (ns es : List ℕ) (d : ℕ) → length es ≡ length ns → drop d (counts_along ns es) ≡ counts_along (drop d ns) (drop d es)
 counts_behind ns es zero l = refl
@@ -56,7 +51,7 @@ next_dimension s ns es d elements tiles words count t extents_are edges_are l e_
       elements_are = ap (λ m. elements / m) n ∙ quotient_behind s.extents d elements within (sizes_positive s.extents t.sizes) e_is;
       tiles_are = ap (λ m. tiles / m) c ∙ quotient_behind (tile_counts s) d tiles (omega (arith, length-counts_along s.extents s.edges t.same_rank)) (counts_positive s.extents s.edges t.sizes t.positive) t_is;
       words_are = words_is;
-      some_words = omega (arith, words_is, product_positive (drop (d + 1) s.edges) (positive_behind s.edges (d + 1) t.positive));
+      some_words = omega (arith, words_is, product_positive (drop (d + 1) s.edges) (drop_positive s.edges (d + 1) t.positive));
     }
 
 pub edge_at : (s : Tiling) (es : List ℕ) (d n : ℕ) → IsTiling s → es ≡ s.edges → n ≡ length s.extents → d < n → 0 < get_or es d 0
@@ -74,13 +69,13 @@ step s behind t b =
     let d : ℕ = behind.dimension + 1 in
     let ns : List ℕ = s.extents in
     let es : List ℕ = s.edges in
-    let enough : product (drop d ns) ≤ product (drop d es) * product (counts_along (drop d ns) (drop d es)) = elements_le (drop d ns) (drop d es) (length_behind ns es d t.same_rank) (positive_behind es d t.positive) in
+    let enough : product (drop d ns) ≤ product (drop d es) * product (counts_along (drop d ns) (drop d es)) = elements_le (drop d ns) (drop d es) (length_behind ns es d t.same_rank) (drop_positive es d t.positive) in
     let tiles : behind.tiles ≡ product (counts_along (drop d ns) (drop d es)) = b.tiles ∙ ap product (counts_behind ns es d t.same_rank) in
     let all : behind.words * behind.tiles ≡ product (drop d es) * product (counts_along (drop d ns) (drop d es)) = ap (λ w. w * behind.tiles) b.words ∙ ap (λ c. product (drop d es) * c) tiles in
     record {
-      some_elements = omega (arith, b.elements, product_positive (drop d ns) (positive_behind ns d (sizes_positive ns t.sizes)));
-      some_tiles = omega (arith, b.tiles, product_positive (drop d (tile_counts s)) (positive_behind (tile_counts s) d (counts_positive ns es t.sizes t.positive)));
-      some_words = omega (arith, b.words, product_positive (drop d es) (positive_behind es d t.positive));
+      some_elements = omega (arith, b.elements, product_positive (drop d ns) (drop_positive ns d (sizes_positive ns t.sizes)));
+      some_tiles = omega (arith, b.tiles, product_positive (drop d (tile_counts s)) (drop_positive (tile_counts s) d (counts_positive ns es t.sizes t.positive)));
+      some_words = omega (arith, b.words, product_positive (drop d es) (drop_positive es d t.positive));
       few = omega (arith, enough, all, b.elements);
     }
 

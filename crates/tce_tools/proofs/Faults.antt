@@ -1,16 +1,14 @@
 -- What a call answers where one below it was refused.
-use Rattle.std.proofs.Common.{◌≡◌, ◌≢◌, ◌≤◌, ℕ, refl, Result, Ok, Err, OnOk, sym, subst, inl, inr, arith}
+use Rattle.std.proofs.Common.{◌≡◌, ◌≢◌, refl, Result, Ok, Err, OnOk, sym, subst, inl, inr}
 use Rattle.std.specs.Result.{IsErrAnd}
 use Rattle.tce_outside.specs.declared.device.OutFault.{OutFault}
 use Rattle.tce_outside.specs.declared.device.OutFault.TheVariants as out_fault
-use Rattle.tce_outside.specs.Fault.{HasCause}
 use Rattle.tce_array.specs.declared.fault.ArrayFault.{ArrayFault}
 use Rattle.tce_array.specs.declared.fault.ArrayFault.TheVariants as array_fault
 use Rattle.tce_tools.specs.declared.fault.ToolFault.{ToolFault}
 use Rattle.tce_tools.specs.declared.fault.ToolFault.TheVariants.{Array, Disk, Memory}
 use Rattle.tce_tools.specs.Faults.{of_making, of_opening}
 use Rattle.tce_tools.specs.Answers.{IsOfCopy}
-use Rattle.tce_tools.proofs.Told.{failed_from}
 
 pub refused_for : (P : Result (Unit {0}) ToolFault → Type 0) (answer : Result (Unit {0}) ToolFault) (fault : ToolFault) → IsErrAnd answer (λ e. e ≡ fault) → P (Err fault) → P answer
 refused_for P (Ok done) fault is h = absurd is
@@ -48,7 +46,3 @@ copied_or_not P (Err fault) (inr is) ok disk memory = subst (λ (f : ToolFault).
 pub on_ok : {A E : Type 0} (answer : Result A E) (P Q : Type 0) → (P → Q) → OnOk answer P → OnOk answer Q
 on_ok (Ok a) P Q turned h = turned h
 on_ok (Err e) P Q turned h = tt
-
--- the last of some calls, whose answer is the answer, is the cause
-pub cause_behind : (before then now : ℕ) (failed : Type 0) → before ≤ then → HasCause then now failed → HasCause before now failed
-cause_behind before then now failed le cause = record { later = omega (arith, cause.later, le); rose = λ f. (failed_from before then now failed failed le cause f).rose f }

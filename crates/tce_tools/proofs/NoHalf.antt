@@ -10,16 +10,17 @@ use Rattle.std.specs.List.{AllByRecursion}
 use Rattle.tce_base.specs.Word.{word_bytes}
 use Rattle.tce_base.proofs.WordBytes.{drop-words}
 use Rattle.tce_space.specs.Box.{places, place}
-use Rattle.tce_space.specs.Tiling.{Tiling, IsTiling, ArePositive, elements}
+use Rattle.tce_space.specs.Tiling.{Tiling, IsTiling, elements}
 use Rattle.tce_space.proofs.Boxes.{places_every}
 use Rattle.tce_space.proofs.Products.{product_positive}
+use Rattle.tce_space.proofs.Counts.{positive_by_recursion}
 use Rattle.tce_outside.specs.Files.{Files, file, with_file, written, overwritten, bytes_before, bytes_from, IsKeptOrZeros}
+use Rattle.tce_outside.proofs.Files.{file-with_file}
 use Rattle.tce_array.specs.Files.{BeginsWithZeros, LeavesNoHalf}
 use Rattle.tce_array.specs.declared.form.Form.{Form}
 use Rattle.tce_array.specs.declared.form.Form.TheVariants.{One}
 use Rattle.tce_array.specs.Forms.{width, head_len, array_bytes}
 use Rattle.tce_array.proofs.Heads.{zeros_at, zeros_begin}
-use Rattle.tce_array.proofs.MadeFiles.{file-with_file}
 use Rattle.tce_tools.specs.declared.storage.Storage.{Storage}
 use Rattle.tce_tools.specs.declared.storage.Storage.TheVariants.{Flat, Array}
 use Rattle.tce_tools.specs.Flat.{in_order, flat_element, array_element, contents}
@@ -127,13 +128,8 @@ pub start_is_soon : (storage : Storage) (s : Tiling) → start_len storage s ≤
 start_is_soon Flat s = omega arith
 start_is_soon (Array form) s = omega arith
 
--- an array has elements
-are_positive : (ns : List ℕ) → AllByRecursion (λ n. (0 < n) × (n < 2 ^ 32)) ns → ArePositive ns
-are_positive [] h = tt
-are_positive (n ∷ ns) h = (h.0.0, are_positive ns h.1)
-
 pub some_elements : (s : Tiling) → IsTiling s → 0 < elements s
-some_elements s t = product_positive s.extents (are_positive s.extents (recursion_from_All (λ n. (0 < n) × (n < 2 ^ 32)) s.extents t.sizes))
+some_elements s t = product_positive s.extents (positive_by_recursion s.extents (recursion_from_All (λ n. (0 < n) × (n < 2 ^ 32)) s.extents t.sizes))
 
 -- a file begins with zeros as long as its start, or its first element in a flat one, is not written
 zeros_before : (n : ℕ) (rest : List ℕ) → 8 ≤ n → BeginsWithZeros (replicate n 0 ++ rest)

@@ -13,17 +13,17 @@ use Rattle.tce_space.specs.Box.{place, places, IsInside}
 use Rattle.tce_space.proofs.Boxes.{places_every, place-lt}
 use Rattle.tce_space.specs.Tiling.{Tiling, IsTiling, word_number, elements, padded_words}
 use Rattle.tce_outside.specs.Files.{Files, file, with_file, written, overwritten}
+use Rattle.tce_outside.proofs.Overwrites.{length-overwritten, get_or-overwritten, get_or-overwritten_other}
+use Rattle.tce_outside.proofs.Files.{file-with_file}
 use Rattle.tce_array.specs.declared.form.Form.{Form}
 use Rattle.tce_array.specs.declared.form.Form.TheVariants.{One, Narrow, Wide}
 use Rattle.tce_array.specs.Forms.{width, head_len}
-use Rattle.tce_array.proofs.MadeFiles.{file-with_file}
 use Rattle.tce_tools.specs.declared.storage.Storage.{Storage}
 use Rattle.tce_tools.specs.declared.storage.Storage.TheVariants.{Flat, Array}
 use Rattle.tce_tools.specs.declared.band.Band.{Band}
 use Rattle.tce_tools.specs.Storage.{form_in, start_len, words_of, word_count, begun_bytes, bare_bytes, stored_len, number_of, first_elements, later_elements, HasStored, HasWords}
 use Rattle.tce_tools.specs.Runs.{AreElements}
 use Rattle.tce_tools.specs.Bands.{IsAt, IsBand, AreTiled, AreZerosBetween, KeepsOutside}
-use Rattle.tce_array.proofs.Overwrites.{length-overwritten, get_or-overwritten, get_or-overwritten_other}
 use Rattle.tce_tools.proofs.Pieces.{words_written}
 use Rattle.tce_tools.proofs.Shuffles.{IsCopy, copy_of}
 use Rattle.tce_tools.proofs.Stored.{HoldsElements, storage_holds, bare_same, among_first, behind_first, among_later}

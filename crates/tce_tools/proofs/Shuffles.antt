@@ -1,5 +1,5 @@
 -- Elements of a band that are moved into its pieces, or out of them.
-use Rattle.std.proofs.Common.{◌≡◌, ◌∙◌, ◌⊎◌, ℕ, zero, suc, ◌+◌, ◌-◌, ◌*◌, ◌/◌, ◌%◌, ◌<◌, ◌≤◌, List, [], ◌++◌, length, take, drop, get_or, slice_index, replicate, min, refl, sym, ap, subst, arith, inl, inr, append_assoc}
+use Rattle.std.proofs.Common.{◌≡◌, ◌∙◌, ◌⊎◌, ℕ, ◌+◌, ◌-◌, ◌*◌, ◌/◌, ◌%◌, ◌<◌, ◌≤◌, List, [], ◌++◌, length, take, drop, get_or, slice_index, min, sym, ap, subst, arith, inl, inr, append_assoc}
 use Rattle.std.proofs.Math.Nat.{mul-le-mul_left}
 use Rattle.std.proofs.lemmas.Bool.{cases_lt}
 use Rattle.std.proofs.lemmas.List.{drop-drop, get_or-take, get_or-drop, length-take-le, length-drop}
@@ -14,8 +14,8 @@ use Rattle.tce_tools.specs.declared.shuffle.Part.{Part}
 use borrow.Rule.Slice.PartMut.{put_mid}
 use Rattle.tce_tools.specs.Runs.{IsRun, AreElements}
 use Rattle.tce_tools.specs.Bands.{IsAt, IsBand, IsPart, AreTiled}
-use Rattle.tce_array.proofs.Overwrites.{get_or-overwritten, get_or-overwritten_other}
 use Rattle.tce_outside.specs.Files.{overwritten}
+use Rattle.tce_outside.proofs.Overwrites.{get_or-overwritten, get_or-overwritten_other}
 
 -- where the first word of a run stands in a band
 pub record IsStart (band : Band) (word : ℕ) : Type 0 where
@@ -189,8 +189,3 @@ zeros_more s band words tiled ys done part b p words_len tiled_len is before ind
     let out = outside_part s band (band.start + done) part index b p (λ xs h from to at. none xs h (omega arith) at) in
     kept part.index (part.index + part.len - part.index) tiled ys index count room (elim out [ inl l ↦ inl l | inr l ↦ inr (omega (arith, copy.len)) ])
     ∙ before index (λ xs h lt at. none xs h (omega arith) at)
-
-pub zero_at : (n i : ℕ) → slice_index (replicate n 0) i ≡ 0
-zero_at zero i = refl
-zero_at (suc n) zero = refl
-zero_at (suc n) (suc i) = zero_at n i

@@ -1,13 +1,15 @@
 -- A file that is made and then written piece by piece, where the disk tells its files.
-use Rattle.std.proofs.Common.{◌≡◌, ◌≢◌, ◌∙◌, ◌≤◌, ap, sym, refl, subst, List, [], ℕ, cond, Some, None, Option, unwrap_or, inl, inr, arith}
+use Rattle.std.proofs.Common.{◌≡◌, ◌≢◌, ◌∙◌, ◌≤◌, ap, sym, refl, subst, List, [], ℕ, cond, Some, None, Option, unwrap_or, inl, inr}
 use Rattle.std.proofs.lemmas.Cmp.{nat_list_cmp_total}
 use Rattle.std.proofs.lemmas.Option.{none-some}
 use Rattle.std.specs.Option.{ForSome}
 use Rattle.std.specs.FinMap.{get-insert}
-use Rattle.tce_outside.specs.Fault.{HasCause, Rose}
+use Rattle.tce_outside.specs.Fault.{HasCause}
 use Rattle.tce_outside.specs.Files.{Files, file, with_file, written, overwritten}
 use Rattle.tce_outside.proofs.Places.{same_name}
-use Rattle.tce_array.proofs.MadeFiles.{file-with_file, with_part-with_file}
+use Rattle.tce_outside.proofs.Files.{file-with_file}
+use Rattle.tce_outside.proofs.Causes.{cause_since, cause_as}
+use Rattle.tce_array.proofs.MadeFiles.{with_part-with_file}
 use Rattle.tce_tools.specs.Flat.{contents}
 use Rattle.tce_tools.specs.Storage.{holding_by}
 
@@ -69,8 +71,4 @@ held_told (Some files) now name old new e same = e ∙ ap (λ bytes. Some (with_
 
 -- a call that failed, behind others, is the cause of a failure
 pub failed_from : (before then now : ℕ) (call failed : Type 0) → before ≤ then → HasCause then now call → call → HasCause before now failed
-failed_from before then now call failed le cause it = record { later = omega (arith, cause.later, le); rose = λ f. rose_from (cause.rose it) }
-  where
-    rose_from : Rose then now → Rose before now
-    rose_from (inl p) = inl (omega (arith, le, p))
-    rose_from (inr p) = inr p
+failed_from before then now call failed le cause it = cause_since before then now le (cause_as then now (λ f. it) cause)

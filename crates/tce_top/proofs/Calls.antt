@@ -3,7 +3,9 @@ use Rattle.std.proofs.Common.{◌≡◌, ◌≢◌, refl, ap, ◌∙◌, ◌⊎�
 use Rattle.std.specs.Option.{ForSome}
 use Rattle.tce_outside.specs.Fault.{HasCause, TellsFaults}
 use Rattle.tce_outside.specs.Files.{Files}
+use Rattle.tce_outside.proofs.Causes.{answered_quiet}
 use Rattle.tce_array.specs.declared.form.Form.{Form}
+use Rattle.tce_tools.proofs.Apart.{same_err}
 use Rattle.tce_command.specs.Command.{Command, plan, cert, check, pack, unpack, convert, expand, einsum}
 use Rattle.tce_command.specs.declared.refusal.Refusal.{Refusal}
 use Rattle.tce_command.specs.declared.refusal.Refusal.TheVariants.{Disk}
@@ -12,7 +14,7 @@ use Rattle.tce_command.specs.declared.command_refusal.CommandRefusal.TheVariants
 use Rattle.tce_verify.specs.Refusals.{IsVerifyRefusalOn, IsWrittenFor}
 use Rattle.tce_verify.specs.Done.{IsVerified}
 use Rattle.tce_top.specs.Performed.{Carries, IsCommandRefusal, IsDone, KeepsRoom, LeavesInTurn, LeavesNoHalf, MayLeaveOther, MayTake, NamesItsIndexes, OthersStay, Seen}
-use Rattle.tce_top.proofs.Carried.{Performs, carried, cause_as, disk_or_same, no_fault, of_err, of_ok, same_cause, told_as}
+use Rattle.tce_top.proofs.Carried.{Performs, carried, cause_as, disk_or_same, of_err, of_ok, told_as}
 
 -- what a command of its own file may leave: takings as they were, and other files after a failing disk alone
 pub record Quiet (command : Command) : Type 0 where
@@ -66,7 +68,7 @@ calls bytes items command this before after given answer Done Refused is quiet s
       done = called.done (bytes report) (of_ok (λ x. Done (bytes x)) given report ok done);
       no_half = called.no_half;
       others = called.others;
-      faults = no_fault given report Disk before.faults after.faults ok called.told;
+      faults = answered_quiet before.faults after.faults report given ok called.told;
     })
     (λ cause err. record {
       refused = called.refused cause (of_err Refused given cause err refused);
@@ -98,7 +100,7 @@ verifies bytes items command before after given answer spec file is same done re
       done = (of_ok _ given report ok done, unchanged, untaken);
       no_half = tt;
       others = unchanged;
-      faults = no_fault given report (Common Disk) before.faults after.faults ok told;
+      faults = answered_quiet before.faults after.faults report given ok told;
     })
     (λ r err. record {
       refused = of_err _ given r err refused;
@@ -110,5 +112,5 @@ verifies bytes items command before after given answer spec file is same done re
       no_half = tt;
       others = unchanged;
       cause = record { later = cause.later; rose = λ failed. cause.rose (err ∙ ap Err failed) };
-      told = λ none. told (λ failed. none (same_cause given r (Common Disk) err failed));
+      told = λ none. told (λ failed. none (same_err given r (Common Disk) err failed));
     })

@@ -2,6 +2,7 @@
 use Rattle.std.proofs.Common.{◌≡◌, ◌≢◌, refl, sym, ap, subst, ◌∙◌, ◌⊎◌, inl, inr, ℕ, List, Result, Ok, Err, IfOk, IfErr}
 use Rattle.std.specs.Prelude.{⊤}
 use Rattle.tce_outside.specs.Fault.{HasCause, TellsFaults}
+use Rattle.tce_tools.proofs.Apart.{same_err}
 use Rattle.tce_command.specs.Command.{Command}
 use Rattle.tce_command.specs.declared.refusal.Refusal.{Refusal}
 use Rattle.tce_command.specs.declared.refusal.Refusal.TheVariants.{Disk}
@@ -60,19 +61,13 @@ disk_or_same A r same =
       | inr other ↦ inr (same (λ disk. other (subst IsDisk (sym disk) tt)))
     ]
 
-pub same_cause : {T E : Type 0} (given : Result T E) (a b : E) → given ≡ Err a → given ≡ Err b → a ≡ b
-same_cause given a b is failed = let same : Err a ≡ Err b = sym is ∙ failed in cc
-
 same_refusal : (a b : Refusal) → Common a ≡ Common b → a ≡ b
 same_refusal a b same = cc
 
 -- Faults, by a fault of what is called that is told as a failing disk.
 
-pub no_fault : {T E : Type 0} (given : Result T E) (text : T) (failure : E) (before after : ℕ) → given ≡ Ok text → TellsFaults before after (given ≡ Err failure) → after ≡ before
-no_fault given text failure before after is told = told (λ failed. let e : Ok text ≡ Err failure = sym is ∙ failed in absurd (cc))
-
 pub cause_as : {T : Type 0} (given : Result T Refusal) (r : Refusal) (before after : ℕ) → given ≡ Err r → HasCause before after (given ≡ Err Disk) → HasCause before after (Common r ≡ Common Disk)
 cause_as given r before after is cause = record { later = cause.later; rose = λ failed. cause.rose (is ∙ ap Err (same_refusal r Disk failed)) }
 
 pub told_as : {T : Type 0} (given : Result T Refusal) (r : Refusal) (before after : ℕ) → given ≡ Err r → TellsFaults before after (given ≡ Err Disk) → TellsFaults before after (Common r ≡ Common Disk)
-told_as given r before after is told = λ none. told (λ failed. none (ap Common (same_cause given r Disk is failed)))
+told_as given r before after is told = λ none. told (λ failed. none (ap Common (same_err given r Disk is failed)))

@@ -9,7 +9,7 @@ use Rattle.tce_command.specs.Report.{status_of, ending_of, code_of, line_over, w
 use Rattle.tce_command.specs.Refusals.{IsFree, SameRefusal}
 use Rattle.tce_command.specs.CommandRefusals.{EndsAlike, MayReplace, OnCommon}
 use Rattle.tce_command.proofs.Statuses.{or_alike}
-use Rattle.tce_command.specs.Outcome.{Answers, IsFault}
+use Rattle.tce_command.specs.Outcome.{Answers, IsFault, IsReported}
 use Rattle.tce_command.specs.declared.refusal.Refusal.{Refusal}
 use Rattle.tce_command.specs.declared.refusal.Refusal.TheVariants.{Specification, Missing, Array, Budget, Intermediates, Flat, Tensor, Misfit, Einsum, Spill, Symmetry, Disk, Memory}
 use Rattle.tce_command.specs.declared.command_refusal.CommandRefusal.{CommandRefusal}
@@ -200,15 +200,11 @@ cause_of files command (Certificate trouble line) p = record { refusal = Certifi
 abbrev pub Kept : CommandRefusal → Status → Type 0
 Kept r status = (status ≡ ending_of r) ⊎ ((status ≡ WantOfMemory) × (ending_of r ≡ DiskFault → ⊥))
 
--- how a report was put
-abbrev pub Put : Status → Type 0
-Put status = (status ≡ Done) ⊎ ((status ≡ SinkFault) ⊎ (status ≡ WantOfMemory))
-
 pub refused_cause : (files : Files) (command : Command) (r : CommandRefusal) (status : Status) → Kept r status → IsCommandRefusal files command r → IsCause files command status
 refused_cause files command r status (inl kept) p = subst (IsCause files command) (sym kept) (cause_of files command r p)
 refused_cause files command r status (inr memory) p = subst (IsCause files command) (sym memory.0) tt
 
-pub done_cause : (files : Files) (command : Command) (status : Status) → Put status → CanDo files command → IsCause files command status
+pub done_cause : (files : Files) (command : Command) (status : Status) → IsReported status → CanDo files command → IsCause files command status
 done_cause files command status (inl done) can = subst (IsCause files command) (sym done) can
 done_cause files command status (inr (inl failed)) can = subst (IsCause files command) (sym failed) can
 done_cause files command status (inr (inr memory)) can = subst (IsCause files command) (sym memory) tt
@@ -243,7 +239,7 @@ is_done files command SinkFault rules can free cause = absurd (free tt)
 is_done files command WantOfMemory rules can free cause = absurd (free tt)
 is_done files command due rules can free cause = absurd (no_other files command due rules can free cause)
 
-pub done_answers : (files : Files) (command : Command) (status due : Status) → KeepsRules command → Put status → CanDo files command → (IsFault due → ⊥) → IsCause files command due → Answers status due
+pub done_answers : (files : Files) (command : Command) (status due : Status) → KeepsRules command → IsReported status → CanDo files command → (IsFault due → ⊥) → IsCause files command due → Answers status due
 done_answers files command status due rules (inl done) can free cause =
     let same : status ≡ due = done ∙ sym (is_done files command due rules can free cause) in
     inr (ap code_of same, λ space. ap (line_over space) same)

@@ -3,7 +3,7 @@ use Rattle.std.proofs.Common.{◌≡◌, refl, sym, ap, subst, ◌∙◌, ◌⊎
 use Rattle.std.specs.Option.{ForSome, IsSomeAnd, option_map}
 use Rattle.tce_outside.specs.Files.{Files, holding, with_file}
 use Rattle.tce_outside.specs.Fault.{Rose}
-use Rattle.tce_array.proofs.MadeFiles.{file-with_file}
+use Rattle.tce_outside.proofs.Files.{file-with_file}
 use Rattle.tce_space.specs.Space.{IndexSpace}
 use Rattle.tce_round_trip.specs.Canonical.{canonical_of}
 use Rattle.tce_source.specs.Source.{Specifies}
@@ -11,7 +11,7 @@ use Rattle.tce_command.specs.Command.{Command, run, batch, spill, plan, cert, ch
 use Rattle.tce_command.specs.Report.{LineNames, NamesNoIndex, NamesNothing, cert_line, ending_of, line_over, trouble_of}
 use Rattle.tce_command.specs.CommandRefusals.{HasNames, MayReplace}
 use Rattle.tce_command.proofs.Statuses.{is_plain, over}
-use Rattle.tce_command.specs.Outcome.{Grew, GrewWithin, HasErrorLine, IsFault, IsRefusal}
+use Rattle.tce_command.specs.Outcome.{Grew, GrewWithin, HasErrorLine, IsFault, IsRefusal, IsReported}
 use Rattle.tce_command.specs.declared.trouble.CertTrouble.{CertTrouble}
 use Rattle.tce_command.specs.declared.trouble.CertFlaw.{CertFlaw}
 use Rattle.tce_command.specs.declared.trouble.SymTrouble.{SymTrouble}
@@ -28,7 +28,7 @@ use Rattle.tce_top.specs.Outcome.{AreNamed, IsDemonstration, IsPartOfBatch, IsPa
 use Rattle.tce_job.specs.Several.{files_after}
 use Rattle.tce_tree.specs.ContractionTree.{operations}
 use Rattle.tce_spill_job.specs.Pieces.{pieces_below}
-use Rattle.tce_top.proofs.Joined.{Kept, Put, free_fault}
+use Rattle.tce_top.proofs.Joined.{Kept, free_fault}
 use Rattle.tce_top.proofs.Expansions.{words_tensor}
 
 -- Files and takings.
@@ -165,7 +165,7 @@ cut_off (spill spec budget limit) r status before after kept failed left = spill
 cut_off command r status before after kept failed left = tt
 
 -- a report that was put is no failure of the disk
-pub not_cut_off : (status : Status) (A : Type 0) → Put status → status ≡ DiskFault → A
+pub not_cut_off : (status : Status) (A : Type 0) → IsReported status → status ≡ DiskFault → A
 not_cut_off status A (inl done) failed = let e : Done ≡ DiskFault = sym done ∙ failed in absurd (cc)
 not_cut_off status A (inr (inl cut)) failed = let e : SinkFault ≡ DiskFault = sym cut ∙ failed in absurd (cc)
 not_cut_off status A (inr (inr memory)) failed = let e : WantOfMemory ≡ DiskFault = sym memory ∙ failed in absurd (cc)

@@ -3,6 +3,7 @@ use Rattle.std.proofs.Common.{◌≡◌, refl, ap, ◌⊎◌, inl, inr, ℕ, Lis
 use Rattle.std.specs.Option.{ForSome}
 use Rattle.tce_outside.specs.Fault.{HasCause, TellsFaults}
 use Rattle.tce_outside.specs.Files.{Files}
+use Rattle.tce_outside.proofs.Causes.{answered_quiet}
 use Rattle.tce_command.specs.Command.{Command, run, batch, spill, demo}
 use Rattle.tce_command.specs.Refusals.{IsFree, SameOrDisk}
 use Rattle.tce_command.specs.declared.refusal.Refusal.{Refusal}
@@ -18,7 +19,7 @@ use Rattle.tce_sequence.specs.SpillRefusals.{IsSpillRefusal}
 use Rattle.tce_example.specs.Files.{DemoOthersStay, found}
 use Rattle.tce_demo.specs.Done.{IsDemonstrated, IsDemoTaking, LeavesDemonstration, LeavesDemoRoom}
 use Rattle.tce_top.specs.Performed.{Carries, Seen}
-use Rattle.tce_top.proofs.Carried.{Performs, carried, cause_as, no_fault, of_err, of_ok, told_as}
+use Rattle.tce_top.proofs.Carried.{Performs, carried, cause_as, of_err, of_ok, told_as}
 
 -- How a call of these fails.
 pub record Fails {T : Type 0} (given : Result T Refusal) (before after : Seen) : Type 0 where
@@ -59,7 +60,7 @@ runs bytes items command before after given answer spec budget is same done refu
       done = of_ok _ given report ok done;
       no_half = others;
       others = others;
-      faults = no_fault given report Disk before.faults after.faults ok fails.told;
+      faults = answered_quiet before.faults after.faults report given ok fails.told;
     })
     (λ r err. let room : IsRoomLeft r before.files before.takings after.takings spec budget = of_err (λ k. IsRoomLeft k before.files before.takings after.takings spec budget) given r err takings in record {
       refused = of_err _ given r err refused;
@@ -101,7 +102,7 @@ batches bytes items command before after given answer spec budget is same done r
       done = of_ok _ given report ok done;
       no_half = tt;
       others = others;
-      faults = no_fault given report Disk before.faults after.faults ok fails.told;
+      faults = answered_quiet before.faults after.faults report given ok fails.told;
     })
     (λ r err.
     let files_left : IsBatchLeft r before.files after.files spec = of_err (λ k. IsBatchLeft k before.files after.files spec) given r err left in
@@ -138,7 +139,7 @@ spills bytes items command before after given answer spec budget limit is same d
       done = of_ok _ given report ok done;
       no_half = tt;
       others = others;
-      faults = no_fault given report Disk before.faults after.faults ok fails.told;
+      faults = answered_quiet before.faults after.faults report given ok fails.told;
     })
     (λ r err.
     let files_left : IsSpillLeft r before.files after.files spec limit = of_err (λ k. IsSpillLeft k before.files after.files spec limit) given r err left in
@@ -187,7 +188,7 @@ demonstrates bytes items command before after given answer seed v o is same done
       done = of_ok _ given report ok done;
       no_half = no_half;
       others = others;
-      faults = no_fault given report Disk before.faults after.faults ok fails.told;
+      faults = answered_quiet before.faults after.faults report given ok fails.told;
     })
     (λ r err. let room : (IsFree r × IsDemoTaking v o before.takings after.takings) ⊎ (after.takings ≡ before.takings) = of_err (λ k. (IsFree k × IsDemoTaking v o before.takings after.takings) ⊎ (after.takings ≡ before.takings)) given r err takings in record {
       refused = of_err _ given r err refused;

@@ -1,18 +1,13 @@
 -- What was written is accepted.
-use Rattle.std.proofs.Common.{◌≡◌, ◌≢◌, refl, sym, ap, subst, ℕ, List, Some}
+use Rattle.std.proofs.Common.{◌≡◌, refl, sym, subst}
 use Rattle.std.specs.Option.{IsSomeAnd}
-use Rattle.tce_outside.specs.Files.{Files, file, with_file}
-use Rattle.tce_outside.proofs.Files.{without_file-with_file}
-use Rattle.tce_outside.proofs.Told.{other_files}
-use Rattle.tce_array.proofs.MadeFiles.{file-with_file}
+use Rattle.tce_outside.specs.Files.{with_file}
+use Rattle.tce_outside.proofs.Files.{file-with_file}
+use Rattle.tce_tools.proofs.Told.{file_beside}
 use Rattle.tce_source.specs.Source.{Specifies}
 use Rattle.tce_verify.specs.Done.{CanVerify}
 use Rattle.tce_verify.proofs.Names.{apart}
 use Rattle.tce_top.specs.Laws.{WrittenIsVerified}
-
--- a file beside one that was set
-file_beside : (files : Files) (name bytes other : List ℕ) → other ≢ name → file (with_file files name bytes) other ≡ file files other
-file_beside files name bytes other differs = other_files name other files (with_file files name bytes) (ap Some (without_file-with_file files name bytes)) differs
 
 pub written_is_verified : WrittenIsVerified
 written_is_verified files after spec cert report named other written =

@@ -26,7 +26,7 @@ length-flat first (binary op l r) =
     )
 length-flat first (sum is e) = omega (arith, length-append (flat first e) (node_of first (sum is e) ∷ []), length-flat first e)
 
-last_one : {A : Type 0} (xs : List A) (x d : A) (v : ℕ) → v ≡ length xs → get_or (xs ++ x ∷ []) v d ≡ x
+pub last_one : {A : Type 0} (xs : List A) (x d : A) (v : ℕ) → v ≡ length xs → get_or (xs ++ x ∷ []) v d ≡ x
 last_one xs x d v e = get_or-append_right xs (x ∷ []) (length xs) v d refl (omega arith) ∙ ap (λ k. get_or (x ∷ []) k d) zero_left
   where
     zero_left : v - length xs ≡ 0

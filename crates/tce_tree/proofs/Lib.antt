@@ -11,3 +11,5 @@ pub mod Values
 pub mod Conditions
 pub mod Operands
 pub mod Appended
+pub mod Assignments
+pub mod Sums

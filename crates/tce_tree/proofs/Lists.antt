@@ -1,5 +1,5 @@
 -- What stands in a list of numbers.
-use Rattle.std.proofs.Common.{◌≡◌, ℕ, zero, suc, ◌+◌, ◌<◌, ◌≤◌, ◌⊎◌, Bool, true, false, not, eqb, List, [], ◌∷◌, length, filter, get_or, Contains, refl, sym, ap, ◌∙◌, subst, inl, inr, arith}
+use Rattle.std.proofs.Common.{◌≡◌, ℕ, zero, suc, ◌+◌, ◌<◌, ◌≤◌, ◌⊎◌, Bool, true, false, not, eqb, List, [], ◌∷◌, length, filter, get_or, Contains, refl, sym, ap, ◌∙◌, subst, inl, inr, arith, All}
 use Rattle.std.specs.List.{list_all, range_with_len}
 use Rattle.std.proofs.lemmas.Bool.{or_cases, or_left, or_right, and_parts, and_from, false≢true, cases_Bool, cases_eq, eqb-true, eq-eqb, not-true, not_from_false}
 use Rattle.tce_tree.specs.WellFormed.{among, is_distinct}
@@ -92,3 +92,14 @@ distinct_later x xs d = (and_parts (not (among xs x)) (is_distinct xs) d).1
 
 pub distinct_from : (x : ℕ) (xs : List ℕ) → among xs x ≡ false → is_distinct xs ≡ true → is_distinct (x ∷ xs) ≡ true
 distinct_from x xs a d = and_from (not (among xs x)) (is_distinct xs) (not_from_false (among xs x) a) d
+
+pub among_rest : (j : ℕ) (js : List ℕ) (i : ℕ) → (i ≡ j → ⊥) → among (j ∷ js) i ≡ true → among js i ≡ true
+among_rest j js i ne m =
+    elim (or_cases (eqb j i) (among js i) m) [
+      | inl e ↦ absurd (ne (sym (eqb-true j i e)))
+      | inr r ↦ r
+    ]
+
+-- what holds of each number of a list holds of those behind the first
+pub below_tail : (n : ℕ) (xs : List ℕ) (y : ℕ) (ys : List ℕ) → xs ≡ y ∷ ys → All (λ i. i < n) xs → (k d : ℕ) → k < length ys → get_or ys k d < n
+below_tail n xs y ys is all k d l = subst (All (λ i. i < n)) is all (suc k) d (omega arith)

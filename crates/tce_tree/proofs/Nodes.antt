@@ -1,8 +1,8 @@
 -- Nodes in postorder: where a node of an operand stands in the whole tree, and subtrees as intervals of numbers.
-use Rattle.std.proofs.Common.{◌≡◌, ℕ, zero, suc, ◌+◌, ◌-◌, ◌<◌, ◌≤◌, List, [], ◌∷◌, ◌++◌, length, get_or, refl, sym, ap, ◌∙◌, inl, inr, arith, length-append, append_assoc}
+use Rattle.std.proofs.Common.{◌≡◌, ℕ, zero, suc, ◌+◌, ◌-◌, ◌<◌, ◌≤◌, List, [], ◌∷◌, ◌++◌, length, get_or, refl, sym, ap, ◌∙◌, inl, inr, arith, length-append, append_assoc, false, true}
 use Rattle.std.proofs.lemmas.List.{get_or_append_left, get_or-append_right, get_or_default}
-use Rattle.std.proofs.lemmas.Bool.{cases_lt}
-use Rattle.tce_tree.specs.ContractionTree.{ContractionTree, Arithmetic, leaf, constant, binary, sum, operations, nodes, node}
+use Rattle.std.proofs.lemmas.Bool.{cases_lt, false≢true, true≢false}
+use Rattle.tce_tree.specs.ContractionTree.{ContractionTree, Arithmetic, leaf, constant, binary, sum, operations, nodes, node, is_leaf}
 
 pub length-nodes : (tree : ContractionTree) → length (nodes tree) ≡ operations tree
 length-nodes (leaf t is) = refl
@@ -135,3 +135,21 @@ size_nested (sum is e) u w le h s =
       | inr a ↦
           omega (arith, size-root (sum is e) w (omega arith), size_bounds (sum is e) u (omega arith))
     ]
+
+pub node_of_some : (t : ContractionTree) → 0 < operations t → is_leaf t ≡ false
+node_of_some (leaf tensor indexes) h = absurd (omega arith)
+node_of_some (constant number) h = absurd (omega arith)
+node_of_some (binary op l r) h = refl
+node_of_some (sum indexes e) h = refl
+
+pub operations-leaf : (t : ContractionTree) → is_leaf t ≡ true → operations t ≡ 0
+operations-leaf (leaf tensor indexes) h = refl
+operations-leaf (constant number) h = refl
+operations-leaf (binary op l r) h = absurd (false≢true h)
+operations-leaf (sum indexes e) h = absurd (false≢true h)
+
+pub node-positive : (tree : ContractionTree) → is_leaf tree ≡ false → 0 < operations tree
+node-positive (leaf tensor indexes) h = absurd (true≢false h)
+node-positive (constant number) h = absurd (true≢false h)
+node-positive (binary op left right) h = omega arith
+node-positive (sum indexes operand) h = omega arith

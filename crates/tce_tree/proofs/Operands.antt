@@ -159,7 +159,7 @@ only_child tree first is e st h = record {
     top = st.same (operations e) (omega arith) ∙ node-root (sum is e) (operations e) (omega arith)
 
 -- an operand that is a node has the last number of its subtree
-operand_number : (first : ℕ) (c : ContractionTree) (v : ℕ) → operand_of first c ≡ NodeOperand v → (0 < operations c) × (v ≡ first + operations c - 1)
+pub operand_number : (first : ℕ) (c : ContractionTree) (v : ℕ) → operand_of first c ≡ NodeOperand v → (0 < operations c) × (v ≡ first + operations c - 1)
 operand_number first (leaf t is) v e = absurd (let k : ⊥ = cc in k)
 operand_number first (constant n) v e = absurd (let k : ⊥ = cc in k)
 operand_number first (binary op l r) v e = let s : first + operations l + operations r ≡ v = cc in (omega arith, omega arith)

@@ -142,7 +142,7 @@ range-from a (suc n) i h =
       | inr t ↦ let l = range-from (a + 1) n i t in omega arith
     ]
 
-distinct-range : (a n : ℕ) → is_distinct (range_with_len a n) ≡ true
+pub distinct-range : (a n : ℕ) → is_distinct (range_with_len a n) ≡ true
 distinct-range a zero = refl
 distinct-range a (suc n) =
     distinct_from a (range_with_len (a + 1) n)
@@ -159,3 +159,7 @@ among-members set i s =
     same_truth (among (members set) i) (has set i)
     (λ h. (among-filter (has set) (range_with_len 0 24) i h).0)
     (λ h. filter-among (has set) (range_with_len 0 24) i h (among-range 0 24 i (omega arith) (omega (arith, has_below set i s h))))
+
+pub members_has : (set i : ℕ) → among (members set) i ≡ true → has set i ≡ true
+unfolding members
+members_has set i m = (among-filter (has set) (range_with_len 0 24) i m).0

@@ -1,8 +1,9 @@
 -- Values are words, and depend on the numbers of the dims alone.
-use Rattle.std.proofs.Common.{◌≡◌, ℕ, zero, suc, ◌+◌, ◌<◌, ◌^◌, Bool, true, false, not, List, [], ◌∷◌, map, refl, sym, ap, ap₂, ◌∙◌, inl, inr, arith, mod-lt, ltb, lit<}
+use Rattle.std.proofs.Common.{◌≡◌, ℕ, zero, suc, ◌<◌, ◌^◌, Bool, true, false, not, List, [], ◌∷◌, map, refl, sym, ap, ap₂, ◌∙◌, inl, inr, arith, mod-lt, ltb, lit<}
 use Rattle.std.specs.List.{list_all}
 use Rattle.std.proofs.lemmas.Bool.{ne_eqb, cases_eq, eq-eqb, or_left, or_right, and_parts, and_from, not_from_false}
 use Rattle.tce_base.specs.Word.{word, wrapping_add, wrapping_sub, wrapping_mul}
+use Rattle.tce_base.proofs.Words.{plus-lt}
 use Rattle.tce_space.specs.IndexSet.{has, set_of}
 use Rattle.tce_space.proofs.IndexSetLaws.{has-union, has-minus}
 use Rattle.tce_tree.specs.ContractionTree.{ContractionTree, Arithmetic, multiply, add, subtract, leaf, constant, binary, sum, dims}
@@ -15,19 +16,15 @@ word-lt : (n : ℕ) → word n < 2 ^ 64
 unfolding word
 word-lt n = mod-lt n (lit< tt)
 
-add-lt : (x y : ℕ) → wrapping_add x y < 2 ^ 64
-unfolding wrapping_add
-add-lt x y = mod-lt (x + y) (lit< tt)
-
 pub arithmetic-lt : (op : Arithmetic) (x y : ℕ) → arithmetic op x y < 2 ^ 64
 unfolding wrapping_mul wrapping_sub
 arithmetic-lt multiply x y = mod-lt _ (lit< tt)
-arithmetic-lt add x y = add-lt x y
+arithmetic-lt add x y = plus-lt x y
 arithmetic-lt subtract x y = mod-lt _ (lit< tt)
 
 pub sum_below-lt : (n : ℕ) (f : ℕ → ℕ) → sum_below n f < 2 ^ 64
 sum_below-lt zero f = omega arith
-sum_below-lt (suc n) f = add-lt (sum_below n f) (f n)
+sum_below-lt (suc n) f = plus-lt (sum_below n f) (f n)
 
 pub sum_over-lt : (extent : ℕ → ℕ) (indexes : List ℕ) (f : Assignment → ℕ) (a : Assignment) → ((b : Assignment) → f b < 2 ^ 64) → sum_over extent indexes f a < 2 ^ 64
 sum_over-lt extent [] f a h = h a
@@ -54,7 +51,7 @@ with-both a b i x j h =
       | inr q ↦ rw (ne_eqb j i q) (h q)
     ]
 
-sum_over-depends : (extent : ℕ → ℕ) (indexes : List ℕ) (f : Assignment → ℕ) (test : ℕ → Bool)
+pub sum_over-depends : (extent : ℕ → ℕ) (indexes : List ℕ) (f : Assignment → ℕ) (test : ℕ → Bool)
     → ((a b : Assignment) → ((i : ℕ) → test i ≡ true → a i ≡ b i) → f a ≡ f b)
     → (a b : Assignment) → ((i : ℕ) → test i ≡ true → among indexes i ≡ false → a i ≡ b i)
     → sum_over extent indexes f a ≡ sum_over extent indexes f b

@@ -1,29 +1,24 @@
 -- The indexes that a verdict names are declared.
-use Rattle.std.proofs.Common.{◌≡◌, ℕ, ◌<◌, ◌≤◌, ◌||◌, false, not, IsTrue, List, [], ◌∷◌, length, refl, inl, inr, subst, arith, All}
-use Rattle.std.proofs.lemmas.Bool.{and_parts, or_cases, or_parts, or_from, or_left, or_right}
+use Rattle.std.proofs.Common.{◌≡◌, ℕ, ◌<◌, ◌≤◌, ◌||◌, false, not, IsTrue, List, [], ◌∷◌, length, inl, inr, subst, arith, All}
+use Rattle.std.proofs.lemmas.Bool.{and_parts, or_cases, or_parts, or_left, or_right}
 use Rattle.std.proofs.lemmas.List.Elements.{All-nil, All-cons}
 use Rattle.tce_space.specs.IndexSet.{has}
 use Rattle.tce_space.specs.Space.{IndexSpace, IsDeclared}
-use Rattle.tce_space.proofs.IndexSetLaws.{has-beyond}
 use Rattle.tce_tree.specs.ContractionTree.{ContractionTree, node_dims}
 use Rattle.tce_tree.specs.WellFormed.{IsDeclaredTree}
 use Rattle.tce_tree.proofs.NamedIndexes.{node_dims_declared}
 use Rattle.tce_states.specs.Relation.{above}
-use Rattle.tce_states.specs.Classes.{in_class, IsNesting}
+use Rattle.tce_states.specs.Classes.{in_class}
 use Rattle.tce_states.specs.Row.{Row, rows_joined}
 use Rattle.tce_nesting.specs.declared.plan.Plan.{Plan}
 use Rattle.tce_nesting.proofs.Classes.{above-first, above-later}
+use Rattle.tce_nesting.proofs.NestingLaws.{no_class_beyond}
 use Rattle.tce_check.specs.First.{First}
 use Rattle.tce_check.specs.Verdict.{IsLeastUncovered, IsVerdict}
 use Rattle.tce_check.specs.declared.verdict.Verdict.{Verdict}
 use Rattle.tce_check.specs.declared.verdict.Verdict.TheVariants.{NotCovered}
 use Rattle.tce_command.specs.Report.{NamesDeclared}
 use Rattle.tce_command.specs.declared.trouble.CertTrouble.TheVariants as troubles
-
--- no class of a nesting has a number that is no index
-none_beyond : (cs : List ℕ) → IsNesting cs → in_class cs 24 ≡ false
-none_beyond [] nesting = refl
-none_beyond (c ∷ cs) nesting = or_from (has c 24) (in_class cs 24) (has-beyond c 24 nesting.0 (omega arith)) (none_beyond cs nesting.3)
 
 -- an index with a class is above what has none
 above_others : (cs : List ℕ) (i j : ℕ) → in_class cs j ≡ false → IsTrue (in_class cs i) → IsTrue (above cs i j)
@@ -53,7 +48,7 @@ step_declared space tree outer v rows fused step left right dims uncovered =
       set = within;
       each = all_below (length space.indexes) step.classes (λ i h.
           within i (and_parts (has fused i) (not (has fused 24) || rows_joined left right i 24)
-          (subst IsTrue (uncovered.is.relation_is i 24) (above_others step.classes i 24 (none_beyond step.classes uncovered.nesting) h))).0);
+          (subst IsTrue (uncovered.is.relation_is i 24) (above_others step.classes i 24 (no_class_beyond step.classes uncovered.nesting) h))).0);
     }
 
 -- the first of a list at which something fails

@@ -1,9 +1,8 @@
 -- What is answered to a text, to its file, and to two files.
-use Rattle.std.proofs.Common.{◌≡◌, sym, ap, subst, ◌∙◌, ◌≤◌, inl, inr, ℕ, List, Option, Result, Ok, Err, arith}
+use Rattle.std.proofs.Common.{◌≡◌, sym, ap, subst, ◌∙◌, inr, ℕ, List, Option, Result, Ok, Err}
 use Rattle.std.specs.Prelude.{IfOk, IfErr, OnOk}
 use Rattle.std.specs.Option.{ForSome}
 use Rattle.tce_outside.specs.Files.{Files, file}
-use Rattle.tce_outside.specs.Fault.{Rose, HasCause, TellsFaults}
 use Rattle.tce_nesting.specs.declared.plan.Plan.{Plan}
 use Rattle.tce_check.specs.Verdict.{IsAccepted}
 use Rattle.tce_spec.specs.Specification.{Specification}
@@ -89,31 +88,8 @@ written_for told spec s (Certificate t line) specified p = (s, (specified, p))
 pub is_disk : {T : Type 0} (r : Result T CommandRefusal) (y : CommandRefusal) (a : Refusal) → r ≡ Err y → y ≡ Common a → r ≡ Err (Common Disk) → a ≡ Disk
 is_disk r y a p q e = let same : Err y ≡ Err (Common Disk) = sym p ∙ e in cc
 
-rose_since : (first middle last : ℕ) → first ≤ middle → Rose middle last → Rose first last
-rose_since first middle last before (inl rose) = inl (omega arith)
-rose_since first middle last before (inr end) = inr end
-
--- a later call has the cause
-pub cause_since : (first middle last : ℕ) (A : Type 0) → first ≤ middle → HasCause middle last A → HasCause first last A
-cause_since first middle last A before cause =
-    record { later = omega (arith, before, cause.later); rose = λ failed. rose_since first middle last before (cause.rose failed) }
-
--- a later call tells its faults, and the first had none
-pub told_since : {A : Type 0} (first middle last : ℕ) → middle ≡ first → TellsFaults middle last A → TellsFaults first last A
-told_since first middle last same told = λ none. told none ∙ same
-
--- the same call with another answer
-pub cause_as : (first last : ℕ) (A B : Type 0) → (B → A) → HasCause first last A → HasCause first last B
-cause_as first last A B from cause = record { later = cause.later; rose = λ failed. cause.rose (from failed) }
-
-pub told_as : {A B : Type 0} (first last : ℕ) → (A → B) → TellsFaults first last A → TellsFaults first last B
-told_as first last covers told = λ none. told (λ a. none (covers a))
-
 pub as_disk : {T : Type 0} (r : Result T CommandRefusal) (y : CommandRefusal) (a : Refusal) → r ≡ Err y → y ≡ Common a → a ≡ Disk → r ≡ Err (Common Disk)
 as_disk r y a p q e = p ∙ ap Err (q ∙ ap Common e)
 
 pub is_err_disk : {U : Type 0} (a : Refusal) (given : Result U Refusal) → given ≡ Err a → given ≡ Err Disk → a ≡ Disk
 is_err_disk a given p q = let same : Err a ≡ Err Disk = sym p ∙ q in cc
-
-pub ok_no_disk : {U : Type 0} (x : U) (given : Result U Refusal) → given ≡ Ok x → given ≡ Err Disk → ⊥
-ok_no_disk x given p q = let same : Ok x ≡ Err Disk = sym p ∙ q in absurd (cc)

@@ -13,6 +13,7 @@ use Rattle.tce_tree.proofs.Permutations.{among-members}
 use Rattle.tce_tree.proofs.Values.{sum_over-lt}
 use Rattle.tce_tree.specs.Value.{Assignment, assignment}
 use Rattle.tce_tree.specs.WellFormed.{among, is_distinct}
+use Rattle.tce_tree.proofs.Assignments.{all_positive}
 use Rattle.tce_block.proofs.BoxSums.{blocks_total}
 use Rattle.tce_block.proofs.Fitting.{fit_the_box}
 use Rattle.tce_block.proofs.LastBlocks.{last_block}
@@ -20,12 +21,13 @@ use Rattle.tce_block.specs.Last.{meets, last_of_part, last_of_box}
 use Rattle.tce_block.specs.Laws.{AreEdges}
 use Rattle.tce_block.specs.Parts.{Part, blocks}
 use Rattle.tce_walk.proofs.Folds.{fold-same, fold-at, fold-idle, fold-plus}
-use Rattle.tce_walk.proofs.Places.{kept_set, place_numbers, all_or_one, all_positive, ends_inside, last_at, last_inside}
+use Rattle.tce_walk.proofs.Places.{kept_set, place_numbers, ends_inside, last_at, last_inside}
 use Rattle.tce_walk.specs.Parts.{part_growth, last_on_place, falls_on}
 use Rattle.tce_code.proofs.Places.{coordinates-same}
 use Rattle.tce_code.specs.Execution.{Setting, State, coordinates}
 use Rattle.tce_walk.specs.TailLaws.{dims_at, AreLoops, EndsAtLast}
 use Rattle.tce_walk.specs.Laws.{IsPlaceAt, StaysOutside, GrowsOnlyBySum, EndsOnlyAtLast, HoldsWords}
+use Rattle.tce_walk.proofs.KnownTails.{decide-all}
 
 abbrev pub Step : Type 0
 Step = State → Part → State
@@ -146,7 +148,7 @@ set_last s v order f a edge before step turns edges outside sets p =
     elim (cases_Bool (bytes_eq p (coordinates (dims_at s v) (numbers_of s v p)))) [
       | inl t ↦
           let is = (bytes_eq-Decides p (coordinates (dims_at s v) (numbers_of s v p))).0 t in
-          elim (all_or_one (members (dims_at s v)) (λ i. nat_lt (numbers_of s v p i) (s.elements.extent i))) [
+          elim (decide-all (members (dims_at s v)) (λ i. nat_lt (numbers_of s v p i) (s.elements.extent i))) [
             | inl all ↦ inl (
               numbers_of s v p,
               ((λ i m. ltb-true (numbers_of s v p i) (s.elements.extent i) (all i (named i ∙ m))), sym is),

@@ -3,8 +3,8 @@ use Rattle.std.proofs.Common.{◌≡◌, ℕ, suc, ◌<◌, ◌^◌, Some, List,
 use Rattle.std.specs.List.{fold}
 use Rattle.std.specs.Prelude.{slice_get}
 use Rattle.tce_base.specs.Word.{wrapping_add, wrapping_sum}
-use Rattle.tce_block.proofs.Words.{plus_assoc, plus-zero, total, total-cons, total-nil}
-use Rattle.tce_code.proofs.Words.{plus-is_word}
+use Rattle.tce_base.proofs.Words.{plus_assoc, plus-zero, plus-lt}
+use Rattle.tce_block.proofs.Words.{total, total-cons, total-nil}
 use Rattle.tce_code.specs.Execution.{State}
 
 -- two steps that do the same wherever a fact holds that the second keeps
@@ -28,6 +28,6 @@ pub fold-plus : {X : Type 0} (g : X → ℕ) (w : ℕ) (xs : List X) → ((x : X
 unfolding total
 fold-plus g w [] low h = sym (ap (wrapping_add w) (total-nil g) ∙ plus-zero w h)
 fold-plus g w (x ∷ xs) low h =
-    fold-plus g (wrapping_add w (g x)) xs low (plus-is_word w (g x))
+    fold-plus g (wrapping_add w (g x)) xs low (plus-lt w (g x))
     ∙ plus_assoc w (g x) (total g xs)
     ∙ ap (wrapping_add w) (sym (total-cons g x xs (low x)))

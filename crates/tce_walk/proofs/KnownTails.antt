@@ -6,20 +6,21 @@ use Rattle.std.proofs.lemmas.Slice.Eq.{bytes_eq-Decides}
 use Rattle.tce_space.specs.IndexSet.{has, members}
 use Rattle.tce_space.proofs.IndexSetLaws.{has-minus, minus_lt}
 use Rattle.tce_tree.specs.ContractionTree.{ContractionTree, Arithmetic, multiply, leaf, constant, binary, sum, dims, loops, operations, node, node_dims, node_loops, parent}
-use Rattle.tce_tree.specs.FlatTree.{operand_of, left_operand, right_operand, left_of, right_of, first_number_of}
+use Rattle.tce_tree.specs.FlatTree.{left_operand, right_operand, left_of, right_of, first_number_of}
 use Rattle.tce_tree.specs.Fusion.{kept_dims, fused_at}
 use Rattle.tce_tree.specs.Value.{Assignment, with_number, IsInExtents}
 use Rattle.tce_tree.specs.WellFormed.{among}
 use Rattle.tce_tree.specs.declared.node.Operand.TheVariants.{Node as NodeOperand}
 use Rattle.tce_tree.proofs.Members.{node_dims_lt}
 use Rattle.tce_tree.proofs.Nodes.{size_bounds}
-use Rattle.tce_tree.proofs.Operands.{Stands, stands-node, only_child, parents_have_operands}
+use Rattle.tce_tree.proofs.Operands.{Stands, stands-node, only_child, parents_have_operands, operand_number}
 use Rattle.tce_tree.proofs.Parents.{dims_within_loops, parent_is}
 use Rattle.tce_tree.proofs.Permutations.{among-members}
+use Rattle.tce_tree.proofs.Assignments.{with-same, with-other}
 use Rattle.tce_code.specs.Execution.{Setting, State, coordinates, exec, apply, with_word, left_word}
 use Rattle.tce_code.specs.Generation.{followed_by}
 use Rattle.tce_code.specs.Program.{Program, stop, step, compute, accumulate}
-use Rattle.tce_code.specs.Shape.{IsBinary, IsSum}
+use Rattle.tce_code.specs.Shape.{IsBinary}
 use Rattle.tce_code.proofs.Frames.{repeated_keeps}
 use Rattle.tce_walk.specs.TailLaws.{dims_at, GrowsBySum, EndsAtLast, computed_word, state_after}
 use Rattle.tce_walk.specs.Tails.{loops_round}
@@ -28,17 +29,12 @@ use Rattle.tce_walk.specs.Laws.{IsPlaceAt, GrowsOnlyBySum, EndsOnlyAtLast, SumTa
 use Rattle.tce_walk.specs.Machine.{operation_of_node, joined_sum, inside_tail, IsTailAt, IsJoined, IsJoinedTo}
 use Rattle.tce_walk.specs.declared.machine.Tail.{Tail}
 use Rattle.tce_walk.proofs.Parts.{computing-binary, computing-sum}
+use Rattle.tce_walk.proofs.Searching.{sum-node}
 
 -- an assignment that differs from another in some loops alone, whose numbers lie in their extents
 record IsTurn (s : Setting) (order : List ℕ) (a b : Assignment) : Type 0 where
   inside : (i : ℕ) → among order i ≡ true → b i < s.elements.extent i
   same : (i : ℕ) → among order i ≡ false → b i ≡ a i
-
-with-same : (a : Assignment) (i x : ℕ) → with_number a i x i ≡ x
-with-same a i x = rw (eq-eqb i i refl) refl
-
-with-other : (a : Assignment) (i x j : ℕ) → (j ≡ i → ⊥) → with_number a i x j ≡ a j
-with-other a i x j ne = rw (ne_eqb j i ne) refl
 
 turn-further : (s : Setting) (i x : ℕ) (order : List ℕ) (a b : Assignment) → x < s.elements.extent i → IsTurn s order (with_number a i x) b → IsTurn s (i ∷ order) a b
 turn-further s i x order a b l h = record {
@@ -70,7 +66,7 @@ round-keeps P s inside (i ∷ order) state a start keeps =
     (λ x other l h. round-keeps P s inside order other (with_number a i x) h (λ b t. keeps b (turn-further s i x order a b l t)))
 
 -- the kept dims of a node are among its loops
-kept-loops : (s : Setting) (v i : ℕ) → v < operations s.tree → has (dims_at s v) i ≡ true → has (node_loops s.tree v) i ≡ true
+pub kept-loops : (s : Setting) (v i : ℕ) → v < operations s.tree → has (dims_at s v) i ≡ true → has (node_loops s.tree v) i ≡ true
 unfolding kept_dims node_dims node_loops
 kept-loops s v i l h =
     dims_within_loops (node s.tree v) i (size_bounds s.tree v l).0
@@ -121,7 +117,7 @@ grown-same s v order f a before after left p word grows law outside =
     ]
 
 -- whether some kept dim outside the loops has another number
-decide-all : (xs : List ℕ) (P : ℕ → Bool) → ((i : ℕ) → among xs i ≡ true → P i ≡ true) ⊎ ((i : ℕ) × (among xs i ≡ true) × (P i ≡ false))
+pub decide-all : (xs : List ℕ) (P : ℕ → Bool) → ((i : ℕ) → among xs i ≡ true → P i ≡ true) ⊎ ((i : ℕ) × (among xs i ≡ true) × (P i ≡ false))
 decide-all [] P = inl (λ i m. absurd (false≢true m))
 decide-all (x ∷ xs) P =
     elim (cases_Bool (P x)) [
@@ -211,20 +207,13 @@ single_tails_are_known s op tail a before after at alone is_op turns same ends =
     ∙ sym (ap (λ inside. state_after s tail.loops.0.items inside before a)
     (alone-is s.tree tail.node tail.sum (step (compute op tail.node)) alone (computing-binary op (node s.tree tail.node) tail.node is_op) (λ rest. refl)))
 
--- the operand of a sum that takes node `u` is that node
-child-number : (first : ℕ) (e : ContractionTree) (u : ℕ) → operand_of first e ≡ NodeOperand u → (0 < operations e) × (u ≡ first + operations e - 1)
-child-number first (leaf t is) u e = absurd (let k : ⊥ = cc in k)
-child-number first (constant n) u e = absurd (let k : ⊥ = cc in k)
-child-number first (binary op l r) u e = let q : first + operations l + operations r ≡ u = cc in (omega arith, omega arith)
-child-number first (sum is x) u e = let q : first + operations x ≡ u = cc in (omega arith, omega arith)
-
-child-is : (tree : ContractionTree) (u v : ℕ) (is : List ℕ) (e : ContractionTree) → node tree v ≡ sum is e → u < operations tree → v < operations tree
+pub child-is : (tree : ContractionTree) (u v : ℕ) (is : List ℕ) (e : ContractionTree) → node tree v ≡ sum is e → u < operations tree → v < operations tree
     → parent tree u ≡ Some v → node tree u ≡ e
 unfolding left_of right_of first_number_of
 child-is tree u v is e at u_in v_in up =
     elim ((parents_have_operands tree u v u_in v_in).0 up) [
       | inl l ↦
-          let r = child-number (v + 1 - operations (sum is e)) e u (subst (λ c. left_operand (v + 1 - operations c) c ≡ NodeOperand u) at l) in
+          let r = operand_number (v + 1 - operations (sum is e)) e u (subst (λ c. left_operand (v + 1 - operations c) c ≡ NodeOperand u) at l) in
           let st : Stands tree (v + 1 - operations (sum is e)) (sum is e) = subst (λ c. Stands tree (v + 1 - operations c) c) at (stands-node tree v v_in) in
           ap (node tree) r.1 ∙ (only_child tree (v + 1 - operations (sum is e)) is e st r.0).at
       | inr k ↦ absurd (none (subst (λ c. right_operand (v + 1 - operations c) c ≡ Some (NodeOperand u)) at k))
@@ -232,12 +221,6 @@ child-is tree u v is e at u_in v_in up =
   where
     none : None ≡ Some (NodeOperand u) → ⊥
     none q = cc
-
-sum-node : (c : ContractionTree) → IsSum c → (is : List ℕ) × (e : ContractionTree) × (c ≡ sum is e)
-sum-node (leaf t is) h = absurd h
-sum-node (constant k) h = absurd h
-sum-node (binary op l r) h = absurd h
-sum-node (sum is e) h = (is, e, refl)
 
 binary-loops : (op : Arithmetic) (c : ContractionTree) → IsBinary op c → dims c ≡ loops c
 binary-loops op (leaf t is) h = absurd h

@@ -3,10 +3,9 @@ use Rattle.std.proofs.Common.{◌≡◌, ℕ, ◌+◌, ◌-◌, ◌<◌, ◌≤�
 use Rattle.std.proofs.lemmas.Bool.{true≢false}
 use mathlib.Core.Path.{fun_ext}
 use Rattle.tce_base.specs.Word.{word}
-use Rattle.tce_tree.proofs.Nodes.{size_bounds}
+use Rattle.tce_tree.proofs.Nodes.{size_bounds, node-positive}
 use Rattle.tce_tree.specs.ContractionTree.{Arithmetic, ContractionTree, leaf, constant, binary, sum, is_leaf, operations, node, left_tree, right_tree}
 use Rattle.tce_tree.specs.Value.{Assignment, arithmetic}
-use Rattle.tce_code.proofs.Settled.{node-positive}
 use Rattle.tce_code.specs.Execution.{Setting, State, coordinates, operand_word, left_word}
 use Rattle.tce_walk.specs.TailLaws.{dims_at, computed_word}
 use Rattle.tce_walk.specs.Laws.{HoldsWords}

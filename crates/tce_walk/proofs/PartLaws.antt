@@ -3,6 +3,7 @@ use Rattle.std.proofs.Common.{◌≡◌, ℕ, ◌<◌, ◌^◌, ◌&&◌, true, 
 use Rattle.std.proofs.lemmas.Bool.{cases_Bool, eq-eqb, ne_eqb}
 use Rattle.std.specs.List.{fold}
 use Rattle.tce_base.specs.Word.{wrapping_add}
+use Rattle.tce_base.proofs.Words.{plus-lt}
 use Rattle.tce_space.specs.IndexSet.{has}
 use Rattle.tce_space.specs.Tiling.{ArePositive}
 use Rattle.tce_tree.proofs.Nodes.{size_bounds}
@@ -15,14 +16,12 @@ use Rattle.tce_block.specs.Parts.{Part}
 use Rattle.tce_walk.proofs.Closed.{Step, Leaves, Grows, Sets, blocks_at, left_alone, grown, set_last}
 use Rattle.tce_walk.proofs.Folds.{fold-same}
 use Rattle.tce_walk.proofs.Operands.{SameBefore, left_same, computed_same, left_low}
-use Rattle.tce_walk.proofs.Places.{kept_loops}
 use Rattle.tce_walk.specs.PartLaws.{PartsMakeTails, PartsKeepWords}
 use Rattle.tce_walk.specs.Parts.{grown_by_part, set_by_part, falls_on, last_on_place, part_growth, node_after_part}
-use Rattle.tce_code.proofs.Words.{plus-is_word}
 use Rattle.tce_code.specs.Execution.{Setting, State, exec, left_word}
 use Rattle.tce_code.specs.Shape.{IsBinary, IsSum}
 use Rattle.tce_walk.specs.TailLaws.{dims_at, AreLoops, computed_word}
-use Rattle.tce_walk.proofs.KnownTails.{sum_tails_are_known, single_tails_are_known, joined_tails_are_known}
+use Rattle.tce_walk.proofs.KnownTails.{sum_tails_are_known, single_tails_are_known, joined_tails_are_known, kept-loops}
 use Rattle.tce_walk.specs.Laws.{HoldsWords}
 use Rattle.tce_walk.specs.Machine.{tail_program, IsTailAt, IsJoinedTo}
 use Rattle.tce_walk.specs.declared.machine.Tail.{Tail}
@@ -67,7 +66,7 @@ keeps_before v before state step part leaves same u l p = leaves u l state part 
 -- a node's loops outside those of the tail have numbers inside their extents
 outside_numbers : (s : Setting) (tail : Tail) (a : Assignment) → IsTailAt s tail a → (i : ℕ) → has (dims_at s tail.node) i ≡ true
     → among tail.loops.0.items i ≡ false → a i < s.elements.extent i
-outside_numbers s tail a at i m out = at.inside i (kept_loops s tail.node i at.known m) out
+outside_numbers s tail a at i m out = at.inside i (kept-loops s tail.node i at.known m) out
 
 sum_parts : (s : Setting) (tail : Tail) (a : Assignment) (edge : ℕ → ℕ) (before : State)
     → IsTailAt s tail a → AreLoops s tail.loops.0.items → ArePositive (map edge tail.loops.0.items) → ((v : ℕ) → HoldsWords v before)
@@ -161,7 +160,7 @@ grown_words : (s : Setting) (v : ℕ) (order : List ℕ) (f : Assignment → ℕ
     → ((u : ℕ) → HoldsWords u state) → (u : ℕ) → HoldsWords u (grown_by_part s v order f a part state)
 grown_words s v order f a part state words u p =
     elim (cases_Bool (eqb u v)) [
-      | inl t ↦ rw t (plus-is_word (state u p) (part_growth s v order f a part p))
+      | inl t ↦ rw t (plus-lt (state u p) (part_growth s v order f a part p))
       | inr t ↦ rw t (words u p)
     ]
 

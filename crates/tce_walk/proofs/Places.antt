@@ -1,19 +1,16 @@
 -- Places of a node, and the last assignment of a part that falls on one.
-use Rattle.std.proofs.Common.{◌≡◌, ℕ, ◌+◌, ◌<◌, ◌≤◌, ◌⊎◌, Bool, true, false, not, ◌&&◌, ◌||◌, nat_le, nat_lt, ltb-true, List, [], ◌∷◌, map, refl, sym, ap, ◌∙◌, inl, inr, arith}
+use Rattle.std.proofs.Common.{◌≡◌, ℕ, ◌+◌, ◌<◌, ◌≤◌, true, false, not, ◌&&◌, ◌||◌, nat_le, nat_lt, ltb-true, List, [], ◌∷◌, map, refl, sym, ap, ◌∙◌, inl, inr, arith}
 use Rattle.std.proofs.lemmas.Bool.{cases_Bool, cases_eq, and_parts, false≢true}
-use Rattle.tce_space.proofs.IndexSetLaws.{has-minus, minus_lt}
+use Rattle.tce_space.proofs.IndexSetLaws.{minus_lt}
 use Rattle.tce_space.specs.IndexSet.{has, members, IsIndexSet}
-use Rattle.tce_space.specs.Tiling.{ArePositive}
-use Rattle.tce_tree.proofs.Lists.{among_first, among_later, among_cases, among-all}
+use Rattle.tce_tree.proofs.Lists.{among_cases, among-all}
 use Rattle.tce_tree.proofs.Members.{node_dims_lt}
-use Rattle.tce_tree.proofs.Nodes.{size_bounds}
-use Rattle.tce_tree.proofs.Parents.{dims_within_loops}
 use Rattle.tce_tree.proofs.Permutations.{among-members}
-use Rattle.tce_tree.specs.ContractionTree.{dims, operations, node, node_dims, node_loops}
+use Rattle.tce_tree.specs.ContractionTree.{dims, node, node_dims}
 use Rattle.tce_tree.specs.Fusion.{kept_dims, fused_at}
 use Rattle.tce_tree.specs.Value.{Assignment, assignment}
 use Rattle.tce_tree.specs.WellFormed.{among}
-use Rattle.tce_block.proofs.BoxSums.{with-same, with-other}
+use Rattle.tce_tree.proofs.Assignments.{with-same, with-other, assignment-at}
 use Rattle.tce_block.specs.Last.{meets, last_of_part}
 use Rattle.tce_block.specs.Laws.{AreParts}
 use Rattle.tce_block.specs.Parts.{Part}
@@ -25,40 +22,8 @@ pub kept_set : (s : Setting) (v : ℕ) → IsIndexSet (dims_at s v)
 unfolding kept_dims
 kept_set s v = minus_lt (node_dims s.tree v) (fused_at s.fusion v) (node_dims_lt s.tree v)
 
-pub kept_loops : (s : Setting) (v i : ℕ) → v < operations s.tree → has (dims_at s v) i ≡ true → has (node_loops s.tree v) i ≡ true
-unfolding kept_dims node_dims node_loops
-kept_loops s v i l h =
-    dims_within_loops (node s.tree v) i (size_bounds s.tree v l).0
-    (and_parts (has (dims (node s.tree v)) i) (not (has (fused_at s.fusion v) i)) (sym (has-minus (dims (node s.tree v)) (fused_at s.fusion v) i) ∙ h)).0
-
--- the numbers at indexes, taken back from a list of them
-assignment-at : (js : List ℕ) (c : Assignment) (i : ℕ) → among js i ≡ true → assignment js (map c js) i ≡ c i
-assignment-at [] c i m = absurd (false≢true m)
-assignment-at (j ∷ js) c i m =
-    elim (cases_eq i j) [
-      | inl q ↦ ap (assignment (j ∷ js) (map c (j ∷ js))) q ∙ with-same (assignment js (map c js)) j (c j) ∙ ap c (sym q)
-      | inr q ↦ with-other (assignment js (map c js)) j (c j) i q ∙ assignment-at js c i (elim (among_cases j js i m) [ inl e ↦ absurd (q (sym e)) | inr later ↦ later ])
-    ]
-
 pub place_numbers : (set : ℕ) (c : Assignment) (p : List ℕ) (i : ℕ) → IsIndexSet set → p ≡ coordinates set c → has set i ≡ true → assignment (members set) p i ≡ c i
 place_numbers set c p i limit is m = ap (λ q. assignment (members set) q i) is ∙ assignment-at (members set) c i (among-members set i limit ∙ m)
-
--- a test that all numbers pass, or one that one fails
-pub all_or_one : (xs : List ℕ) (test : ℕ → Bool) → ((i : ℕ) → among xs i ≡ true → test i ≡ true) ⊎ ((i : ℕ) × (among xs i ≡ true) × (test i ≡ false))
-all_or_one [] test = inl (λ i m. absurd (false≢true m))
-all_or_one (x ∷ xs) test =
-    elim (cases_Bool (test x)) [
-      | inl t ↦
-          elim (all_or_one xs test) [
-            | inl h ↦ inl (λ i m. elim (among_cases x xs i m) [ inl q ↦ sym (ap test q) ∙ t | inr later ↦ h i later ])
-            | inr h ↦ inr (h.0, among_later x xs h.0 h.1, h.2)
-          ]
-      | inr f ↦ inr (x, among_first x xs, f)
-    ]
-
-pub all_positive : (extent : ℕ → ℕ) (order : List ℕ) → ((i : ℕ) → among order i ≡ true → 0 < extent i) → ArePositive (map extent order)
-all_positive extent [] h = tt
-all_positive extent (i ∷ order) h = (h i (among_first i order), all_positive extent order (λ j m. h j (among_later i order j m)))
 
 -- a part ends inside the extents
 pub ends_inside : (extent : ℕ → ℕ) (order es fs ls : List ℕ) (i : ℕ) → AreParts (map extent order) es fs ls → among order i ≡ true

@@ -62,7 +62,7 @@ program-action : (ops : List Op) (at : ℕ) (action : Action) → at < length op
 program-action ops at action l is h = ap first_of (programs-action ops at action l is) ∙ ap (step action) (is-stop (program_at ops (at + 1)) h)
 
 -- the operation at a position, as code reads it
-named : (ops : List Op) (at : ℕ) (d op : Op) → at < length ops → get_or ops at d ≡ op → op ≡ get_or ops at op
+pub named : (ops : List Op) (at : ℕ) (d op : Op) → at < length ops → get_or ops at d ≡ op → op ≡ get_or ops at op
 named ops at d op l e = sym e ∙ get_or_default ops at d op l
 
 pub sum-here : (tree : ContractionTree) (ops : List Op) (at v u : ℕ) (d : Op) → at < length ops → get_or ops at d ≡ Acc u → IsShaped tree (program_at ops at)
@@ -245,7 +245,7 @@ unfolding left_of right_of
 node-constants tree v l = constants-named tree (node tree v) (first_number_of tree v) v refl (size_bounds tree v l).0
 
 -- the operand of a sum that takes a node is no constant
-sum-node : (c : ContractionTree) → IsSum c → (is : List ℕ) × (e : ContractionTree) × (c ≡ sum is e)
+pub sum-node : (c : ContractionTree) → IsSum c → (is : List ℕ) × (e : ContractionTree) × (c ≡ sum is e)
 sum-node (leaf t is) h = absurd h
 sum-node (constant k) h = absurd h
 sum-node (binary op l r) h = absurd h

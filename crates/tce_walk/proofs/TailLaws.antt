@@ -11,17 +11,16 @@ use Rattle.tce_tree.specs.Fusion.{fused_at, kept_dims}
 use Rattle.tce_tree.specs.Value.{Assignment}
 use Rattle.tce_tree.specs.declared.node.Operand.TheVariants.{Node as NodeOperand}
 use Rattle.tce_tree.proofs.Members.{node_dims_lt}
-use Rattle.tce_tree.proofs.Nodes.{size_bounds}
+use Rattle.tce_tree.proofs.Nodes.{size_bounds, node-positive}
 use Rattle.tce_tree.proofs.Operands.{parents_have_operands}
 use Rattle.tce_block.specs.Last.{last_of_box}
 use Rattle.tce_code.specs.Execution.{Setting, State, coordinates, left_word, right_word, operand_word}
 use Rattle.tce_code.specs.Program.{step, stop, accumulate, compute}
-use Rattle.tce_code.specs.Shape.{IsSum}
-use Rattle.tce_code.proofs.Settled.{node-positive}
 use Rattle.tce_code.proofs.Readings.{nest_word}
 use Rattle.tce_code.proofs.Sums.{hits, IsBelowLimit, nest_word-miss}
 use Rattle.tce_walk.specs.TailLaws.{dims_at, SameButTwo, EndsAtLast, AreLoops, state_after, computed_word, SumTailsAddUp, SingleTailsEndAtLast, JoinedLeaves, JoinedTailsAddUp}
 use Rattle.tce_walk.proofs.Tails.{tail-word, computed-word, joined-word, nest_word-total, nest_word-last, last_hit, last_hit-at, left-elsewhere, right-elsewhere, sum-takes}
+use Rattle.tce_walk.proofs.Searching.{sum-node}
 
 -- a node with an operand that is a node has a number above 0
 two-nodes-left : (c : ContractionTree) → is_leaf (left_tree c) ≡ false → 2 ≤ operations c
@@ -77,13 +76,6 @@ single_tails_end_at_last s op v order before a inside loops =
       r.0,
       (λ b. ends-at-last s v order (computed_word s op v before) a before (state_after s order (step (compute op v) stop) before a) b loops (r.1 (coordinates (dims_at s v) b))),
     )
-
--- the operand of a sum that is the parent of node `u`
-sum-node : (c : ContractionTree) → IsSum c → (is : List ℕ) × (e : ContractionTree) × (c ≡ sum is e)
-sum-node (leaf t is) h = absurd h
-sum-node (constant k) h = absurd h
-sum-node (binary op l r) h = absurd h
-sum-node (sum is e) h = (is, e, refl)
 
 child-number : (first : ℕ) (e : ContractionTree) (u : ℕ) → operand_of first e ≡ NodeOperand u → (is_leaf e ≡ false) × (u + 1 ≡ first + operations e)
 child-number first (leaf t is) u e = absurd (let k : ⊥ = cc in k)

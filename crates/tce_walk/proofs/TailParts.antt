@@ -1,12 +1,12 @@
 -- What a machine is asked at a tail, from what the code says there.
-use Rattle.std.proofs.Common.{◌≡◌, ℕ, ◌+◌, ◌*◌, ◌^◌, ◌<◌, ◌≤◌, true, false, eqb, Option, Some, None, List, [], ◌∷◌, ◌++◌, map, fold, length, refl, sym, ap, ◌∙◌, inl, inr, subst, arith, append_assoc, append-nil}
+use Rattle.std.proofs.Common.{◌≡◌, ℕ, ◌+◌, ◌*◌, ◌^◌, ◌<◌, ◌≤◌, true, false, eqb, Option, Some, None, List, [], ◌∷◌, ◌++◌, map, length, refl, sym, ap, ◌∙◌, inl, inr, subst, arith, append_assoc, append-nil}
 use Rattle.std.proofs.Math.Nat.{mul-le-mul_left}
 use Rattle.std.proofs.lemmas.Bool.{cases_Bool, cases_eq, eq-eqb, ne_eqb, eqb-true, or_left, or_right, false≢true}
 use Rattle.std.proofs.lemmas.List.{map-append}
 use Rattle.tce_space.specs.Box.{product}
 use Rattle.tce_space.specs.IndexSet.{has, members, volume}
 use Rattle.tce_space.specs.Space.{IndexSpace, extent_at, volume_of}
-use Rattle.tce_space.proofs.Products.{product-append}
+use Rattle.tce_space.proofs.Products.{product-append, fold-product}
 use Rattle.tce_tree.specs.ContractionTree.{ContractionTree, leaf, constant, binary, sum, operations, node, node_loops}
 use Rattle.tce_tree.specs.Fusion.{OrdersFit, order_at}
 use Rattle.tce_tree.specs.Value.{Assignment}
@@ -72,14 +72,7 @@ product-permuted f (x ∷ xs) ys d e h =
     ]))
     ∙ sym (product-front f x ys (sym (h x) ∙ or_left (eqb x x) (among xs x) (eq-eqb x x refl)))
 
-fold-product : (f : ℕ → ℕ) (is : List ℕ) (n : ℕ) → fold (λ p i. p * f i) n is ≡ n * product (map f is)
-fold-product f [] n = omega arith
-fold-product f (i ∷ is) n = fold-product f is (n * f i) ∙ again n (f i) (product (map f is))
-  where
-    again : (a b c : ℕ) → a * b * c ≡ a * (b * c)
-    again a b c = omega arith
-
-order-volume : (space : IndexSpace) (tree : ContractionTree) (orders : List (List ℕ)) → OrdersFit tree orders → (v : ℕ) → v < operations tree
+pub order-volume : (space : IndexSpace) (tree : ContractionTree) (orders : List (List ℕ)) → OrdersFit tree orders → (v : ℕ) → v < operations tree
     → product (map (extent_at space) (order_at orders v)) ≡ volume_of space (node_loops tree v)
 unfolding volume
 order-volume space tree orders fit v h =

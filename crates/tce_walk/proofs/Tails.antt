@@ -4,19 +4,20 @@ use Rattle.std.specs.Prelude.{bytes_eq}
 use Rattle.std.proofs.lemmas.Bool.{true≢false, ne_eqb, eq-eqb, cases_Bool, cases_eq, or_left, or_right}
 use Rattle.std.proofs.lemmas.Slice.Eq.{bytes_eq-Decides}
 use Rattle.tce_base.specs.Word.{wrapping_add}
+use Rattle.tce_base.proofs.Words.{plus-zero}
 use Rattle.tce_space.specs.IndexSet.{has}
 use Rattle.tce_tree.specs.ContractionTree.{Arithmetic, ContractionTree, leaf, constant, binary, sum, is_leaf, operations, node, left_tree, right_tree}
 use Rattle.tce_tree.specs.Fusion.{kept_dims}
 use Rattle.tce_tree.specs.Value.{Assignment, with_number, arithmetic, sum_over}
 use Rattle.tce_tree.specs.WellFormed.{among, is_distinct}
 use Rattle.tce_tree.proofs.Lists.{distinct_first, distinct_later}
+use Rattle.tce_tree.proofs.Assignments.{with-same, with-other}
 use Rattle.tce_code.specs.Execution.{Setting, State, exec, repeated, coordinates, with_word, operand_word, left_word, right_word}
 use Rattle.tce_code.specs.Program.{stop, step, accumulate, compute}
-use Rattle.tce_code.proofs.Nests.{with-other, with-same}
 use Rattle.tce_code.proofs.Places.{coordinates-same}
 use Rattle.tce_code.proofs.Readings.{nest_word, repeated_related}
 use Rattle.tce_code.proofs.Sums.{repeated-plus, hits, IsBelowLimit, loop-one}
-use Rattle.tce_code.proofs.Words.{IsWord, plus-zero}
+use Rattle.tce_code.proofs.Words.{IsWord}
 use Rattle.tce_walk.specs.TailLaws.{SameBut, SameButTwo}
 use Rattle.tce_walk.specs.Tails.{loops_round}
 

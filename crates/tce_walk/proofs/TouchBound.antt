@@ -1,31 +1,27 @@
 -- The bound on touches is small: no more than three touches for each operation at each assignment of its node's loops.
-use Rattle.std.proofs.Common.{◌≡◌, ℕ, zero, suc, ◌+◌, ◌*◌, ◌^◌, ◌<◌, ◌≤◌, true, ◌==◌, eqb, if◌then◌else◌, Option, Some, None, List, [], ◌∷◌, ◌++◌, map, fold, refl, sym, ap, ap₂, ◌∙◌, inl, inr, arith}
+use Rattle.std.proofs.Common.{◌≡◌, ℕ, zero, suc, ◌+◌, ◌*◌, ◌^◌, ◌<◌, ◌≤◌, true, Option, Some, None, List, [], ◌∷◌, ◌++◌, map, refl, sym, ap, ap₂, ◌∙◌, inl, inr, arith}
 use Rattle.std.proofs.Math.Nat.{mul-le-mul, mul-le-mul_left}
-use Rattle.std.proofs.lemmas.Bool.{cases_Bool, cases_eq, eq-eqb, ne_eqb, eqb-true, or_left, false≢true}
+use Rattle.std.proofs.lemmas.Bool.{cases_Bool, cases_eq, eq-eqb, ne_eqb, false≢true}
 use Rattle.std.proofs.lemmas.List.{map-append}
 use Rattle.std.specs.Int.{div_ceil}
 use Rattle.std.specs.Option.{option_map}
 use Rattle.tce_space.specs.Box.{product}
-use Rattle.tce_space.specs.IndexSet.{members, volume}
-use Rattle.tce_space.specs.Space.{IndexSpace, IsSpace, extent_at, edge_at, volume_of}
+use Rattle.tce_space.specs.Space.{IndexSpace, IsSpace, extent_at, edge_at}
 use Rattle.tce_space.proofs.Products.{product-append}
 use Rattle.tce_space.proofs.Spaces.{index_limits}
 use Rattle.tce_tree.specs.ContractionTree.{ContractionTree, operations, node_loops}
 use Rattle.tce_tree.specs.Fusion.{OrdersFit, order_at}
 use Rattle.tce_tree.specs.Measure.{IsMeasured}
-use Rattle.tce_tree.specs.WellFormed.{among, is_distinct}
-use Rattle.tce_tree.proofs.Conditions.{order-has, order-distinct}
-use Rattle.tce_tree.proofs.Lists.{distinct_first, distinct_later}
-use Rattle.tce_tree.proofs.Members.{node_loops_lt}
 use Rattle.tce_tree.proofs.NamedIndexes.{node_loops_declared}
-use Rattle.tce_tree.proofs.Permutations.{without, among-without_other, among-without_same, distinct-without, distinct-members, among-members}
 use Rattle.tce_block.proofs.Cover.{least}
 use Rattle.tce_code.specs.Plan.{Plan}
 use Rattle.tce_code.specs.Program.{Action, Program, stop, step, loop, clear, compute, accumulate, program_of}
 use Rattle.tce_code.specs.Shape.{EachAction, ActionFits, IsLoop, times_computed}
+use Rattle.tce_code.proofs.Once.{one_at}
 use Rattle.tce_walk.specs.TailLaws.{TouchesAreFew}
 use Rattle.tce_walk.specs.Tails.{is_stop, is_tail_action, tail_loops, reads_constant}
 use Rattle.tce_walk.specs.Touches.{block_count, tail_touches, touch_bound}
+use Rattle.tce_walk.proofs.TailParts.{order-volume}
 
 -- how many operations are met
 abbrev turns : (ℕ → ℕ) → Program → ℕ
@@ -143,10 +139,6 @@ turns-actions extent most (loop i body rest) opened h =
     more : product (map extent (opened ++ i ∷ [])) ≡ product (map extent opened) * (extent i * 1)
     more = ap product (map-append extent opened (i ∷ [])) ∙ product-append (map extent opened) (extent i ∷ [])
 
--- 1 at one number, and 0 elsewhere
-abbrev one_at : ℕ → ℕ → ℕ
-one_at v u = if v == u then 1 else 0
-
 -- the sum of a function below a bound
 abbrev total : (ℕ → ℕ) → ℕ → ℕ
 total f zero = 0
@@ -198,48 +190,6 @@ actions-counted tree plan (step (accumulate v) rest) opened h =
 actions-counted tree plan (loop i body rest) opened h =
     total-plus (times_computed body) (times_computed rest) (operations tree)
     ∙ ap₂ (λ a b. a + b) (actions-counted tree plan body (opened ++ i ∷ []) h.1) (actions-counted tree plan rest opened h.2)
-
--- the product over a list does not depend on its sequence
-product-front : (f : ℕ → ℕ) (x : ℕ) (ys : List ℕ) → among ys x ≡ true → product (map f ys) ≡ f x * product (map f (without x ys))
-product-front f x [] h = absurd (false≢true h)
-product-front f x (y ∷ ys) h =
-    elim (cases_Bool (eqb y x)) [
-      | inl e ↦ rw e (ap (λ k. f k * product (map f ys)) (eqb-true y x e))
-      | inr e ↦ rw e (ap (λ p. f y * p) (product-front f x ys (rw e at h)) ∙ swapped (f y) (f x) (product (map f (without x ys))))
-    ]
-  where
-    swapped : (a b c : ℕ) → a * (b * c) ≡ b * (a * c)
-    swapped a b c = omega arith
-
-product-permuted : (f : ℕ → ℕ) (xs ys : List ℕ) → is_distinct xs ≡ true → is_distinct ys ≡ true → ((i : ℕ) → among xs i ≡ among ys i)
-    → product (map f xs) ≡ product (map f ys)
-product-permuted f [] [] d e h = refl
-product-permuted f [] (y ∷ ys) d e h = absurd (false≢true (h y ∙ or_left (eqb y y) (among ys y) (eq-eqb y y refl)))
-product-permuted f (x ∷ xs) ys d e h =
-    ap (λ p. f x * p) (product-permuted f xs (without x ys) (distinct_later x xs d) (distinct-without x ys e)
-    (λ i. elim (cases_eq i x) [
-      | inl q ↦ ap (among xs) q ∙ distinct_first x xs d ∙ sym (among-without_same x ys e) ∙ ap (among (without x ys)) (sym q)
-      | inr q ↦ (rw (ne_eqb x i (λ r. q (sym r))) at (h i)) ∙ sym (among-without_other x ys i q)
-    ]))
-    ∙ sym (product-front f x ys (sym (h x) ∙ or_left (eqb x x) (among xs x) (eq-eqb x x refl)))
-
-fold-product : (f : ℕ → ℕ) (is : List ℕ) (n : ℕ) → fold (λ p i. p * f i) n is ≡ n * product (map f is)
-fold-product f [] n = omega arith
-fold-product f (i ∷ is) n = fold-product f is (n * f i) ∙ again n (f i) (product (map f is))
-  where
-    again : (a b c : ℕ) → a * b * c ≡ a * (b * c)
-    again a b c = omega arith
-
-order-volume : (space : IndexSpace) (tree : ContractionTree) (orders : List (List ℕ)) → OrdersFit tree orders → (v : ℕ) → v < operations tree
-    → product (map (extent_at space) (order_at orders v)) ≡ volume_of space (node_loops tree v)
-unfolding volume
-order-volume space tree orders fit v h =
-    product-permuted (extent_at space) (order_at orders v) (members (node_loops tree v)) (order-distinct tree orders fit v h) (distinct-members (node_loops tree v))
-    (λ i. order-has tree orders fit v i h ∙ sym (among-members (node_loops tree v) i (node_loops_lt tree v)))
-    ∙ sym (fold-product (extent_at space) (members (node_loops tree v)) 1 ∙ one (product (map (extent_at space) (members (node_loops tree v)))))
-  where
-    one : (n : ℕ) → 1 * n ≡ n
-    one n = omega arith
 
 code-few : (space : IndexSpace) (tree : ContractionTree) (plan : Plan) → IsMeasured space tree → OrdersFit tree plan.orders → (program : Program) (opened : List ℕ)
     → EachAction (ActionFits tree plan) (IsLoop tree) program opened → EachAction (IsFew (extent_at space) (2 ^ 90)) (λ i. Unit {0}) program opened

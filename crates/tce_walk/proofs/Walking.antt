@@ -1,9 +1,8 @@
 -- Parts of the code at positions, one after the other.
-use Rattle.std.proofs.Common.{◌≡◌, ℕ, zero, suc, replicate, ◌+◌, ◌^◌, ◌<◌, ◌≤◌, true, false, min, Option, List, [], length, get_or, set, refl, sym, ap, ap₂, ◌∙◌, subst, arith, set-set}
+use Rattle.std.proofs.Common.{◌≡◌, ℕ, zero, suc, replicate, ◌+◌, ◌^◌, ◌<◌, ◌≤◌, min, Option, List, [], length, get_or, set, refl, sym, ap, ap₂, ◌∙◌, subst, arith, set-set}
 use mathlib.Core.Path.{fun_ext}
 use Rattle.std.proofs.lemmas.Bool.{false≢true}
-use Rattle.std.proofs.lemmas.List.{get_or_default, set-get_or}
-use Rattle.tce_outside.specs.Fault.{HasCause}
+use Rattle.std.proofs.lemmas.List.{set-get_or}
 use Rattle.tce_space.specs.Space.{IndexSpace, extent_at}
 use Rattle.tce_tree.specs.ContractionTree.{ContractionTree, multiply, add, subtract}
 use Rattle.tce_tree.specs.Value.{Assignment}
@@ -16,7 +15,7 @@ use Rattle.tce_walk.specs.Touches.{touch_bound}
 use Rattle.tce_walk.specs.Machine.{assignment_of}
 use Rattle.tce_walk.specs.Positions.{programs_at, program_at, EndsAt, IsPlain, plain_program}
 use Rattle.tce_walk.specs.Run.{zeros, IsCodeOf, RunsOver, IsPart, IsRun, IsEnd}
-use Rattle.tce_walk.proofs.Searching.{program-loop}
+use Rattle.tce_walk.proofs.Searching.{program-loop, named}
 use Rattle.tce_walk.proofs.Positions.{programs-action, programs-loop, programs-within, IsLeft, left-plain, left-loop, left-done, stop-close, stop-past, ends-close, ends-past}
 
 -- the same machine, later
@@ -24,12 +23,6 @@ pub over-later : {space : IndexSpace} {tree : ContractionTree} {own later : Inde
     → RunsOver space tree later next
 over-later {space} {tree} {own} {later} {s} {next} e f h =
     subst (λ o. RunsOver space tree o next) (sym e) (subst (λ n. RunsOver space tree own n) (sym f) h)
-
-pub cause-later : {before now later : ℕ} → now ≡ before → HasCause now later (true ≡ true) → HasCause before later (true ≡ true)
-cause-later {before} {now} {later} e h = subst (λ n. HasCause n later (true ≡ true)) e h
-
-pub cause-none : {before now : ℕ} → now ≡ before → HasCause before now (false ≡ true)
-cause-none e = record { later = omega (arith, e); rose = λ f. absurd (false≢true f) }
 
 pub over-part : (space : IndexSpace) (tree : ContractionTree) (own : IndexSpace) (s : Setting) (program : Program) (a : Assignment) → RunsOver space tree own s
     → IsPart space tree program a → IsPart own s.tree program a
@@ -48,10 +41,6 @@ pub over-run : (space : IndexSpace) (tree : ContractionTree) (own : IndexSpace) 
 over-run space tree own s now program a before later t u over e h =
     subst (λ n. IsRun space tree n program a before later t u) e
     (record { state = h.state; touches = omega (arith, h.touches, over-bound space tree own now program over) })
-
--- the operation at a position, as code reads it
-named : (ops : List Op) (at : ℕ) (d op : Op) → at < length ops → get_or ops at d ≡ op → op ≡ get_or ops at op
-named ops at d op l e = sym e ∙ get_or_default ops at d op l
 
 -- an operation that is no loop
 pub plain-is : (op : Op) → ((i : ℕ) → op ≡ Open i → ⊥) → (op ≡ Close → ⊥) → IsPlain op

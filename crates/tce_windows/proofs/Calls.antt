@@ -6,6 +6,7 @@ use Rattle.tce_space.specs.Box.{places}
 use Rattle.tce_space.specs.Tiling.{ArePositive}
 use Rattle.tce_tree.specs.Value.{assignment}
 use Rattle.tce_tree.proofs.Permutations.{among-permutation}
+use Rattle.tce_tree.proofs.Assignments.{all_positive}
 use Rattle.tce_strides.specs.Places.{word_place, AreWithin, AreApart}
 use Rattle.tce_strides.specs.Steps.{lens, out_steps, left_steps, right_steps, sum_lens, sum_out_steps, operand_steps}
 use Rattle.tce_strides.specs.Turns.{IsMade}
@@ -19,7 +20,7 @@ use Rattle.tce_windows.specs.Windows.{stands_at, steps_along}
 use Rattle.tce_windows.specs.declared.nest.Axis.{Axis}
 use Rattle.tce_windows.specs.declared.window.Window.{Window}
 use Rattle.tce_windows.proofs.Falling.{some_numbers}
-use Rattle.tce_windows.proofs.Making.{positive_along, sequence_of}
+use Rattle.tce_windows.proofs.Making.{sequence_of}
 use Rattle.tce_windows.proofs.Nests.{same_numbers}
 use Rattle.tce_windows.proofs.Places.{coordinates_are_turns, turns_are_within, turns_are_apart}
 
@@ -34,7 +35,7 @@ in_turns order lens inner loops same = sequence_of order (λ i. 0) (record { fro
 
 positive_inner : (order lens inner : List ℕ) → AreLoops order lens → IsPermutation order inner → ArePositive (numbers_along order lens inner)
 positive_inner order lens inner loops same =
-    positive_along (assignment order lens) inner (λ i m. some_numbers order lens i loops.as_many loops.some (among-permutation order inner i same ∙ m))
+    all_positive (assignment order lens) inner (λ i m. some_numbers order lens i loops.as_many loops.some (among-permutation order inner i same ∙ m))
 
 within_inner : (order lens inner : List ℕ) (w : Window) (n : ℕ) → AreLoops order lens → IsPermutation order inner → AreWithin n (numbers_along order lens order) (place_along w order)
     → AreWithin n (numbers_along order lens inner) (place_along w inner)

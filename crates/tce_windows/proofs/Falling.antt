@@ -10,19 +10,22 @@ use Rattle.tce_space.specs.IndexSet.{has, members}
 use Rattle.tce_space.specs.Tiling.{ArePositive}
 use Rattle.tce_tree.specs.Value.{Assignment, with_number, assignment}
 use Rattle.tce_tree.specs.WellFormed.{among, is_distinct}
-use Rattle.tce_tree.proofs.Lists.{among_first, among_later, among_cases, among-all, all-among, among-filter, filter-among, among-range, distinct_first, distinct_later}
+use Rattle.tce_tree.proofs.Lists.{among_cases, among-all, all-among, filter-among, among-range, distinct_first, distinct_later}
 use Rattle.tce_tree.proofs.Values.{map-same}
+use Rattle.tce_tree.proofs.Assignments.{with-same, with-other, assignment-at}
+use Rattle.tce_tree.proofs.Permutations.{members_has}
 use Rattle.tce_block.specs.Last.{meets, last_of_part}
 use Rattle.tce_block.specs.Parts.{Part}
 use Rattle.tce_block.specs.Sums.{moved}
-use Rattle.tce_block.proofs.BoxSums.{with-same, with-other, assignment-absent}
+use Rattle.tce_block.proofs.BoxSums.{assignment-absent}
 use Rattle.tce_walk.specs.Parts.{last_on_place, falls_on}
 use Rattle.tce_code.specs.Execution.{Setting, coordinates}
 use Rattle.tce_walk.specs.TailLaws.{dims_at}
 use Rattle.tce_strides.specs.Results.{assigned}
+use Rattle.tce_strides.proofs.Lasts.{assigned_out}
 use Rattle.tce_windows.specs.Laws.{IsSequence, lens_along}
 use Rattle.tce_windows.specs.Turns.{IsTurn, turns_of, turn_at}
-use Rattle.tce_windows.proofs.Places.{assigned_back, among_inner, distinct_inner}
+use Rattle.tce_windows.proofs.Places.{among_inner, distinct_inner}
 use Rattle.tce_windows.proofs.Sums.{IsBelow}
 
 -- ---- the first turn
@@ -48,16 +51,6 @@ some_numbers (j ∷ order) (n ∷ lens) i l h m =
     ]
 
 -- ---- turns as numbers above the first turn's
-
--- the loops' coordinates as numbers of their indexes
-pub assigned_out : (a : Assignment) (indexes xs : List ℕ) (j : ℕ) → among indexes j ≡ false → assigned a indexes xs j ≡ a j
-assigned_out a [] xs j out = refl
-assigned_out a (i ∷ rest) [] j out = refl
-assigned_out a (i ∷ rest) (x ∷ xs) j out =
-    elim (cases_eq j i) [
-      | inl e ↦ absurd (false≢true (sym out ∙ ap (among (i ∷ rest)) e ∙ among_first i rest))
-      | inr ne ↦ assigned_out (with_number a i x) rest xs j (elim (cases_Bool (among rest j)) [ inl t ↦ absurd (false≢true (sym out ∙ among_later i rest j t)) | inr f ↦ f ]) ∙ with-other a i x j ne
-    ]
 
 pub assigned_in : (extent : ℕ → ℕ) (a : Assignment) (indexes xs : List ℕ) (j : ℕ) → is_distinct indexes ≡ true → IsInside (map extent indexes) xs → among indexes j ≡ true
     → assigned a indexes xs j ≡ assignment indexes xs j
@@ -162,13 +155,9 @@ member_of : (set i : ℕ) → i < 24 → has set i ≡ true → among (members s
 unfolding members
 member_of set i low h = filter-among (has set) (range_with_len 0 24) i h (among-range 0 24 i (omega arith) (omega arith))
 
-pub has_member : (set i : ℕ) → among (members set) i ≡ true → has set i ≡ true
-unfolding members
-has_member set i m = (among-filter (has set) (range_with_len 0 24) i m).0
-
 -- the numbers of a place are those of an assignment that falls on it
 pub place_numbers : (set : ℕ) (p : List ℕ) (b : Assignment) (i : ℕ) → i < 24 → has set i ≡ true → coordinates set b ≡ p → assignment (members set) p i ≡ b i
-place_numbers set p b i low h e = ap (λ q. assignment (members set) q i) (sym e) ∙ assigned_back (members set) b i (member_of set i low h)
+place_numbers set p b i low h e = ap (λ q. assignment (members set) q i) (sym e) ∙ assignment-at (members set) b i (member_of set i low h)
 
 meets_turn : (set : ℕ) (p : List ℕ) (order : List ℕ) (a : Assignment) (part : Part) (b : Assignment) → ((i : ℕ) → among order i ≡ true → i < 24) → IsTurn (turns_of order a part) b
     → coordinates set b ≡ p → meets (has set) (assignment (members set) p) order part ≡ true
@@ -192,7 +181,7 @@ last_same : (set : ℕ) (p : List ℕ) (order : List ℕ) (a : Assignment) (part
 last_same set p order a part b low h e =
     sym e ∙ map-same (members set) b (last_of_part (has set) (assignment (members set) p) order a part) (λ i m.
     elim (cases_Bool (among order i)) [
-      | inl t ↦ sym (last_fixed set (assignment (members set) p) order a part i t (has_member set i m) ∙ place_numbers set p b i (low i t) (has_member set i m) e)
+      | inl t ↦ sym (last_fixed set (assignment (members set) p) order a part i t (members_has set i m) ∙ place_numbers set p b i (low i t) (members_has set i m) e)
       | inr f ↦ h.others i f ∙ first_out order a part i f ∙ sym (last_out set (assignment (members set) p) order a part i f)
     ])
 

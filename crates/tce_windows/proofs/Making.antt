@@ -6,18 +6,21 @@ use Rattle.std.proofs.lemmas.Bool.{cases_Bool, eq-eqb, eqb-true, false≢true}
 use Rattle.std.proofs.lemmas.List.{get_or_past}
 use Rattle.std.proofs.lemmas.Slice.Eq.{bytes_eq-Decides}
 use Rattle.tce_base.specs.Word.{wrapping_add}
+use Rattle.tce_base.proofs.Words.{plus-zero}
 use Rattle.tce_space.specs.Box.{places, IsInside}
 use Rattle.tce_space.specs.IndexSet.{has, members}
 use Rattle.tce_space.specs.Tiling.{ArePositive}
 use Rattle.tce_tree.specs.Value.{Assignment, assignment, sum_over}
 use Rattle.tce_tree.specs.WellFormed.{among}
-use Rattle.tce_tree.proofs.Lists.{among_first, among_later, same_truth}
+use Rattle.tce_tree.proofs.Lists.{same_truth}
 use Rattle.tce_tree.proofs.Values.{map-same}
+use Rattle.tce_tree.proofs.Assignments.{all_positive}
+use Rattle.tce_tree.proofs.Sums.{sum_over_permuted}
+use Rattle.tce_tree.proofs.Permutations.{members_has}
 use Rattle.tce_block.specs.Last.{last_of_box}
 use Rattle.tce_block.specs.Parts.{Part}
 use Rattle.tce_block.specs.Sums.{moved}
-use Rattle.tce_block.proofs.BoxSums.{assignment-absent, sum_over_permuted}
-use Rattle.tce_block.proofs.Words.{plus-zero}
+use Rattle.tce_block.proofs.BoxSums.{assignment-absent}
 use Rattle.tce_walk.specs.Parts.{part_growth, last_on_place, falls_on}
 use Rattle.tce_code.specs.Execution.{Setting, State, coordinates}
 use Rattle.tce_walk.specs.TailLaws.{dims_at}
@@ -32,7 +35,7 @@ use Rattle.tce_windows.specs.Laws.{IsSequence, lens_along, OthersStay, ArePartTu
 use Rattle.tce_windows.specs.Turns.{IsTurn, turns_of, turn_at}
 use Rattle.tce_windows.specs.Windows.{stands_at}
 use Rattle.tce_windows.specs.declared.window.Window.{Window}
-use Rattle.tce_windows.proofs.Falling.{moved_assigned, moved_turn, assigned_in, first_in, some_numbers, last_free, last_out, falls_yes, falls_when, place_numbers, has_member}
+use Rattle.tce_windows.proofs.Falling.{moved_assigned, moved_turn, assigned_in, first_in, some_numbers, last_free, last_out, falls_yes, falls_when, place_numbers}
 use Rattle.tce_windows.proofs.Places.{coordinates_are_turns, among_inner, distinct_inner, place_is}
 use Rattle.tce_windows.proofs.Sums.{sum_over_same, sum_over-zero}
 
@@ -180,7 +183,7 @@ numbers_fall set order a part inner xs c s inside turn h = map-same (members set
     elim (cases_Bool (among order i)) [
       | inl q ↦
           let loop : among inner i ≡ true = among_inner turns' inner s i ∙ q in
-          let number : assigned a inner xs i ≡ c i - assignment order part.from i = h i loop (has_member set i m) in
+          let number : assigned a inner xs i ≡ c i - assignment order part.from i = h i loop (members_has set i m) in
           let first : turns'.first i ≡ assignment order part.from i = first_in order a part i q in
           let here : assigned a inner xs i ≡ assignment inner xs i = assigned_in turns'.count a inner xs i (distinct_inner turns' inner s) inside loop in
           let low : turns'.first i ≤ c i = (turn.loops i q).0 in
@@ -215,10 +218,6 @@ last_same s v order a part inner p q l some turn = fun_ext (λ i.
           ap (λ x. box x (has (dims_at s v) i)) out ∙ omega (arith, none, here)
     ])
 
-pub positive_along : (count : ℕ → ℕ) (inner : List ℕ) → ((i : ℕ) → among inner i ≡ true → 0 < count i) → ArePositive (map count inner)
-positive_along count [] h = tt
-positive_along count (i ∷ inner) h = (h i (among_first i inner), positive_along count inner (λ j m. h j (among_later i inner j m)))
-
 set_place : (s : Setting) (v : ℕ) (order : List ℕ) (a : Assignment) (part : Part) (inner : List ℕ) (out : Window) (view : List ℕ → State) (f : Assignment → ℕ) (word : List ℕ → ℕ) (old new : List ℕ)
     → ArePartTurns s v order a part inner out view (length old) → AreWordsOf f (turns_of order a part) inner word
     → IsMade (λ w xs. word xs) (place_along out inner) (places (lens_along (turns_of order a part) inner)) old new
@@ -242,7 +241,7 @@ set_place s v order a part inner out view f word old new h words made p e =
     ∙ ap f (last_same s v order a part inner p (sequence_of order a part inner h.loops h.same) h.loops.as_many h.loops.some found.1)
   where
     positive : ArePositive (map (assignment order part.len) inner)
-    positive = positive_along (assignment order part.len) inner (λ i m. some_numbers order part.len i h.loops.as_many h.loops.some (sym (among_inner (turns_of order a part) inner (sequence_of order a part inner h.loops h.same) i) ∙ m))
+    positive = all_positive (assignment order part.len) inner (λ i m. some_numbers order part.len i h.loops.as_many h.loops.some (sym (among_inner (turns_of order a part) inner (sequence_of order a part inner h.loops h.same) i) ∙ m))
 
     low : (i : ℕ) → among inner i ≡ true → last_on_place s v order a part p i - assignment order part.from i < assignment order part.len i
     low i m =

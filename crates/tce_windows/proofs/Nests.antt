@@ -10,7 +10,7 @@ use Rattle.std.proofs.lemmas.Option.{slice_get-get_or}
 use Rattle.tce_tree.specs.Value.{assignment}
 use Rattle.tce_tree.specs.WellFormed.{among, is_distinct}
 use Rattle.tce_tree.proofs.Lists.{among_first, among_later, distinct_first, distinct_later}
-use Rattle.tce_block.proofs.BoxSums.{with-same, with-other}
+use Rattle.tce_tree.proofs.Assignments.{with-same, with-other}
 use Rattle.tce_windows.specs.Loops.{AreLoops}
 use Rattle.tce_windows.specs.Nests.{IsNest, IsPlaced, ArePlaced, indexes_of, lens_of, with_len}
 use Rattle.tce_windows.specs.declared.nest.Axis.{Axis}

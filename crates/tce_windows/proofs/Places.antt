@@ -2,15 +2,16 @@
 use Rattle.std.proofs.Common.{◌≡◌, ℕ, zero, suc, ◌+◌, ◌-◌, ◌*◌, ◌<◌, ◌≤◌, true, List, [], ◌∷◌, map, slice_index, sum_by, refl, sym, ap, ap₂, ◌∙◌, inl, inr, arith, add_assoc}
 use mathlib.Core.Path.{fun_ext}
 use Rattle.std.specs.List.{range_with_len}
-use Rattle.std.proofs.lemmas.Bool.{cases_Bool, cases_eq, false≢true}
+use Rattle.std.proofs.lemmas.Bool.{cases_Bool, cases_eq}
 use Rattle.std.proofs.lemmas.List.Sums.{sum_by_push}
 use Rattle.tce_space.specs.Box.{IsInside}
-use Rattle.tce_space.proofs.VolumeLaws.{range_next}
+use Rattle.tce_space.proofs.Ranges.{range_next}
 use Rattle.tce_tree.specs.Value.{Assignment, with_number, assignment}
 use Rattle.tce_tree.specs.WellFormed.{among, is_distinct}
-use Rattle.tce_tree.proofs.Lists.{among_first, among_later, among_cases, distinct_first, distinct_later}
+use Rattle.tce_tree.proofs.Lists.{among_first, among_later, distinct_first, distinct_later}
 use Rattle.tce_tree.proofs.Permutations.{distinct-permutation, among-permutation}
-use Rattle.tce_block.proofs.BoxSums.{with-same, with-other, assignment-absent}
+use Rattle.tce_tree.proofs.Assignments.{with-same, with-other, assignment-at, assignment_inside, numbers_inside}
+use Rattle.tce_block.proofs.BoxSums.{assignment-absent}
 use Rattle.tce_layout.specs.Places.{steps_to}
 use Rattle.tce_strides.specs.Places.{offset}
 use Rattle.tce_windows.specs.Loops.{place_along}
@@ -68,38 +69,6 @@ steps_along_loops steps (i ∷ inner) (x ∷ xs) d low =
     one_more steps (assignment inner xs) i x 24 (assignment-absent inner xs i (distinct_first i inner d)) (low i (among_first i inner))
     ∙ ap (λ y. x * slice_index steps i + y) (steps_along_loops steps inner xs (distinct_later i inner d) (λ j m. low j (among_later i inner j m)))
 
--- ---- coordinates and the numbers that they assign
-
-pub assigned_inside : (count : ℕ → ℕ) (inner xs : List ℕ) (i : ℕ) → IsInside (map count inner) xs → among inner i ≡ true → assignment inner xs i < count i
-assigned_inside count [] xs i h m = absurd (false≢true m)
-assigned_inside count (j ∷ inner) [] i h m = absurd h
-assigned_inside count (j ∷ inner) (x ∷ xs) i h m =
-    elim (cases_eq i j) [
-      | inl q ↦
-          let first : x < count j = h.0 in
-          let here : assignment (j ∷ inner) (x ∷ xs) i ≡ x = ap (assignment (j ∷ inner) (x ∷ xs)) q ∙ with-same (assignment inner xs) j x in
-          omega (arith, first, here, ap count q)
-      | inr q ↦
-          let later : assignment inner xs i < count i = assigned_inside count inner xs i h.1 (other_later j inner i q m) in
-          omega (arith, later, with-other (assignment inner xs) j x i q)
-    ]
-  where
-    other_later : (j : ℕ) (inner : List ℕ) (i : ℕ) → (i ≡ j → ⊥) → among (j ∷ inner) i ≡ true → among inner i ≡ true
-    other_later j inner i q m = elim (among_cases j inner i m) [ inl e ↦ absurd (q (sym e)) | inr t ↦ t ]
-
-pub assigned_back : (inner : List ℕ) (b : Assignment) (i : ℕ) → among inner i ≡ true → assignment inner (map b inner) i ≡ b i
-assigned_back [] b i m = absurd (false≢true m)
-assigned_back (j ∷ inner) b i m =
-    elim (cases_eq i j) [
-      | inl q ↦ ap (assignment (j ∷ inner) (map b (j ∷ inner))) q ∙ with-same (assignment inner (map b inner)) j (b j) ∙ ap b (sym q)
-      | inr q ↦ with-other (assignment inner (map b inner)) j (b j) i q
-          ∙ assigned_back inner b i (elim (among_cases j inner i m) [ inl e ↦ absurd (q (sym e)) | inr t ↦ t ])
-    ]
-
-numbers_inside : (count : ℕ → ℕ) (b : Assignment) (inner : List ℕ) → ((i : ℕ) → among inner i ≡ true → b i < count i) → IsInside (map count inner) (map b inner)
-numbers_inside count b [] h = tt
-numbers_inside count b (i ∷ inner) h = (h i (among_first i inner), numbers_inside count b inner (λ j m. h j (among_later i inner j m)))
-
 -- ---- turns
 
 pub among_inner : (t : Turns) (inner : List ℕ) → IsSequence t inner → (i : ℕ) → among inner i ≡ among t.order i
@@ -114,7 +83,7 @@ below_inner t inner s i m = s.below i (sym (among_inner t inner s i) ∙ m)
 is_turn : (t : Turns) (inner xs : List ℕ) → IsSequence t inner → IsInside (lens_along t inner) xs → IsTurn t (turn_at t inner xs)
 is_turn t inner xs s h = record {
   loops = λ i m.
-      let low : assignment inner xs i < t.count i = assigned_inside t.count inner xs i h (among_inner t inner s i ∙ m) in
+      let low : assignment inner xs i < t.count i = assignment_inside t.count inner xs i h (among_inner t inner s i ∙ m) in
       (omega arith, omega arith);
   others = λ i m.
       let none : assignment inner xs i ≡ 0 = assignment-absent inner xs i (among_inner t inner s i ∙ m) in
@@ -134,7 +103,7 @@ turn_back : (t : Turns) (inner : List ℕ) (b : Assignment) → IsSequence t inn
 turn_back t inner b s h = fun_ext (λ i.
     elim (cases_Bool (among t.order i)) [
       | inl m ↦
-          let back : assignment inner (map (λ j. b j - t.first j) inner) i ≡ b i - t.first i = assigned_back inner (λ j. b j - t.first j) i (among_inner t inner s i ∙ m) in
+          let back : assignment inner (map (λ j. b j - t.first j) inner) i ≡ b i - t.first i = assignment-at inner (λ j. b j - t.first j) i (among_inner t inner s i ∙ m) in
           let low : t.first i ≤ b i = (h.loops i m).0 in
           omega (arith, back, low)
       | inr m ↦

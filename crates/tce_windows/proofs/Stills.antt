@@ -5,7 +5,7 @@ use Rattle.std.proofs.lemmas.Bool.{cases_Bool}
 use Rattle.std.proofs.lemmas.List.Sums.{fold-append}
 use Rattle.tce_space.specs.Box.{places, IsInside}
 use Rattle.tce_space.specs.Tiling.{ArePositive}
-use Rattle.tce_space.proofs.Boxes.{length_inside}
+use Rattle.tce_space.proofs.Boxes.{length_inside, inside_joined}
 use Rattle.tce_strides.specs.Places.{offset, word_place, AreWithin, AreApart}
 use Rattle.tce_strides.specs.Turns.{IsMade, operate, computed}
 use Rattle.tce_space.specs.declared.arithmetic.Arithmetic.{Arithmetic}
@@ -86,12 +86,6 @@ offset-append (s ∷ ss) ts [] ys l = absurd (omega arith)
 offset-append (s ∷ ss) ts (x ∷ xs) ys l =
     ap (λ n. x * s + n) (offset-append ss ts xs ys (omega arith)) ∙ sym (add_assoc (x * s) (offset ss xs) (offset ts ys))
 
-inside-append : (ns ms xs ys : List ℕ) → IsInside ns xs → IsInside ms ys → IsInside (ns ++ ms) (xs ++ ys)
-inside-append [] ms [] ys h k = k
-inside-append [] ms (x ∷ xs) ys h k = absurd h
-inside-append (n ∷ ns) ms [] ys h k = absurd h
-inside-append (n ∷ ns) ms (x ∷ xs) ys h k = (h.0, inside-append ns ms xs ys h.1 k)
-
 lasts_inside : (ms : List ℕ) → ArePositive ms → IsInside ms (lasts ms)
 lasts_inside [] some = tt
 lasts_inside (m ∷ ms) some = (let low : 0 < m = some.0 in omega arith, lasts_inside ms some.1)
@@ -104,12 +98,12 @@ place_split f ns ss ts xs ys l inside =
 
 pub within_split : (n f : ℕ) (ns ms ss ts : List ℕ) → length ss ≡ length ns → ArePositive ms → AreWithin n (ns ++ ms) (word_place f (ss ++ ts)) → AreWithin n ns (word_place (f + offset ts (lasts ms)) ss)
 within_split n f ns ms ss ts l some h = λ xs inside.
-    subst (λ k. k < n) (place_split f ns ss ts xs (lasts ms) l inside) (h (xs ++ lasts ms) (inside-append ns ms xs (lasts ms) inside (lasts_inside ms some)))
+    subst (λ k. k < n) (place_split f ns ss ts xs (lasts ms) l inside) (h (xs ++ lasts ms) (inside_joined ns ms xs (lasts ms) inside (lasts_inside ms some)))
 
 pub apart_split : (f g : ℕ) (ns ms ss ts us vs : List ℕ) → length ss ≡ length ns → length us ≡ length ns → ArePositive ms → AreApart (ns ++ ms) (word_place f (ss ++ ts)) (word_place g (us ++ vs))
     → AreApart ns (word_place (f + offset ts (lasts ms)) ss) (word_place (g + offset vs (lasts ms)) us)
 apart_split f g ns ms ss ts us vs l m some h = λ xs ys here there e.
-    h (xs ++ lasts ms) (ys ++ lasts ms) (inside-append ns ms xs (lasts ms) here (lasts_inside ms some)) (inside-append ns ms ys (lasts ms) there (lasts_inside ms some))
+    h (xs ++ lasts ms) (ys ++ lasts ms) (inside_joined ns ms xs (lasts ms) here (lasts_inside ms some)) (inside_joined ns ms ys (lasts ms) there (lasts_inside ms some))
     (place_split f ns ss ts xs (lasts ms) l here ∙ e ∙ sym (place_split g ns us vs ys (lasts ms) m there))
 
 -- how far the last numbers lead

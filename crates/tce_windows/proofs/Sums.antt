@@ -5,8 +5,8 @@ use Rattle.tce_tree.specs.Value.{Assignment, with_number, sum_over}
 use Rattle.tce_tree.specs.WellFormed.{among}
 use Rattle.tce_tree.proofs.Lists.{among_first, among_later, among_cases}
 use Rattle.tce_tree.proofs.Values.{sum_below-same}
-use Rattle.tce_block.proofs.BoxSums.{with-same, with-other}
-use Rattle.tce_block.proofs.Words.{sum_below-zero}
+use Rattle.tce_tree.proofs.Assignments.{with-same, with-other}
+use Rattle.tce_tree.proofs.Sums.{sum_below-zero}
 
 -- the numbers of the loops are below their extents, and all others are those of `a`
 pub record IsBelow (extent : ℕ → ℕ) (is : List ℕ) (a b : Assignment) : Type 0 where

@@ -7,4 +7,3 @@ pub mod RowPlaces
 pub mod RowSteps
 pub mod RunSteps
 pub mod ThreeParts
-pub mod WordSteps

@@ -1,10 +1,11 @@
 -- Four rows that are added one after the other.
 use Rattle.std.proofs.Common.{◌≡◌, ℕ, ◌+◌, ◌*◌, ◌<◌, ◌≤◌, List, ◌++◌, length, slice_index, slice_range, take, drop, map, refl, sym, ◌∙◌, ap, ap₂, subst, arith}
 use Rattle.std.proofs.lemmas.List.{length-take-le, get_or-append_right, get_or_append_left, length-map, get_or-map, ext_get_or}
-use Rattle.std.proofs.lemmas.Simd.{length-zip2, get_or-zip2}
+use Rattle.std.proofs.lemmas.Simd.{get_or-zip2}
 use Rattle.std.specs.Simd.Lanes.{zip2}
 use Rattle.tce_base.specs.Word.{wrapping_add, wrapping_mul}
 use Rattle.tce_kernel.specs.Scaled.{with_scaled, with_four}
+use Rattle.tce_kernel.proofs.Scaled.{length-with_scaled}
 use Rattle.tce_words.specs.Rows.{IsRowAdded, AreFourRowsAdded, row_of}
 use Rattle.tce_words.specs.Run.{IsWithin, AreApart, IsRun, with_part}
 use Rattle.tce_words.proofs.RunSteps.{run_of_part, get_or-slice_range, part_within, length-part, mapped_values, run_added, steady_left, part_replaced}
@@ -22,10 +23,6 @@ middle_is words front target back out n whole before long room =
 
 pub same_four : (words also factors a b c d e g h i : List ℕ) → words ≡ also → a ≡ e → b ≡ g → c ≡ h → d ≡ i → with_four words factors a b c d ≡ with_four also factors e g h i
 same_four words also factors a b c d e g h i p q r s t = rw (p, q, r, s, t) refl
-
-length-with_scaled : (words row : List ℕ) (factor n : ℕ) → length words ≡ n → length row ≡ n → length (with_scaled words factor row) ≡ n
-length-with_scaled words row factor n long same =
-    length-zip2 wrapping_add words (map (wrapping_mul factor) row) (long ∙ sym (length-map row (wrapping_mul factor) ∙ same)) ∙ long
 
 first_row_added : (out factor row n : ℕ) (old : List ℕ) → 0 < n → IsWithin (length old) out 1 n → IsWithin (length old) row 1 n
     → IsRowAdded out factor row n old (with_part old out (with_scaled (slice_range old out (out + n)) (slice_index old factor) (row_of old row n)))

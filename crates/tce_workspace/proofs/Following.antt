@@ -18,7 +18,7 @@ told_between before None fs tells told = absurd (false≢true (tells ∙ ap is_s
 told_between before (Some gs) fs tells told = (gs, refl)
 
 -- what is kept has these parts
-named : (x y : Workspace) → IsKept x y → y ≡ touched_to x y.words y.cache.held y.cache.touches y.files
+pub named : (x y : Workspace) → IsKept x y → y ≡ touched_to x y.words y.cache.held y.cache.touches y.files
 named x y k =
     ap (λ c. record y { cache = c }) k.cache
     ∙ ap (λ p. record y { cache = with_held x.cache y.cache.held y.cache.touches; places = p }) k.places

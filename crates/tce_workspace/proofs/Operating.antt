@@ -18,14 +18,14 @@ use Rattle.tce_tree.specs.declared.node.Kind.{Kind}
 use Rattle.tce_tree.specs.declared.node.Operand.TheVariants.{Node}
 use Rattle.tce_tree.proofs.Lists.{among-all}
 use Rattle.tce_tree.proofs.NamedIndexes.{has-set_of_list, indexes_below-node}
-use Rattle.tce_tree.proofs.Nodes.{size_bounds, node-left, node-right_at, node-operand, node-root, part, in_left, in_right, at_root}
+use Rattle.tce_tree.proofs.Nodes.{size_bounds, node-left, node-right_at, node-operand, node-root, part, in_left, in_right, at_root, node-positive}
 use Rattle.tce_tree.proofs.Operands.{parents_have_operands, left_is_before, right_is_before}
 use Rattle.tce_tree.proofs.Parents.{parent_is, dims_within_parent, dims_within_loops}
+use Rattle.tce_tree.proofs.Assignments.{numbers_inside}
 use Rattle.tce_code.specs.Execution.{Setting, State, coordinates, with_word, operand_word, left_word, right_word, exec}
 use Rattle.tce_code.specs.Generation.{computing}
 use Rattle.tce_code.proofs.Emitted.{node-not_leaf}
 use Rattle.tce_operands.specs.NodeStates.{Places}
-use Rattle.tce_operands.proofs.Slots.{numbers_inside}
 use Rattle.tce_cache.specs.Cache.{IsCache}
 use Rattle.tce_walk.specs.Machine.{operation_of_node, IsNodeAt}
 use Rattle.tce_workspace.specs.Workspace.{Workspace, setting_in, state_in}
@@ -90,7 +90,7 @@ operands_at x (sum is e) v inside h =
 
 -- ---- places of nodes
 
-kept_in_dims : (tree : ContractionTree) (fusion : List ℕ) (v i : ℕ) → has (kept_dims tree fusion v) i ≡ true → has (dims (node tree v)) i ≡ true
+pub kept_in_dims : (tree : ContractionTree) (fusion : List ℕ) (v i : ℕ) → has (kept_dims tree fusion v) i ≡ true → has (dims (node tree v)) i ≡ true
 unfolding kept_dims node_dims
 kept_in_dims tree fusion v i h = (and_parts (has (dims (node tree v)) i) (not (has (fused_at fusion v) i)) (sym (has-minus (dims (node tree v)) (fused_at fusion v) i) ∙ h)).0
 
@@ -138,20 +138,14 @@ named_word s first u (binary op l r) state a h =
 named_word s first u (sum is e) state a h =
     let same : u ≡ first + operations e = omega (arith, h refl) in ap (λ n. word_of_node s n state a) same
 
-some_nodes : (c : ContractionTree) → is_leaf c ≡ false → 0 < operations c
-some_nodes (leaf t is) h = absurd (true≢false h)
-some_nodes (constant n) h = absurd (true≢false h)
-some_nodes (binary op l r) h = omega arith
-some_nodes (sum is e) h = omega arith
-
 left_named : (s : Setting) (v : ℕ) (n : ContractionTree) (state : State) (a : Assignment) → is_leaf n ≡ false → operations n ≤ v + 1
     → operand_word s (left_tree n) (v - 1 - operations (right_tree n)) state a ≡ word_of_operand s (left_operand (v + 1 - operations n) n) state a
 left_named s v (leaf t is) state a inner le = absurd (true≢false inner)
 left_named s v (constant n) state a inner le = absurd (true≢false inner)
 left_named s v (binary op l r) state a inner le =
-    named_word s (v + 1 - (operations l + operations r + 1)) (v - 1 - operations r) l state a (λ h. omega (arith, le, some_nodes l h))
+    named_word s (v + 1 - (operations l + operations r + 1)) (v - 1 - operations r) l state a (λ h. omega (arith, le, node-positive l h))
 left_named s v (sum is e) state a inner le =
-    named_word s (v + 1 - (operations e + 1)) (v - 1 - 0) e state a (λ h. omega (arith, le, some_nodes e h))
+    named_word s (v + 1 - (operations e + 1)) (v - 1 - 0) e state a (λ h. omega (arith, le, node-positive e h))
 
 pub left_word_is : (s : Setting) (v : ℕ) (state : State) (a : Assignment) → v < operations s.tree → left_word s v state a ≡ word_of_operand s (left_of s.tree v) state a
 unfolding left_of first_number_of
@@ -162,7 +156,7 @@ right_named : (s : Setting) (v : ℕ) (n : ContractionTree) (op : Arithmetic) (l
 right_named s v n op l r state a e le =
     subst (λ n. operand_word s (right_tree n) (v - 1) state a ≡ second_word s v (right_operand (v + 1 - operations n) n) state a) (sym e)
     (named_word s (v + 1 - (operations l + operations r + 1) + operations l) (v - 1) r state a
-    (λ h. let le' : operations l + operations r + 1 ≤ v + 1 = subst (λ n. operations n ≤ v + 1) e le in omega (arith, le', some_nodes r h)))
+    (λ h. let le' : operations l + operations r + 1 ≤ v + 1 = subst (λ n. operations n ≤ v + 1) e le in omega (arith, le', node-positive r h)))
 
 pub right_word_is : (s : Setting) (v : ℕ) (op : Arithmetic) (l r : ContractionTree) (state : State) (a : Assignment) → v < operations s.tree → node s.tree v ≡ binary op l r
     → right_word s v state a ≡ second_word s v (right_of s.tree v) state a

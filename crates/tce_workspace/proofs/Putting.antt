@@ -44,7 +44,7 @@ use Rattle.tce_workspace.proofs.Touched.{tile_fits, frame_inside}
 -- ---- words before the frames
 
 -- the words from the frames on decide what the current words are
-current_stays : (c : CacheState) (files : Files) (old new : List ℕ) → ((p : ℕ) → c.at ≤ p → slice_index new p ≡ slice_index old p)
+pub current_stays : (c : CacheState) (files : Files) (old new : List ℕ) → ((p : ℕ) → c.at ≤ p → slice_index new p ≡ slice_index old p)
     → (array tile k : ℕ) → current_word c files new array tile k ≡ current_word c files old array tile k
 current_stays c files old new same array tile k = by_look_up (look_up c.held array tile)
   where

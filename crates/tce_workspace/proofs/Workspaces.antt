@@ -1,22 +1,22 @@
 -- What touches leave of a workspace.
-use Rattle.std.proofs.Common.{◌≡◌, ℕ, ◌+◌, ◌<◌, Bool, true, false, if◌then◌else◌, List, [], length, slice_get, Option, Some, None, is_some, unwrap_or, refl, sym, ap, ◌∙◌, subst, arith}
+use Rattle.std.proofs.Common.{◌≡◌, ℕ, ◌+◌, ◌<◌, Bool, true, false, if◌then◌else◌, List, [], slice_get, Option, Some, None, is_some, unwrap_or, refl, sym, ap, ◌∙◌, subst, arith}
 use mathlib.Core.Path.{fun_ext}
 use Rattle.std.specs.Option.{IsSomeAnd, option_map}
 use Rattle.std.proofs.lemmas.Bool.{true≢false}
 use Rattle.tce_outside.specs.Files.{Files, file}
-use Rattle.tce_space.specs.Tiling.{Tiling, tile_words, word_number}
-use Rattle.tce_array.specs.Forms.{form_len, word_at}
+use Rattle.tce_space.specs.Tiling.{word_number}
+use Rattle.tce_array.specs.Forms.{word_at}
 use Rattle.tce_frames.specs.Held.{Held}
 use Rattle.tce_cache.specs.declared.array.ArrayRef.{ArrayRef}
-use Rattle.tce_cache.specs.Cache.{State as CacheState, IsCache, IsReady, IsArrayAt, AreArrays, IsSameOutsideFrames, OnlyWritableDiffers, words_of_tile}
+use Rattle.tce_cache.specs.Cache.{State as CacheState, IsCache, IsReady, IsArrayAt, AreArrays, IsSameOutsideFrames, OnlyWritableDiffers}
 use Rattle.tce_array.specs.Files.{AreBytes}
 use Rattle.tce_cache.specs.Transfer.{HasFile, contents}
 use Rattle.tce_cache.specs.Touch.{KeepsArrays, front, with_held}
+use Rattle.tce_cache.proofs.Steps.{front_has}
 use Rattle.tce_code.specs.Execution.{Setting}
 use Rattle.tce_tree.specs.ContractionTree.{ContractionTree, leaf, constant, binary, sum}
 use Rattle.tce_operands.specs.NodeStates.{IsResult, state_of, current_cell}
-use Rattle.tce_operands.specs.Laws.{HasShape}
-use Rattle.tce_operands.proofs.States.{touches_keep_states}
+use Rattle.tce_operands.proofs.States.{touches_keep_states, words_are}
 use Rattle.tce_workspace.specs.Workspace.{Workspace, filed_element, element_of, setting_in, state_in, result_shape}
 use Rattle.tce_workspace.specs.Prepared.{IsStored, HasOperands, IsPrepared}
 use Rattle.tce_workspace.specs.Steps.{IsKept, IsContinued, IsRead}
@@ -78,15 +78,6 @@ touch_keeps x words held touches files outside only = record {
   files = only;
 }
 
--- a file that keeps its length and head is that of the array
-file_kept : (a : ArrayRef) (before after : Option (List ℕ)) → option_map (front a) after ≡ option_map (front a) before → IsSomeAnd before (λ bytes. length bytes ≡ form_len a.form a.shape)
-    → IsSomeAnd after (λ bytes. length bytes ≡ form_len a.form a.shape)
-file_kept a None after same h = absurd h
-file_kept a (Some bytes) None same h = absurd (cc)
-file_kept a (Some bytes) (Some now) same h =
-    let both : front a now ≡ front a bytes = cc in
-    ap (λ p. p.0) both ∙ h
-
 stays_stored : (x : Workspace) (words : List ℕ) (held : List Held) (touches : ℕ) (files : Option Files) → is_some files ≡ is_some x.files
     → KeepsArrays x.cache (with_held x.cache held touches) x.files files x.words words
     → (tensor : ℕ) (indexes : List ℕ) → IsStored x tensor indexes → IsStored (touched_to x words held touches files) tensor indexes
@@ -99,7 +90,7 @@ stays_stored x words held touches files tells same tensor indexes is = record {
         → ((i : ℕ) (a : ArrayRef) → slice_get x.cache.arrays i ≡ Some a → option_map (front a) (file gs a.file.bytes) ≡ option_map (front a) (file fs a.file.bytes))
         → IsSomeAnd o (λ a. HasFile a fs) → IsSomeAnd o (λ a. HasFile a gs)
     by_array fs gs None at fronts h = absurd h
-    by_array fs gs (Some a) at fronts h = file_kept a (file fs a.file.bytes) (file gs a.file.bytes) (fronts tensor a at) h
+    by_array fs gs (Some a) at fronts h = front_has a (file fs a.file.bytes) (file gs a.file.bytes) (fronts tensor a at) h
 
     by_files : (o : Option Files) → x.files ≡ o → (gs : Files) → files ≡ Some gs → IsArrayAt x.cache.arrays tensor (λ a. HasFile a gs)
     by_files None told gs now = absurd (true≢false (sym (ap is_some now) ∙ tells ∙ ap is_some told))
@@ -163,13 +154,6 @@ touch_state x words held touches files is same outside tells = by_files x.files 
     by_files (Some fs) (Some gs) told now t =
         ap (λ s. Some s) (touches_keep_states x.places x.cache held touches fs gs x.words words x.tensor (result_shape x)
         is.laid (is_result x is) is.tiling is.before is.result.array (same fs told gs now) outside)
-
-words_are : (c : CacheState) (array : ℕ) (shape : Tiling) → HasShape c array shape → words_of_tile (slice_get c.arrays array) ≡ tile_words shape
-words_are c array shape h = by_array (slice_get c.arrays array) h
-  where
-    by_array : (o : Option ArrayRef) → IsSomeAnd o (λ a. a.shape ≡ shape) → words_of_tile o ≡ tile_words shape
-    by_array None h = absurd h
-    by_array (Some a) h = ap tile_words h
 
 touch_continues : (x : Workspace) (words : List ℕ) (held : List Held) (touches : ℕ) (files : Option Files) → IsPrepared x
     → KeepsArrays x.cache (with_held x.cache held touches) x.files files x.words words → IsContinued x (touched_to x words held touches files)

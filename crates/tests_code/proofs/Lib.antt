@@ -1,4 +1,3 @@
-mod WorkedBlock
 mod WorkedBlockwise
 mod WorkedCode
 mod WorkedCovers

@@ -1,8 +1,9 @@
 use Rattle.std.proofs.Common.{◌∙◌, Ok, Err, refl, sym, inr}
 use Rattle.std.proofs.lemmas.Bool.{false≢true}
 use Rattle.tce_outside.specs.Files.{file}
+use Rattle.tce_outside.proofs.Causes.{no_cause, failed_after}
 use Rattle.tce_array.specs.declared.fault.ArrayFault.TheVariants.{NoFile, BadLength, BadHeader}
-use Rattle.tce_array.proofs.Answered.{rose_here, stayed, form_is_no_disk_fault, no_file_is_no_disk_fault, length_is_no_disk_fault, header_is_no_disk_fault, is_absent, is_as_long, has_wrong_length, has_head_part, has_wrong_head, is_array}
+use Rattle.tce_array.proofs.Answered.{form_is_no_disk_fault, no_file_is_no_disk_fault, length_is_no_disk_fault, header_is_no_disk_fault, is_absent, is_as_long, has_wrong_length, has_head_part, has_wrong_head, is_array}
 use Rattle.tce_array.proofs.OneAnswer.{only_answer}
 use Rattle.tce_array.proofs.opening.open.Goals as goal
 
@@ -20,7 +21,7 @@ returns-in_default-clause-same g c = c.size.ensures.same
 
 pub returns-in_default-clause-cause : goal.returns-in_default-clause-cause
 returns-in_default-clause-cause g c =
-    rose_here (g.D.Disk.faults c.args.disk.now) (g.D.Disk.faults c.args.disk.now) (g.D.Disk.faults c.size.new.self) _
+    failed_after (g.D.Disk.faults c.args.disk.now) (g.D.Disk.faults c.args.disk.now) (g.D.Disk.faults c.size.new.self)
     refl
     c.in_default.ensures.cause
 
@@ -44,7 +45,7 @@ returns-in_default-size-clause-same g c = c.size.ensures.same
 
 pub returns-in_default-size-clause-cause : goal.returns-in_default-size-clause-cause
 returns-in_default-size-clause-cause g c =
-    stayed (g.D.Disk.faults c.args.disk.now) (g.D.Disk.faults c.size.new.self) _
+    no_cause (g.D.Disk.faults c.args.disk.now) (g.D.Disk.faults c.size.new.self)
     (c.in-Ok.ensures.told false≢true)
     no_file_is_no_disk_fault
 
@@ -70,7 +71,7 @@ returns-in_default-find_form-clause-same g c = c.find_form.ensures.same ∙ c.si
 
 pub returns-in_default-find_form-clause-cause : goal.returns-in_default-find_form-clause-cause
 returns-in_default-find_form-clause-cause g c =
-    rose_here (g.D.Disk.faults c.args.disk.now) (g.D.Disk.faults c.size.new.self) (g.D.Disk.faults c.find_form.new.disk) _
+    failed_after (g.D.Disk.faults c.args.disk.now) (g.D.Disk.faults c.size.new.self) (g.D.Disk.faults c.find_form.new.disk)
     (c.in-Ok.ensures.told false≢true)
     c.in_default-find_form.ensures.cause
 
@@ -98,7 +99,7 @@ returns-then-len-form_len-clause-same g c = c.find_form.ensures.same ∙ c.size.
 
 pub returns-then-len-form_len-clause-cause : goal.returns-then-len-form_len-clause-cause
 returns-then-len-form_len-clause-cause g c =
-    stayed (g.D.Disk.faults c.args.disk.now) (g.D.Disk.faults c.find_form.new.disk) _
+    no_cause (g.D.Disk.faults c.args.disk.now) (g.D.Disk.faults c.find_form.new.disk)
     (c.in-Ok-find_form.ensures.told false≢true ∙ c.in-Ok.ensures.told false≢true)
     (length_is_no_disk_fault c.in-Some.len)
 
@@ -131,7 +132,7 @@ returns-in_default-read_at-clause-same g c = c.read_at.ensures.same ∙ c.find_f
 
 pub returns-in_default-read_at-clause-cause : goal.returns-in_default-read_at-clause-cause
 returns-in_default-read_at-clause-cause g c =
-    rose_here (g.D.Disk.faults c.args.disk.now) (g.D.Disk.faults c.find_form.new.disk) (g.D.Disk.faults c.read_at.new.self) _
+    failed_after (g.D.Disk.faults c.args.disk.now) (g.D.Disk.faults c.find_form.new.disk) (g.D.Disk.faults c.read_at.new.self)
     (c.in-Ok-find_form.ensures.told false≢true ∙ c.in-Ok.ensures.told false≢true)
     c.in_default-read_at.ensures.cause
 
@@ -165,7 +166,7 @@ returns-in-Some-first_difference-clause-same g c = c.read_at.ensures.same ∙ c.
 
 pub returns-in-Some-first_difference-clause-cause : goal.returns-in-Some-first_difference-clause-cause
 returns-in-Some-first_difference-clause-cause g c =
-    stayed (g.D.Disk.faults c.args.disk.now) (g.D.Disk.faults c.read_at.new.self) _
+    no_cause (g.D.Disk.faults c.args.disk.now) (g.D.Disk.faults c.read_at.new.self)
     (c.in-Ok-read_at.ensures.told false≢true ∙ c.in-Ok-find_form.ensures.told false≢true ∙ c.in-Ok.ensures.told false≢true)
     (header_is_no_disk_fault c.in-Some-first_difference.place)
 
@@ -199,7 +200,7 @@ returns-in-None-clause-same g c = c.read_at.ensures.same ∙ c.find_form.ensures
 
 pub returns-in-None-clause-cause : goal.returns-in-None-clause-cause
 returns-in-None-clause-cause g c =
-    stayed (g.D.Disk.faults c.args.disk.now) (g.D.Disk.faults c.read_at.new.self) _
+    no_cause (g.D.Disk.faults c.args.disk.now) (g.D.Disk.faults c.read_at.new.self)
     (c.in-Ok-read_at.ensures.told false≢true ∙ c.in-Ok-find_form.ensures.told false≢true ∙ c.in-Ok.ensures.told false≢true)
     (form_is_no_disk_fault c.in-Ok-find_form.form)
 

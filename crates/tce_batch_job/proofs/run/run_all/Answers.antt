@@ -2,6 +2,7 @@ use Rattle.std.proofs.Common.{inl, inr, ℕ, ◌+◌, ◌++◌, List, length, re
 use Rattle.std.specs.Option.{option_map}
 use Rattle.std.proofs.lemmas.List.{take_all}
 use Rattle.std.proofs.lemmas.Option.{slice_get_read}
+use Rattle.tce_outside.proofs.Causes.{cause_as, no_cause, answered_quiet, cause_after}
 use Rattle.tce_spec.specs.Specification.{Specification}
 use Rattle.tce_job.specs.Several.{files_after}
 use Rattle.tce_batch_job.specs.Reports.{HasRun, section_of}
@@ -10,7 +11,7 @@ use Rattle.tce_batch_job.proofs.Kept.{kept_place}
 use Rattle.tce_batch_job.proofs.Files.{none_after, told_more}
 use Rattle.tce_batch_job.proofs.Reports.{none_taken, none_run, run_taken, taken_more, run_more}
 use Rattle.tce_batch_job.proofs.Ended.{has_failed, failed_cause, failed_left, failed_takings}
-use Rattle.tce_batch_job.proofs.Counted.{cause_after, no_cause_after, none_counted, fault_of, fault_is, answered_quiet}
+use Rattle.tce_batch_job.proofs.Counted.{fault_of, fault_is}
 use Rattle.tce_batch_job.proofs.run.run_all.Goals as goal
 
 pub loop-number-init : goal.loop-number-init
@@ -146,19 +147,19 @@ loop-number-preserved g c =
     }
 
 pub returns-in_default-push_section-clause-cause : goal.returns-in_default-push_section-clause-cause
-returns-in_default-push_section-clause-cause g c = no_cause_after _ _ _ c.loop-number.invariant.counted (λ failed. absurd (cc)) c.in-Ok-run_formula.ensures.cause
+returns-in_default-push_section-clause-cause g c = cause_after _ _ _ c.loop-number.invariant.counted (cause_as _ _ (λ failed. absurd (cc)) c.in-Ok-run_formula.ensures.cause)
 
 pub returns-in_default-push_section-clause-quiet : goal.returns-in_default-push_section-clause-quiet
 returns-in_default-push_section-clause-quiet g c = λ none. answered_quiet _ _ c.in-Ok-run_formula.report _ refl c.in-Ok-run_formula.ensures.quiet ∙ c.loop-number.invariant.counted
 
 pub returns-in-Err-clause-cause : goal.returns-in-Err-clause-cause
-returns-in-Err-clause-cause g c = cause_after _ _ _ c.loop-number.invariant.counted (fault_of c.in-Err.fault _ refl) c.in-Err.ensures.cause
+returns-in-Err-clause-cause g c = cause_after _ _ _ c.loop-number.invariant.counted (cause_as _ _ (fault_of c.in-Err.fault _ refl) c.in-Err.ensures.cause)
 
 pub returns-in-Err-clause-quiet : goal.returns-in-Err-clause-quiet
 returns-in-Err-clause-quiet g c = λ none. c.in-Err.ensures.quiet (λ failed. none (fault_is c.in-Err.fault _ refl failed)) ∙ c.loop-number.invariant.counted
 
 pub returns-clause-cause : goal.returns-clause-cause
-returns-clause-cause g c = none_counted _ _ c.loop-number.invariant.counted (λ failed. failed)
+returns-clause-cause g c = no_cause _ _ c.loop-number.invariant.counted (λ failed. failed)
 
 pub returns-clause-quiet : goal.returns-clause-quiet
 returns-clause-quiet g c = λ none. c.loop-number.invariant.counted

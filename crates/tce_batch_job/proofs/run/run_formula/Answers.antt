@@ -1,17 +1,18 @@
 use Rattle.std.proofs.Common.{◌≡◌}
 use Rattle.std.specs.Option.{option_map}
+use Rattle.std.proofs.lemmas.Result.{on_ok_weaker}
 use Rattle.tce_spec.specs.Specification.{Specification}
 use Rattle.tce_tensors.specs.ResultBytes.{with_result}
 use Rattle.tce_tensors.specs.Laws.{LeavesNoHalfResult}
 use Rattle.tce_job.specs.Refusals.{IsCause, MayBeRefused}
 use Rattle.tce_job.specs.Run.{IsReported}
 use Rattle.tce_job.specs.Prepared.{IsRoomLeft}
-use Rattle.tce_batch_job.proofs.Afforded.{on_ok, if_ok, if_err, at_place}
+use Rattle.tce_batch_job.proofs.Afforded.{if_ok, if_err, at_place}
 use Rattle.tce_batch_job.proofs.run.run_formula.Goals as goal
 
 pub returns-clause-told : goal.returns-clause-told
 returns-clause-told g c =
-    on_ok c.run_kept-ran.result (λ told s at. at_place (λ (x : Specification). g.D.Disk.files c.run_kept-ran.new.disk ≡ option_map (with_result x) (g.D.Disk.files c.args.disk.now)) c.in-Ok.spec s _ c.in-Ok.ensures told at) c.run_kept-ran.ensures.told
+    on_ok_weaker c.run_kept-ran.result (λ told s at. at_place (λ (x : Specification). g.D.Disk.files c.run_kept-ran.new.disk ≡ option_map (with_result x) (g.D.Disk.files c.args.disk.now)) c.in-Ok.spec s _ c.in-Ok.ensures told at) c.run_kept-ran.ensures.told
 
 pub returns-clause-reported : goal.returns-clause-reported
 returns-clause-reported g c =

@@ -1,13 +1,14 @@
 use Rattle.std.proofs.Common.{Option, refl, subst, inr, ap, ◌∙◌}
 use Rattle.std.specs.Prelude.{OnOk}
 use Rattle.tce_outside.specs.Files.{Files, others}
+use Rattle.tce_outside.proofs.Causes.{cause_as, answered_quiet, cause_since}
 use Rattle.tce_tensors.specs.TensorFiles.{file_of}
 use Rattle.tce_tensors.specs.Laws.{LeavesNoHalfResult}
 use Rattle.tce_job.specs.Told.{FailsOrKeeps, ResultAlone, WritesResult}
-use Rattle.tce_job.proofs.Answered.{later_cause, cause_as, same_fault, answered_quiet}
+use Rattle.tce_job.proofs.Answered.{same_fault, refused_free}
 use Rattle.tce_job.proofs.Ended.{same_is_no_half}
 use Rattle.tce_job.proofs.Plans.{opening_cause}
-use Rattle.tce_batch_job.proofs.Planned.{is_carried, is_small, answer_reported, answer_refused, answer_room_left}
+use Rattle.tce_batch_job.proofs.Planned.{is_carried, is_small, answer_reported, answer_room_left}
 use Rattle.tce_batch_job.proofs.run.run_kept.Goals as goal
 
 pub run_by-requires-clause-plan : goal.run_by-requires-clause-plan
@@ -22,7 +23,7 @@ returns-in-Ok-opened_forms-clause-reported g c =
     c.run_by.ensures.taken c.run_by.ensures.report
 
 pub returns-in-Ok-opened_forms-clause-refused : goal.returns-in-Ok-opened_forms-clause-refused
-returns-in-Ok-opened_forms-clause-refused g c = answer_refused (g.D.Disk.files c.args.disk.now) c.args.spec.now c.args.budget c.run_by.result c.run_by.ensures.free
+returns-in-Ok-opened_forms-clause-refused g c = refused_free (g.D.Disk.files c.args.disk.now) c.args.spec.now c.args.budget c.run_by.result c.run_by.ensures.free
 
 pub returns-in-Ok-opened_forms-clause-takings : goal.returns-in-Ok-opened_forms-clause-takings
 returns-in-Ok-opened_forms-clause-takings g c =
@@ -50,7 +51,7 @@ returns-in-Ok-opened_forms-clause-others g c =
     subst (λ (told : Option Files). ResultAlone c.args.spec.now told (g.D.Disk.files c.run_by.new.disk)) c.in-Ok-opened_forms.ensures.same c.run_by.ensures.others
 
 pub returns-in-Ok-opened_forms-clause-cause : goal.returns-in-Ok-opened_forms-clause-cause
-returns-in-Ok-opened_forms-clause-cause g c = later_cause _ _ _ c.in-Ok-opened_forms.ensures.cause (λ failed. failed) c.run_by.ensures.cause
+returns-in-Ok-opened_forms-clause-cause g c = cause_since _ _ _ c.in-Ok-opened_forms.ensures.cause.later c.run_by.ensures.cause
 
 pub returns-in-Ok-opened_forms-clause-quiet : goal.returns-in-Ok-opened_forms-clause-quiet
 returns-in-Ok-opened_forms-clause-quiet g c = λ none. c.run_by.ensures.quiet none ∙ answered_quiet _ _ c.in-Ok-opened_forms.forms _ refl c.in-Ok-opened_forms.ensures.quiet

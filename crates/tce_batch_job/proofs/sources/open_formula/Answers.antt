@@ -1,12 +1,13 @@
 use Rattle.std.proofs.Common.{◌≡◌, ◌<◌, ℕ, List, length, get_or, Option, ap, ◌∙◌, subst, refl}
 use Rattle.std.proofs.lemmas.Result.{err_from_is_err_and}
 use Rattle.tce_outside.specs.Files.{Files}
+use Rattle.tce_outside.proofs.Causes.{answered_quiet}
 use Rattle.tce_spec.specs.Operands.{operands}
 use Rattle.tce_spec.proofs.Seen.{operand_declared}
 use Rattle.tce_batch.specs.BatchCode.{results_before}
 use Rattle.tce_batch_job.specs.Refusals.{IsOperandFault}
 use Rattle.tce_batch_job.proofs.Openings.{source_fault}
-use Rattle.tce_batch_job.proofs.Counted.{answered_quiet, sources_more}
+use Rattle.tce_batch_job.proofs.Counted.{sources_more}
 use Rattle.tce_batch_job.proofs.sources.open_formula.Goals as goal
 
 pub open_source-requires-clause-declared : goal.open_source-requires-clause-declared

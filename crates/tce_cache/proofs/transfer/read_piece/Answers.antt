@@ -1,8 +1,8 @@
 use Rattle.std.proofs.Common.{◌≡◌, ◌+◌, ◌*◌, ◌≤◌, ◌∙◌, ap, refl, sym, subst, length, arith}
 use Rattle.std.proofs.lemmas.Result.{IfOk-from_err}
 use Rattle.tce_outside.specs.Files.{part, HasPart}
+use Rattle.tce_outside.proofs.Causes.{cause_of}
 use Rattle.tce_array.specs.Forms.{width, word_place}
-use Rattle.tce_cache.proofs.Counted.{cause_of_failure}
 use Rattle.tce_cache.proofs.Transfers.{piece_words, has_piece, piece_loaded, others_loaded}
 use Rattle.tce_cache.proofs.transfer.read_piece.Goals as goal
 
@@ -35,7 +35,7 @@ pub returns-in_err-read_at-clause-same : goal.returns-in_err-read_at-clause-same
 returns-in_err-read_at-clause-same g c = c.read_at.ensures.same
 
 pub returns-in_err-read_at-clause-cause : goal.returns-in_err-read_at-clause-cause
-returns-in_err-read_at-clause-cause g c = cause_of_failure (g.D.Disk.faults c.args.disk.now) (g.D.Disk.faults c.read_at.new.self) _ c.in_err-read_at.ensures.cause
+returns-in_err-read_at-clause-cause g c = cause_of (g.D.Disk.faults c.args.disk.now) (g.D.Disk.faults c.read_at.new.self) c.in_err-read_at.ensures.cause
 
 pub returns-in_err-read_at-clause-told : goal.returns-in_err-read_at-clause-told
 returns-in_err-read_at-clause-told g c = λ none. absurd (none c.from_residual.ensures.0)

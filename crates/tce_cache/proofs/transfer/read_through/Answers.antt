@@ -2,7 +2,7 @@ use Rattle.std.proofs.Common.{◌*◌, ◌/◌, length, refl, sym, ap, arith, �
 use Rattle.std.proofs.lemmas.List.{length-take-le}
 use Rattle.std.proofs.lemmas.Result.{IfOk-from_err}
 use Rattle.std.proofs.lemmas.Bool.{false≢true}
-use Rattle.tce_array.proofs.Answered.{rose_here, stayed}
+use Rattle.tce_outside.proofs.Causes.{failed_after, no_cause}
 use Rattle.tce_cache.proofs.Transfers.{words_joined, others_joined, few_bytes, piece_end}
 use Rattle.tce_cache.proofs.transfer.read_through.Goals as goal
 
@@ -86,7 +86,7 @@ pub returns-in_err-read_piece-clause-same : goal.returns-in_err-read_piece-claus
 returns-in_err-read_piece-clause-same g c = c.read_piece.ensures.same ∙ c.loop-done.invariant.files
 
 pub returns-in_err-read_piece-clause-cause : goal.returns-in_err-read_piece-clause-cause
-returns-in_err-read_piece-clause-cause g c = rose_here (g.D.Disk.faults c.args.disk.now) (g.D.Disk.faults c.loop-done.disk) (g.D.Disk.faults c.read_piece.new.disk) _ c.loop-done.invariant.counted c.in_err-read_piece.ensures.cause
+returns-in_err-read_piece-clause-cause g c = failed_after (g.D.Disk.faults c.args.disk.now) (g.D.Disk.faults c.loop-done.disk) (g.D.Disk.faults c.read_piece.new.disk) c.loop-done.invariant.counted c.in_err-read_piece.ensures.cause
 
 pub returns-in_err-read_piece-clause-told : goal.returns-in_err-read_piece-clause-told
 returns-in_err-read_piece-clause-told g c = λ none. absurd (none c.from_residual.ensures.0)
@@ -104,7 +104,7 @@ pub returns-clause-same : goal.returns-clause-same
 returns-clause-same g c = c.loop-done.invariant.files
 
 pub returns-clause-cause : goal.returns-clause-cause
-returns-clause-cause g c = stayed (g.D.Disk.faults c.args.disk.now) (g.D.Disk.faults c.loop-done.disk) _ c.loop-done.invariant.counted false≢true
+returns-clause-cause g c = no_cause (g.D.Disk.faults c.args.disk.now) (g.D.Disk.faults c.loop-done.disk) c.loop-done.invariant.counted false≢true
 
 pub returns-clause-told : goal.returns-clause-told
 returns-clause-told g c = λ _. c.loop-done.invariant.counted

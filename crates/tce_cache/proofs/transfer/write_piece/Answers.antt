@@ -3,10 +3,10 @@ use Rattle.std.proofs.lemmas.Result.{IfOk-from_err}
 use Rattle.std.specs.List.{flat_map}
 use Rattle.tce_base.specs.Word.{word_bytes}
 use Rattle.tce_outside.specs.Files.{Files, written, bytes_before, others, HasPart}
+use Rattle.tce_outside.proofs.Causes.{cause_of}
 use Rattle.tce_space.specs.Tiling.{Tiling}
 use Rattle.tce_array.specs.declared.form.Form.{Form}
 use Rattle.tce_array.specs.Forms.{width, word_place}
-use Rattle.tce_cache.proofs.Counted.{cause_of_failure}
 use Rattle.tce_cache.proofs.Transfers.{has_piece, piece_written}
 use Rattle.tce_cache.proofs.Tiles.{begins_so}
 use Rattle.tce_cache.proofs.transfer.write_piece.Goals as goal
@@ -41,7 +41,7 @@ pub returns-in_err-write_at-clause-others : goal.returns-in_err-write_at-clause-
 returns-in_err-write_at-clause-others g c = subst (λ name. others name (g.D.Disk.files c.write_at.new.self) ≡ others name (g.D.Disk.files c.args.disk.now)) c.as_str.ensures.value c.write_at.ensures.others
 
 pub returns-in_err-write_at-clause-cause : goal.returns-in_err-write_at-clause-cause
-returns-in_err-write_at-clause-cause g c = cause_of_failure (g.D.Disk.faults c.args.disk.now) (g.D.Disk.faults c.write_at.new.self) _ c.in_err-write_at.ensures.cause
+returns-in_err-write_at-clause-cause g c = cause_of (g.D.Disk.faults c.args.disk.now) (g.D.Disk.faults c.write_at.new.self) c.in_err-write_at.ensures.cause
 
 pub returns-in_err-write_at-clause-told : goal.returns-in_err-write_at-clause-told
 returns-in_err-write_at-clause-told g c = λ none. absurd (none c.from_residual.ensures.0)

@@ -2,7 +2,7 @@ use Rattle.std.proofs.Common.{arith, refl, sym, ◌≡◌, ◌∙◌, ◌*◌, s
 use Rattle.std.proofs.lemmas.List.{length-take-le}
 use Rattle.std.proofs.lemmas.Result.{IfOk-from_err}
 use Rattle.std.proofs.lemmas.Bool.{false≢true}
-use Rattle.tce_array.proofs.Answered.{rose_here, stayed}
+use Rattle.tce_outside.proofs.Causes.{failed_after, no_cause}
 use Rattle.tce_cache.specs.Transfer.{IsWritten}
 use Rattle.tce_cache.proofs.Transfers.{told_before, told_once, written_joined, nothing_written}
 use Rattle.tce_cache.proofs.transfer.write_through.Goals as goal
@@ -88,7 +88,7 @@ pub returns-in_err-write_piece-clause-begins : goal.returns-in_err-write_piece-c
 returns-in_err-write_piece-clause-begins g c = c.write_piece.ensures.begins ∙ c.loop-done.invariant.begins
 
 pub returns-in_err-write_piece-clause-cause : goal.returns-in_err-write_piece-clause-cause
-returns-in_err-write_piece-clause-cause g c = rose_here (g.D.Disk.faults c.args.disk.now) (g.D.Disk.faults c.loop-done.disk) (g.D.Disk.faults c.write_piece.new.disk) _ c.loop-done.invariant.counted c.in_err-write_piece.ensures.cause
+returns-in_err-write_piece-clause-cause g c = failed_after (g.D.Disk.faults c.args.disk.now) (g.D.Disk.faults c.loop-done.disk) (g.D.Disk.faults c.write_piece.new.disk) c.loop-done.invariant.counted c.in_err-write_piece.ensures.cause
 
 pub returns-in_err-write_piece-clause-told : goal.returns-in_err-write_piece-clause-told
 returns-in_err-write_piece-clause-told g c = λ none. absurd (none c.from_residual.ensures.0)
@@ -105,7 +105,7 @@ pub returns-clause-begins : goal.returns-clause-begins
 returns-clause-begins g c = c.loop-done.invariant.begins
 
 pub returns-clause-cause : goal.returns-clause-cause
-returns-clause-cause g c = stayed (g.D.Disk.faults c.args.disk.now) (g.D.Disk.faults c.loop-done.disk) _ c.loop-done.invariant.counted false≢true
+returns-clause-cause g c = no_cause (g.D.Disk.faults c.args.disk.now) (g.D.Disk.faults c.loop-done.disk) c.loop-done.invariant.counted false≢true
 
 pub returns-clause-told : goal.returns-clause-told
 returns-clause-told g c = λ _. c.loop-done.invariant.counted

@@ -2,7 +2,8 @@ use Rattle.std.proofs.Common.{get_or, ap, ◌∙◌}
 use Rattle.tce_space.specs.Space.{index_at}
 use Rattle.tce_grammar.specs.Tokens.{word}
 use Rattle.tce_grammar.specs.Printed.{with_token}
-use Rattle.tce_canonical.proofs.Lists.{below_tail, list_more}
+use Rattle.tce_tree.proofs.Lists.{below_tail}
+use Rattle.tce_canonical.proofs.Lists.{list_more}
 use Rattle.tce_canonical.proofs.words.push_index_list.Goals as goal
 
 pub index_name-requires-in-loop-index : goal.index_name-requires-in-loop-index

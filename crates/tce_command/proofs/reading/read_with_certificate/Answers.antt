@@ -1,5 +1,6 @@
 use Rattle.std.proofs.Common.{sym, ◌∙◌}
-use Rattle.tce_fields.proofs.Listing.{same_bytes, other_bytes}
+use Rattle.tce_space.proofs.Names.{same_bytes}
+use Rattle.tce_fields.proofs.Listing.{other_bytes}
 use Rattle.tce_command.proofs.Commands.{no_certificate, no_verb_of_three, is_cert, is_check}
 use Rattle.tce_command.proofs.reading.read_with_certificate.Goals as goal
 

@@ -1,6 +1,7 @@
 use Rattle.std.proofs.Common.{sym, ap, ◌∙◌}
 use Rattle.tce_space.specs.Name.{is_name}
-use Rattle.tce_fields.proofs.Listing.{same_bytes, other_bytes}
+use Rattle.tce_space.proofs.Names.{same_bytes}
+use Rattle.tce_fields.proofs.Listing.{other_bytes}
 use Rattle.tce_command.proofs.Commands.{no_spec_with_flat, no_tensor_with_flat, no_flat, no_verb_of_four, is_pack, is_unpack}
 use Rattle.tce_command.proofs.reading.read_with_flat.Goals as goal
 use Rattle.tce_command.proofs.reading.read_with_flat.Goals.{then-not-may_name_file-via-then-not-may_name_file, then-not-may_name_file-via-else-not-may_name_file+then-not-is_name}

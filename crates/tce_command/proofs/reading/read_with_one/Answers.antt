@@ -1,7 +1,8 @@
 use Rattle.std.proofs.Common.{◌≢◌, ℕ, List, [], ◌∷◌, codes, sym, subst, ◌∙◌}
 use Rattle.std.specs.Fmt.{decimal}
 use Rattle.tce_space.specs.Limits.{max_memory}
-use Rattle.tce_fields.proofs.Listing.{same_bytes, other_bytes}
+use Rattle.tce_space.proofs.Names.{same_bytes}
+use Rattle.tce_fields.proofs.Listing.{other_bytes}
 use Rattle.tce_command.specs.Command.{IsBetween}
 use Rattle.tce_command.specs.CommandCode.{ReadsCommand}
 use Rattle.tce_command.proofs.Commands.{no_spec_of_three, no_run, is_run, no_batch, is_batch}

@@ -1,5 +1,6 @@
 use Rattle.std.proofs.Common.{◌≡◌, ℕ, List, [], ◌∷◌, codes, sym, subst, ◌∙◌}
-use Rattle.tce_fields.proofs.Listing.{same_bytes, other_bytes}
+use Rattle.tce_space.proofs.Names.{same_bytes}
+use Rattle.tce_fields.proofs.Listing.{other_bytes}
 use Rattle.tce_command.specs.CommandCode.{ReadsCommand}
 use Rattle.tce_command.proofs.reading.read_with_three.Goals as goal
 

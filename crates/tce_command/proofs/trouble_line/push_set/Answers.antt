@@ -1,7 +1,7 @@
 use Rattle.std.proofs.Common.{◌<◌, ◌++◌, length, All, ◌∙◌, sym, ap, subst}
 use Rattle.tce_report.specs.Names.{index_list}
 use Rattle.tce_report.specs.NodeLine.{set_text}
-use Rattle.tce_cert.proofs.StatedClass.{members_declared}
+use Rattle.tce_cert.proofs.Sets.{members_declared}
 use Rattle.tce_command.proofs.trouble_line.push_set.Goals as goal
 
 pub push_names-requires-clause-declared : goal.push_names-requires-clause-declared

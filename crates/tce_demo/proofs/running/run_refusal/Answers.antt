@@ -1,5 +1,4 @@
-use Rattle.tce_run.proofs.Told.{told_disk, disk_told}
-use Rattle.tce_demo.proofs.AsRun.{told_free}
+use Rattle.tce_run.proofs.Told.{told_disk, disk_told, told_free}
 use Rattle.tce_demo.proofs.running.run_refusal.Goals as goal
 
 pub returns-clause-free : goal.returns-clause-free

@@ -3,17 +3,18 @@ use Rattle.tce_grammar.specs.Tokens.{word, symbol}
 use Rattle.tce_grammar.specs.Grammar.{bracketed, listed}
 use Rattle.tce_grammar.specs.Printed.{with_tokens}
 use Rattle.std.specs.Prelude.{codes, ◌∷◌, ◌++◌, []}
+use Rattle.std.proofs.lemmas.Result.{on_ok_weaker}
 use Rattle.tce_einsum.specs.Text as text
 use Rattle.tce_einsum.specs.Code as code
 use Rattle.tce_einsum.specs.Produced.{operand_name, label_names}
 use Rattle.tce_einsum.specs.declared.entries.Node.TheVariants.{Operand, Sum}
-use Rattle.tce_einsum.proofs.Tasks.{on_ok, operand_done, product_done, sum_done}
+use Rattle.tce_einsum.proofs.Tasks.{operand_done, product_done, sum_done}
 use Rattle.tce_einsum.proofs.formula.print_node.Goals as goal
 
 pub returns-in-Operand-clause-printed : goal.returns-in-Operand-clause-printed
 returns-in-Operand-clause-printed c =
     let ss : List text.Size = code.sizes c.args.sizes.now in
-    on_ok c.push_operand.result
+    on_ok_weaker c.push_operand.result
     (λ e.
     (operand_done ss c.args.nodes.now c.args.stack.now.items c.args.printer.now c.push_operand.new.printer c.args.place (Operand c.in-Operand.operand c.in-Operand.labels)
     c.index-nodes-place.result c.in-Operand.operand c.in-Operand.labels.items c.requires.there (sym c.index-nodes-place.is ∙ c.in-Operand.is) (λ ts. refl) c.requires.tasks
@@ -22,7 +23,7 @@ returns-in-Operand-clause-printed c =
 
 pub returns-in-Product-clause-printed : goal.returns-in-Product-clause-printed
 returns-in-Product-clause-printed c =
-    on_ok c.push_three.result
+    on_ok_weaker c.push_three.result
     (λ e.
     (product_done (code.sizes c.args.sizes.now) c.args.nodes.now c.args.stack.now.items c.push_three.new.stack.items c.args.printer.now c.args.place c.in-Product.left c.in-Product.right
     c.index-nodes-place.result c.requires.ordered c.requires.there (sym c.index-nodes-place.is ∙ c.in-Product.is) c.requires.tasks e).printed)
@@ -30,7 +31,7 @@ returns-in-Product-clause-printed c =
 
 pub returns-in-Product-clause-tasks : goal.returns-in-Product-clause-tasks
 returns-in-Product-clause-tasks c =
-    on_ok c.push_three.result
+    on_ok_weaker c.push_three.result
     (λ e.
     (product_done (code.sizes c.args.sizes.now) c.args.nodes.now c.args.stack.now.items c.push_three.new.stack.items c.args.printer.now c.args.place c.in-Product.left c.in-Product.right
     c.index-nodes-place.result c.requires.ordered c.requires.there (sym c.index-nodes-place.is ∙ c.in-Product.is) c.requires.tasks e).tasks)
@@ -38,7 +39,7 @@ returns-in-Product-clause-tasks c =
 
 pub returns-in-Product-clause-less : goal.returns-in-Product-clause-less
 returns-in-Product-clause-less c =
-    on_ok c.push_three.result
+    on_ok_weaker c.push_three.result
     (λ e.
     (product_done (code.sizes c.args.sizes.now) c.args.nodes.now c.args.stack.now.items c.push_three.new.stack.items c.args.printer.now c.args.place c.in-Product.left c.in-Product.right
     c.index-nodes-place.result c.requires.ordered c.requires.there (sym c.index-nodes-place.is ∙ c.in-Product.is) c.requires.tasks e).less)
@@ -47,7 +48,7 @@ returns-in-Product-clause-less c =
 pub returns-in_ok-push_summed-in-Sum-clause-printed : goal.returns-in_ok-push_summed-in-Sum-clause-printed
 returns-in_ok-push_summed-in-Sum-clause-printed c =
     let ss : List text.Size = code.sizes c.args.sizes.now in
-    on_ok c.push_two.result
+    on_ok_weaker c.push_two.result
     (λ e.
     (sum_done ss c.args.nodes.now c.args.stack.now.items c.push_two.new.stack.items c.args.printer.now c.push_summed.new.printer c.args.place c.in-Sum.operand
     (Sum c.in-Sum.labels c.in-Sum.operand) c.index-nodes-place.result c.in-Sum.labels.items c.requires.ordered c.requires.there (sym c.index-nodes-place.is ∙ c.in-Sum.is)
@@ -60,7 +61,7 @@ returns-in_ok-push_summed-in-Sum-clause-printed c =
 pub returns-in_ok-push_summed-in-Sum-clause-less : goal.returns-in_ok-push_summed-in-Sum-clause-less
 returns-in_ok-push_summed-in-Sum-clause-less c =
     let ss : List text.Size = code.sizes c.args.sizes.now in
-    on_ok c.push_two.result
+    on_ok_weaker c.push_two.result
     (λ e.
     (sum_done ss c.args.nodes.now c.args.stack.now.items c.push_two.new.stack.items c.args.printer.now c.push_summed.new.printer c.args.place c.in-Sum.operand
     (Sum c.in-Sum.labels c.in-Sum.operand) c.index-nodes-place.result c.in-Sum.labels.items c.requires.ordered c.requires.there (sym c.index-nodes-place.is ∙ c.in-Sum.is)

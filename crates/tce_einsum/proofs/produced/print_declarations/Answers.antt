@@ -1,4 +1,5 @@
 use Rattle.std.proofs.Common.{List, ◌∙◌}
+use Rattle.std.proofs.lemmas.Result.{on_ok_weaker}
 use Rattle.tce_fields.specs.Reading.{texts}
 use Rattle.tce_canonical.specs.Lines.{with_line, with_lines}
 use Rattle.tce_einsum.specs.Text as text
@@ -8,7 +9,6 @@ use Rattle.tce_einsum.specs.Produced.{range_statement, range_statements, index_s
 use Rattle.tce_grammar.specs.Grammar.{declaration}
 use Rattle.tce_einsum.specs.ProducedCode.{tileds}
 use Rattle.tce_einsum.proofs.ProducedLines.{declared_lines}
-use Rattle.tce_einsum.proofs.Tasks.{on_ok}
 use Rattle.tce_einsum.proofs.produced.print_declarations.Goals as goal
 
 pub returns : goal.returns
@@ -16,7 +16,7 @@ returns c =
     let x : text.Einsum = code.einsum c.args.whole.now in
     let ss : List text.Size = x.sizes in
     let sizes = c.as_slice-sizes.ensures.value in
-    on_ok c.print_result.result
+    on_ok_weaker c.print_result.result
     (λ printed.
     declared_lines c.args.printer.now c.print_ranges.new.printer c.print_indexes.new.printer c.print_operands.new.printer c.print_result.new.printer
     (range_statements ss) (index_statements ss) (numbered (operand_statement ss) 0 x.operands) (result_statement x)

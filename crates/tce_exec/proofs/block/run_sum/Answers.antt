@@ -1,5 +1,6 @@
-use Rattle.tce_exec.proofs.Calls.{none_given, cause_of, told_of, fewer}
+use Rattle.tce_exec.proofs.Calls.{none_given, told_of, fewer}
 use Rattle.std.proofs.Common.{slice_index}
+use Rattle.tce_outside.proofs.Causes.{cause_of}
 use Rattle.tce_tree.specs.Value.{Assignment}
 use Rattle.tce_block.specs.Cuts.{part_of}
 use Rattle.tce_block.specs.Parts.{Part}

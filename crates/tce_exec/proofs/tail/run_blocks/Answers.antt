@@ -1,6 +1,7 @@
-use Rattle.tce_exec.proofs.Calls.{none_given, cause_of, told_of, cause_behind, no_cause}
+use Rattle.tce_exec.proofs.Calls.{none_given, told_of}
 use Rattle.std.proofs.Common.{◌≡◌, ◌<◌, length, map, slice_index, refl, sym, ap, ap₂, ◌∙◌, subst}
 use Rattle.std.proofs.lemmas.Bool.{false≢true}
+use Rattle.tce_outside.proofs.Causes.{no_cause, failed_after}
 use Rattle.tce_block.specs.Parts.{blocks}
 use Rattle.tce_block.specs.Cuts.{part_of}
 use Rattle.tce_workspace.specs.Workspace.{Workspace}
@@ -91,7 +92,7 @@ pub returns-in_err-run_block-clause-same : goal.returns-in_err-run_block-clause-
 returns-in_err-run_block-clause-same g c = same_on c.args.store.now c.loop-plan.store c.run_block.new.store c.loop-plan.invariant.same c.in_err-run_block.ensures.same
 
 pub returns-in_err-run_block-clause-cause : goal.returns-in_err-run_block-clause-cause
-returns-in_err-run_block-clause-cause g c = cause_behind _ _ _ c.loop-plan.invariant.counted (cause_of _ _ c.in_err-run_block.ensures.cause)
+returns-in_err-run_block-clause-cause g c = failed_after _ _ _ c.loop-plan.invariant.counted c.in_err-run_block.ensures.cause
 
 pub returns-in_err-run_block-clause-told : goal.returns-in_err-run_block-clause-told
 returns-in_err-run_block-clause-told g c = told_of _ _ _ c.from_residual.result c.from_residual.ensures.1
@@ -106,7 +107,7 @@ pub returns-clause-same : goal.returns-clause-same
 returns-clause-same g c = c.loop-plan.invariant.same
 
 pub returns-clause-cause : goal.returns-clause-cause
-returns-clause-cause g c = no_cause _ _ c.loop-plan.invariant.counted
+returns-clause-cause g c = no_cause _ _ c.loop-plan.invariant.counted false≢true
 
 pub returns-clause-told : goal.returns-clause-told
 returns-clause-told g c = λ fine. c.loop-plan.invariant.counted

@@ -1,8 +1,8 @@
 use Rattle.std.proofs.Common.{refl}
 use Rattle.std.proofs.lemmas.Bool.{false≢true}
+use Rattle.tce_outside.proofs.Causes.{no_cause}
 use Rattle.tce_workspace.specs.Storages.{work_of}
 use Rattle.tce_workspace.proofs.Reading.{kept_own, read_own}
-use Rattle.tce_exec.proofs.Calls.{no_cause}
 use Rattle.tce_exec.proofs.Touching.{keeps_last_own}
 use Rattle.tce_exec.proofs.windows.operand_window.Goals as goal
 
@@ -43,7 +43,7 @@ pub returns-in-Node-clause-last : goal.returns-in-Node-clause-last
 returns-in-Node-clause-last g c = keeps_last_own c.args.store.now.cache.now
 
 pub returns-in-Node-clause-cause : goal.returns-in-Node-clause-cause
-returns-in-Node-clause-cause g c = no_cause _ _ refl
+returns-in-Node-clause-cause g c = no_cause _ _ refl false≢true
 
 pub returns-in-Node-clause-told : goal.returns-in-Node-clause-told
 returns-in-Node-clause-told g c = λ fine. refl

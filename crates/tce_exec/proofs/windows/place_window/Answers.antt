@@ -1,6 +1,7 @@
-use Rattle.tce_exec.proofs.Calls.{no_cause}
 use Rattle.tce_exec.proofs.Touching.{keeps_last_own}
 use Rattle.std.proofs.Common.{◌≡◌, ℕ, ◌≢◌, ◌+◌, ◌<◌, ◌∙◌, slice_index, refl, arith}
+use Rattle.std.proofs.lemmas.Bool.{false≢true}
+use Rattle.tce_outside.proofs.Causes.{no_cause}
 use Rattle.tce_tree.specs.ContractionTree.{operations}
 use Rattle.tce_workspace.specs.Workspace.{Workspace}
 use Rattle.tce_workspace.specs.Storages.{work_of}
@@ -68,7 +69,7 @@ pub returns-clause-last : goal.returns-clause-last
 returns-clause-last g c = keeps_last_own c.args.store.now.cache.now
 
 pub returns-clause-cause : goal.returns-clause-cause
-returns-clause-cause g c = no_cause _ _ refl
+returns-clause-cause g c = no_cause _ _ refl false≢true
 
 pub returns-clause-told : goal.returns-clause-told
 returns-clause-told g c = λ fine. refl

@@ -1,5 +1,7 @@
 use Rattle.std.proofs.Common.{slice_index, sym, subst}
 use Rattle.std.proofs.lemmas.Result.{on_ok_weaker}
+use Rattle.std.proofs.lemmas.Bool.{false≢true}
+use Rattle.tce_outside.proofs.Causes.{cause_of, cause_since, told_after}
 use Rattle.tce_tree.specs.FlatTree.{left_of}
 use Rattle.tce_workspace.specs.Workspace.{Workspace}
 use Rattle.tce_workspace.specs.Storages.{work_of}
@@ -8,7 +10,7 @@ use Rattle.tce_workspace.proofs.Operating.{own_place, node_after}
 use Rattle.tce_exec.specs.Windows.{HasPlace, IsOperandWindow, AreOperandSteps}
 use Rattle.tce_exec.proofs.Operands.{left_place}
 use Rattle.tce_exec.proofs.Touching.{operand_once}
-use Rattle.tce_exec.proofs.Calls.{on_both, none_given, cause_of, told_of, later_cause, later_told, fewer, few_left, as_many}
+use Rattle.tce_exec.proofs.Calls.{on_both, none_given, told_of, fewer, few_left, as_many}
 use Rattle.tce_exec.proofs.windows.sum_windows.Goals as goal
 
 pub operand_window-requires-clause-place : goal.operand_window-requires-clause-place
@@ -69,10 +71,10 @@ pub returns-clause-same : goal.returns-clause-same
 returns-clause-same g c = same_on c.args.store.now c.operand_window.new.store c.place_window.new.store c.in_ok-operand_window.ensures.same c.place_window.ensures.same
 
 pub returns-clause-cause : goal.returns-clause-cause
-returns-clause-cause g c = later_cause _ _ _ c.in_ok-operand_window.ensures.cause c.place_window.ensures.cause
+returns-clause-cause g c = cause_since _ _ _ c.in_ok-operand_window.ensures.cause.later c.place_window.ensures.cause
 
 pub returns-clause-told : goal.returns-clause-told
-returns-clause-told g c = later_told _ _ _ c.in_ok-operand_window.ensures.told c.place_window.ensures.told
+returns-clause-told g c = told_after _ _ _ (c.in_ok-operand_window.ensures.told false≢true) c.place_window.ensures.told
 
 pub operand_window-requires-clause-prepared : goal.operand_window-requires-clause-prepared
 operand_window-requires-clause-prepared g c = c.requires.prepared

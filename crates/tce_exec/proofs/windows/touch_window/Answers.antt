@@ -1,7 +1,8 @@
 use Rattle.tce_space.specs.Box.{IsInside}
 use Rattle.tce_workspace.proofs.Touched.{exists_of}
-use Rattle.tce_exec.proofs.Calls.{none_given, cause_of, told_of, one_more}
+use Rattle.tce_exec.proofs.Calls.{none_given, told_of, one_more}
 use Rattle.std.proofs.Common.{◌+◌, ◌<◌, All, ap, map, length, slice_index, refl, sym, subst}
+use Rattle.tce_outside.proofs.Causes.{cause_of}
 use Rattle.tce_space.specs.Tiling.{Tiling, IsTiling}
 use Rattle.tce_cache.specs.Cache.{State as CacheState}
 use Rattle.tce_workspace.specs.Elements.{IsElementAt}

@@ -1,7 +1,7 @@
 use Rattle.std.proofs.Common.{◌≡◌, length, ◌∷◌, [], ◌++◌, ◌∙◌, sym, ap, arith}
 use Rattle.std.specs.List.{filter, range_with_len}
 use Rattle.tce_space.specs.IndexSet.{has, members}
-use Rattle.tce_fields.proofs.Ranges.{filter_one, filter_same}
+use Rattle.tce_space.proofs.Ranges.{filter_one, filter_same}
 use Rattle.tce_fields.proofs.indexes.members_of.Goals as goal
 use Rattle.tce_fields.proofs.indexes.members_of.Goals.{then-has, else-has}
 

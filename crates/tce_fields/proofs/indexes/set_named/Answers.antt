@@ -1,6 +1,7 @@
 use Rattle.std.proofs.Common.{sym, subst, ◌∙◌, arith, ap, ◌<◌, length, refl, get_or}
 use Rattle.tce_space.specs.IndexSet.{members, set_of}
-use Rattle.tce_fields.proofs.Listing.{same_bytes, other_bytes}
+use Rattle.tce_space.proofs.Names.{same_bytes}
+use Rattle.tce_fields.proofs.Listing.{other_bytes}
 use Rattle.tce_fields.proofs.Named.{set_found, out_of_order}
 use Rattle.tce_fields.specs.Reading.{texts}
 use Rattle.tce_fields.proofs.indexes.set_named.Goals as goal

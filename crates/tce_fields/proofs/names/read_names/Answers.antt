@@ -3,9 +3,10 @@ use Rattle.std.specs.Borrow.{Bor}
 use Rattle.std.specs.List.{list_all}
 use Rattle.std.proofs.lemmas.List.Folds.{list_all-map}
 use Rattle.tce_space.specs.Name.{is_name}
+use Rattle.tce_space.proofs.Names.{same_bytes}
 use Rattle.tce_fields.specs.Fields.{AreListed}
 use Rattle.tce_fields.specs.Reading.{texts}
-use Rattle.tce_fields.proofs.Listing.{none_listed, names_listed, no_parts, no_names, same_bytes, other_bytes}
+use Rattle.tce_fields.proofs.Listing.{none_listed, names_listed, no_parts, no_names, other_bytes}
 use Rattle.tce_fields.proofs.names.read_names.Goals as goal
 use Rattle.tce_fields.proofs.names.read_names.Goals.{in_default-via-in-Some+else-are_names, in_default-via-in_default}
 

@@ -1,7 +1,8 @@
 use Rattle.std.proofs.Common.{rules, ◌∙◌}
+use Rattle.tce_outside.proofs.Causes.{cause_since}
 use Rattle.tce_flat.specs.Refusals.{IsSymRefusal}
 use Rattle.tce_flat.proofs.Names.{short_tensor, short_spec}
-use Rattle.tce_flat.proofs.Tools.{refused_for, unchanged_from, cause_from}
+use Rattle.tce_flat.proofs.Tools.{refused_for, unchanged_from}
 use Rattle.tce_flat.proofs.SymFiles.{expanded_from}
 use Rattle.tce_flat.specs.NoHalf.{LeavesExpanding}
 use Rattle.tce_flat.proofs.NoHalf.{left_for}
@@ -30,7 +31,7 @@ pub returns-clause-unchanged : goal.returns-clause-unchanged
 returns-clause-unchanged g c = unchanged_from _ _ _ c.expand_tensor.result c.in_ok-shape.ensures.same c.expand_tensor.ensures.unchanged
 
 pub returns-clause-cause : goal.returns-clause-cause
-returns-clause-cause g c = cause_from _ _ _ _ _ c.in_ok-shape.ensures.cause c.expand_tensor.ensures.cause
+returns-clause-cause g c = cause_since _ _ _ c.in_ok-shape.ensures.cause.later c.expand_tensor.ensures.cause
 
 pub returns-clause-told : goal.returns-clause-told
 returns-clause-told g c = λ no. c.expand_tensor.ensures.told no ∙ c.in_ok-shape.ensures.told (search rules)

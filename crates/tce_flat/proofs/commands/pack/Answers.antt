@@ -1,7 +1,8 @@
 use Rattle.std.proofs.Common.{rules, ◌∙◌}
+use Rattle.tce_outside.proofs.Causes.{cause_since}
 use Rattle.tce_flat.specs.Refusals.{IsFlatRefusal}
 use Rattle.tce_flat.proofs.Names.{short_tensor, short_spec, short_flat, flat_apart}
-use Rattle.tce_flat.proofs.Tools.{packed_from, refused_for, unchanged_from, cause_from}
+use Rattle.tce_flat.proofs.Tools.{packed_from, refused_for, unchanged_from}
 use Rattle.tce_flat.specs.NoHalf.{LeavesPacking}
 use Rattle.tce_flat.proofs.NoHalf.{left_for}
 use Rattle.tce_flat.proofs.commands.pack.Goals as goal
@@ -35,7 +36,7 @@ pub returns-clause-unchanged : goal.returns-clause-unchanged
 returns-clause-unchanged g c = unchanged_from _ _ _ c.pack_tensor.result c.in_ok-shape.ensures.same c.pack_tensor.ensures.unchanged
 
 pub returns-clause-cause : goal.returns-clause-cause
-returns-clause-cause g c = cause_from _ _ _ _ _ c.in_ok-shape.ensures.cause c.pack_tensor.ensures.cause
+returns-clause-cause g c = cause_since _ _ _ c.in_ok-shape.ensures.cause.later c.pack_tensor.ensures.cause
 
 pub returns-clause-told : goal.returns-clause-told
 returns-clause-told g c = λ no. c.pack_tensor.ensures.told no ∙ c.in_ok-shape.ensures.told (search rules)

@@ -1,9 +1,10 @@
 use Rattle.std.proofs.Common.{◌∙◌, sym, ap, Some}
-use Rattle.tce_formula.proofs.Twice.{name_at, found_twice, not_yet_twice}
+use Rattle.tce_declarations.proofs.Names.{named_at}
+use Rattle.tce_formula.proofs.Twice.{found_twice, not_yet_twice}
 use Rattle.tce_formula.proofs.names.listed_twice.Goals as goal
 
 pub name_of-requires : goal.name_of-requires
-name_of-requires c = name_at c.args.indexes.now c.loop-place.place _ c.requires c.loop-place-test.true
+name_of-requires c = named_at c.args.indexes.now c.loop-place.place _ c.requires c.loop-place-test.true
 
 pub returns-then-stands_in : goal.returns-then-stands_in
 returns-then-stands_in c =

@@ -2,9 +2,10 @@ use Rattle.std.proofs.Common.{◌≡◌, ℕ, ◌<◌, ◌≤◌, AllPairs, IsPe
 use Rattle.std.specs.List.{range_with_len}
 use Rattle.arrayvec.specs.ArrayVec.{ArrayVec}
 use Rattle.tce_space.specs.IndexSet.{has, members}
+use Rattle.tce_space.proofs.Ranges.{filter_same}
 use Rattle.tce_fusion.specs.Scope.{StandsBefore}
 use Rattle.tce_fusion.specs.Tops.{row, size_in}
-use Rattle.tce_fusion.proofs.Inserting.{order_below, order_room, filter_same, insert_permutes, insert_precedes}
+use Rattle.tce_fusion.proofs.Inserting.{order_below, order_room, insert_permutes, insert_precedes}
 use Rattle.tce_fusion.proofs.orders.standard_order.Goals as goal
 use Rattle.tce_fusion.proofs.orders.standard_order.Goals.{then-has, else-has}
 

@@ -1,8 +1,8 @@
 use Rattle.std.proofs.Common.{◌≡◌, ◌+◌, ◌-◌, ap, ap₂, sym, ◌∙◌, arith, sum_by}
 use Rattle.std.specs.List.{range_with_len}
+use Rattle.tce_space.proofs.Ranges.{sum_next}
 use Rattle.tce_tree.specs.ContractionTree.{operations}
 use Rattle.tce_tree.specs.Memory.{memory, size_at, size_before}
-use Rattle.tce_fusion.proofs.SizeLaws.{sum_next}
 use Rattle.tce_fusion.proofs.sizes.memory.Goals as goal
 
 pub loop-v-preserved : goal.loop-v-preserved

@@ -1,5 +1,6 @@
 use Rattle.std.proofs.Common.{inr, refl}
-use Rattle.tce_job.proofs.Answered.{answered, answered_quiet, cause_as, same_fault}
+use Rattle.tce_outside.proofs.Causes.{cause_as, answered_quiet}
+use Rattle.tce_job.proofs.Answered.{answered, same_fault}
 use Rattle.tce_job.proofs.Made.{begun}
 use Rattle.tce_job.proofs.preparing.begin.Goals as goal
 

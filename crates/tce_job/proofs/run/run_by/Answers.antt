@@ -1,9 +1,10 @@
 use Rattle.std.proofs.Common.{refl, sym, subst, inl, inr, ◌∙◌}
+use Rattle.tce_outside.proofs.Causes.{cause_as, answered_quiet, cause_since}
 use Rattle.tce_nesting.specs.declared.plan.Plan.{Plan}
 use Rattle.tce_tensors.specs.Laws.{made_result}
 use Rattle.tce_job.specs.declared.report.RunReport.{RunReport}
 use Rattle.tce_job.specs.Prepared.{IsReport}
-use Rattle.tce_job.proofs.Answered.{later_cause, answered, answered_quiet}
+use Rattle.tce_job.proofs.Answered.{answered}
 use Rattle.tce_job.proofs.Ended.{told_before, no_half_before, whole_is_no_half}
 use Rattle.tce_job.proofs.run.run_by.Goals as goal
 
@@ -33,10 +34,10 @@ pub returns-in-Err-clause-takings : goal.returns-in-Err-clause-takings
 returns-in-Err-clause-takings g c = inr c.in_ok-prepared.ensures.taken
 
 pub returns-in-Ok-clause-cause : goal.returns-in-Ok-clause-cause
-returns-in-Ok-clause-cause g c = later_cause _ _ _ c.in_ok-prepared.ensures.cause (answered c.into_report-report.result _ refl) c.in-Ok.ensures.cause
+returns-in-Ok-clause-cause g c = cause_since _ _ _ c.in_ok-prepared.ensures.cause.later (cause_as _ _ (answered c.into_report-report.result _ refl) c.in-Ok.ensures.cause)
 
 pub returns-in-Err-clause-cause : goal.returns-in-Err-clause-cause
-returns-in-Err-clause-cause g c = later_cause _ _ _ c.in_ok-prepared.ensures.cause (λ failed. refl) c.in-Err.ensures.cause
+returns-in-Err-clause-cause g c = cause_since _ _ _ c.in_ok-prepared.ensures.cause.later (cause_as _ _ (λ failed. refl) c.in-Err.ensures.cause)
 
 pub returns-in-Ok-clause-quiet : goal.returns-in-Ok-clause-quiet
 returns-in-Ok-clause-quiet g c = λ none. c.in-Ok.ensures.quiet (λ failed. absurd (cc)) ∙ answered_quiet _ _ c.in_ok-prepared.prepared _ refl c.in_ok-prepared.ensures.quiet

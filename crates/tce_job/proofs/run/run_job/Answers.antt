@@ -2,10 +2,11 @@ use Rattle.std.proofs.Common.{Option, refl, subst, inr, ◌∙◌}
 use Rattle.std.specs.Prelude.{OnOk}
 use Rattle.std.proofs.lemmas.Result.{err_from_is_err_and}
 use Rattle.tce_outside.specs.Files.{Files}
+use Rattle.tce_outside.proofs.Causes.{answered_quiet, cause_since}
 use Rattle.tce_tensors.specs.Laws.{LeavesNoHalfResult}
 use Rattle.tce_job.specs.Told.{FailsOrKeeps, ResultAlone, WritesResult}
 use Rattle.tce_job.proofs.Causes.{one_reason, granted, can_run}
-use Rattle.tce_job.proofs.Answered.{exact, granted_free, refused_free, able_to, reported, room_of, later_cause, answered_quiet}
+use Rattle.tce_job.proofs.Answered.{exact, granted_free, refused_free, able_to, reported, room_of}
 use Rattle.tce_job.proofs.run.run_job.Goals as goal
 
 pub returns-in_err-plan-clause-exactly : goal.returns-in_err-plan-clause-exactly
@@ -42,7 +43,7 @@ pub returns-clause-granted : goal.returns-clause-granted
 returns-clause-granted g c = granted_free (g.D.Disk.files c.args.disk.now) c.args.spec.now c.args.budget c.run_by.result c.run_by.ensures.free
 
 pub returns-clause-cause : goal.returns-clause-cause
-returns-clause-cause g c = later_cause _ _ _ c.in_ok-plan.ensures.cause (λ failed. failed) c.run_by.ensures.cause
+returns-clause-cause g c = cause_since _ _ _ c.in_ok-plan.ensures.cause.later c.run_by.ensures.cause
 
 pub returns-clause-quiet : goal.returns-clause-quiet
 returns-clause-quiet g c = λ none. c.run_by.ensures.quiet none ∙ answered_quiet _ _ (c.in_ok-plan.plan, c.in_ok-plan.forms) _ refl c.in_ok-plan.ensures.quiet

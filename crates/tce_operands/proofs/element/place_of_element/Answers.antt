@@ -1,8 +1,9 @@
 use Rattle.std.proofs.Common.{ℕ, List, length, sym, ap, subst, arith}
 use Rattle.tce_space.specs.Tiling.{tile_number, place_in_tile}
 use Rattle.tce_space.proofs.Tilings.{tile_number-lt, place_in_tile-lt}
+use Rattle.tce_space.proofs.Boxes.{length_inside}
 use Rattle.tce_array.specs.OnWay.{IsOnWay}
-use Rattle.tce_array.proofs.Way.{length_inside, start, next, bounded, small, ended}
+use Rattle.tce_array.proofs.Way.{start, next, bounded, small, ended}
 use Rattle.tce_operands.proofs.element.place_of_element.Goals as goal
 
 pub overflow_mul-tile : goal.overflow_mul-tile

@@ -1,6 +1,7 @@
 use Rattle.std.proofs.Common.{refl}
 use Rattle.std.proofs.lemmas.Result.{IfOk-weaker, IfErr-weaker}
-use Rattle.tce_plan.proofs.Planned.{memory_refused, no_failure, no_answer}
+use Rattle.tce_source.proofs.Outcomes.{ok_no_disk}
+use Rattle.tce_plan.proofs.Planned.{memory_refused, no_failure}
 use Rattle.tce_plan.proofs.command.plan.Goals as goal
 
 pub returns-clause-done : goal.returns-clause-done
@@ -15,4 +16,4 @@ pub returns-clause-cause : goal.returns-clause-cause
 returns-clause-cause g c = record { later = c.in_ok-source.ensures.cause.later; rose = λ failed. absurd (no_failure c.plan_source-made.result c.plan_source-made.ensures.refused failed) }
 
 pub returns-clause-told : goal.returns-clause-told
-returns-clause-told g c = λ none. c.in_ok-source.ensures.told (no_answer c.in_ok-source.source _ refl)
+returns-clause-told g c = λ none. c.in_ok-source.ensures.told (ok_no_disk c.in_ok-source.source _ refl)

@@ -1,6 +1,6 @@
 use Rattle.std.proofs.Common.{sym}
+use Rattle.tce_space.proofs.Names.{same_bytes}
 use Rattle.tce_fields.specs.Reading.{texts}
-use Rattle.tce_fields.proofs.Listing.{same_bytes}
 use Rattle.tce_report.proofs.Forms.{result_read, array_read, no_size}
 use Rattle.tce_report.proofs.form.read_array.Goals as goal
 

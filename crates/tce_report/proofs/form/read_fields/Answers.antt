@@ -1,7 +1,8 @@
 use Rattle.std.proofs.Common.{sym, ◌∙◌, arith, length-drop}
 use Rattle.std.proofs.lemmas.List.{take_all}
+use Rattle.tce_space.proofs.Names.{same_bytes}
 use Rattle.tce_fields.specs.Reading.{texts}
-use Rattle.tce_fields.proofs.Listing.{same_bytes, other_bytes}
+use Rattle.tce_fields.proofs.Listing.{other_bytes}
 use Rattle.tce_report.specs.FormCode.{array_form}
 use Rattle.tce_report.proofs.Forms.{line_read, too_few, no_node_word, no_loops_word, no_number, no_kind, no_order, no_array}
 use Rattle.tce_report.proofs.form.read_fields.Goals as goal

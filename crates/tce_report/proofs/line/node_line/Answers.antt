@@ -1,9 +1,10 @@
 use Rattle.std.proofs.Common.{arith, ◌<◌, length, All, ap, ◌∙◌, sym, subst, slice_index}
 use Rattle.tce_space.specs.IndexSet.{count, members}
 use Rattle.tce_tree.specs.Orders.{lists_of}
+use Rattle.tce_tree.proofs.Conditions.{fused_fits_low}
 use Rattle.tce_report.specs.NodeLine.{stated}
 use Rattle.tce_report.proofs.NodeLines.{root_line, inner_line}
-use Rattle.tce_report.proofs.Declared.{order_declared, fused_declared, fused_few}
+use Rattle.tce_report.proofs.Declared.{order_declared, fused_declared}
 use Rattle.tce_report.proofs.line.node_line.Goals as goal
 
 pub loops_text-line-requires-clause-declared : goal.loops_text-line-requires-clause-declared
@@ -25,7 +26,7 @@ push_array-requires-clause-few c =
       c.order_of.ensures.few,
       ap length c.order_of.ensures.value,
       ap count c.fused_of.ensures,
-      fused_few c.args.tree.now c.args.plan.now.fusion.0.items (lists_of c.args.plan.now.orders.0.items) c.args.v c.requires.fits.fusion c.requires.fits.orders c.requires.inside,
+      fused_fits_low c.args.tree.now c.args.plan.now.fusion.0.items (lists_of c.args.plan.now.orders.0.items) c.requires.fits.fusion c.requires.fits.orders c.args.v c.requires.inside,
     )
 
 pub returns-then-v-count : goal.returns-then-v-count

@@ -1,5 +1,6 @@
 use Rattle.std.proofs.Common.{arith, get_or}
-use Rattle.tce_report.proofs.Lists.{name_pushed, below_tail, longer_by_one}
+use Rattle.tce_tree.proofs.Lists.{below_tail}
+use Rattle.tce_report.proofs.Lists.{name_pushed, longer_by_one}
 use Rattle.tce_report.proofs.names.push_names.Goals as goal
 
 pub push_name-requires-in-loop-index-clause-declared : goal.push_name-requires-in-loop-index-clause-declared

@@ -1,6 +1,7 @@
 use Rattle.std.proofs.Common.{refl, ◌∙◌}
 use Rattle.std.proofs.lemmas.Result.{IfOk-weaker, IfErr-weaker}
-use Rattle.tce_run.proofs.Ran.{ran, refused, left_unchanged, left_room, others_stay, both_causes, ok_quiet}
+use Rattle.tce_outside.proofs.Causes.{answered_quiet, cause_since}
+use Rattle.tce_run.proofs.Ran.{ran, refused, left_unchanged, left_room, others_stay}
 use Rattle.tce_run.proofs.command.run.Goals as goal
 
 pub returns-clause-done : goal.returns-clause-done
@@ -28,7 +29,7 @@ returns-clause-others g c =
     c.in_ok-source.ensures.same c.in_ok-source.ensures.read c.run_source-ran.ensures.others c.run_source-ran.ensures.no_half
 
 pub returns-clause-cause : goal.returns-clause-cause
-returns-clause-cause g c = both_causes _ _ _ c.in_ok-source.ensures.cause c.run_source-ran.ensures.cause (λ failed. failed)
+returns-clause-cause g c = cause_since _ _ _ c.in_ok-source.ensures.cause.later c.run_source-ran.ensures.cause
 
 pub returns-clause-told : goal.returns-clause-told
-returns-clause-told g c = λ none. c.run_source-ran.ensures.told none ∙ ok_quiet _ _ c.in_ok-source.source _ refl c.in_ok-source.ensures.told
+returns-clause-told g c = λ none. c.run_source-ran.ensures.told none ∙ answered_quiet _ _ c.in_ok-source.source _ refl c.in_ok-source.ensures.told

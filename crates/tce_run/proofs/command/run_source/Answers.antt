@@ -1,8 +1,8 @@
 use Rattle.std.proofs.Common.{refl}
+use Rattle.tce_outside.proofs.Causes.{cause_as, answered_quiet}
 use Rattle.tce_job.specs.Refusals.{MayBeRefused}
 use Rattle.tce_job.proofs.Causes.{names_declared}
 use Rattle.tce_run.proofs.Told.{of_files, told_failure, told_no_failure, answered}
-use Rattle.tce_run.proofs.Ran.{cause_as, ok_quiet}
 use Rattle.tce_run.proofs.command.run_source.Goals as goal
 
 pub returns-in-Ok-clause-done : goal.returns-in-Ok-clause-done
@@ -24,7 +24,7 @@ pub returns-in-Ok-clause-cause : goal.returns-in-Ok-clause-cause
 returns-in-Ok-clause-cause g c = cause_as _ _ (answered c.into_vec.result _ refl) c.in-Ok.ensures.cause
 
 pub returns-in-Ok-clause-told : goal.returns-in-Ok-clause-told
-returns-in-Ok-clause-told g c = λ none. ok_quiet _ _ c.in-Ok.report _ refl c.in-Ok.ensures.quiet
+returns-in-Ok-clause-told g c = λ none. answered_quiet _ _ c.in-Ok.report _ refl c.in-Ok.ensures.quiet
 
 pub refusal_of-requires-clause-declared : goal.refusal_of-requires-clause-declared
 refusal_of-requires-clause-declared g c = names_declared (g.D.Disk.files c.args.disk.now) c.args.source.now c.args.budget c.in-Err.fault c.in-Err.ensures.refused

@@ -1,7 +1,7 @@
 use Rattle.std.proofs.Common.{List, ℕ, Err, refl, sym, subst, ap}
+use Rattle.tce_outside.proofs.Causes.{cause_as}
 use Rattle.tce_batch_job.specs.Reports.{HasRun}
 use Rattle.tce_run.proofs.Told.{refusal_in, answered}
-use Rattle.tce_run.proofs.Ran.{cause_as}
 use Rattle.tce_sequence.proofs.BatchRan.{names_one, names_tensor, of_files_at, failed_told, disk_told_at}
 use Rattle.tce_sequence.proofs.batch.run_formulas.Goals as goal
 

@@ -1,7 +1,7 @@
 use Rattle.std.proofs.Common.{List, ℕ, refl, sym, subst}
+use Rattle.tce_outside.proofs.Causes.{cause_as, answered_quiet}
 use Rattle.tce_spill_job.specs.Reports.{IsReportedFor}
 use Rattle.tce_run.proofs.Told.{answered}
-use Rattle.tce_run.proofs.Ran.{cause_as, ok_quiet}
 use Rattle.tce_sequence.proofs.SpillReasons.{could_run}
 use Rattle.tce_sequence.proofs.SpillRan.{of_files, told_failure, told_no_failure}
 use Rattle.tce_sequence.proofs.spilling.run_pieces.Goals as goal
@@ -21,7 +21,7 @@ pub returns-in-Ok-clause-cause : goal.returns-in-Ok-clause-cause
 returns-in-Ok-clause-cause g c = cause_as _ _ (answered c.into_vec.result _ refl) c.in-Ok.ensures.cause
 
 pub returns-in-Ok-clause-told : goal.returns-in-Ok-clause-told
-returns-in-Ok-clause-told g c = λ none. ok_quiet _ _ c.in-Ok.report _ refl c.in-Ok.ensures.quiet
+returns-in-Ok-clause-told g c = λ none. answered_quiet _ _ c.in-Ok.report _ refl c.in-Ok.ensures.quiet
 
 pub refusal_of_pieces-requires : goal.refusal_of_pieces-requires
 refusal_of_pieces-requires g c = of_files (g.D.Disk.files c.args.disk.now) c.args.source.now c.args.budget c.args.limit c.in-Err.fault c.in-Err.ensures.refused

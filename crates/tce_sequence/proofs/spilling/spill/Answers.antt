@@ -1,6 +1,6 @@
 use Rattle.std.proofs.Common.{refl, ◌∙◌}
 use Rattle.std.proofs.lemmas.Result.{err_from_is_err_and, IfOk-weaker, IfErr-weaker}
-use Rattle.tce_run.proofs.Ran.{both_causes, ok_quiet}
+use Rattle.tce_outside.proofs.Causes.{answered_quiet, cause_since}
 use Rattle.tce_sequence.proofs.SpillRan.{spill_refused, unchanged_left, spill_left, spill_room, same_room, spill_others, spill_ran}
 use Rattle.tce_sequence.proofs.spilling.spill.Goals as goal
 
@@ -44,7 +44,7 @@ returns-clause-others g c =
     c.in_ok-source.ensures.same c.in_ok-source.ensures.read c.run_pieces-ran.ensures.others
 
 pub returns-clause-cause : goal.returns-clause-cause
-returns-clause-cause g c = both_causes _ _ _ c.in_ok-source.ensures.cause c.run_pieces-ran.ensures.cause (λ failed. failed)
+returns-clause-cause g c = cause_since _ _ _ c.in_ok-source.ensures.cause.later c.run_pieces-ran.ensures.cause
 
 pub returns-clause-told : goal.returns-clause-told
-returns-clause-told g c = λ none. c.run_pieces-ran.ensures.told none ∙ ok_quiet _ _ c.in_ok-source.source _ refl c.in_ok-source.ensures.told
+returns-clause-told g c = λ none. c.run_pieces-ran.ensures.told none ∙ answered_quiet _ _ c.in_ok-source.source _ refl c.in_ok-source.ensures.told

@@ -2,7 +2,8 @@ use Rattle.std.proofs.Common.{◌<◌, All, length, map, sym, ap, ◌∙◌, sub
 use Rattle.std.proofs.lemmas.List.Elements.{All-push}
 use Rattle.tce_space.specs.IndexSet.{has}
 use Rattle.tce_space.specs.Space.{index_at}
-use Rattle.tce_spill.proofs.Ranges.{ranges-yes, filter-no, room_before, all_ranges}
+use Rattle.tce_space.proofs.Ranges.{filter_same}
+use Rattle.tce_spill.proofs.Ranges.{ranges-yes, room_before, all_ranges}
 use Rattle.tce_spill.proofs.storage.ranges_of.Goals as goal
 use Rattle.tce_spill.proofs.storage.ranges_of.Goals.{then-has, else-has}
 
@@ -27,7 +28,7 @@ loop-index-preserved c =
       | else-has w ↦ record {
         items =
             ap (λ r. r.items) w.ranges-is ∙ c.loop-index.invariant.items
-            ∙ ap (map (λ i. (index_at c.args.space.now i).of_range)) (sym (filter-no (has c.args.dims) c.loop-index.index (sym c.has.ensures ∙ w.if-has.false)));
+            ∙ ap (map (λ i. (index_at c.args.space.now i).of_range)) (sym (filter_same (has c.args.dims) c.loop-index.index (sym c.has.ensures ∙ w.if-has.false)));
         declared = subst (λ r. All (λ x. x < length c.args.space.now.ranges) r.items) (sym w.ranges-is) c.loop-index.invariant.declared;
       }
     ]

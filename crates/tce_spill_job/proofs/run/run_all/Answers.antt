@@ -1,12 +1,12 @@
 use Rattle.std.proofs.Common.{ℕ, ◌≡◌, ◌+◌, List, refl, sym, subst, ap, ◌∙◌, arith}
+use Rattle.tce_outside.proofs.Causes.{cause_as, no_cause, answered_quiet, cause_after}
 use Rattle.tce_space.specs.IndexSet.{has}
 use Rattle.tce_tree.specs.ContractionTree.{operations}
 use Rattle.tce_spill.specs.Planned.{HavePlansFrom}
 use Rattle.tce_spill_job.specs.Reports.{HasRun}
 use Rattle.tce_spill_job.proofs.Roots.{told_more, told_same}
-use Rattle.tce_job.proofs.Answered.{same_fault, answered_quiet}
+use Rattle.tce_job.proofs.Answered.{same_fault}
 use Rattle.tce_spill_job.specs.Left.{files_at}
-use Rattle.tce_spill_job.proofs.Counted.{cause_after, no_cause_after, none_counted}
 use Rattle.tce_spill_job.proofs.Reports.{taken_more, run_taken, run_more, run_same, none_taken, all_reported}
 use Rattle.tce_spill_job.proofs.Ended.{late_fault, failed_left, failed_takings}
 use Rattle.tce_spill_job.proofs.PlannedRuns.{plan_place, some_plan, taken_plan, plans_on, plans_after}
@@ -130,13 +130,13 @@ pub returns-in_default-clause-takings : goal.returns-in_default-clause-takings
 returns-in_default-clause-takings g c = none_taken c.args.spec.now (has c.args.spilling.cuts) c.args.spilling.budget (g.R.Room.takings c.args.room.now)
 
 pub returns-in_default-push_piece-clause-cause : goal.returns-in_default-push_piece-clause-cause
-returns-in_default-push_piece-clause-cause g c = no_cause_after _ _ _ c.loop-root.invariant.counted (λ failed. absurd (cc)) c.in-Ok-run_piece.ensures.cause
+returns-in_default-push_piece-clause-cause g c = cause_after _ _ _ c.loop-root.invariant.counted (cause_as _ _ (λ failed. absurd (cc)) c.in-Ok-run_piece.ensures.cause)
 
 pub returns-in_default-push_piece-clause-quiet : goal.returns-in_default-push_piece-clause-quiet
 returns-in_default-push_piece-clause-quiet g c = λ none. answered_quiet _ _ c.in-Ok-run_piece.report _ refl c.in-Ok-run_piece.ensures.quiet ∙ c.loop-root.invariant.counted
 
 pub returns-in-Err-clause-cause : goal.returns-in-Err-clause-cause
-returns-in-Err-clause-cause g c = cause_after _ _ _ c.loop-root.invariant.counted (same_fault c.in-Err.fault _ _ refl refl) c.in-Err.ensures.cause
+returns-in-Err-clause-cause g c = cause_after _ _ _ c.loop-root.invariant.counted (cause_as _ _ (same_fault c.in-Err.fault _ _ refl refl) c.in-Err.ensures.cause)
 
 pub returns-in-Err-clause-quiet : goal.returns-in-Err-clause-quiet
 returns-in-Err-clause-quiet g c = λ none. c.in-Err.ensures.quiet (λ failed. none (same_fault c.in-Err.fault _ _ refl refl failed)) ∙ c.loop-root.invariant.counted
@@ -157,7 +157,7 @@ returns-in_default-push_wrote-clause-takings g c =
     }
 
 pub returns-in_default-push_wrote-clause-cause : goal.returns-in_default-push_wrote-clause-cause
-returns-in_default-push_wrote-clause-cause g c = none_counted _ _ c.loop-root.invariant.counted (λ failed. absurd (cc))
+returns-in_default-push_wrote-clause-cause g c = no_cause _ _ c.loop-root.invariant.counted (λ failed. absurd (cc))
 
 pub returns-in_default-push_wrote-clause-quiet : goal.returns-in_default-push_wrote-clause-quiet
 returns-in_default-push_wrote-clause-quiet g c = λ none. c.loop-root.invariant.counted
@@ -184,7 +184,7 @@ returns-clause-reported g c =
     (subst (λ n. HasRun c.args.spec.now (has c.args.spilling.cuts) n c.args.spilling.budget before after c.loop-root.text.items) last c.loop-root.invariant.run) c.in-Ok-push_wrote.ensures
 
 pub returns-clause-cause : goal.returns-clause-cause
-returns-clause-cause g c = none_counted _ _ c.loop-root.invariant.counted (λ failed. absurd (cc))
+returns-clause-cause g c = no_cause _ _ c.loop-root.invariant.counted (λ failed. absurd (cc))
 
 pub returns-clause-quiet : goal.returns-clause-quiet
 returns-clause-quiet g c = λ none. c.loop-root.invariant.counted

@@ -1,10 +1,11 @@
 use Rattle.std.proofs.Common.{Option, refl, subst, inl, inr, ap, ◌∙◌}
 use Rattle.std.specs.Option.{option_map}
 use Rattle.tce_outside.specs.Files.{Files, others}
+use Rattle.tce_outside.proofs.Causes.{cause_as, answered_quiet, cause_since}
 use Rattle.tce_tensors.specs.TensorFiles.{file_of}
 use Rattle.tce_tensors.specs.ResultBytes.{with_result}
 use Rattle.tce_tensors.specs.Laws.{LeavesNoHalfResult}
-use Rattle.tce_job.proofs.Answered.{later_cause, cause_as, same_fault, answered, answered_quiet}
+use Rattle.tce_job.proofs.Answered.{same_fault, answered}
 use Rattle.tce_job.proofs.Ended.{same_is_no_half}
 use Rattle.tce_spill_job.proofs.PlannedRuns.{can_run, is_small, is_reported, taken_left}
 use Rattle.tce_spill_job.proofs.run.run_one.Goals as goal
@@ -42,7 +43,7 @@ returns-in-Ok-run_by-clause-reported g c =
     c.in-Ok-run_by.ensures.taken c.in-Ok-run_by.ensures.report
 
 pub returns-in-Ok-run_by-clause-cause : goal.returns-in-Ok-run_by-clause-cause
-returns-in-Ok-run_by-clause-cause g c = later_cause _ _ _ c.in-Ok.ensures.cause (answered c.in-Ok-run_by.report _ refl) c.in-Ok-run_by.ensures.cause
+returns-in-Ok-run_by-clause-cause g c = cause_since _ _ _ c.in-Ok.ensures.cause.later (cause_as _ _ (answered c.in-Ok-run_by.report _ refl) c.in-Ok-run_by.ensures.cause)
 
 pub returns-in-Ok-run_by-clause-quiet : goal.returns-in-Ok-run_by-clause-quiet
 returns-in-Ok-run_by-clause-quiet g c = λ none.

@@ -3,6 +3,7 @@ use Rattle.std.proofs.lemmas.List.{length-take-le, length-drop}
 use Rattle.tce_space.specs.Box.{IsInside}
 use Rattle.tce_space.specs.Tiling.{Tiling}
 use Rattle.tce_outside.specs.Files.{file}
+use Rattle.tce_outside.proofs.Causes.{failed_after}
 use Rattle.tce_tools.specs.Flat.{contents}
 use Rattle.tce_tools.specs.Runs.{moved}
 use Rattle.tce_sym.specs.Storage.{full_cell}
@@ -16,7 +17,6 @@ use Rattle.tce_sym.proofs.WordCoords.{moved_none}
 use Rattle.tce_sym.proofs.Pieces.{none_filled, more_filled}
 use Rattle.std.proofs.lemmas.Result.{IfOk-from_err}
 use Rattle.std.proofs.lemmas.Bool.{false≢true}
-use Rattle.tce_array.proofs.Answered.{rose_here}
 use Rattle.tce_sym.proofs.expansion.read_piece.Goals as goal
 
 pub loop-filled-init : goal.loop-filled-init
@@ -127,7 +127,7 @@ pub returns-in_err-read_row-clause-lines : goal.returns-in_err-read_row-clause-l
 returns-in_err-read_row-clause-lines g c = IfOk-from_err c.from_residual.result _ c.from_residual.ensures.0
 
 pub returns-in_err-read_row-clause-cause : goal.returns-in_err-read_row-clause-cause
-returns-in_err-read_row-clause-cause g c = rose_here (g.D.Disk.faults c.args.disk.now) (g.D.Disk.faults c.loop-filled.disk) (g.D.Disk.faults c.read_row.new.disk) _ c.loop-filled.invariant.counted c.in_err-read_row.ensures.cause
+returns-in_err-read_row-clause-cause g c = failed_after (g.D.Disk.faults c.args.disk.now) (g.D.Disk.faults c.loop-filled.disk) (g.D.Disk.faults c.read_row.new.disk) c.loop-filled.invariant.counted c.in_err-read_row.ensures.cause
 
 pub returns-in_err-read_row-clause-told : goal.returns-in_err-read_row-clause-told
 returns-in_err-read_row-clause-told g c = λ fine. absurd (fine c.from_residual.ensures.0)

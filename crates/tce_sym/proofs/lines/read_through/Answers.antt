@@ -1,13 +1,13 @@
 use Rattle.std.proofs.Common.{◌≡◌, ◌∙◌, ◌+◌, ◌-◌, ap, arith, refl, sym}
 use Rattle.std.proofs.lemmas.List.{length-take-le}
 use Rattle.tce_outside.specs.Files.{file}
+use Rattle.tce_outside.proofs.Causes.{failed_after}
 use Rattle.tce_tools.specs.Flat.{contents}
 use Rattle.tce_sym.specs.Storage.{stored_word}
 use Rattle.tce_sym.proofs.HeldLines.{line_read}
 use Rattle.tce_sym.proofs.StoredReads.{words_there}
 use Rattle.std.proofs.lemmas.Result.{IfOk-from_err}
 use Rattle.std.proofs.lemmas.Bool.{false≢true}
-use Rattle.tce_array.proofs.Answered.{rose_here}
 use Rattle.tce_sym.proofs.lines.read_through.Goals as goal
 
 pub slice_bounds-words-end : goal.slice_bounds-words-end
@@ -80,7 +80,7 @@ pub returns-in_err-read_words-clause-same : goal.returns-in_err-read_words-claus
 returns-in_err-read_words-clause-same g c = c.read_words.ensures.same
 
 pub returns-in_err-read_words-clause-cause : goal.returns-in_err-read_words-clause-cause
-returns-in_err-read_words-clause-cause g c = rose_here (g.D.Disk.faults c.args.disk.now) (g.D.Disk.faults c.args.disk.now) (g.D.Disk.faults c.read_words.new.disk) _ refl c.in_err-read_words.ensures.cause
+returns-in_err-read_words-clause-cause g c = failed_after (g.D.Disk.faults c.args.disk.now) (g.D.Disk.faults c.args.disk.now) (g.D.Disk.faults c.read_words.new.disk) refl c.in_err-read_words.ensures.cause
 
 pub returns-in_err-read_words-clause-told : goal.returns-in_err-read_words-clause-told
 returns-in_err-read_words-clause-told g c = λ fine. absurd (fine c.from_residual.ensures.0)

@@ -1,6 +1,7 @@
 use Rattle.std.proofs.Common.{◌≡◌, ◌∙◌, ◌+◌, ◌*◌, ◌<◌, List, ℕ, length, sym, ap, subst, arith, refl}
 use Rattle.std.specs.Option.{IsSomeAnd}
 use Rattle.tce_outside.specs.Files.{file}
+use Rattle.tce_outside.proofs.Causes.{failed_after, no_cause}
 use Rattle.tce_tools.specs.Flat.{contents}
 use Rattle.tce_sym.specs.Storage.{stored_word, turned}
 use Rattle.tce_sym.specs.declared.cells.Pair.{Pair}
@@ -8,7 +9,6 @@ use Rattle.tce_sym.specs.Cells.{IsAmong, IsMirrored, moved_pair}
 use Rattle.tce_sym.proofs.Walked.{mirrored_walk_is, mirrored_placed, moved_nowhere}
 use Rattle.std.proofs.lemmas.Result.{IfOk-from_err}
 use Rattle.std.proofs.lemmas.Bool.{false≢true}
-use Rattle.tce_array.proofs.Answered.{rose_here, stayed}
 use Rattle.tce_sym.proofs.rows.read_mirrored.Goals as goal
 
 pub read_walk-requires-clause-places : goal.read_walk-requires-clause-places
@@ -57,7 +57,7 @@ pub returns-then-is_empty-clause-same : goal.returns-then-is_empty-clause-same
 returns-then-is_empty-clause-same g c = refl
 
 pub returns-then-is_empty-clause-cause : goal.returns-then-is_empty-clause-cause
-returns-then-is_empty-clause-cause g c = stayed (g.D.Disk.faults c.args.disk.now) (g.D.Disk.faults c.args.disk.now) _ refl false≢true
+returns-then-is_empty-clause-cause g c = no_cause (g.D.Disk.faults c.args.disk.now) (g.D.Disk.faults c.args.disk.now) refl false≢true
 
 pub returns-then-is_empty-clause-told : goal.returns-then-is_empty-clause-told
 returns-then-is_empty-clause-told g c = λ fine. refl
@@ -84,7 +84,7 @@ pub returns-in_err-read_walk-clause-same : goal.returns-in_err-read_walk-clause-
 returns-in_err-read_walk-clause-same g c = c.read_walk.ensures.same
 
 pub returns-in_err-read_walk-clause-cause : goal.returns-in_err-read_walk-clause-cause
-returns-in_err-read_walk-clause-cause g c = rose_here (g.D.Disk.faults c.args.disk.now) (g.D.Disk.faults c.args.disk.now) (g.D.Disk.faults c.read_walk.new.disk) _ refl c.in_err-read_walk.ensures.cause
+returns-in_err-read_walk-clause-cause g c = failed_after (g.D.Disk.faults c.args.disk.now) (g.D.Disk.faults c.args.disk.now) (g.D.Disk.faults c.read_walk.new.disk) refl c.in_err-read_walk.ensures.cause
 
 pub returns-in_err-read_walk-clause-told : goal.returns-in_err-read_walk-clause-told
 returns-in_err-read_walk-clause-told g c = λ fine. absurd (fine c.from_residual.ensures.0)

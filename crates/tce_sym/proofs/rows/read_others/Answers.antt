@@ -1,13 +1,13 @@
 use Rattle.std.proofs.Common.{◌≡◌, ◌∙◌, ◌+◌, ◌<◌, length, slice_index, sym, ap, subst, arith, refl}
 use Rattle.std.proofs.lemmas.Bool.{false≢true}
-use Rattle.tce_outside.proofs.Files.{on_ok}
+use Rattle.std.proofs.lemmas.Result.{on_ok_weaker}
+use Rattle.tce_outside.proofs.Causes.{no_cause}
 use Rattle.tce_tools.specs.Flat.{contents}
 use Rattle.tce_sym.specs.declared.cells.Pair.{Pair}
 use Rattle.tce_sym.specs.Storage.{stored_word}
 use Rattle.tce_sym.specs.Cells.{IsAmong, IsStoredPair, cell_of, moved_pair, pair_place}
-use Rattle.tce_sym.proofs.Pieces.{all_zeros}
 use Rattle.tce_sym.proofs.Walked.{joined_words, moved_on, moved_nowhere, stored_is, between_is}
-use Rattle.tce_array.proofs.Answered.{stayed}
+use Rattle.tce_sym.proofs.HeldLines.{no_mark}
 use Rattle.tce_sym.proofs.rows.read_others.Goals as goal
 
 pub moved_row-behind-requires-clause-outer : goal.moved_row-behind-requires-clause-outer
@@ -36,14 +36,14 @@ read_stored-requires-clause-few g c = omega (arith, c.split_at_mut-diagonal.ensu
 
 pub returns-clause-read : goal.returns-clause-read
 returns-clause-read g c =
-    on_ok c.read_stored.result
+    on_ok_weaker c.read_stored.result
     (λ read. λ x told.
     let len : length c.clear.new.words ≡ c.diagonal_len-zeros.result = omega (arith, c.clear.auto.words, c.split_at_mut-diagonal.ensures.front_len, c.diagonal_len-zeros.ensures.within) in
     joined_words (λ n. cell_of c.args.triangles.now (contents x c.args.packed.now) (moved_pair c.args.row.now n)) c.clear.new.words c.read_stored.new.words
     (λ k l.
     let short : k < c.diagonal_len-zeros.result = omega (arith, l, len) in
     let inside : k < length c.args.words.now = omega (arith, short, c.diagonal_len-zeros.ensures.within) in
-    ap (λ ws. slice_index ws k) c.clear.ensures ∙ all_zeros _ k
+    ap (λ ws. slice_index ws k) c.clear.ensures ∙ no_mark _ k
     ∙ between_is c.args.triangles.now (contents x c.args.packed.now) (moved_pair c.args.row.now k) (c.requires.others k inside) (c.diagonal_len-zeros.ensures.diagonal k short) (c.diagonal_len-zeros.ensures.negated (omega (arith, short))))
     (λ k l.
     let inside : length c.clear.new.words + k < length c.args.words.now =
@@ -76,7 +76,7 @@ pub returns-then-is_empty-clause-same : goal.returns-then-is_empty-clause-same
 returns-then-is_empty-clause-same g c = refl
 
 pub returns-then-is_empty-clause-cause : goal.returns-then-is_empty-clause-cause
-returns-then-is_empty-clause-cause g c = stayed (g.D.Disk.faults c.args.disk.now) (g.D.Disk.faults c.args.disk.now) _ refl false≢true
+returns-then-is_empty-clause-cause g c = no_cause (g.D.Disk.faults c.args.disk.now) (g.D.Disk.faults c.args.disk.now) refl false≢true
 
 pub returns-then-is_empty-clause-told : goal.returns-then-is_empty-clause-told
 returns-then-is_empty-clause-told g c = λ fine. refl

@@ -1,14 +1,12 @@
 use Rattle.std.proofs.Common.{◌≡◌, ◌∙◌, ℕ, ◌+◌, length, sym, ap, subst, arith, refl}
-use Rattle.tce_outside.proofs.Files.{on_ok}
+use Rattle.tce_outside.proofs.Causes.{cause_since, failed_after, no_cause}
 use Rattle.tce_tools.specs.Flat.{contents}
 use Rattle.tce_sym.specs.declared.cells.Pair.{Pair}
 use Rattle.tce_sym.specs.Lines.{HasRoom}
 use Rattle.tce_sym.specs.Cells.{IsAmong, IsUpper, cell_of, moved_pair}
-use Rattle.tce_tools.proofs.Faults.{cause_behind}
 use Rattle.tce_sym.proofs.Walked.{joined_words, moved_on, moved_nowhere, mirrored_is}
-use Rattle.std.proofs.lemmas.Result.{IfOk-from_err}
+use Rattle.std.proofs.lemmas.Result.{IfOk-from_err, on_ok_weaker}
 use Rattle.std.proofs.lemmas.Bool.{false≢true}
-use Rattle.tce_array.proofs.Answered.{rose_here, stayed}
 use Rattle.tce_sym.proofs.rows.read_row.Goals as goal
 
 pub moved_row-behind-requires-clause-outer : goal.moved_row-behind-requires-clause-outer
@@ -54,7 +52,7 @@ read_others-requires-clause-lines g c = λ x told. c.in_ok-read_mirrored.ensures
 
 pub returns-clause-read : goal.returns-clause-read
 returns-clause-read g c =
-    on_ok c.read_others.result
+    on_ok_weaker c.read_others.result
     (λ read. λ x told.
     let len : length c.read_mirrored.new.words ≡ c.mirrored_len-len.result = omega (arith, c.read_mirrored.auto.words, c.split_at_mut-mirrored.ensures.front_len, c.mirrored_len-len.ensures.within) in
     joined_words (λ n. cell_of c.args.triangles.now (contents x c.args.packed.now) (moved_pair c.args.row.now n)) c.read_mirrored.new.words c.read_others.new.words
@@ -70,13 +68,13 @@ returns-clause-read g c =
     c.read_others.ensures.read
 
 pub returns-clause-lines : goal.returns-clause-lines
-returns-clause-lines g c = on_ok c.read_others.result (λ held. λ x told. held x (c.in_ok-read_mirrored.ensures.same ∙ told)) c.read_others.ensures.lines
+returns-clause-lines g c = on_ok_weaker c.read_others.result (λ held. λ x told. held x (c.in_ok-read_mirrored.ensures.same ∙ told)) c.read_others.ensures.lines
 
 pub returns-clause-same : goal.returns-clause-same
 returns-clause-same g c = c.read_others.ensures.same ∙ c.in_ok-read_mirrored.ensures.same
 
 pub returns-clause-cause : goal.returns-clause-cause
-returns-clause-cause g c = cause_behind _ (g.D.Disk.faults c.read_mirrored.new.disk) _ _ c.in_ok-read_mirrored.ensures.cause.later c.read_others.ensures.cause
+returns-clause-cause g c = cause_since _ (g.D.Disk.faults c.read_mirrored.new.disk) _ c.in_ok-read_mirrored.ensures.cause.later c.read_others.ensures.cause
 
 pub returns-clause-told : goal.returns-clause-told
 returns-clause-told g c = λ ok. c.read_others.ensures.told ok ∙ c.in_ok-read_mirrored.ensures.told false≢true
@@ -88,7 +86,7 @@ pub returns-then-is_empty-clause-same : goal.returns-then-is_empty-clause-same
 returns-then-is_empty-clause-same g c = refl
 
 pub returns-then-is_empty-clause-cause : goal.returns-then-is_empty-clause-cause
-returns-then-is_empty-clause-cause g c = stayed (g.D.Disk.faults c.args.disk.now) (g.D.Disk.faults c.args.disk.now) _ refl false≢true
+returns-then-is_empty-clause-cause g c = no_cause (g.D.Disk.faults c.args.disk.now) (g.D.Disk.faults c.args.disk.now) refl false≢true
 
 pub returns-then-is_empty-clause-told : goal.returns-then-is_empty-clause-told
 returns-then-is_empty-clause-told g c = λ fine. refl
@@ -118,7 +116,7 @@ pub returns-in_err-read_mirrored-clause-same : goal.returns-in_err-read_mirrored
 returns-in_err-read_mirrored-clause-same g c = c.read_mirrored.ensures.same
 
 pub returns-in_err-read_mirrored-clause-cause : goal.returns-in_err-read_mirrored-clause-cause
-returns-in_err-read_mirrored-clause-cause g c = rose_here (g.D.Disk.faults c.args.disk.now) (g.D.Disk.faults c.args.disk.now) (g.D.Disk.faults c.read_mirrored.new.disk) _ refl c.in_err-read_mirrored.ensures.cause
+returns-in_err-read_mirrored-clause-cause g c = failed_after (g.D.Disk.faults c.args.disk.now) (g.D.Disk.faults c.args.disk.now) (g.D.Disk.faults c.read_mirrored.new.disk) refl c.in_err-read_mirrored.ensures.cause
 
 pub returns-in_err-read_mirrored-clause-told : goal.returns-in_err-read_mirrored-clause-told
 returns-in_err-read_mirrored-clause-told g c = λ fine. absurd (fine c.from_residual.ensures.0)

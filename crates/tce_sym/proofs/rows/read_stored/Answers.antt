@@ -1,15 +1,15 @@
 use Rattle.std.proofs.Common.{◌≡◌, ◌∙◌, ◌+◌, ◌*◌, List, ℕ, length, sym, ap, subst, arith, refl}
 use Rattle.std.specs.Option.{IsSomeAnd}
 use Rattle.std.proofs.lemmas.Bool.{false≢true}
+use Rattle.std.proofs.lemmas.Result.{on_ok_weaker}
 use Rattle.tce_outside.specs.Files.{file}
-use Rattle.tce_outside.proofs.Files.{on_ok}
+use Rattle.tce_outside.proofs.Causes.{no_cause}
 use Rattle.tce_tools.specs.Flat.{contents}
 use Rattle.tce_sym.specs.declared.cells.Pair.{Pair}
 use Rattle.tce_sym.specs.Storage.{stored_word}
 use Rattle.tce_sym.specs.Cells.{IsAmong, IsStoredPair, moved_pair}
 use Rattle.tce_sym.proofs.FullCells.{pair_placed}
 use Rattle.tce_sym.proofs.Walked.{walk_is, moved_nowhere}
-use Rattle.tce_array.proofs.Answered.{stayed}
 use Rattle.tce_sym.proofs.rows.read_stored.Goals as goal
 
 pub stored_walk-walk-requires-clause-among : goal.stored_walk-walk-requires-clause-among
@@ -34,7 +34,7 @@ read_walk-requires-clause-places g c k l =
 
 pub returns-clause-read : goal.returns-clause-read
 returns-clause-read g c =
-    on_ok c.read_walk.result
+    on_ok_weaker c.read_walk.result
     (λ read. λ x told k l.
     read x told k l
     ∙ ap (stored_word (contents x c.args.packed.now)) (walk_is c.args.triangles.now c.args.row.now c.stored_walk-walk.result k c.stored_walk-walk.ensures))
@@ -59,7 +59,7 @@ pub returns-then-is_empty-clause-same : goal.returns-then-is_empty-clause-same
 returns-then-is_empty-clause-same g c = refl
 
 pub returns-then-is_empty-clause-cause : goal.returns-then-is_empty-clause-cause
-returns-then-is_empty-clause-cause g c = stayed (g.D.Disk.faults c.args.disk.now) (g.D.Disk.faults c.args.disk.now) _ refl false≢true
+returns-then-is_empty-clause-cause g c = no_cause (g.D.Disk.faults c.args.disk.now) (g.D.Disk.faults c.args.disk.now) refl false≢true
 
 pub returns-then-is_empty-clause-told : goal.returns-then-is_empty-clause-told
 returns-then-is_empty-clause-told g c = λ fine. refl

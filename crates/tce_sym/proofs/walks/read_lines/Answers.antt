@@ -7,7 +7,7 @@ use Rattle.tce_sym.proofs.Walked.{more}
 use Rattle.tce_sym.proofs.StoredReads.{place_small}
 use Rattle.std.proofs.lemmas.Result.{IfOk-from_err}
 use Rattle.std.proofs.lemmas.Bool.{false≢true}
-use Rattle.tce_array.proofs.Answered.{rose_here}
+use Rattle.tce_outside.proofs.Causes.{failed_after}
 use Rattle.tce_sym.proofs.walks.read_lines.Goals as goal
 
 pub loop-done-init : goal.loop-done-init
@@ -109,7 +109,7 @@ pub returns-in_err-words-clause-lines : goal.returns-in_err-words-clause-lines
 returns-in_err-words-clause-lines g c = IfOk-from_err c.from_residual.result _ c.from_residual.ensures.0
 
 pub returns-in_err-words-clause-cause : goal.returns-in_err-words-clause-cause
-returns-in_err-words-clause-cause g c = rose_here (g.D.Disk.faults c.args.disk.now) (g.D.Disk.faults c.loop-done.disk) (g.D.Disk.faults c.read_word.new.disk) _ c.loop-done.invariant.counted c.in_err-words.ensures.cause
+returns-in_err-words-clause-cause g c = failed_after (g.D.Disk.faults c.args.disk.now) (g.D.Disk.faults c.loop-done.disk) (g.D.Disk.faults c.read_word.new.disk) c.loop-done.invariant.counted c.in_err-words.ensures.cause
 
 pub returns-in_err-words-clause-told : goal.returns-in_err-words-clause-told
 returns-in_err-words-clause-told g c = λ fine. absurd (fine c.from_residual.ensures.0)

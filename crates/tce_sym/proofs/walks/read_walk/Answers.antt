@@ -3,11 +3,11 @@ use Rattle.std.specs.Option.{ForSome}
 use Rattle.std.specs.Result.{OnOk}
 use Rattle.std.proofs.lemmas.Bool.{false≢true}
 use Rattle.tce_outside.specs.Files.{Files}
+use Rattle.tce_outside.proofs.Causes.{no_cause}
 use Rattle.tce_tools.specs.Flat.{contents}
 use Rattle.tce_sym.specs.declared.lines.Layout.{Layout}
 use Rattle.tce_sym.specs.Lines.{HasRoom, AreHeld, walk_place}
 use Rattle.tce_sym.proofs.Across.{across_held}
-use Rattle.tce_array.proofs.Answered.{stayed}
 use Rattle.tce_sym.proofs.walks.read_walk.Goals as goal
 
 pub read_lines-requires-clause-grid : goal.read_lines-requires-clause-grid
@@ -91,7 +91,7 @@ pub returns-in-Whole-clause-same : goal.returns-in-Whole-clause-same
 returns-in-Whole-clause-same g c = refl
 
 pub returns-in-Whole-clause-cause : goal.returns-in-Whole-clause-cause
-returns-in-Whole-clause-cause g c = stayed (g.D.Disk.faults c.args.disk.now) (g.D.Disk.faults c.args.disk.now) _ refl false≢true
+returns-in-Whole-clause-cause g c = no_cause (g.D.Disk.faults c.args.disk.now) (g.D.Disk.faults c.args.disk.now) refl false≢true
 
 pub returns-in-Whole-clause-told : goal.returns-in-Whole-clause-told
 returns-in-Whole-clause-told g c = λ fine. refl
@@ -100,7 +100,7 @@ pub returns-in-Across-clause-same : goal.returns-in-Across-clause-same
 returns-in-Across-clause-same g c = refl
 
 pub returns-in-Across-clause-cause : goal.returns-in-Across-clause-cause
-returns-in-Across-clause-cause g c = stayed (g.D.Disk.faults c.args.disk.now) (g.D.Disk.faults c.args.disk.now) _ refl false≢true
+returns-in-Across-clause-cause g c = no_cause (g.D.Disk.faults c.args.disk.now) (g.D.Disk.faults c.args.disk.now) refl false≢true
 
 pub returns-in-Across-clause-told : goal.returns-in-Across-clause-told
 returns-in-Across-clause-told g c = λ fine. refl

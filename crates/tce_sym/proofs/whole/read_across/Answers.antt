@@ -1,7 +1,7 @@
 use Rattle.std.proofs.Common.{arith, sym, subst, ◌∙◌}
 use Rattle.std.proofs.lemmas.Result.{IfOk-from_err}
 use Rattle.std.proofs.lemmas.Bool.{false≢true}
-use Rattle.tce_array.proofs.Answered.{rose_here, stayed}
+use Rattle.tce_outside.proofs.Causes.{failed_after, no_cause}
 use Rattle.tce_sym.specs.Lines.{IsAcross}
 use Rattle.tce_sym.proofs.whole.read_across.Goals as goal
 
@@ -27,7 +27,7 @@ pub returns-in_err-from-clause-same : goal.returns-in_err-from-clause-same
 returns-in_err-from-clause-same g c = c.read_strip.ensures.same ∙ c.loop-from.invariant.files
 
 pub returns-in_err-from-clause-cause : goal.returns-in_err-from-clause-cause
-returns-in_err-from-clause-cause g c = rose_here (g.D.Disk.faults c.args.disk.now) (g.D.Disk.faults c.loop-from.disk) (g.D.Disk.faults c.read_strip.new.disk) _ c.loop-from.invariant.counted c.in_err-from.ensures.cause
+returns-in_err-from-clause-cause g c = failed_after (g.D.Disk.faults c.args.disk.now) (g.D.Disk.faults c.loop-from.disk) (g.D.Disk.faults c.read_strip.new.disk) c.loop-from.invariant.counted c.in_err-from.ensures.cause
 
 pub returns-in_err-from-clause-told : goal.returns-in_err-from-clause-told
 returns-in_err-from-clause-told g c = λ fine. absurd (fine c.from_residual.ensures.0)
@@ -48,7 +48,7 @@ pub returns-clause-same : goal.returns-clause-same
 returns-clause-same g c = c.loop-from.invariant.files
 
 pub returns-clause-cause : goal.returns-clause-cause
-returns-clause-cause g c = stayed (g.D.Disk.faults c.args.disk.now) (g.D.Disk.faults c.loop-from.disk) _ c.loop-from.invariant.counted false≢true
+returns-clause-cause g c = no_cause (g.D.Disk.faults c.args.disk.now) (g.D.Disk.faults c.loop-from.disk) c.loop-from.invariant.counted false≢true
 
 pub returns-clause-told : goal.returns-clause-told
 returns-clause-told g c = λ _. c.loop-from.invariant.counted

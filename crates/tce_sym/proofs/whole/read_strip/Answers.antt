@@ -1,6 +1,7 @@
 use Rattle.std.proofs.Common.{◌≡◌, ◌∙◌, ℕ, ◌+◌, ◌*◌, length, replicate, sym, subst, arith}
 use Rattle.std.proofs.lemmas.List.{length-take-le, length-replicate}
 use Rattle.tce_outside.specs.Files.{file}
+use Rattle.tce_outside.proofs.Causes.{failed_after}
 use Rattle.tce_tools.specs.Flat.{contents}
 use Rattle.tce_sym.specs.Lines.{IsAcross}
 use Rattle.tce_sym.proofs.StoredReads.{words_there, strip_there}
@@ -8,7 +9,6 @@ use Rattle.tce_sym.proofs.HeldLines.{line_read}
 use Rattle.tce_sym.proofs.Across.{strip_more, strip_before, strip_all}
 use Rattle.std.proofs.lemmas.Result.{IfOk-from_err}
 use Rattle.std.proofs.lemmas.Bool.{false≢true}
-use Rattle.tce_array.proofs.Answered.{rose_here}
 use Rattle.tce_sym.proofs.whole.read_strip.Goals as goal
 
 pub loop-outer-preserved : goal.loop-outer-preserved
@@ -90,7 +90,7 @@ pub returns-in_err-read_words-clause-read : goal.returns-in_err-read_words-claus
 returns-in_err-read_words-clause-read g c = IfOk-from_err c.from_residual.result _ c.from_residual.ensures.0
 
 pub returns-in_err-read_words-clause-cause : goal.returns-in_err-read_words-clause-cause
-returns-in_err-read_words-clause-cause g c = rose_here (g.D.Disk.faults c.args.disk.now) (g.D.Disk.faults c.loop-outer.disk) (g.D.Disk.faults c.read_words.new.disk) _ c.loop-outer.invariant.counted c.in_err-read_words.ensures.cause
+returns-in_err-read_words-clause-cause g c = failed_after (g.D.Disk.faults c.args.disk.now) (g.D.Disk.faults c.loop-outer.disk) (g.D.Disk.faults c.read_words.new.disk) c.loop-outer.invariant.counted c.in_err-read_words.ensures.cause
 
 pub returns-in_err-read_words-clause-told : goal.returns-in_err-read_words-clause-told
 returns-in_err-read_words-clause-told g c = λ fine. absurd (fine c.from_residual.ensures.0)

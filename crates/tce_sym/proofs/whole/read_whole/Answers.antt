@@ -4,7 +4,7 @@ use Rattle.tce_tools.specs.Flat.{contents}
 use Rattle.tce_sym.proofs.HeldLines.{line_read, words_more}
 use Rattle.std.proofs.lemmas.Result.{IfOk-from_err}
 use Rattle.std.proofs.lemmas.Bool.{false≢true}
-use Rattle.tce_array.proofs.Answered.{rose_here, stayed}
+use Rattle.tce_outside.proofs.Causes.{failed_after, no_cause}
 use Rattle.tce_sym.proofs.whole.read_whole.Goals as goal
 
 pub loop-done-preserved : goal.loop-done-preserved
@@ -37,7 +37,7 @@ pub returns-in_err-read_words-clause-same : goal.returns-in_err-read_words-claus
 returns-in_err-read_words-clause-same g c = c.read_words.ensures.same ∙ c.loop-done.invariant.files
 
 pub returns-in_err-read_words-clause-cause : goal.returns-in_err-read_words-clause-cause
-returns-in_err-read_words-clause-cause g c = rose_here (g.D.Disk.faults c.args.disk.now) (g.D.Disk.faults c.loop-done.disk) (g.D.Disk.faults c.read_words.new.disk) _ c.loop-done.invariant.counted c.in_err-read_words.ensures.cause
+returns-in_err-read_words-clause-cause g c = failed_after (g.D.Disk.faults c.args.disk.now) (g.D.Disk.faults c.loop-done.disk) (g.D.Disk.faults c.read_words.new.disk) c.loop-done.invariant.counted c.in_err-read_words.ensures.cause
 
 pub returns-in_err-read_words-clause-told : goal.returns-in_err-read_words-clause-told
 returns-in_err-read_words-clause-told g c = λ fine. absurd (fine c.from_residual.ensures.0)
@@ -49,7 +49,7 @@ pub returns-clause-same : goal.returns-clause-same
 returns-clause-same g c = c.loop-done.invariant.files
 
 pub returns-clause-cause : goal.returns-clause-cause
-returns-clause-cause g c = stayed (g.D.Disk.faults c.args.disk.now) (g.D.Disk.faults c.loop-done.disk) _ c.loop-done.invariant.counted false≢true
+returns-clause-cause g c = no_cause (g.D.Disk.faults c.args.disk.now) (g.D.Disk.faults c.loop-done.disk) c.loop-done.invariant.counted false≢true
 
 pub returns-clause-told : goal.returns-clause-told
 returns-clause-told g c = λ _. c.loop-done.invariant.counted

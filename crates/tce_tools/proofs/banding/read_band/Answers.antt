@@ -1,6 +1,7 @@
 use Rattle.std.proofs.Common.{◌+◌, ◌*◌, ◌≤◌, ℕ, length, sym, subst, arith, ◌∙◌, refl}
 use Rattle.tce_space.specs.Tiling.{Tiling}
 use Rattle.tce_outside.specs.Files.{file}
+use Rattle.tce_outside.proofs.Causes.{failed_after}
 use Rattle.tce_array.specs.declared.form.Form.TheVariants.{One}
 use Rattle.tce_tools.specs.declared.storage.Storage.{Storage}
 use Rattle.tce_tools.specs.declared.storage.Storage.TheVariants.{Array}
@@ -12,7 +13,6 @@ use Rattle.tce_tools.proofs.PieceReads.{flat_read}
 use Rattle.tce_tools.proofs.PieceWrites.{words_there, buffer_fits}
 use Rattle.std.proofs.lemmas.Result.{IfOk-from_err}
 use Rattle.std.proofs.lemmas.List.{length-take-le}
-use Rattle.tce_array.proofs.Answered.{rose_here}
 use Rattle.tce_tools.proofs.banding.read_band.Goals as goal
 
 pub overflow_mul-band : goal.overflow_mul-band
@@ -70,7 +70,7 @@ pub returns-in_err-read_words-in-Flat-clause-len : goal.returns-in_err-read_word
 returns-in_err-read_words-in-Flat-clause-len g c = c.read_words.auto.words ∙ c.requires.words
 
 pub returns-in_err-read_words-in-Flat-clause-cause : goal.returns-in_err-read_words-in-Flat-clause-cause
-returns-in_err-read_words-in-Flat-clause-cause g c = rose_here (g.D.Disk.faults c.args.disk.now) (g.D.Disk.faults c.args.disk.now) (g.D.Disk.faults c.read_words.new.disk) _ refl c.in_err-read_words-in-Flat.ensures.cause
+returns-in_err-read_words-in-Flat-clause-cause g c = failed_after (g.D.Disk.faults c.args.disk.now) (g.D.Disk.faults c.args.disk.now) (g.D.Disk.faults c.read_words.new.disk) refl c.in_err-read_words-in-Flat.ensures.cause
 
 pub returns-in_err-read_words-in-Flat-clause-told : goal.returns-in_err-read_words-in-Flat-clause-told
 returns-in_err-read_words-in-Flat-clause-told g c = λ fine. absurd (fine c.from_residual.ensures.0)
@@ -91,7 +91,7 @@ pub returns-in_err-read_pieces-in-Array-clause-len : goal.returns-in_err-read_pi
 returns-in_err-read_pieces-in-Array-clause-len g c = c.requires.words
 
 pub returns-in_err-read_pieces-in-Array-clause-cause : goal.returns-in_err-read_pieces-in-Array-clause-cause
-returns-in_err-read_pieces-in-Array-clause-cause g c = rose_here (g.D.Disk.faults c.args.disk.now) (g.D.Disk.faults c.args.disk.now) (g.D.Disk.faults c.read_pieces.new.disk) _ refl c.in_err-read_pieces-in-Array.ensures.cause
+returns-in_err-read_pieces-in-Array-clause-cause g c = failed_after (g.D.Disk.faults c.args.disk.now) (g.D.Disk.faults c.args.disk.now) (g.D.Disk.faults c.read_pieces.new.disk) refl c.in_err-read_pieces-in-Array.ensures.cause
 
 pub returns-in_err-read_pieces-in-Array-clause-told : goal.returns-in_err-read_pieces-in-Array-clause-told
 returns-in_err-read_pieces-in-Array-clause-told g c = λ fine. absurd (fine c.from_residual-in_err-read_pieces-in-Array.ensures.0)

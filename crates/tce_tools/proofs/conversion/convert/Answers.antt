@@ -2,6 +2,7 @@ use Rattle.std.proofs.Common.{sym, ◌∙◌, ap, refl, subst, List, ℕ, Option
 use Rattle.tce_space.specs.Tiling.{Tiling}
 use Rattle.tce_outside.specs.Fault.{HasCause, TellsFaults}
 use Rattle.tce_outside.specs.Files.{Files, file, others}
+use Rattle.tce_outside.proofs.Causes.{cause_since, failed_after}
 use Rattle.tce_array.specs.Forms.{form_bytes}
 use Rattle.tce_tools.specs.declared.fault.ToolFault.{ToolFault}
 use Rattle.tce_tools.specs.declared.storage.Storage.TheVariants.{Array}
@@ -10,13 +11,12 @@ use Rattle.tce_tools.specs.Flat.{contents, array_element}
 use Rattle.tce_tools.specs.Storage.{stored_bytes, element_in, holding_by, last_written}
 use Rattle.tce_tools.specs.Told.{Copies, Converts, KeepsFiles, IsDiskFault}
 use Rattle.tce_tools.proofs.Apart.{ok_not_err, array_not_disk, same_err}
-use Rattle.tce_tools.proofs.Faults.{not_opened, copied_or_not, on_ok, cause_behind, refused_for}
+use Rattle.tce_tools.proofs.Faults.{not_opened, copied_or_not, on_ok, refused_for}
 use Rattle.tce_tools.proofs.Forms.{opened_form, opened_fits, opened_is, form_stored, array_elements}
 use Rattle.tce_tools.proofs.NoHalf.{same_left, moved_left}
 use Rattle.tce_tools.proofs.Told.{held_told}
 use Rattle.std.proofs.lemmas.Result.{IfOk-from_err}
 use Rattle.std.proofs.lemmas.Bool.{false≢true}
-use Rattle.tce_array.proofs.Answered.{rose_here}
 use Rattle.tce_tools.specs.declared.fault.ToolFault.TheVariants.{Disk}
 use Rattle.tce_tools.proofs.conversion.convert.Goals as goal
 
@@ -53,7 +53,7 @@ pub returns-clause-others : goal.returns-clause-others
 returns-clause-others g c = c.copy.ensures.others ∙ ap (others c.args.to.now) (c.misfit_for.ensures.same ∙ c.open.ensures.same)
 
 pub returns-clause-cause : goal.returns-clause-cause
-returns-clause-cause g c = cause_behind _ (g.D.Disk.faults c.misfit_for.new.disk) _ _ (omega (arith, c.open.ensures.cause.later, c.misfit_for.ensures.cause.later)) c.copy.ensures.cause
+returns-clause-cause g c = cause_since _ (g.D.Disk.faults c.misfit_for.new.disk) _ (omega (arith, c.open.ensures.cause.later, c.misfit_for.ensures.cause.later)) c.copy.ensures.cause
 
 pub returns-clause-told : goal.returns-clause-told
 returns-clause-told g c = λ fine. c.copy.ensures.told fine ∙ c.in_ok-place.ensures.told false≢true ∙ c.in_ok-found.ensures.told (λ e. ok_not_err e)
@@ -107,7 +107,7 @@ pub returns-in_err-place-clause-others : goal.returns-in_err-place-clause-others
 returns-in_err-place-clause-others g c = ap (others c.args.to.now) (c.misfit_for.ensures.same ∙ c.open.ensures.same)
 
 pub returns-in_err-place-clause-cause : goal.returns-in_err-place-clause-cause
-returns-in_err-place-clause-cause g c = rose_here (g.D.Disk.faults c.args.disk.now) (g.D.Disk.faults c.open.new.disk) (g.D.Disk.faults c.misfit_for.new.disk) _ (c.in_ok-found.ensures.told (λ e. ok_not_err e)) c.in_err-place.ensures.cause
+returns-in_err-place-clause-cause g c = failed_after (g.D.Disk.faults c.args.disk.now) (g.D.Disk.faults c.open.new.disk) (g.D.Disk.faults c.misfit_for.new.disk) (c.in_ok-found.ensures.told (λ e. ok_not_err e)) c.in_err-place.ensures.cause
 
 pub returns-in_err-place-clause-told : goal.returns-in_err-place-clause-told
 returns-in_err-place-clause-told g c = refused_for (λ (r : Result (Unit {0}) ToolFault). TellsFaults (g.D.Disk.faults c.args.disk.now) (g.D.Disk.faults c.misfit_for.new.disk) (IsDiskFault r)) c.from_residual-in_err-place.result Disk c.from_residual-in_err-place.ensures.1 (λ fine. absurd (fine refl))

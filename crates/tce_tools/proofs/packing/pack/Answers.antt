@@ -2,6 +2,7 @@ use Rattle.std.proofs.Common.{◌∙◌, ap, subst, List, ℕ, Option, Result, r
 use Rattle.std.proofs.lemmas.Bool.{false≢true}
 use Rattle.tce_space.specs.Tiling.{Tiling}
 use Rattle.tce_outside.specs.Files.{Files, file, others}
+use Rattle.tce_outside.proofs.Causes.{cause_since}
 use Rattle.tce_array.specs.declared.form.Form.TheVariants.{One}
 use Rattle.tce_tools.specs.declared.fault.ToolFault.{ToolFault}
 use Rattle.tce_tools.specs.declared.storage.Storage.TheVariants.{Flat, Array}
@@ -9,7 +10,7 @@ use Rattle.tce_tools.specs.Answers.{HasFlat, IsPackAnswer, IsOfPack}
 use Rattle.tce_tools.specs.Flat.{contents, flat_element}
 use Rattle.tce_tools.specs.Storage.{stored_bytes, element_in, holding_by}
 use Rattle.tce_tools.specs.Told.{Copies, Packs, KeepsFiles}
-use Rattle.tce_tools.proofs.Faults.{copied_or_not, on_ok, cause_behind}
+use Rattle.tce_tools.proofs.Faults.{copied_or_not, on_ok}
 use Rattle.tce_tools.proofs.Forms.{flat_is}
 use Rattle.tce_tools.proofs.Stored.{stored_same}
 use Rattle.tce_tools.proofs.NoHalf.{packed_left}
@@ -46,7 +47,7 @@ pub returns-clause-others : goal.returns-clause-others
 returns-clause-others g c = c.copy.ensures.others ∙ ap (others c.args.array.now) c.size.ensures.same
 
 pub returns-clause-cause : goal.returns-clause-cause
-returns-clause-cause g c = cause_behind _ (g.D.Disk.faults c.size.new.self) _ _ c.size.ensures.cause.later c.copy.ensures.cause
+returns-clause-cause g c = cause_since _ (g.D.Disk.faults c.size.new.self) _ c.size.ensures.cause.later c.copy.ensures.cause
 
 pub returns-clause-told : goal.returns-clause-told
 returns-clause-told g c = λ fine. c.copy.ensures.told fine ∙ c.in_ok-len.ensures.told false≢true

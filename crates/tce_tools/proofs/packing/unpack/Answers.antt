@@ -2,6 +2,7 @@ use Rattle.std.proofs.Common.{◌∙◌, ap, refl, subst, List, ℕ, Option, Res
 use Rattle.tce_space.specs.Tiling.{Tiling}
 use Rattle.tce_outside.specs.Fault.{HasCause, TellsFaults}
 use Rattle.tce_outside.specs.Files.{Files, file, others}
+use Rattle.tce_outside.proofs.Causes.{cause_since}
 use Rattle.tce_tools.specs.declared.fault.ToolFault.{ToolFault}
 use Rattle.tce_tools.specs.declared.storage.Storage.TheVariants.{Flat, Array}
 use Rattle.tce_tools.specs.Answers.{HasArray, IsUnpackAnswer, IsOfUnpack}
@@ -9,7 +10,7 @@ use Rattle.tce_tools.specs.Flat.{contents, array_element, flat_bytes}
 use Rattle.tce_tools.specs.Storage.{stored_bytes, element_in, holding_by}
 use Rattle.tce_tools.specs.Told.{Copies, Unpacks, KeepsFiles, IsDiskFault}
 use Rattle.tce_tools.proofs.Apart.{ok_not_err, array_not_disk, same_err}
-use Rattle.tce_tools.proofs.Faults.{not_opened, copied_or_not, on_ok, cause_behind}
+use Rattle.tce_tools.proofs.Faults.{not_opened, copied_or_not, on_ok}
 use Rattle.tce_tools.proofs.Forms.{opened_form, array_elements}
 use Rattle.tce_tools.proofs.NoHalf.{same_left, moved_left}
 use Rattle.tce_tools.proofs.Told.{held_told}
@@ -46,7 +47,7 @@ pub returns-clause-others : goal.returns-clause-others
 returns-clause-others g c = c.copy.ensures.others ∙ ap (others c.args.flat.now) c.open.ensures.same
 
 pub returns-clause-cause : goal.returns-clause-cause
-returns-clause-cause g c = cause_behind _ (g.D.Disk.faults c.open.new.disk) _ _ c.open.ensures.cause.later c.copy.ensures.cause
+returns-clause-cause g c = cause_since _ (g.D.Disk.faults c.open.new.disk) _ c.open.ensures.cause.later c.copy.ensures.cause
 
 pub returns-clause-told : goal.returns-clause-told
 returns-clause-told g c = λ fine. c.copy.ensures.told fine ∙ c.in_ok-form.ensures.told (λ e. ok_not_err e)

@@ -1,12 +1,13 @@
 use Rattle.std.proofs.Common.{◌∙◌, length, slice_index, ap, arith}
-use Rattle.tce_tools.proofs.Shuffles.{tile_more, zeros_more, zero_at}
+use Rattle.tce_array.proofs.Heads.{zeros_at}
+use Rattle.tce_tools.proofs.Shuffles.{tile_more, zeros_more}
 use Rattle.tce_tools.proofs.shuffle.tile.Goals as goal
 
 pub loop-done-init : goal.loop-done-init
 loop-done-init c = record {
   done = omega arith;
   elements = λ element values xs h lt index at. let start = c.requires.band.element xs h index at in absurd (omega (arith, start.0));
-  padding = λ index none. ap (λ l. slice_index l index) c.clear.ensures ∙ zero_at (length c.args.tiled.now) index;
+  padding = λ index none. ap (λ l. slice_index l index) c.clear.ensures ∙ zeros_at (length c.args.tiled.now) index;
 }
 
 pub loop-done-preserved : goal.loop-done-preserved

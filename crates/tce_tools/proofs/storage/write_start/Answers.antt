@@ -1,10 +1,10 @@
 use Rattle.std.proofs.Common.{◌≡◌, sym, subst, OnOk, refl}
 use Rattle.std.proofs.lemmas.Bool.{false≢true}
 use Rattle.tce_outside.specs.Files.{written}
+use Rattle.tce_outside.proofs.Causes.{no_cause}
 use Rattle.tce_tools.specs.declared.storage.Storage.{Storage}
 use Rattle.tce_tools.specs.Storage.{start_of}
 use Rattle.tce_tools.proofs.NoHalf.{start_written}
-use Rattle.tce_array.proofs.Answered.{stayed}
 use Rattle.tce_tools.proofs.storage.write_start.Goals as goal
 
 pub returns-in-Array-clause-written : goal.returns-in-Array-clause-written
@@ -25,7 +25,7 @@ pub returns-in-Flat-clause-others : goal.returns-in-Flat-clause-others
 returns-in-Flat-clause-others g c = refl
 
 pub returns-in-Flat-clause-cause : goal.returns-in-Flat-clause-cause
-returns-in-Flat-clause-cause g c = stayed (g.D.Disk.faults c.args.disk.now) (g.D.Disk.faults c.args.disk.now) _ refl false≢true
+returns-in-Flat-clause-cause g c = no_cause (g.D.Disk.faults c.args.disk.now) (g.D.Disk.faults c.args.disk.now) refl false≢true
 
 pub returns-in-Flat-clause-told : goal.returns-in-Flat-clause-told
 returns-in-Flat-clause-told g c = λ fine. refl

@@ -1,6 +1,8 @@
 use Rattle.std.proofs.Common.{refl, ap, ◌∙◌, inl, Err, codes}
 use Rattle.std.proofs.lemmas.Result.{err_from_is_err_and, IfOk-weaker, IfErr-weaker}
-use Rattle.tce_verify.proofs.Judged.{verified, refused, written_for, is_disk, cause_since, told_since, cause_as, told_as, as_disk, is_err_disk, ok_no_disk}
+use Rattle.tce_outside.proofs.Causes.{cause_as, told_as, cause_since, told_after}
+use Rattle.tce_source.proofs.Outcomes.{ok_no_disk}
+use Rattle.tce_verify.proofs.Judged.{verified, refused, written_for, is_disk, as_disk, is_err_disk}
 use Rattle.tce_verify.proofs.Names.{short}
 use Rattle.tce_verify.proofs.command.verify.Goals as goal
 
@@ -20,7 +22,7 @@ returns-in_err-source-clause-line g c =
 pub returns-in_err-source-clause-cause : goal.returns-in_err-source-clause-cause
 returns-in_err-source-clause-cause g c =
     let p = err_from_is_err_and c.from_residual.result c.from_residual.ensures.1 in
-    cause_as _ _ _ _ (λ failed. ap Err (is_disk c.from_residual.result p.0 _ p.1 p.2 failed)) c.in_err-source.ensures.cause
+    cause_as _ _ (λ failed. ap Err (is_disk c.from_residual.result p.0 _ p.1 p.2 failed)) c.in_err-source.ensures.cause
 
 pub returns-in_err-source-clause-told : goal.returns-in_err-source-clause-told
 returns-in_err-source-clause-told g c =
@@ -48,7 +50,7 @@ returns-clause-line g c =
     (λ refusal written. written_for (g.D.Disk.files c.args.disk.now) c.args.spec.now c.in_ok-source.source refusal c.in_ok-source.ensures.read written) c.verify_file-verified.ensures.line
 
 pub returns-clause-cause : goal.returns-clause-cause
-returns-clause-cause g c = cause_since _ _ _ _ c.in_ok-source.ensures.cause.later c.verify_file-verified.ensures.cause
+returns-clause-cause g c = cause_since _ _ _ c.in_ok-source.ensures.cause.later c.verify_file-verified.ensures.cause
 
 pub returns-clause-told : goal.returns-clause-told
-returns-clause-told g c = told_since _ _ _ (c.in_ok-source.ensures.told (ok_no_disk _ _ refl)) c.verify_file-verified.ensures.told
+returns-clause-told g c = told_after _ _ _ (c.in_ok-source.ensures.told (ok_no_disk _ _ refl)) c.verify_file-verified.ensures.told

@@ -1,9 +1,11 @@
 use Rattle.std.proofs.Common.{refl, subst, ap, ℕ, List, Err}
 use Rattle.std.specs.String.{string_bytes}
 use Rattle.std.proofs.lemmas.Result.{err_from_is_err_and, IfOk-weaker, IfErr-weaker}
+use Rattle.tce_outside.proofs.Causes.{cause_as, told_as}
+use Rattle.tce_source.proofs.Outcomes.{ok_no_disk}
 use Rattle.tce_verify.specs.Judging.{IsJudgement}
 use Rattle.tce_verify.specs.OfFile.{IsVerifiedText}
-use Rattle.tce_verify.proofs.Judged.{file_verified, file_refused, written_over, no_fault, is_disk, cause_as, told_as, as_disk, is_err_disk, ok_no_disk}
+use Rattle.tce_verify.proofs.Judged.{file_verified, file_refused, written_over, no_fault, is_disk, as_disk, is_err_disk}
 use Rattle.tce_verify.proofs.command.verify_file.Goals as goal
 
 pub returns-in_err-text-clause-refused : goal.returns-in_err-text-clause-refused
@@ -19,7 +21,7 @@ returns-in_err-text-clause-line g c =
 pub returns-in_err-text-clause-cause : goal.returns-in_err-text-clause-cause
 returns-in_err-text-clause-cause g c =
     let p = err_from_is_err_and c.from_residual.result c.from_residual.ensures.1 in
-    cause_as _ _ _ _ (λ failed. ap Err (is_disk c.from_residual.result p.0 _ p.1 p.2 failed)) c.in_err-text.ensures.cause
+    cause_as _ _ (λ failed. ap Err (is_disk c.from_residual.result p.0 _ p.1 p.2 failed)) c.in_err-text.ensures.cause
 
 pub returns-in_err-text-clause-told : goal.returns-in_err-text-clause-told
 returns-in_err-text-clause-told g c =
@@ -42,7 +44,7 @@ pub returns-clause-line : goal.returns-clause-line
 returns-clause-line g c = IfErr-weaker c.text_report-verified.result _ _ (written_over c.args.spec.now c.deref.result.now) c.text_report-verified.ensures.refused
 
 pub returns-clause-cause : goal.returns-clause-cause
-returns-clause-cause g c = cause_as _ _ _ _ (λ failed. absurd (no_fault c.text_report-verified.result c.args.spec.now c.deref.result.now c.text_report-verified.ensures.refused failed)) c.in_ok-text.ensures.cause
+returns-clause-cause g c = cause_as _ _ (λ failed. absurd (no_fault c.text_report-verified.result c.args.spec.now c.deref.result.now c.text_report-verified.ensures.refused failed)) c.in_ok-text.ensures.cause
 
 pub returns-clause-told : goal.returns-clause-told
 returns-clause-told g c = λ none. c.in_ok-text.ensures.told (ok_no_disk _ _ refl)

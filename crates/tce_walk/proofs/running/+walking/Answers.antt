@@ -1,5 +1,7 @@
 use Rattle.std.proofs.Common.{◌≡◌, ◌+◌, ◌-◌, ◌<◌, length, get_or, set, refl, sym, ap, ◌∙◌, subst, arith, rules}
 use Rattle.std.proofs.lemmas.Result.{err_from_is_err_and}
+use Rattle.std.proofs.lemmas.Bool.{false≢true}
+use Rattle.tce_outside.proofs.Causes.{no_cause, cause_after}
 use Rattle.tce_space.specs.Space.{extent_at}
 use Rattle.tce_code.specs.Program.{stop, loop}
 use Rattle.tce_code.specs.declared.op.Op.TheVariants.{Open}
@@ -9,7 +11,7 @@ use Rattle.tce_walk.specs.Run.{RunsOver, IsPart, IsRun}
 use Rattle.tce_walk.proofs.Turns.{IsIndex, AreTurns, loop-index, assignment-set, set-again, turn-part, turn-few, turns-none, turns-next, turns-all}
 use Rattle.tce_walk.proofs.TailParts.{part-shaped, tail-asks, tail-few, tail-run}
 use Rattle.tce_walk.proofs.Positions.{left-start}
-use Rattle.tce_walk.proofs.Walking.{over-later, cause-later, cause-none, over-part, over-extents, plain-is, plain-part, plain-rest, plain-few, plain-left, open-part, open-few, open-rest, open-left, set-next, set-back, close-run, close-end, past-run, past-end}
+use Rattle.tce_walk.proofs.Walking.{over-later, over-part, over-extents, plain-is, plain-part, plain-rest, plain-few, plain-left, open-part, open-few, open-rest, open-left, set-next, set-back, close-run, close-end, past-run, past-end}
 use Rattle.tce_walk.proofs.running.+walking.Goals as goal
 
 pub run_loop-find_tail-requires-clause-shaped : goal.run_loop-find_tail-requires-clause-shaped
@@ -209,7 +211,7 @@ run_turns-returns g t c =
           (g.M.Machine.touches c.loop-x.machine)) all c.loop-x.invariant.turns);
       end = c.loop-x.invariant.end;
       numbers = set-back c.args.numbers.now c.loop-x.numbers c.args.head.index (c.loop-x.x - 1) (omega (arith, index.small, c.told-numbers)) c.loop-x.invariant.numbers_set;
-      cause = cause-none c.loop-x.invariant.counted;
+      cause = no_cause _ _ c.loop-x.invariant.counted false≢true;
       told = λ none. c.loop-x.invariant.counted;
       space = c.loop-x.invariant.space;
       setting = c.loop-x.invariant.setting;
@@ -280,7 +282,7 @@ run_part-returns-in-Close g t c = record {
       (g.M.Machine.state c.args.machine.now) (g.M.Machine.state c.loop-at.machine) (g.M.Machine.touches c.args.machine.now) (g.M.Machine.touches c.loop-at.machine)
       c.loop-at-test.true c.in-Close.is c.loop-at.invariant.behind c.loop-at.invariant.left;
   numbers = c.loop-at.invariant.numbers_same;
-  cause = cause-none c.loop-at.invariant.counted;
+  cause = no_cause _ _ c.loop-at.invariant.counted false≢true;
   told = λ none. c.loop-at.invariant.counted;
   space = c.loop-at.invariant.space;
   setting = c.loop-at.invariant.setting;
@@ -295,7 +297,7 @@ run_part-returns-in_err-close-in-Open g t c =
       run = tt;
       end = tt;
       numbers = tt;
-      cause = cause-later c.loop-at.invariant.counted c.in_err-close-in-Open.ensures.cause;
+      cause = cause_after _ _ _ c.loop-at.invariant.counted c.in_err-close-in-Open.ensures.cause;
       told = λ none. c.in_err-close-in-Open.ensures.told none ∙ c.loop-at.invariant.counted;
       space = c.run_loop.ensures.space ∙ c.loop-at.invariant.space;
       setting = c.run_loop.ensures.setting ∙ c.loop-at.invariant.setting;
@@ -310,7 +312,7 @@ run_part-returns-in_err-run_action-in_default g t c =
       run = tt;
       end = tt;
       numbers = tt;
-      cause = cause-later c.loop-at.invariant.counted c.in_err-run_action-in_default.ensures.cause;
+      cause = cause_after _ _ _ c.loop-at.invariant.counted c.in_err-run_action-in_default.ensures.cause;
       told = λ none. c.in_err-run_action-in_default.ensures.told none ∙ c.loop-at.invariant.counted;
       space = c.run_action.ensures.space ∙ c.loop-at.invariant.space;
       setting = c.run_action.ensures.setting ∙ c.loop-at.invariant.setting;
@@ -329,7 +331,7 @@ run_part-returns g t c = record {
       (g.M.Machine.state c.args.machine.now) (g.M.Machine.state c.loop-at.machine) (g.M.Machine.touches c.args.machine.now) (g.M.Machine.touches c.loop-at.machine)
       c.loop-at-test.false c.loop-at.invariant.behind c.loop-at.invariant.within c.loop-at.invariant.left;
   numbers = c.loop-at.invariant.numbers_same;
-  cause = cause-none c.loop-at.invariant.counted;
+  cause = no_cause _ _ c.loop-at.invariant.counted false≢true;
   told = λ none. c.loop-at.invariant.counted;
   space = c.loop-at.invariant.space;
   setting = c.loop-at.invariant.setting;
@@ -359,7 +361,7 @@ run_turns-returns-in_err-close-2 g t c =
       run = tt;
       end = tt;
       numbers = tt;
-      cause = cause-later c.loop-x.invariant.counted c.in_err-close-2.ensures.cause;
+      cause = cause_after _ _ _ c.loop-x.invariant.counted c.in_err-close-2.ensures.cause;
       told = λ none. c.in_err-close-2.ensures.told none ∙ c.loop-x.invariant.counted;
       space = c.run_part-in-loop-x.ensures.space ∙ c.loop-x.invariant.space;
       setting = c.run_part-in-loop-x.ensures.setting ∙ c.loop-x.invariant.setting;

@@ -1,7 +1,7 @@
 use Rattle.std.proofs.Common.{slice_index, arith, length}
 use Rattle.tce_base.specs.Word.{wrapping_add, wrapping_mul}
+use Rattle.tce_base.proofs.Words.{times_comm}
 use Rattle.tce_words.proofs.RunSteps.{one_before_other, joined_values, mapped_values, run_added, steady_left, steady_swapped, part_within}
-use Rattle.tce_words.proofs.WordSteps.{wrapping_mul_comm}
 use Rattle.tce_words.proofs.products.mul_add_run.Goals as goal
 
 pub mul_add_contiguous-requires-clause-apart_from_a : goal.mul_add_contiguous-requires-clause-apart_from_a
@@ -26,7 +26,7 @@ returns-in-1-eq1-eq0 c =
     let old = c.args.words.now in
     run_added wrapping_add _ c.args.out.first c.args.out.step c.args.n old c.mul_add_scaled.new.words _ c.mul_add_scaled.ensures c.in-1-eq1-eq0.is-0 (omega arith) c.requires.out
     (mapped_values (wrapping_mul (slice_index old c.args.b.first)) _ c.args.a.first c.args.a.step c.args.n old c.in-1-eq1-eq0.is-1 (omega arith) c.requires.a
-    (λ t. steady_swapped wrapping_mul (slice_index old) c.args.b.first t c.args.b.step _ c.in-1-eq1-eq0.is-2 (wrapping_mul_comm _ _)))
+    (λ t. steady_swapped wrapping_mul (slice_index old) c.args.b.first t c.args.b.step _ c.in-1-eq1-eq0.is-2 (times_comm _ _)))
 
 pub returns-in-1-eq0-eq1 : goal.returns-in-1-eq0-eq1
 returns-in-1-eq0-eq1 c =

@@ -1,7 +1,7 @@
 use Rattle.std.proofs.Common.{slice_index, arith, length}
 use Rattle.tce_base.specs.Word.{wrapping_add}
+use Rattle.tce_base.proofs.Words.{plus_comm}
 use Rattle.tce_words.proofs.RunSteps.{one_before_other, run_joined, run_mapped, steady_left, steady_swapped, part_within}
-use Rattle.tce_words.proofs.WordSteps.{wrapping_add_comm}
 use Rattle.tce_words.proofs.sums.plus_run.Goals as goal
 
 pub plus_contiguous-requires-clause-apart_from_a : goal.plus_contiguous-requires-clause-apart_from_a
@@ -26,7 +26,7 @@ returns-in-1-eq1-eq0 c =
     let old = c.args.words.now in
     run_mapped (wrapping_add (slice_index old c.args.b.first)) _ c.args.out.first c.args.out.step c.args.a.first c.args.a.step c.args.n old c.plus_one.new.words c.plus_one.ensures
     c.in-1-eq1-eq0.is-0 c.in-1-eq1-eq0.is-1 (omega arith) c.requires.out c.requires.a
-    (λ t. steady_swapped wrapping_add (slice_index old) c.args.b.first t c.args.b.step _ c.in-1-eq1-eq0.is-2 (wrapping_add_comm _ _))
+    (λ t. steady_swapped wrapping_add (slice_index old) c.args.b.first t c.args.b.step _ c.in-1-eq1-eq0.is-2 (plus_comm _ _))
 
 pub returns-in-1-eq0-eq1 : goal.returns-in-1-eq0-eq1
 returns-in-1-eq0-eq1 c =

@@ -2,12 +2,12 @@ use Rattle.std.proofs.Common.{◌≡◌, ◌∙◌, ◌+◌, ◌<◌, ℕ, ap, s
 use Rattle.std.proofs.lemmas.Result.{IfOk-from_err}
 use Rattle.std.proofs.lemmas.Bool.{false≢true}
 use Rattle.tce_frames.specs.Held.{Held}
-use Rattle.tce_array.proofs.Answered.{rose_here, stayed}
 use Rattle.tce_frames.specs.Current.{place, IsSameOutside}
+use Rattle.tce_outside.proofs.Causes.{cause_of, failed_after, no_cause}
 use Rattle.tce_cache.specs.declared.array.ArrayRef.{ArrayRef}
 use Rattle.tce_cache.specs.Transfer.{HasFile}
 use Rattle.tce_cache.specs.Cache.{State, Exists, HasRoom, OnlyWritableDiffers, IsArrayAt, layout, stored, words_of_tile}
-use Rattle.tce_cache.proofs.Counted.{nothing_outside, cause_of_failure}
+use Rattle.tce_cache.proofs.Counted.{nothing_outside}
 use Rattle.tce_cache.proofs.Tiles.{outside_frames, told_from}
 use Rattle.tce_cache.proofs.Steps.{has_after, same_brought}
 use Rattle.tce_cache.proofs.cache.Cache.bring.Goals as goal
@@ -49,7 +49,7 @@ pub returns-in_err-frame-clause-others : goal.returns-in_err-frame-clause-others
 returns-in_err-frame-clause-others g c = c.take_frame.ensures.others
 
 pub returns-in_err-frame-clause-cause : goal.returns-in_err-frame-clause-cause
-returns-in_err-frame-clause-cause g c = cause_of_failure (g.D.Disk.faults c.args.disk.now) (g.D.Disk.faults c.take_frame.new.disk) _ c.in_err-frame.ensures.cause
+returns-in_err-frame-clause-cause g c = cause_of (g.D.Disk.faults c.args.disk.now) (g.D.Disk.faults c.take_frame.new.disk) c.in_err-frame.ensures.cause
 
 pub returns-in_err-frame-clause-told : goal.returns-in_err-frame-clause-told
 returns-in_err-frame-clause-told g c = λ none. absurd (none c.from_residual.ensures.0)
@@ -89,7 +89,7 @@ pub returns-in_err-read_tile-clause-others : goal.returns-in_err-read_tile-claus
 returns-in_err-read_tile-clause-others g c = subst (OnlyWritableDiffers c.args.self.now (g.D.Disk.files c.args.disk.now)) (sym c.read_tile.ensures.same) c.take_frame.ensures.others
 
 pub returns-in_err-read_tile-clause-cause : goal.returns-in_err-read_tile-clause-cause
-returns-in_err-read_tile-clause-cause g c = rose_here (g.D.Disk.faults c.args.disk.now) (g.D.Disk.faults c.take_frame.new.disk) (g.D.Disk.faults c.read_tile.new.disk) _ (c.in_ok-frame.ensures.told false≢true) c.in_err-read_tile.ensures.cause
+returns-in_err-read_tile-clause-cause g c = failed_after (g.D.Disk.faults c.args.disk.now) (g.D.Disk.faults c.take_frame.new.disk) (g.D.Disk.faults c.read_tile.new.disk) (c.in_ok-frame.ensures.told false≢true) c.in_err-read_tile.ensures.cause
 
 pub returns-in_err-read_tile-clause-told : goal.returns-in_err-read_tile-clause-told
 returns-in_err-read_tile-clause-told g c = λ none. absurd (none c.from_residual-in_err-read_tile.ensures.0)
@@ -134,7 +134,7 @@ pub returns-clause-others : goal.returns-clause-others
 returns-clause-others g c = subst (OnlyWritableDiffers c.args.self.now (g.D.Disk.files c.args.disk.now)) (sym c.read_tile.ensures.same) c.take_frame.ensures.others
 
 pub returns-clause-cause : goal.returns-clause-cause
-returns-clause-cause g c = stayed (g.D.Disk.faults c.args.disk.now) (g.D.Disk.faults c.read_tile.new.disk) _ (c.in_ok-read_tile.ensures.told false≢true ∙ c.in_ok-frame.ensures.told false≢true) false≢true
+returns-clause-cause g c = no_cause (g.D.Disk.faults c.args.disk.now) (g.D.Disk.faults c.read_tile.new.disk) (c.in_ok-read_tile.ensures.told false≢true ∙ c.in_ok-frame.ensures.told false≢true) false≢true
 
 pub returns-clause-told : goal.returns-clause-told
 returns-clause-told g c = λ none. c.in_ok-read_tile.ensures.told false≢true ∙ c.in_ok-frame.ensures.told false≢true

@@ -2,7 +2,7 @@ use Rattle.std.proofs.Common.{◌≡◌, ◌∙◌, ℕ, ◌+◌, ◌-◌, ◌<�
 use Rattle.std.proofs.lemmas.Result.{IfOk-from_err}
 use Rattle.std.proofs.lemmas.Bool.{false≢true}
 use Rattle.tce_frames.specs.Held.{Held, look_up}
-use Rattle.tce_array.proofs.Answered.{rose_here, stayed}
+use Rattle.tce_outside.proofs.Causes.{failed_after, no_cause}
 use Rattle.tce_cache.specs.Cache.{State, IsCache, HasRoom, OnlyWritableDiffers}
 use Rattle.tce_cache.specs.Touch.{with_held, unmarked, IsSameArrays}
 use Rattle.tce_cache.proofs.Counted.{no_others}
@@ -67,7 +67,7 @@ pub returns-in_err-frame-clause-cache : goal.returns-in_err-frame-clause-cache
 returns-in_err-frame-clause-cache g c = c.write_back.ensures.cache
 
 pub returns-in_err-frame-clause-cause : goal.returns-in_err-frame-clause-cause
-returns-in_err-frame-clause-cause g c = rose_here (g.D.Disk.faults c.args.disk.now) (g.D.Disk.faults c.loop-frame.disk) (g.D.Disk.faults c.write_back.new.disk) _ c.loop-frame.invariant.counted c.in_err-frame.ensures.cause
+returns-in_err-frame-clause-cause g c = failed_after (g.D.Disk.faults c.args.disk.now) (g.D.Disk.faults c.loop-frame.disk) (g.D.Disk.faults c.write_back.new.disk) c.loop-frame.invariant.counted c.in_err-frame.ensures.cause
 
 pub returns-in_err-frame-clause-told : goal.returns-in_err-frame-clause-told
 returns-in_err-frame-clause-told g c = λ none. absurd (none c.from_residual.ensures.0)
@@ -150,7 +150,7 @@ pub returns-clause-others : goal.returns-clause-others
 returns-clause-others g c = c.loop-frame.invariant.others
 
 pub returns-clause-cause : goal.returns-clause-cause
-returns-clause-cause g c = stayed (g.D.Disk.faults c.args.disk.now) (g.D.Disk.faults c.loop-frame.disk) _ c.loop-frame.invariant.counted false≢true
+returns-clause-cause g c = no_cause (g.D.Disk.faults c.args.disk.now) (g.D.Disk.faults c.loop-frame.disk) c.loop-frame.invariant.counted false≢true
 
 pub returns-clause-told : goal.returns-clause-told
 returns-clause-told g c = λ _. c.loop-frame.invariant.counted

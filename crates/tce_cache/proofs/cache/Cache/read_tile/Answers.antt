@@ -1,10 +1,10 @@
 use Rattle.std.proofs.Common.{◌≡◌, ◌+◌, ◌*◌, ◌<◌, ◌≤◌, length, ap, sym, subst, arith}
 use Rattle.std.proofs.lemmas.Result.{IfOk-from_err}
+use Rattle.tce_outside.proofs.Causes.{cause_of}
 use Rattle.tce_space.specs.Tiling.{tile_words, tiles, padded_words}
 use Rattle.tce_cache.specs.declared.array.ArrayRef.{ArrayRef}
 use Rattle.tce_cache.specs.Transfer.{HasFile}
 use Rattle.tce_cache.specs.Cache.{State, IsCache}
-use Rattle.tce_cache.proofs.Counted.{cause_of_failure}
 use Rattle.tce_cache.proofs.Tiles.{array_low, array_at, at_array, tile_room, frame_room, inside_frame, tile_read}
 use Rattle.tce_cache.proofs.cache.Cache.read_tile.Goals as goal
 
@@ -64,7 +64,7 @@ pub returns-in_err-read_words-clause-same : goal.returns-in_err-read_words-claus
 returns-in_err-read_words-clause-same g c = c.read_words.ensures.same
 
 pub returns-in_err-read_words-clause-cause : goal.returns-in_err-read_words-clause-cause
-returns-in_err-read_words-clause-cause g c = cause_of_failure (g.D.Disk.faults c.args.disk.now) (g.D.Disk.faults c.read_words.new.disk) _ c.in_err-read_words.ensures.cause
+returns-in_err-read_words-clause-cause g c = cause_of (g.D.Disk.faults c.args.disk.now) (g.D.Disk.faults c.read_words.new.disk) c.in_err-read_words.ensures.cause
 
 pub returns-in_err-read_words-clause-told : goal.returns-in_err-read_words-clause-told
 returns-in_err-read_words-clause-told g c = λ none. absurd (none c.from_residual.ensures.0)

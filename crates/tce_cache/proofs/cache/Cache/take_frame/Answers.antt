@@ -4,10 +4,11 @@ use Rattle.std.proofs.lemmas.Bool.{false≢true}
 use Rattle.tce_space.specs.Tiling.{tiles}
 use Rattle.tce_frames.specs.Held.{Held, IsFree, look_up}
 use Rattle.tce_frames.proofs.Touching.{touches_change}
+use Rattle.tce_outside.proofs.Causes.{cause_of, no_cause}
 use Rattle.tce_cache.specs.declared.array.ArrayRef.{ArrayRef}
 use Rattle.tce_cache.specs.Cache.{State, IsCache}
 use Rattle.tce_cache.specs.Touch.{with_held, IsSameArrays}
-use Rattle.tce_cache.proofs.Counted.{no_others, no_cause, cause_of_failure}
+use Rattle.tce_cache.proofs.Counted.{no_others}
 use Rattle.tce_cache.proofs.Tiles.{array_low}
 use Rattle.tce_cache.proofs.Lists.{IsOldest, IsCleaned, IsGivenUp, oldest_there, oldest_absent}
 use Rattle.tce_cache.proofs.Runs.{frame_cleaned}
@@ -85,7 +86,7 @@ pub returns-then-len-frames-clause-others : goal.returns-then-len-frames-clause-
 returns-then-len-frames-clause-others g c = no_others c.args.self.now (g.D.Disk.files c.args.disk.now)
 
 pub returns-then-len-frames-clause-cause : goal.returns-then-len-frames-clause-cause
-returns-then-len-frames-clause-cause g c = no_cause (g.D.Disk.faults c.args.disk.now) _ false≢true
+returns-then-len-frames-clause-cause g c = no_cause (g.D.Disk.faults c.args.disk.now) _ refl false≢true
 
 pub returns-then-len-frames-clause-told : goal.returns-then-len-frames-clause-told
 returns-then-len-frames-clause-told g c = λ none. refl
@@ -128,7 +129,7 @@ pub returns-in_err-write_back-clause-others : goal.returns-in_err-write_back-cla
 returns-in_err-write_back-clause-others g c = c.write_back.ensures.others
 
 pub returns-in_err-write_back-clause-cause : goal.returns-in_err-write_back-clause-cause
-returns-in_err-write_back-clause-cause g c = cause_of_failure (g.D.Disk.faults c.args.disk.now) (g.D.Disk.faults c.write_back.new.disk) _ c.in_err-write_back.ensures.cause
+returns-in_err-write_back-clause-cause g c = cause_of (g.D.Disk.faults c.args.disk.now) (g.D.Disk.faults c.write_back.new.disk) c.in_err-write_back.ensures.cause
 
 pub returns-in_err-write_back-clause-told : goal.returns-in_err-write_back-clause-told
 returns-in_err-write_back-clause-told g c = λ none. absurd (none c.from_residual.ensures.0)

@@ -1,20 +1,21 @@
 use Rattle.std.proofs.Common.{◌≡◌, ◌∙◌, ◌+◌, ◌<◌, ◌||◌, ◌∷◌, ℕ, List, Some, None, ap, sym, refl, subst, true, slice_get, slice_index, unwrap_or, length, inl, inr, arith}
 use Rattle.std.specs.Result.{is_err}
 use Rattle.std.proofs.lemmas.Result.{err_from_is_err_and}
-use Rattle.std.proofs.lemmas.Bool.{false≢true}
+use Rattle.std.proofs.lemmas.Bool.{false≢true, or_cases, or_parts}
 use Rattle.tce_frames.specs.Held.{Held, look_up, without, touched}
 use Rattle.tce_frames.specs.Current.{place}
 use Rattle.tce_frames.specs.Table.{Holding}
 use Rattle.tce_frames.proofs.Current.{found_is, below_found}
 use Rattle.tce_frames.proofs.Found.{found_in, found_frame}
 use Rattle.tce_frames.proofs.Touching.{touches_change, length_without}
+use Rattle.tce_outside.proofs.Causes.{cause_of, no_cause}
 use Rattle.tce_cache.specs.declared.array.ArrayRef.{ArrayRef}
 use Rattle.tce_cache.specs.Transfer.{HasFile}
 use Rattle.tce_cache.specs.Cache.{State, IsCache, IsReady, IsArrayAt, IsWritable, Exists, HasRoom, layout, words_of_tile, current_word}
 use Rattle.tce_cache.specs.Touch.{with_held, IsSameArrays}
-use Rattle.tce_cache.proofs.Counted.{cache_counted, outside_counted, others_counted, state_counted, nothing_outside, no_others, no_cause, cause_of_failure, none_is_held, frames_bounded}
+use Rattle.tce_cache.proofs.Counted.{cache_counted, outside_counted, others_counted, state_counted, nothing_outside, no_others, none_is_held, frames_bounded}
 use Rattle.tce_cache.proofs.Tiles.{told_from}
-use Rattle.tce_cache.proofs.Lists.{touched_apart, marked_as, or_true, or_false}
+use Rattle.tce_cache.proofs.Lists.{touched_apart, marked_as}
 use Rattle.tce_cache.proofs.Steps.{holding_is, cache_touched, same_touched, shown_front, ready_again, same_again}
 use Rattle.tce_cache.proofs.cache.Cache.touch.Goals as goal
 
@@ -46,7 +47,7 @@ returns-in-Some-clause-cache g c =
     let table = holding_is c.touch.new.self s.table.frames s.table.arrays r c.touch.ensures.same.0 c.touch.ensures.same.1 r_is in
     let long = length_without s.table.held a t h found.1 in
     let within = is.count in
-    let writable : x.marked ≡ true → IsWritable v a = λ m. elim (or_true h.marked c.args.write m) [
+    let writable : x.marked ≡ true → IsWritable v a = λ m. elim (or_cases h.marked c.args.write m) [
       | inl k ↦ is.marked a t h found.1 k
       | inr k ↦ subst (λ (z : State). IsWritable z a) (sym c.self.view_is) (c.requires.writable k)
     ] in
@@ -70,7 +71,7 @@ invariant_of-self g c =
     let table = holding_is c.touch.new.self s.table.frames s.table.arrays r c.touch.ensures.same.0 c.touch.ensures.same.1 r_is in
     let long = length_without s.table.held a t h found.1 in
     let within = is.count in
-    let writable : x.marked ≡ true → IsWritable v a = λ m. elim (or_true h.marked c.args.write m) [
+    let writable : x.marked ≡ true → IsWritable v a = λ m. elim (or_cases h.marked c.args.write m) [
       | inl k ↦ is.marked a t h found.1 k
       | inr k ↦ subst (λ (z : State). IsWritable z a) (sym c.self.view_is) (c.requires.writable k)
     ] in
@@ -128,7 +129,7 @@ returns-in-Some-clause-arrays g c fs told gs after =
     let table = holding_is c.touch.new.self s.table.frames s.table.arrays r c.touch.ensures.same.0 c.touch.ensures.same.1 r_is in
     let words = c.args.words.now in
     let ready : IsReady v fs words = subst (λ (z : State). IsReady z fs words) (sym c.self.view_is) ((c.requires.ready fs told).0) in
-    let kept = same_touched v a t (s.touches + 1) h x fs words is ready found.1 named.0 named.1 refl (or_false h.marked c.args.write) in
+    let kept = same_touched v a t (s.touches + 1) h x fs words is ready found.1 named.0 named.1 refl (λ e. (or_parts h.marked c.args.write e).0) in
     let moved = subst (λ (tb : Holding). IsSameArrays v (record { arrays = s.arrays.items; at = s.at; frames = tb.frames; frame_words = s.frame_words; held = tb.held; touches = s.touches + 1 }) fs fs words words) table kept in
     let here = subst (λ (z : State). IsSameArrays z (record { arrays = s.arrays.items; at = s.at; frames = c.touch.new.self.frames; frame_words = s.frame_words; held = c.touch.new.self.held; touches = s.touches + 1 }) fs fs words words) c.self.view_is moved in
     let both : Some fs ≡ Some gs = sym told ∙ after in
@@ -268,7 +269,7 @@ returns-in_ok-frame-in-None-clause-others g c =
     others_counted v c.args.self.now (s.touches + 1) (g.D.Disk.files c.args.disk.now) (g.D.Disk.files c.bring.new.disk) c.self.view_is c.bring.ensures.others
 
 pub returns-in_err-frame-in-None-clause-cause : goal.returns-in_err-frame-in-None-clause-cause
-returns-in_err-frame-in-None-clause-cause g c = cause_of_failure (g.D.Disk.faults c.args.disk.now) (g.D.Disk.faults c.bring.new.disk) _ c.in_err-frame-in-None.ensures.cause
+returns-in_err-frame-in-None-clause-cause g c = cause_of (g.D.Disk.faults c.args.disk.now) (g.D.Disk.faults c.bring.new.disk) c.in_err-frame-in-None.ensures.cause
 
 pub returns-in_err-frame-in-None-clause-told : goal.returns-in_err-frame-in-None-clause-told
 returns-in_err-frame-in-None-clause-told g c =
@@ -298,7 +299,7 @@ pub returns-in-Some-clause-others : goal.returns-in-Some-clause-others
 returns-in-Some-clause-others g c = no_others c.args.self.now (g.D.Disk.files c.args.disk.now)
 
 pub returns-in-Some-clause-cause : goal.returns-in-Some-clause-cause
-returns-in-Some-clause-cause g c = no_cause (g.D.Disk.faults c.args.disk.now) _ false≢true
+returns-in-Some-clause-cause g c = no_cause (g.D.Disk.faults c.args.disk.now) _ refl false≢true
 
 pub returns-in-Some-clause-told : goal.returns-in-Some-clause-told
 returns-in-Some-clause-told g c = λ none. refl

@@ -3,11 +3,12 @@ use Rattle.std.proofs.lemmas.Bool.{not-true, not-false, false≢true}
 use Rattle.std.proofs.lemmas.Result.{IfOk-from_err}
 use Rattle.tce_frames.specs.Held.{look_up}
 use Rattle.tce_frames.specs.Frames.{held_at}
+use Rattle.tce_outside.proofs.Causes.{cause_of, no_cause}
 use Rattle.tce_cache.specs.declared.cache.writing.Run.{Run}
 use Rattle.tce_cache.specs.Cache.{State, IsCache}
 use Rattle.tce_cache.specs.Touch.{IsSameArrays}
 use Rattle.tce_cache.specs.Runs.{run_cleaned}
-use Rattle.tce_cache.proofs.Counted.{held_again, no_others, no_cause, cause_of_failure}
+use Rattle.tce_cache.proofs.Counted.{held_again, no_others}
 use Rattle.tce_cache.proofs.Runs.{none_cleaned, are_cleaned, run_of_one, same_run}
 use Rattle.tce_cache.proofs.Steps.{same_stay}
 use Rattle.tce_cache.proofs.Transfers.{told_once}
@@ -47,7 +48,7 @@ pub returns-then-not-held-clause-others : goal.returns-then-not-held-clause-othe
 returns-then-not-held-clause-others g c = no_others c.args.self.now (g.D.Disk.files c.args.disk.now)
 
 pub returns-then-not-held-clause-cause : goal.returns-then-not-held-clause-cause
-returns-then-not-held-clause-cause g c = no_cause (g.D.Disk.faults c.args.disk.now) _ false≢true
+returns-then-not-held-clause-cause g c = no_cause (g.D.Disk.faults c.args.disk.now) _ refl false≢true
 
 pub returns-then-not-held-clause-told : goal.returns-then-not-held-clause-told
 returns-then-not-held-clause-told g c = λ none. refl
@@ -97,7 +98,7 @@ pub returns-in_err-write_run-clause-others : goal.returns-in_err-write_run-claus
 returns-in_err-write_run-clause-others g c = c.write_run.ensures.others
 
 pub returns-in_err-write_run-clause-cause : goal.returns-in_err-write_run-clause-cause
-returns-in_err-write_run-clause-cause g c = cause_of_failure (g.D.Disk.faults c.args.disk.now) (g.D.Disk.faults c.write_run.new.disk) _ c.in_err-write_run.ensures.cause
+returns-in_err-write_run-clause-cause g c = cause_of (g.D.Disk.faults c.args.disk.now) (g.D.Disk.faults c.write_run.new.disk) c.in_err-write_run.ensures.cause
 
 pub returns-in_err-write_run-clause-told : goal.returns-in_err-write_run-clause-told
 returns-in_err-write_run-clause-told g c = λ none. absurd (none c.from_residual.ensures.0)

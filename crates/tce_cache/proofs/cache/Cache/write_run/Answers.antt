@@ -2,10 +2,10 @@ use Rattle.std.proofs.Common.{◌≡◌, ◌+◌, ◌*◌, ◌<◌, ◌≤◌, �
 use Rattle.std.proofs.lemmas.Result.{IfOk-from_err}
 use Rattle.tce_space.specs.Tiling.{tile_words, tiles, padded_words}
 use Rattle.tce_outside.specs.Files.{others}
+use Rattle.tce_outside.proofs.Causes.{cause_of}
 use Rattle.tce_cache.specs.declared.array.ArrayRef.{ArrayRef}
 use Rattle.tce_cache.specs.Transfer.{HasFile}
 use Rattle.tce_cache.specs.Cache.{State, IsCache, words_of_tile}
-use Rattle.tce_cache.proofs.Counted.{cause_of_failure}
 use Rattle.tce_cache.proofs.Tiles.{array_low, array_at, run_written, writes_differ}
 use Rattle.tce_cache.proofs.Runs.{run_exists, run_writable, run_has_file, run_inside, run_low, run_room}
 use Rattle.tce_cache.proofs.cache.Cache.write_run.Goals as goal
@@ -108,7 +108,7 @@ pub returns-in_err-write_words-clause-written : goal.returns-in_err-write_words-
 returns-in_err-write_words-clause-written g c = IfOk-from_err c.from_residual.result _ c.from_residual.ensures.0
 
 pub returns-in_err-write_words-clause-cause : goal.returns-in_err-write_words-clause-cause
-returns-in_err-write_words-clause-cause g c = cause_of_failure (g.D.Disk.faults c.args.disk.now) (g.D.Disk.faults c.write_words.new.disk) _ c.in_err-write_words.ensures.cause
+returns-in_err-write_words-clause-cause g c = cause_of (g.D.Disk.faults c.args.disk.now) (g.D.Disk.faults c.write_words.new.disk) c.in_err-write_words.ensures.cause
 
 pub returns-in_err-write_words-clause-told : goal.returns-in_err-write_words-clause-told
 returns-in_err-write_words-clause-told g c = λ none. absurd (none c.from_residual.ensures.0)

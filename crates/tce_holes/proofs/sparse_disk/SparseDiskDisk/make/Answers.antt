@@ -1,8 +1,9 @@
 use Rattle.std.proofs.Common.{◌∙◌, ap, refl}
 use Rattle.std.specs.String.{string_bytes}
 use Rattle.tce_outside.specs.declared.device.OutFault.TheVariants.{Memory}
+use Rattle.tce_outside.proofs.Causes.{cause_after}
 use Rattle.tce_holes.specs.Told.{Told}
-use Rattle.tce_holes.proofs.Seen.{made_seen, zeros_seen, others_seen, cause_seen, no_failure}
+use Rattle.tce_holes.proofs.Seen.{made_seen, zeros_seen, others_seen, no_failure}
 use Rattle.tce_holes.proofs.Zeros.{made_zeros, none_zeros}
 use Rattle.tce_holes.proofs.sparse_disk.SparseDiskDisk.make.Goals as goal
 
@@ -65,7 +66,7 @@ returns-in-Ok-clause-memory g c = λ fault. absurd (no_failure tt Memory _ refl 
 
 pub returns-in-Ok-clause-cause : goal.returns-in-Ok-clause-cause
 returns-in-Ok-clause-cause g c =
-    cause_seen (g.D.Disk.faults c.self.inside.disk) c.args.self.now.faults (g.D.Disk.faults c.make.new.self) _
+    cause_after c.args.self.now.faults (g.D.Disk.faults c.self.inside.disk) (g.D.Disk.faults c.make.new.self)
     (ap (λ (t : Told). t.faults) c.self.view_is)
     c.in_ok-make.ensures.cause
 
@@ -83,7 +84,7 @@ returns-in_default-clause-memory g c = λ fault. absurd (no_failure tt Memory _ 
 
 pub returns-in_default-clause-cause : goal.returns-in_default-clause-cause
 returns-in_default-clause-cause g c =
-    cause_seen (g.D.Disk.faults c.self.inside.disk) c.args.self.now.faults (g.D.Disk.faults c.make.new.self) _
+    cause_after c.args.self.now.faults (g.D.Disk.faults c.self.inside.disk) (g.D.Disk.faults c.make.new.self)
     (ap (λ (t : Told). t.faults) c.self.view_is)
     c.in_ok-make.ensures.cause
 

@@ -1,8 +1,8 @@
 use Rattle.std.proofs.Common.{◌∙◌, length, ap, refl, subst}
 use Rattle.std.specs.Result.{OnOk}
 use Rattle.tce_outside.specs.Files.{IsPartIn}
+use Rattle.tce_outside.proofs.Causes.{cause_after}
 use Rattle.tce_holes.specs.Told.{Told}
-use Rattle.tce_holes.proofs.Seen.{cause_seen}
 use Rattle.tce_holes.proofs.sparse_disk.SparseDiskDisk.read_at.Goals as goal
 
 pub returns-then-is_hole-clause-same : goal.returns-then-is_hole-clause-same
@@ -20,7 +20,7 @@ returns-clause-same g c = c.read_at.ensures.same ∙ ap (λ (t : Told). t.files)
 
 pub returns-clause-cause : goal.returns-clause-cause
 returns-clause-cause g c =
-    cause_seen (g.D.Disk.faults c.self.inside.disk) c.args.self.now.faults (g.D.Disk.faults c.read_at.new.self) _
+    cause_after c.args.self.now.faults (g.D.Disk.faults c.self.inside.disk) (g.D.Disk.faults c.read_at.new.self)
     (ap (λ (t : Told). t.faults) c.self.view_is)
     c.read_at.ensures.cause
 

@@ -2,9 +2,10 @@ use Rattle.std.proofs.Common.{◌≡◌, ◌⊎◌, ◌+◌, ◌<◌, ◌≤◌,
 use Rattle.std.specs.Option.{ForSome}
 use Rattle.std.specs.String.{string_bytes}
 use Rattle.tce_outside.specs.Files.{HasPart, KeepsBefore, KeepsFrom, written}
+use Rattle.tce_outside.proofs.Causes.{cause_after}
 use Rattle.tce_holes.specs.Holes.{IsHole}
 use Rattle.tce_holes.specs.Told.{Told}
-use Rattle.tce_holes.proofs.Seen.{others_seen, cause_seen}
+use Rattle.tce_holes.proofs.Seen.{others_seen}
 use Rattle.tce_holes.proofs.Zeros.{written_zeros}
 use Rattle.tce_holes.proofs.sparse_disk.SparseDiskDisk.write_at.Goals as goal
 
@@ -35,7 +36,7 @@ returns-in-Ok-clause-others g c =
 
 pub returns-in-Ok-clause-cause : goal.returns-in-Ok-clause-cause
 returns-in-Ok-clause-cause g c =
-    cause_seen (g.D.Disk.faults c.self.inside.disk) c.args.self.now.faults (g.D.Disk.faults c.write_at.new.self) _
+    cause_after c.args.self.now.faults (g.D.Disk.faults c.self.inside.disk) (g.D.Disk.faults c.write_at.new.self)
     (ap (λ (t : Told). t.faults) c.self.view_is)
     c.in-Ok.ensures.cause
 
@@ -61,7 +62,7 @@ returns-in-Err-clause-others g c =
 
 pub returns-in-Err-clause-cause : goal.returns-in-Err-clause-cause
 returns-in-Err-clause-cause g c =
-    cause_seen (g.D.Disk.faults c.self.inside.disk) c.args.self.now.faults (g.D.Disk.faults c.write_at.new.self) _
+    cause_after c.args.self.now.faults (g.D.Disk.faults c.self.inside.disk) (g.D.Disk.faults c.write_at.new.self)
     (ap (λ (t : Told). t.faults) c.self.view_is)
     c.in-Err.ensures.cause
 

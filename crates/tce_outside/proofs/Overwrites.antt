@@ -1,6 +1,6 @@
 -- What stands in a list after a write over a part of it.
-use Rattle.std.proofs.Common.{◌≡◌, ◌∙◌, ◌⊎◌, ℕ, ◌+◌, ◌-◌, ◌<◌, ◌≤◌, List, ◌++◌, length, take, drop, sym, ap, inl, inr, arith, slice_index, length-append}
-use Rattle.std.proofs.lemmas.List.{get_or-take, get_or-drop, get_or_append_left, get_or-append_right, get_or-append-add, length-take-le, length-drop}
+use Rattle.std.proofs.Common.{◌≡◌, ℕ, ◌+◌, ◌≤◌, List, ◌++◌, length, take, drop, arith, length-append, ◌∙◌, ◌<◌, sym, ap, slice_index, ◌⊎◌, ◌-◌, inl, inr}
+use Rattle.std.proofs.lemmas.List.{length-take-le, length-drop, get_or_append_left, get_or-append-add, get_or-take, get_or-drop, get_or-append_right}
 use Rattle.tce_outside.specs.Files.{overwritten}
 
 pub length-overwritten : (old : List ℕ) (at : ℕ) (bs : List ℕ) → at + length bs ≤ length old → length (overwritten old at bs) ≡ length old
