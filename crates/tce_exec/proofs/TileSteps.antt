@@ -1,8 +1,10 @@
 -- The steps of a tile, dimension by dimension.
-use Rattle.std.proofs.Common.{◌≡◌, ℕ, zero, suc, ◌+◌, ◌-◌, ◌*◌, ◌<◌, ◌≤◌, ◌^◌, eqb, if◌then◌else◌, List, [], ◌∷◌, length, drop, slice_index, sym, ap, ◌∙◌, subst, inl, inr, arith, le_trans}
+use Rattle.std.proofs.Common.{◌≡◌, ℕ, zero, suc, ◌+◌, ◌-◌, ◌*◌, ◌<◌, ◌≤◌, ◌^◌, eqb, if◌then◌else◌, List, [], ◌∷◌, length, drop, slice_index, slice_set, sym, ap, ◌∙◌, subst, inl, inr, arith, le_trans}
 use Rattle.std.proofs.Math.Nat.{mul-le-mul_left, mul-le-mul_right}
 use Rattle.std.proofs.Math.Seq.{drop-cons}
-use Rattle.std.proofs.lemmas.Bool.{cases_Bool}
+use Rattle.std.proofs.lemmas.Bool.{cases_Bool, cases_eq, eq-eqb, ne_eqb}
+use Rattle.std.proofs.lemmas.Grind.{get_or-set_at}
+use Rattle.std.proofs.lemmas.List.{get_or-set_other, length-set}
 use Rattle.tce_space.specs.Box.{product}
 use Rattle.tce_space.specs.Tiling.{Tiling, IsTiling, ArePositive}
 use Rattle.tce_space.proofs.Products.{le_times, drop_positive}
@@ -72,3 +74,28 @@ steps_fit s edges indexes steps d behind i tiling is each some low known so_far 
     let small = are_small edges indexes steps d behind i some (omega (arith, long, each)) known (subst ArePositive (sym is) tiling.positive) so_far in
     let few : length edges * product edges ≤ 8 * product edges = mul-le-mul_right (product edges) (omega (arith, long, tiling.rank)) in
     (omega (arith, words, few, small.behind_low, small.step_low), omega (arith, words, small.product_low))
+
+-- ---- one dimension more, in front of these
+
+pub one_in_front : (edges indexes steps : List ℕ) (d behind : ℕ) → 0 < d → d ≤ length edges → d ≤ length indexes → slice_index indexes (d - 1) < 24 → AreStepsFrom (drop d edges) (drop d indexes) behind steps
+    → AreStepsFrom (drop (d - 1) edges) (drop (d - 1) indexes) (behind * slice_index edges (d - 1)) (slice_set steps (slice_index indexes (d - 1)) (slice_index steps (slice_index indexes (d - 1)) + behind))
+one_in_front edges indexes steps d behind some low_edges low_indexes known so_far =
+    let e : ℕ = slice_index edges (d - 1) in
+    let x : ℕ = slice_index indexes (d - 1) in
+    let v : ℕ = slice_index steps x + behind in
+    let back : suc (d - 1) ≡ d = omega arith in
+    let es : drop (d - 1) edges ≡ e ∷ drop d edges = drop-cons edges (d - 1) 0 (omega arith) ∙ ap (λ n. e ∷ drop n edges) back in
+    let xs : drop (d - 1) indexes ≡ x ∷ drop d indexes = drop-cons indexes (d - 1) 0 (omega arith) ∙ ap (λ n. x ∷ drop n indexes) back in
+    rw (es, xs) (record {
+      behind_is = ap (λ b. b * e) so_far.behind_is ∙ again (product (drop d edges)) e;
+      are = record {
+        each = length-set steps x v ∙ so_far.are.each;
+        steps_are = λ i lt. elim (cases_eq x i) [
+          | inl same ↦ omega (arith, get_or-set_at steps x i v 0 (sym same) (omega (arith, known, so_far.are.each)), ap (slice_index steps) same, so_far.are.steps_are i lt, so_far.behind_is, ap (λ b. if b then product (drop d edges) else 0) (eq-eqb x i same))
+          | inr other ↦ omega (arith, get_or-set_other steps x i v 0 (λ is. other (sym is)), so_far.are.steps_are i lt, ap (λ b. if b then product (drop d edges) else 0) (ne_eqb x i other))
+        ];
+      };
+    })
+  where
+    again : (m n : ℕ) → m * n ≡ n * m
+    again m n = omega arith

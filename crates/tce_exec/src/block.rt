@@ -138,6 +138,40 @@ fn run_joined<D: Disk>(
     Ok(())
 }
 
+// A block whose first numbers stand.
+fn run_begun<D: Disk>(
+    evaluation: &Evaluation,
+    store: &mut Storage<'_, D>,
+    at: &TailBlock,
+    first: &Position,
+    nest: &mut Nest,
+) -> Result<(), Failed>
+    requires at { StandsAt D.files evaluation.now store.old at.now }
+    requires position { IsPosition evaluation.now.space.now first.now }
+    requires few { store.old.cache.now.touches + 3 ≤ 2 ^ 100 }
+    requires first { numbers_of first.now ≡ first_in at.now }
+    requires nest { IsNest (places_of evaluation.now) at.now.tail.now nest.old }
+    ensures changed { OnOk result (Changes (after_block D.files evaluation.now store.old at.now) 3
+        D.files evaluation.now store.old store.new) }
+    ensures kept { Keeps D.files evaluation.now store.old store.new }
+    ensures nest { OnOk result (IsNest (places_of evaluation.now) at.now.tail.now nest.new) }
+    ensures same { IsSame store.old store.new }
+    ensures cause { FailsByDisk D.faults store.old store.new (IsErr result) }
+    ensures told { TellsOfDisk D.faults store.old store.new (IsErr result) }
+{
+    let _nodes = evaluation.tree.count();
+    let Some(right) = evaluation.tree.right(at.tail.node) else {
+        return run_sum(evaluation, store, at, first, nest);
+    };
+    match at.tail.sum {
+        None => run_pair(evaluation, store, at, right, first, nest),
+        Some(sum) => {
+            let pairing = Pairing { right, out: sum };
+            run_joined(evaluation, store, at, &pairing, first, nest)
+        }
+    }
+}
+
 /// Runs one block of a tail, with at most three touches. Where the windows began before does not matter.
 pub(crate) fn run_block<D: Disk>(
     evaluation: &Evaluation,
@@ -166,14 +200,5 @@ pub(crate) fn run_block<D: Disk>(
     let _indexes = evaluation.space.index_count();
     let _nodes = evaluation.tree.count();
     begin_block(evaluation.space, first, at.tail, at.block);
-    let Some(right) = evaluation.tree.right(at.tail.node) else {
-        return run_sum(evaluation, store, at, first, nest);
-    };
-    match at.tail.sum {
-        None => run_pair(evaluation, store, at, right, first, nest),
-        Some(sum) => {
-            let pairing = Pairing { right, out: sum };
-            run_joined(evaluation, store, at, &pairing, first, nest)
-        }
-    }
+    run_begun(evaluation, store, at, first, nest)
 }

@@ -1,4 +1,4 @@
-use Rattle.std.proofs.Common.{refl}
+use Rattle.std.proofs.Common.{refl, sym, ◌∙◌}
 use Rattle.std.proofs.lemmas.Bool.{false≢true}
 use Rattle.tce_outside.proofs.Causes.{no_cause}
 use Rattle.tce_workspace.specs.Storages.{work_of}
@@ -56,3 +56,33 @@ returns-in-Node-clause-read g c = read_own 1 (work_of g.D.Disk.files c.args.eval
 
 pub returns-in-Node-clause-kept : goal.returns-in-Node-clause-kept
 returns-in-Node-clause-kept g c = kept_own (work_of g.D.Disk.files c.args.evaluation.now c.args.store.now)
+
+pub touch_window-requires-clause-known : goal.touch_window-requires-clause-known
+touch_window-requires-clause-known g c = (rw c.in-Leaf.is at c.requires.place).known
+
+pub touch_window-requires-clause-inside : goal.touch_window-requires-clause-inside
+touch_window-requires-clause-inside g c = (rw c.in-Leaf.is at c.requires.place).inside
+
+pub touch_window-requires-clause-steps : goal.touch_window-requires-clause-steps
+touch_window-requires-clause-steps g c = rw c.in-Leaf.is at c.requires.steps
+
+pub unreachable-requires : goal.unreachable-requires
+unreachable-requires g c = rw c.in-Constant.is at c.requires.place
+
+pub node_window-requires-clause-laid : goal.node_window-requires-clause-laid
+node_window-requires-clause-laid g c = c.requires.prepared.laid
+
+pub node_window-requires-clause-inner : goal.node_window-requires-clause-inner
+node_window-requires-clause-inner g c = rw c.in-Node.is at c.requires.place
+
+pub node_window-requires-clause-steps : goal.node_window-requires-clause-steps
+node_window-requires-clause-steps g c = rw c.in-Node.is at c.requires.steps
+
+pub returns-in-Leaf-clause-window : goal.returns-in-Leaf-clause-window
+returns-in-Leaf-clause-window g c = rw c.in-Leaf.is c.touch_window.ensures.window
+
+pub returns-in-Node-clause-window : goal.returns-in-Node-clause-window
+returns-in-Node-clause-window g c = rw c.in-Node.is c.node_window.ensures
+
+pub returns-in-Node-clause-steps : goal.returns-in-Node-clause-steps
+returns-in-Node-clause-steps g c = c.node_window.ensures.steps_are ∙ sym (rw c.in-Node.is at c.requires.steps)

@@ -1,6 +1,7 @@
 use Rattle.tce_exec.proofs.Touching.{keeps_last_own}
-use Rattle.std.proofs.Common.{◌≡◌, ℕ, ◌≢◌, ◌+◌, ◌<◌, ◌∙◌, slice_index, refl, arith}
+use Rattle.std.proofs.Common.{◌≡◌, ℕ, ◌≢◌, ◌+◌, ◌<◌, ◌∙◌, slice_index, refl, sym, arith}
 use Rattle.std.proofs.lemmas.Bool.{false≢true}
+use Rattle.std.proofs.lemmas.Result.{on_ok_weaker}
 use Rattle.tce_outside.proofs.Causes.{no_cause}
 use Rattle.tce_tree.specs.ContractionTree.{operations}
 use Rattle.tce_workspace.specs.Workspace.{Workspace}
@@ -82,3 +83,18 @@ returns-clause-read g c = read_own 1 (work_of g.D.Disk.files c.args.evaluation.n
 
 pub returns-clause-kept : goal.returns-clause-kept
 returns-clause-kept g c = kept_own (work_of g.D.Disk.files c.args.evaluation.now c.args.store.now)
+
+pub node_window-requires-clause-laid : goal.node_window-requires-clause-laid
+node_window-requires-clause-laid g c = c.requires.prepared.laid
+
+pub returns-then-v-count-clause-window : goal.returns-then-v-count-clause-window
+returns-then-v-count-clause-window g c =
+    on_ok_weaker c.touch_window.result (λ touched. record { inner = λ low. absurd (omega (arith, low, c.if-v-count.true, c.count-count.ensures.value)); root = λ last. touched }) c.touch_window.ensures.window
+
+pub returns-clause-window : goal.returns-clause-window
+returns-clause-window g c = record { inner = λ low. c.node_window.ensures; root = λ last. absurd (c.if-v-count.false (last ∙ sym c.count-count.ensures.value)) }
+
+pub returns-clause-steps : goal.returns-clause-steps
+returns-clause-steps g c =
+    c.node_window.ensures.steps_are
+    ∙ sym (c.requires.steps.inner (inner_node c.args.v c.count-count.result (operations c.args.evaluation.now.tree.now) c.if-v-count.false c.count-count.ensures.value c.requires.place.known))
