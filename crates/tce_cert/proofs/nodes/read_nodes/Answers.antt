@@ -1,4 +1,4 @@
-use Rattle.std.proofs.Common.{◌≡◌, ◌<◌, ◌+◌, ◌-◌, arith}
+use Rattle.std.proofs.Common.{◌≡◌, ◌<◌, ◌+◌, ◌-◌, length, arith}
 use Rattle.std.proofs.lemmas.Result.{err_from_is_err_and}
 use Rattle.tce_tree.specs.ContractionTree.{operations}
 use Rattle.tce_report.specs.ReadLine.{said}
@@ -87,3 +87,40 @@ pub returns-in_err-of_root-clause-on : goal.returns-in_err-of_root-clause-on
 returns-in_err-of_root-clause-on c =
     let p = err_from_is_err_and c.from_residual-in_err-of_root.result c.from_residual-in_err-of_root.ensures.1 in
     rw p.1 tt
+
+pub read_node-requires-clause-inside : goal.read_node-requires-clause-inside
+read_node-requires-clause-inside c = omega (arith, c.loop-v-test.true, c.count-root.ensures.value)
+
+pub push-requires : goal.push-requires
+push-requires c =
+    let few : length c.loop-v.fusion.items < 32 = omega (arith, c.loop-v.invariant.fusion, c.loop-v-test.true, c.count-root.ensures.limit) in
+    (omega arith, few)
+
+pub push-requires-in-loop-v : goal.push-requires-in-loop-v
+push-requires-in-loop-v c =
+    let few : length c.loop-v.orders.items < 32 = omega (arith, c.loop-v.invariant.orders, c.loop-v-test.true, c.count-root.ensures.limit) in
+    (omega arith, few)
+
+pub push-requires-in-loop-v-2 : goal.push-requires-in-loop-v-2
+push-requires-in-loop-v-2 c =
+    let few : length c.loop-v.sizes.items < 32 = omega (arith, c.loop-v.invariant.sizes, c.loop-v-test.true, c.count-root.ensures.limit) in
+    (omega arith, few)
+
+pub read_node-requires-2-clause-inside : goal.read_node-requires-2-clause-inside
+read_node-requires-2-clause-inside c = omega (arith, c.count-root.ensures.value, c.count-root.ensures.positive)
+
+pub push-requires-2 : goal.push-requires-2
+push-requires-2 c =
+    let few : length c.loop-v.fusion.items < 32 = omega (arith, c.loop-v.invariant.fusion, c.loop-v.auto.v-end, c.count-root.ensures.limit, c.count-root.ensures.positive) in
+    (omega arith, few)
+
+pub push-requires-3 : goal.push-requires-3
+push-requires-3 c =
+    let few : length c.loop-v.orders.items < 32 = omega (arith, c.loop-v.invariant.orders, c.loop-v.auto.v-end, c.count-root.ensures.limit, c.count-root.ensures.positive) in
+    (omega arith, few)
+
+pub returns-clause-sizes : goal.returns-clause-sizes
+returns-clause-sizes c = omega (arith, c.loop-v.invariant.sizes, c.loop-v-test.false, c.loop-v.auto.v-end, c.count-root.ensures.value, c.count-root.ensures.positive)
+
+pub overflow_sub-root : goal.overflow_sub-root
+overflow_sub-root c = omega (arith, c.count-root.ensures.positive)
