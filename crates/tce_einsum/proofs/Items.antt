@@ -101,3 +101,14 @@ too_many_left n k whole texts found m end len are many = record {
   within = λ less i is fits. omega (arith, less);
   behind = λ e. many;
 }
+
+pub wrong_item : (n k : ℕ) (texts : List (List ℕ)) (found : List Item) (m : ℕ) (text : List ℕ) → k < length texts → AreItems n (take k texts) (items found) m → get_or texts k [] ≡ text
+    → ((i : path.Item) → text ≡ item_text i → Fits m i → ⊥) → path.IsBadItem n texts k
+wrong_item n k texts found m text less are is none = record {
+  before = items found;
+  left = m;
+  are = are;
+  inside = omega (arith, less);
+  within = λ _ i i_is fits. none i (sym is ∙ i_is) fits;
+  behind = λ e. absurd (omega (arith, less, e));
+}

@@ -3,7 +3,7 @@
 ghost use Rattle.std.specs.Prelude.{◌≡◌, ◌<◌, ◌+◌, ◌∷◌, ◌++◌, [], List, nat_le, codes, length, map, IfOk, OnOk};
 ghost use Rattle.tce_grammar.specs.Tokens as tokens;
 ghost use Rattle.tce_grammar.specs.Grammar.{bracketed, listed, spelling, level};
-ghost use Rattle.tce_grammar.specs.Printed.{with_tokens};
+ghost use Rattle.tce_grammar.specs.Printed.{with_token, with_tokens};
 ghost use Rattle.tce_einsum.specs.Code as code;
 ghost use Rattle.tce_einsum.specs.EntriesCode.{AreOrdered};
 ghost use Rattle.tce_einsum.specs.Text as text;
@@ -12,7 +12,7 @@ ghost use Rattle.tce_einsum.specs.ProducedCode.{task_tokens, pending, IsTask, Ar
 
 use crate::entries::Node;
 use crate::size::Size;
-use crate::words::{push_letters, push_operand_name, push_symbol, push_word};
+use crate::words::{push_letters, push_letters_of, push_operand_name, push_symbol, push_word};
 use std::alloc::{AllocError, Global};
 use tce_grammar::Printer;
 
@@ -51,6 +51,19 @@ fn letters_of(alloc: Global, sizes: &[Size], numbers: &[u8]) -> Result<Vec<u8>, 
     Ok(found)
 }
 
+/// Prints an operand with these letters in brackets.
+fn push_operand_with(
+    alloc: Global,
+    printer: &mut Printer,
+    operand: u64,
+    letters: &[u8],
+) -> Result<(), AllocError>
+    ensures { OnOk result (printer.new ≡ with_tokens printer.old (bracketed (produced.operand_name operand) (produced.letter_names letters.now))) }
+{
+    push_operand_name(alloc, printer, operand)?;
+    push_letters_of(printer, letters)
+}
+
 /// Prints an operand with its labels in brackets.
 fn push_operand(
     alloc: Global,
@@ -63,10 +76,20 @@ fn push_operand(
         (bracketed (produced.operand_name operand) (produced.label_names (code.sizes sizes.now) labels.now))) }
 {
     let letters = letters_of(alloc, sizes, labels)?;
-    push_operand_name(alloc, printer, operand)?;
-    push_symbol(printer, b'[')?;
-    push_letters(printer, letters.as_slice())?;
-    push_symbol(printer, b']')
+    push_operand_with(alloc, printer, operand, letters.as_slice())
+}
+
+/// Prints the word of a sum over these letters, and opens its parenthesis.
+fn push_sum_over(printer: &mut Printer, letters: &[u8]) -> Result<(), AllocError>
+    ensures { OnOk result (printer.new ≡ with_tokens printer.old
+        (tokens.word (codes "sum") ∷ tokens.symbol 123
+        ∷ (listed (produced.letter_names letters.now) ++ tokens.symbol 125 ∷ tokens.symbol 40 ∷ []))) }
+{
+    push_word(printer, "sum")?;
+    push_symbol(printer, b'{')?;
+    push_letters(printer, letters)?;
+    push_symbol(printer, b'}')?;
+    push_symbol(printer, b'(')
 }
 
 /// Prints the word and the indexes of a sum, and opens its parenthesis.
@@ -81,11 +104,21 @@ fn push_summed(
         ∷ (listed (produced.label_names (code.sizes sizes.now) labels.now) ++ tokens.symbol 125 ∷ tokens.symbol 40 ∷ []))) }
 {
     let letters = letters_of(alloc, sizes, labels)?;
-    push_word(printer, "sum")?;
-    push_symbol(printer, b'{')?;
-    push_letters(printer, letters.as_slice())?;
-    push_symbol(printer, b'}')?;
-    push_symbol(printer, b'(')
+    push_sum_over(printer, letters.as_slice())
+}
+
+fn push_task(stack: &mut Vec<Task>, task: Task) -> Result<(), AllocError>
+    ensures { OnOk result (stack.new.items ≡ stack.old.items ++ task ∷ []) }
+{
+    stack.push(task)?;
+    Ok(())
+}
+
+fn push_two(stack: &mut Vec<Task>, last: Task, first: Task) -> Result<(), AllocError>
+    ensures { OnOk result (stack.new.items ≡ (stack.old.items ++ last ∷ []) ++ first ∷ []) }
+{
+    push_task(stack, last)?;
+    push_task(stack, first)
 }
 
 fn push_three(
@@ -96,18 +129,26 @@ fn push_three(
 ) -> Result<(), AllocError>
     ensures { OnOk result (stack.new.items ≡ ((stack.old.items ++ last ∷ []) ++ middle ∷ []) ++ first ∷ []) }
 {
-    stack.push(last)?;
-    stack.push(middle)?;
-    stack.push(first)?;
-    Ok(())
+    push_task(stack, last)?;
+    push_two(stack, middle, first)
 }
 
-fn push_two(stack: &mut Vec<Task>, last: Task, first: Task) -> Result<(), AllocError>
-    ensures { OnOk result (stack.new.items ≡ (stack.old.items ++ last ∷ []) ++ first ∷ []) }
+/// Prints what a sum begins with, and puts its operand and its end on the stack.
+fn print_sum(
+    alloc: Global,
+    printer: &mut Printer,
+    stack: &mut Vec<Task>,
+    sizes: &[Size],
+    labels: &[u8],
+    operand: usize,
+) -> Result<(), AllocError>
+    ensures { OnOk result ((printer.new ≡ with_tokens printer.old
+        (tokens.word (codes "sum") ∷ tokens.symbol 123
+        ∷ (listed (produced.label_names (code.sizes sizes.now) labels.now) ++ tokens.symbol 125 ∷ tokens.symbol 40 ∷ [])))
+        × (stack.new.items ≡ (stack.old.items ++ Task.Symbol 41 ∷ []) ++ Task.Whole operand ∷ [])) }
 {
-    stack.push(last)?;
-    stack.push(first)?;
-    Ok(())
+    push_summed(alloc, printer, sizes, labels)?;
+    push_two(stack, Task::Symbol(b')'), Task::Whole(operand))
 }
 
 /// Prints what a node begins with, and puts what is left of it on the stack.
@@ -138,8 +179,7 @@ fn print_node(
             Task::Whole(*left),
         ),
         Node::Sum(labels, operand) => {
-            push_summed(alloc, printer, sizes, labels.as_slice())?;
-            push_two(stack, Task::Symbol(b')'), Task::Whole(*operand))
+            print_sum(alloc, printer, stack, sizes, labels.as_slice(), *operand)
         }
     }
 }
@@ -150,6 +190,19 @@ fn is_product(nodes: &[Node], place: usize) -> bool
     ensures { (ss : List text.Size) → result ≡ nat_le (level (written_at ss nodes.now place)) 2 }
 {
     matches!(&nodes[place], Node::Product(_, _))
+}
+
+/// Opens a parenthesis, and puts what it is for and its end on the stack.
+fn print_grouped(
+    printer: &mut Printer,
+    stack: &mut Vec<Task>,
+    place: usize,
+) -> Result<(), AllocError>
+    ensures { OnOk result ((printer.new ≡ with_token printer.old (tokens.symbol 40))
+        × (stack.new.items ≡ (stack.old.items ++ Task.Symbol 41 ∷ []) ++ Task.Whole place ∷ [])) }
+{
+    push_symbol(printer, b'(')?;
+    push_two(stack, Task::Symbol(b')'), Task::Whole(place))
 }
 
 /// Opens a parenthesis before a product on the right of another.
@@ -167,11 +220,9 @@ fn print_right_operand(
     ensures less { OnOk result (stack_weight nodes.now stack.new.items < stack_weight nodes.now stack.old.items + weight nodes.now (Task.RightOperand place)) }
 {
     if !is_product(nodes, place) {
-        stack.push(Task::Whole(place))?;
-        return Ok(());
+        return push_task(stack, Task::Whole(place));
     }
-    push_symbol(printer, b'(')?;
-    push_two(stack, Task::Symbol(b')'), Task::Whole(place))
+    print_grouped(printer, stack, place)
 }
 
 /// Does a task.
@@ -198,6 +249,24 @@ fn print_task(
     }
 }
 
+/// Does the tasks of a stack.
+fn print_tasks(
+    alloc: Global,
+    printer: &mut Printer,
+    stack: &mut Vec<Task>,
+    sizes: &[Size],
+    nodes: &[Node],
+) -> Result<(), AllocError>
+    requires ordered { AreOrdered nodes.now }
+    requires tasks { AreTasks nodes.now stack.old.items }
+    ensures { OnOk result (printer.new ≡ with_tokens printer.old (pending (code.sizes sizes.now) nodes.now stack.old.items)) }
+{
+    while let Some(task) = stack.pop() {
+        print_task(alloc, printer, stack, sizes, nodes, task)?;
+    }
+    Ok(())
+}
+
 /// Prints the expression of a node, with no more parentheses than it needs.
 pub(crate) fn push_expression(
     alloc: Global,
@@ -211,9 +280,6 @@ pub(crate) fn push_expression(
     ensures { OnOk result (printer.new ≡ with_tokens printer.old (spelling (written_at (code.sizes sizes.now) nodes.now place))) }
 {
     let mut stack = Vec::new(alloc);
-    stack.push(Task::Whole(place))?;
-    while let Some(task) = stack.pop() {
-        print_task(alloc, printer, &mut stack, sizes, nodes, task)?;
-    }
-    Ok(())
+    push_task(&mut stack, Task::Whole(place))?;
+    print_tasks(alloc, printer, &mut stack, sizes, nodes)
 }

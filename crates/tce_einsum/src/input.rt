@@ -23,11 +23,17 @@ pub fn read_input<'a>(alloc: Global, text: &'a [u8], path: &[u8]) -> Result<Inpu
 {
     let whole = read_text(alloc, text)?;
     if let Some(label) = bad_size(&whole) {
+        drop(whole);
         return Err(EinsumFault::BadSize(label));
     }
-    let items = read_path(alloc, path, whole.operands.len() as u64)?;
-    Ok(Input {
-        einsum: whole,
-        items,
-    })
+    match read_path(alloc, path, whole.operands.len() as u64) {
+        Ok(items) => Ok(Input {
+            einsum: whole,
+            items,
+        }),
+        Err(fault) => {
+            drop(whole);
+            Err(fault)
+        }
+    }
 }

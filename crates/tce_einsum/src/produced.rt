@@ -1,6 +1,9 @@
 //! The text that an einsum and its path produce.
 
-ghost use Rattle.std.specs.Prelude.{◌≡◌, ◌≤◌, ◌++◌, length, IfOk, OnOk};
+ghost use Rattle.std.specs.Prelude.{◌≡◌, ◌≤◌, ◌∷◌, ◌++◌, [], length, IfOk, OnOk};
+ghost use Rattle.tce_grammar.specs.Tokens.{symbol};
+ghost use Rattle.tce_grammar.specs.Grammar.{bracketed};
+ghost use Rattle.tce_grammar.specs.Printed.{with_tokens};
 ghost use Rattle.tce_canonical.specs.Lines.{with_line, with_lines};
 ghost use Rattle.tce_einsum.specs.Code as code;
 ghost use Rattle.tce_einsum.specs.Entries.{entry_at};
@@ -14,7 +17,7 @@ use crate::input::Input;
 use crate::lines::{print_indexes, print_operands, print_ranges, print_result};
 use crate::ranges::{range_numbers, ranges_of};
 use crate::text::Einsum;
-use crate::words::{push_letters, push_symbol, push_word};
+use crate::words::{push_letters_of, push_symbol, push_word};
 use std::alloc::{AllocError, Global};
 use tce_grammar::Printer;
 
@@ -39,6 +42,16 @@ fn print_declarations(
     print_result(alloc, printer, sizes, numbers, whole.output)
 }
 
+/// Prints what the formula gives, and the sign of equality.
+fn push_result(printer: &mut Printer, labels: &[u8]) -> Result<(), AllocError>
+    ensures { OnOk result (printer.new ≡ with_tokens printer.old
+        (bracketed produced.result_name (produced.letter_names labels.now) ++ symbol 61 ∷ [])) }
+{
+    push_word(printer, "Y")?;
+    push_letters_of(printer, labels)?;
+    push_symbol(printer, b'=')
+}
+
 /// Prints the line of the formula, which gives the result by the one entry that is left.
 fn print_formula(
     alloc: Global,
@@ -51,11 +64,7 @@ fn print_formula(
     ensures { OnOk result (printer.new ≡ with_line printer.old
         (produced.formula_statement (code.einsum whole.now) (entry_at (trees_in left.now) 0))) }
 {
-    push_word(printer, "Y")?;
-    push_symbol(printer, b'[')?;
-    push_letters(printer, whole.output)?;
-    push_symbol(printer, b']')?;
-    push_symbol(printer, b'=')?;
+    push_result(printer, whole.output)?;
     let place = left.entries[0].node;
     push_expression(
         alloc,

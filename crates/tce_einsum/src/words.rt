@@ -74,6 +74,16 @@ pub(crate) fn push_letters(printer: &mut Printer, letters: &[u8]) -> Result<(), 
     Ok(())
 }
 
+/// Prints letters in brackets.
+pub(crate) fn push_letters_of(printer: &mut Printer, letters: &[u8]) -> Result<(), AllocError>
+    ensures { OnOk result (printer.new ≡ with_tokens printer.old
+        (tokens.symbol 91 ∷ (listed (letter_names letters.now) ++ tokens.symbol 93 ∷ []))) }
+{
+    push_symbol(printer, b'[')?;
+    push_letters(printer, letters)?;
+    push_symbol(printer, b']')
+}
+
 /// Prints the name of a range, and a comma if others stand behind it.
 fn push_listed_range(
     alloc: Global,

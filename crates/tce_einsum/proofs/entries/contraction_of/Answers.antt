@@ -9,6 +9,7 @@ use Rattle.tce_einsum.specs.EntriesCode.{trees_in}
 use Rattle.tce_einsum.specs.Numbered.{numbers_of, numbered_labels, numbered_operands}
 use Rattle.tce_einsum.specs.Code as code
 use Rattle.tce_einsum.proofs.Contractions.{only_entry, paths_leave_their_entries}
+use Rattle.std.proofs.lemmas.Result.{IfOk-from_err}
 use Rattle.tce_einsum.proofs.entries.contraction_of.Goals as goal
 
 pub returns : goal.returns
@@ -28,3 +29,21 @@ returns c =
           (paths_leave_their_entries (numbered_labels x) (numbered_operands x) items 1 (subst (λ n. Leave n items 1) (sym many) c.requires.leave));
       entries = c.in_ok-contract_all.ensures.entries;
     }
+
+pub returns-in_err-kept-clause-tree : goal.returns-in_err-kept-clause-tree
+returns-in_err-kept-clause-tree c = IfOk-from_err c.from_residual.result _ c.from_residual.ensures.0
+
+pub returns-in_err-kept-clause-entries : goal.returns-in_err-kept-clause-entries
+returns-in_err-kept-clause-entries c = IfOk-from_err c.from_residual.result _ c.from_residual.ensures.0
+
+pub returns-in_err-all-clause-tree : goal.returns-in_err-all-clause-tree
+returns-in_err-all-clause-tree c = IfOk-from_err c.from_residual-in_err-all.result _ c.from_residual-in_err-all.ensures.0
+
+pub returns-in_err-all-clause-entries : goal.returns-in_err-all-clause-entries
+returns-in_err-all-clause-entries c = IfOk-from_err c.from_residual-in_err-all.result _ c.from_residual-in_err-all.ensures.0
+
+pub returns-in_err-contract_all-clause-tree : goal.returns-in_err-contract_all-clause-tree
+returns-in_err-contract_all-clause-tree c = IfOk-from_err c.from_residual-in_err-contract_all.result _ c.from_residual-in_err-contract_all.ensures.0
+
+pub returns-in_err-contract_all-clause-entries : goal.returns-in_err-contract_all-clause-entries
+returns-in_err-contract_all-clause-entries c = IfOk-from_err c.from_residual-in_err-contract_all.result _ c.from_residual-in_err-contract_all.ensures.0

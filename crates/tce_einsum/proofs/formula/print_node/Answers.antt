@@ -21,6 +21,18 @@ returns-in-Operand-clause-printed c =
     (e ∙ (λ i. with_tokens c.args.printer.now (bracketed (operand_name c.in-Operand.operand) (label_names ss (c.as_slice.ensures.value i)))))).printed)
     c.push_operand.ensures
 
+pub returns-in-Operand-clause-tasks : goal.returns-in-Operand-clause-tasks
+returns-in-Operand-clause-tasks c = on_ok_weaker c.push_operand.result (λ e. c.requires.tasks) c.push_operand.ensures
+
+pub returns-in-Operand-clause-less : goal.returns-in-Operand-clause-less
+returns-in-Operand-clause-less c =
+    on_ok_weaker c.push_operand.result
+    (λ e.
+    (operand_done (code.sizes c.args.sizes.now) c.args.nodes.now c.args.stack.now.items c.args.printer.now c.push_operand.new.printer c.args.place (Operand c.in-Operand.operand c.in-Operand.labels)
+    c.index-nodes-place.result c.in-Operand.operand c.in-Operand.labels.items c.requires.there (sym c.index-nodes-place.is ∙ c.in-Operand.is) (λ ts. refl) c.requires.tasks
+    (e ∙ (λ i. with_tokens c.args.printer.now (bracketed (operand_name c.in-Operand.operand) (label_names (code.sizes c.args.sizes.now) (c.as_slice.ensures.value i)))))).less)
+    c.push_operand.ensures
+
 pub returns-in-Product-clause-printed : goal.returns-in-Product-clause-printed
 returns-in-Product-clause-printed c =
     on_ok_weaker c.push_three.result
@@ -45,28 +57,41 @@ returns-in-Product-clause-less c =
     c.index-nodes-place.result c.requires.ordered c.requires.there (sym c.index-nodes-place.is ∙ c.in-Product.is) c.requires.tasks e).less)
     c.push_three.ensures
 
-pub returns-in_ok-push_summed-in-Sum-clause-printed : goal.returns-in_ok-push_summed-in-Sum-clause-printed
-returns-in_ok-push_summed-in-Sum-clause-printed c =
-    let ss : List text.Size = code.sizes c.args.sizes.now in
-    on_ok_weaker c.push_two.result
+pub returns-in-Sum-clause-printed : goal.returns-in-Sum-clause-printed
+returns-in-Sum-clause-printed c =
+    on_ok_weaker c.print_sum.result
     (λ e.
-    (sum_done ss c.args.nodes.now c.args.stack.now.items c.push_two.new.stack.items c.args.printer.now c.push_summed.new.printer c.args.place c.in-Sum.operand
+    (sum_done (code.sizes c.args.sizes.now) c.args.nodes.now c.args.stack.now.items c.print_sum.new.stack.items c.args.printer.now c.print_sum.new.printer c.args.place c.in-Sum.operand
     (Sum c.in-Sum.labels c.in-Sum.operand) c.index-nodes-place.result c.in-Sum.labels.items c.requires.ordered c.requires.there (sym c.index-nodes-place.is ∙ c.in-Sum.is)
     (λ before. before) (λ ts. refl) c.requires.tasks
-    (c.in_ok-push_summed-in-Sum.ensures
-    ∙ (λ i. with_tokens c.args.printer.now (word (codes "sum") ∷ symbol 123 ∷ (listed (label_names ss (c.as_slice-in-Sum.ensures.value i)) ++ symbol 125 ∷ symbol 40 ∷ []))))
-    e).printed)
-    c.push_two.ensures
+    (e.0
+    ∙ (λ i. with_tokens c.args.printer.now
+    (word (codes "sum") ∷ symbol 123 ∷ (listed (label_names (code.sizes c.args.sizes.now) (c.as_slice-in-Sum.ensures.value i)) ++ symbol 125 ∷ symbol 40 ∷ []))))
+    e.1).printed)
+    c.print_sum.ensures
 
-pub returns-in_ok-push_summed-in-Sum-clause-less : goal.returns-in_ok-push_summed-in-Sum-clause-less
-returns-in_ok-push_summed-in-Sum-clause-less c =
-    let ss : List text.Size = code.sizes c.args.sizes.now in
-    on_ok_weaker c.push_two.result
+pub returns-in-Sum-clause-tasks : goal.returns-in-Sum-clause-tasks
+returns-in-Sum-clause-tasks c =
+    on_ok_weaker c.print_sum.result
     (λ e.
-    (sum_done ss c.args.nodes.now c.args.stack.now.items c.push_two.new.stack.items c.args.printer.now c.push_summed.new.printer c.args.place c.in-Sum.operand
+    (sum_done (code.sizes c.args.sizes.now) c.args.nodes.now c.args.stack.now.items c.print_sum.new.stack.items c.args.printer.now c.print_sum.new.printer c.args.place c.in-Sum.operand
     (Sum c.in-Sum.labels c.in-Sum.operand) c.index-nodes-place.result c.in-Sum.labels.items c.requires.ordered c.requires.there (sym c.index-nodes-place.is ∙ c.in-Sum.is)
     (λ before. before) (λ ts. refl) c.requires.tasks
-    (c.in_ok-push_summed-in-Sum.ensures
-    ∙ (λ i. with_tokens c.args.printer.now (word (codes "sum") ∷ symbol 123 ∷ (listed (label_names ss (c.as_slice-in-Sum.ensures.value i)) ++ symbol 125 ∷ symbol 40 ∷ []))))
-    e).less)
-    c.push_two.ensures
+    (e.0
+    ∙ (λ i. with_tokens c.args.printer.now
+    (word (codes "sum") ∷ symbol 123 ∷ (listed (label_names (code.sizes c.args.sizes.now) (c.as_slice-in-Sum.ensures.value i)) ++ symbol 125 ∷ symbol 40 ∷ []))))
+    e.1).tasks)
+    c.print_sum.ensures
+
+pub returns-in-Sum-clause-less : goal.returns-in-Sum-clause-less
+returns-in-Sum-clause-less c =
+    on_ok_weaker c.print_sum.result
+    (λ e.
+    (sum_done (code.sizes c.args.sizes.now) c.args.nodes.now c.args.stack.now.items c.print_sum.new.stack.items c.args.printer.now c.print_sum.new.printer c.args.place c.in-Sum.operand
+    (Sum c.in-Sum.labels c.in-Sum.operand) c.index-nodes-place.result c.in-Sum.labels.items c.requires.ordered c.requires.there (sym c.index-nodes-place.is ∙ c.in-Sum.is)
+    (λ before. before) (λ ts. refl) c.requires.tasks
+    (e.0
+    ∙ (λ i. with_tokens c.args.printer.now
+    (word (codes "sum") ∷ symbol 123 ∷ (listed (label_names (code.sizes c.args.sizes.now) (c.as_slice-in-Sum.ensures.value i)) ++ symbol 125 ∷ symbol 40 ∷ []))))
+    e.1).less)
+    c.print_sum.ensures

@@ -23,13 +23,12 @@ returns-in_err-whole c =
 pub returns-in-Some : goal.returns-in-Some
 returns-in-Some c = bad_size_of c.args.text.now (einsum c.in_ok-whole.whole) c.in-Some.label c.in_ok-whole.ensures c.in-Some.ensures
 
-pub returns-in_err-items : goal.returns-in_err-items
-returns-in_err-items c =
-    let p = err_from_is_err_and c.from_residual-in_err-items.result c.from_residual-in_err-items.ensures.1 in
-    rw (p.1, p.2) (path_fault c.args.text.now c.args.path.now (einsum c.in_ok-whole.whole) c.len.result (λ (v : Vec Item Global). items v.items) c.in_err-items.field-0.0
-    c.in_ok-whole.ensures c.in_default.ensures (all_operands c.in_ok-whole.whole c.len.result c.len.ensures) c.in_err-items.ensures)
+pub returns-in-Err : goal.returns-in-Err
+returns-in-Err c =
+    path_fault c.args.text.now c.args.path.now (einsum c.in_ok-whole.whole) c.len.result (λ (v : Vec Item Global). items v.items) c.in-Err.fault
+    c.in_ok-whole.ensures c.in_default.ensures (all_operands c.in_ok-whole.whole c.len.result c.len.ensures) c.in-Err.ensures
 
-pub returns : goal.returns
-returns c =
-    input_read c.args.text.now c.args.path.now (einsum c.in_ok-whole.whole) c.len.result (items c.in_ok-items.items.items)
-    c.in_ok-whole.ensures c.in_default.ensures (all_operands c.in_ok-whole.whole c.len.result c.len.ensures) c.in_ok-items.ensures
+pub returns-in-Ok : goal.returns-in-Ok
+returns-in-Ok c =
+    input_read c.args.text.now c.args.path.now (einsum c.in_ok-whole.whole) c.len.result (items c.in-Ok.items.items)
+    c.in_ok-whole.ensures c.in_default.ensures (all_operands c.in_ok-whole.whole c.len.result c.len.ensures) c.in-Ok.ensures

@@ -1,5 +1,5 @@
 use Rattle.std.proofs.Common.{List, ◌∙◌}
-use Rattle.std.proofs.lemmas.Result.{on_ok_weaker}
+use Rattle.std.proofs.lemmas.Result.{on_ok_weaker, IfOk-from_err}
 use Rattle.tce_fields.specs.Reading.{texts}
 use Rattle.tce_canonical.specs.Lines.{with_line, with_lines}
 use Rattle.tce_einsum.specs.Text as text
@@ -29,3 +29,18 @@ returns c =
     ∙ (λ i. with_lines c.print_indexes.new.printer (numbered (operand_statement (code.sizes (sizes i))) 0 (texts (c.as_slice-3.ensures.value i)))))
     (printed ∙ (λ i. with_line c.print_operands.new.printer (declaration result_name (range_names (code.sizes (sizes i)) x.output)))))
     c.print_result.ensures
+
+pub returns-in_err-ranges : goal.returns-in_err-ranges
+returns-in_err-ranges c = IfOk-from_err c.from_residual.result _ c.from_residual.ensures.0
+
+pub returns-in_err-numbers : goal.returns-in_err-numbers
+returns-in_err-numbers c = IfOk-from_err c.from_residual-in_err-numbers.result _ c.from_residual-in_err-numbers.ensures.0
+
+pub returns-in_err-print_ranges : goal.returns-in_err-print_ranges
+returns-in_err-print_ranges c = IfOk-from_err c.from_residual-in_err-print_ranges.result _ c.from_residual-in_err-print_ranges.ensures.0
+
+pub returns-in_err-print_indexes : goal.returns-in_err-print_indexes
+returns-in_err-print_indexes c = IfOk-from_err c.from_residual-in_err-print_indexes.result _ c.from_residual-in_err-print_indexes.ensures.0
+
+pub returns-in_err-print_operands : goal.returns-in_err-print_operands
+returns-in_err-print_operands c = IfOk-from_err c.from_residual-in_err-print_operands.result _ c.from_residual-in_err-print_operands.ensures.0

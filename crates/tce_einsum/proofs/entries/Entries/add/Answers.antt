@@ -6,6 +6,7 @@ use Rattle.tce_einsum.specs.declared.entries.Entry.{Entry}
 use Rattle.tce_einsum.specs.Entries as list
 use Rattle.tce_einsum.specs.EntriesCode.{tree_in, trees_in}
 use Rattle.tce_einsum.proofs.Nodes.{labels_are, entry_added}
+use Rattle.std.proofs.lemmas.Result.{IfOk-from_err}
 use Rattle.tce_einsum.proofs.entries.Entries.add.Goals as goal
 
 pub returns : goal.returns
@@ -25,3 +26,30 @@ returns c =
       entries = record { all = added.1; ordered = c.in_ok-entry.ensures.kept.ordered c.requires.entries.ordered };
       longer = ap length c.in_ok-push.ensures.items ∙ length-append c.args.self.now.entries.items (c.in_ok-entry.entry ∷ []);
     }
+
+pub returns-in_err-labels-clause-added : goal.returns-in_err-labels-clause-added
+returns-in_err-labels-clause-added c = IfOk-from_err c.from_residual.result _ c.from_residual.ensures.0
+
+pub returns-in_err-labels-clause-entries : goal.returns-in_err-labels-clause-entries
+returns-in_err-labels-clause-entries c = IfOk-from_err c.from_residual.result _ c.from_residual.ensures.0
+
+pub returns-in_err-labels-clause-longer : goal.returns-in_err-labels-clause-longer
+returns-in_err-labels-clause-longer c = IfOk-from_err c.from_residual.result _ c.from_residual.ensures.0
+
+pub returns-in_err-entry-clause-added : goal.returns-in_err-entry-clause-added
+returns-in_err-entry-clause-added c = IfOk-from_err c.from_residual-in_err-entry.result _ c.from_residual-in_err-entry.ensures.0
+
+pub returns-in_err-entry-clause-entries : goal.returns-in_err-entry-clause-entries
+returns-in_err-entry-clause-entries c = IfOk-from_err c.from_residual-in_err-entry.result _ c.from_residual-in_err-entry.ensures.0
+
+pub returns-in_err-entry-clause-longer : goal.returns-in_err-entry-clause-longer
+returns-in_err-entry-clause-longer c = IfOk-from_err c.from_residual-in_err-entry.result _ c.from_residual-in_err-entry.ensures.0
+
+pub returns-in_err-push-clause-added : goal.returns-in_err-push-clause-added
+returns-in_err-push-clause-added c = IfOk-from_err c.from_residual-in_err-push.result _ c.from_residual-in_err-push.ensures.0
+
+pub returns-in_err-push-clause-entries : goal.returns-in_err-push-clause-entries
+returns-in_err-push-clause-entries c = IfOk-from_err c.from_residual-in_err-push.result _ c.from_residual-in_err-push.ensures.0
+
+pub returns-in_err-push-clause-longer : goal.returns-in_err-push-clause-longer
+returns-in_err-push-clause-longer c = IfOk-from_err c.from_residual-in_err-push.result _ c.from_residual-in_err-push.ensures.0

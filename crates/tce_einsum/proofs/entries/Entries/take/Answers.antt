@@ -5,6 +5,7 @@ use Rattle.tce_einsum.specs.Path.{Fits, left_by}
 use Rattle.tce_einsum.specs.Entries as list
 use Rattle.tce_einsum.specs.EntriesCode.{trees_in}
 use Rattle.tce_einsum.proofs.Nodes.{one_left, two_left, entry_read}
+use Rattle.std.proofs.lemmas.Result.{IfOk-from_err}
 use Rattle.tce_einsum.proofs.entries.Entries.take.Goals as goal
 
 pub returns-in-One-clause-others : goal.returns-in-One-clause-others
@@ -38,3 +39,18 @@ returns-in_ok-entry-in-Two c =
       left = two_fewer (length c.take_two.new.entries.items) (length c.args.self.now.entries.items) c.take_two.ensures.left_over
           ∙ ap (λ s. left_by (length c.args.self.now.entries.items) (code.item s)) (sym c.in-Two.is);
     }
+
+pub returns-in_err-entry-in-Two-clause-made : goal.returns-in_err-entry-in-Two-clause-made
+returns-in_err-entry-in-Two-clause-made c = IfOk-from_err c.from_residual.result _ c.from_residual.ensures.0
+
+pub returns-in_err-entry-in-Two-clause-entry : goal.returns-in_err-entry-in-Two-clause-entry
+returns-in_err-entry-in-Two-clause-entry c = IfOk-from_err c.from_residual.result _ c.from_residual.ensures.0
+
+pub returns-in_err-entry-in-Two-clause-others : goal.returns-in_err-entry-in-Two-clause-others
+returns-in_err-entry-in-Two-clause-others c = IfOk-from_err c.from_residual.result _ c.from_residual.ensures.0
+
+pub returns-in_err-entry-in-Two-clause-entries : goal.returns-in_err-entry-in-Two-clause-entries
+returns-in_err-entry-in-Two-clause-entries c = IfOk-from_err c.from_residual.result _ c.from_residual.ensures.0
+
+pub returns-in_err-entry-in-Two-clause-left : goal.returns-in_err-entry-in-Two-clause-left
+returns-in_err-entry-in-Two-clause-left c = IfOk-from_err c.from_residual.result _ c.from_residual.ensures.0

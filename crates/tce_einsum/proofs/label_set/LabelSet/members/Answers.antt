@@ -1,6 +1,7 @@
 use Rattle.std.proofs.Common.{◌≡◌, ◌<◌, sym, ◌∙◌, ◌++◌, ◌∷◌, [], subst, All, arith}
 use Rattle.std.proofs.lemmas.List.Elements.{All-push}
 use Rattle.tce_einsum.proofs.LabelSets.{member_more, member_none}
+use Rattle.std.proofs.lemmas.Result.{IfOk-from_err}
 use Rattle.tce_einsum.proofs.label_set.LabelSet.members.Goals as goal
 use Rattle.tce_einsum.proofs.label_set.LabelSet.members.Goals.{then-has+in_ok-push, else-has}
 
@@ -22,3 +23,9 @@ loop-label-preserved c =
             below = subst (All (λ i. i < 32)) (sym same) c.loop-label.invariant.below;
           }
     ]
+
+pub returns-in_err-push-clause-members : goal.returns-in_err-push-clause-members
+returns-in_err-push-clause-members c = IfOk-from_err c.from_residual.result _ c.from_residual.ensures.0
+
+pub returns-in_err-push-clause-below : goal.returns-in_err-push-clause-below
+returns-in_err-push-clause-below c = IfOk-from_err c.from_residual.result _ c.from_residual.ensures.0
