@@ -12,3 +12,4 @@ pub mod WordCoords
 pub mod Pieces
 pub mod Walked
 pub mod Across
+pub mod Opened

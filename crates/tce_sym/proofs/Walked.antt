@@ -1,5 +1,5 @@
 -- Walks through stored words, and rows of elements.
-use Rattle.std.proofs.Common.{◌≡◌, ◌∙◌, ℕ, zero, suc, ◌+◌, ◌*◌, ◌<◌, ◌≤◌, Bool, true, false, if◌then◌else◌, List, [], ◌∷◌, ◌++◌, length, set, slice_index, refl, ap, arith, inl, inr}
+use Rattle.std.proofs.Common.{◌≡◌, ◌∙◌, ℕ, zero, suc, ◌+◌, ◌*◌, ◌<◌, ◌≤◌, Bool, true, false, if◌then◌else◌, List, [], ◌∷◌, ◌++◌, length, set, slice_index, refl, ap, arith, inl, inr, ◌==◌}
 use Rattle.std.proofs.lemmas.Bool.{cases_lt}
 use Rattle.std.proofs.lemmas.List.{get_or-set_other}
 use Rattle.std.proofs.lemmas.Grind.{get_or-set_at}
@@ -12,6 +12,11 @@ use Rattle.tce_sym.specs.Lines.{walk_place}
 use Rattle.tce_sym.specs.Cells.{AreTriangles, IsAmong, IsWalkOf, IsMirroredWalkOf, cell_by, cell_of, mirror, moved_pair, pair_place}
 use Rattle.tce_sym.proofs.Triangles.{pairs_more}
 use Rattle.tce_sym.proofs.FullCells.{IsPlacedPair, pair_of_less, cell_above, cell_below, cell_between, cell_diagonal, pair_placed}
+
+-- a number that a test tells from 0
+pub number_left : (n : ℕ) (none : Bool) → none ≡ (n == 0) → none ≡ false → 0 < n
+number_left zero none is other = cc
+number_left (suc n) none is other = omega arith
 
 -- one word more
 pub more : (f : ℕ → ℕ) (words : List ℕ) (k word : ℕ) → k < length words → word ≡ f k → ((j : ℕ) → j < k → slice_index words j ≡ f j)

@@ -1,4 +1,4 @@
-use Rattle.std.proofs.Common.{refl, take, replicate, ◌≡◌, ◌∙◌, ◌+◌, ◌*◌, ◌≤◌, length, sym, ap, subst, arith, List, [], ℕ, Option, Some, unwrap_or, is_err}
+use Rattle.std.proofs.Common.{refl, take, replicate, ◌≡◌, ◌∙◌, ◌+◌, ◌*◌, ◌≤◌, ◌-◌, ◌<◌, ◌^◌, min, zero-le, le_refl, le_trans, length, sym, ap, subst, arith, List, [], ℕ, Option, Some, unwrap_or, is_err}
 use Rattle.std.proofs.lemmas.List.{length-take-le}
 use Rattle.std.specs.Option.{IsSomeAnd}
 use Rattle.tce_space.specs.Tiling.{Tiling, padded_words}
@@ -26,17 +26,44 @@ use Rattle.tce_outside.specs.declared.device.OutFault.TheVariants.{Failed, Memor
 use Rattle.tce_outside.specs.Fault.{HasCause, HasFailed}
 use Rattle.tce_tools.proofs.Faults.{making_failed, failed_making}
 use Rattle.tce_sym.proofs.StoredReads.{words_stored}
+use Rattle.tce_space.specs.Limits.{max_array_words}
 use Rattle.tce_sym.proofs.expansion.expand_elements.Goals as goal
+
+-- numbers of a piece of `len` words from `done` on, of which all are below `whole` and in the buffer
+module _ (len whole done : ℕ) (is : len ≡ min (whole - done) 8192) where
+  in_buffer : (n : ℕ) → n ≡ 8192 → len ≤ n
+  in_buffer n all = omega arith
+
+  few_words : (n : ℕ) → n ≡ len → n ≤ 8192
+  few_words n all = omega arith
+
+  ends : done < whole → done + len ≤ whole
+  ends more = omega arith
+
+  ends_inside : (n words : ℕ) → n ≡ len → whole ≡ words → done < whole → done + n ≤ words
+  ends_inside n words all same more = omega arith
+
+  ends_small : (n words : ℕ) → n ≡ len → whole ≡ words → words ≤ max_array_words → done < whole → done + n < 2 ^ 64
+  ends_small n words all same small more = omega arith
+
+  is_in_file : (n words at head bytes : ℕ) → bytes ≡ head + 8 * words → n ≡ len → at ≡ head → whole ≡ words → done < whole → at + 8 * done + 8 * n ≤ bytes
+  is_in_file n words at head bytes long all begins same more = omega arith
+
+behind : (at head done : ℕ) → at ≡ head → head ≤ at + 8 * done
+behind at head done is = omega arith
+
+all_done : (whole words done : ℕ) → whole ≡ words → whole ≤ done → words ≤ done
+all_done whole words done same over = omega arith
 
 pub loop-done-init : goal.loop-done-init
 loop-done-init g c = record {
-  done = omega arith;
+  done = zero-le;
   files = held_same (g.D.Disk.files c.args.disk.now) _ c.args.array.now (λ fs. replicate c.form_len.result 0) _
       (c.in_ok-make.ensures.made ∙ ap (holding c.args.array.now (replicate c.form_len.result 0)) c.in-Ok.ensures.same)
       (λ fs. ap (λ n. replicate n 0) c.form_len.ensures.bytes ∙ zero_form One c.args.shape.now ∙ no_words c.args.shape.now c.padded_words-padded.ensures.limits (full_cell c.args.shape.now.extents c.args.s.now (contents fs c.args.packed.now)));
   lines = c.in-Ok.ensures.held;
   others = c.in_ok-make.ensures.others ∙ ap (others c.args.array.now) c.in-Ok.ensures.same;
-  later = omega (arith, c.in_ok-make.ensures.cause.later, c.in-Ok.ensures.cause.later);
+  later = le_trans c.in-Ok.ensures.cause.later c.in_ok-make.ensures.cause.later;
   counted = c.in_ok-make.ensures.told (λ e. ok_not_err e) ∙ c.in-Ok.ensures.told false≢true;
 }
 
@@ -60,13 +87,13 @@ pub write_words-requires-clause-file : goal.write_words-requires-clause-file
 write_words-requires-clause-file g c x told =
     let s : Tiling = c.args.shape.now in
     let h = held (g.D.Disk.files c.args.disk.now) _ c.args.array.now _ (c.in-Ok-read_piece.ensures.same ∙ c.loop-done.invariant.files) x told in
-    let take_is : length (take c.min-len.result c.loop-done.buffer) ≡ c.min-len.result = length-take-le c.min-len.result c.loop-done.buffer (omega (arith, c.min-len.ensures, c.min-len.array_long)) in
+    let take_is : length (take c.min-len.result c.loop-done.buffer) ≡ c.min-len.result = length-take-le c.min-len.result c.loop-done.buffer (in_buffer c.min-len.result c.padded_words-padded.result c.loop-done.done c.min-len.ensures (length c.loop-done.buffer) c.min-len.array_long) in
     let size : length c.read_piece.new.words ≡ c.min-len.result = c.in-Ok-read_piece.ensures.len ∙ take_is in
     let whole : length (bare_bytes (Array One) s (first_words s (full_cell s.extents c.args.s.now (contents h.files c.args.packed.now)) c.loop-done.done)) ≡ head_len One s + 8 * padded_words s =
     length-bare (Array One) s c.padded_words-padded.ensures.limits (first_words s (full_cell s.extents c.args.s.now (contents h.files c.args.packed.now)) c.loop-done.done) in
     subst (HasWords One (c.head_len-head.result + 8 * c.loop-done.done) (length c.read_piece.new.words)) (sym h.here)
     (let fits : c.head_len-head.result + 8 * c.loop-done.done + 8 * length c.read_piece.new.words ≤ length (bare_bytes (Array One) s (first_words s (full_cell s.extents c.args.s.now (contents h.files c.args.packed.now)) c.loop-done.done)) =
-    omega (arith, whole, size, c.head_len-head.ensures, c.min-len.ensures, c.padded_words-padded.ensures.words, c.loop-done-test.true) in fits)
+    is_in_file c.min-len.result c.padded_words-padded.result c.loop-done.done c.min-len.ensures (length c.read_piece.new.words) (padded_words s) c.head_len-head.result (head_len One s) _ whole size c.head_len-head.ensures c.padded_words-padded.ensures.words c.loop-done-test.true in fits)
 
 pub loop-done-preserved : goal.loop-done-preserved
 loop-done-preserved g c =
@@ -75,16 +102,16 @@ loop-done-preserved g c =
     let element : Files → List ℕ → ℕ = λ fs. full_cell c.args.shape.now.extents c.args.s.now (contents fs c.args.packed.now) in
     let stored : ℕ → Files → List ℕ = λ n fs. bare_bytes (Array One) s (first_words s (element fs) n) in
     let vs : List ℕ = c.read_piece.new.words in
-    let take_is : length (take c.min-len.result c.loop-done.buffer) ≡ c.min-len.result = length-take-le c.min-len.result c.loop-done.buffer (omega (arith, c.min-len.ensures, c.min-len.array_long)) in
+    let take_is : length (take c.min-len.result c.loop-done.buffer) ≡ c.min-len.result = length-take-le c.min-len.result c.loop-done.buffer (in_buffer c.min-len.result c.padded_words-padded.result c.loop-done.done c.min-len.ensures (length c.loop-done.buffer) c.min-len.array_long) in
     let size : length c.read_piece.new.words ≡ c.min-len.result = c.in-Ok-read_piece.ensures.len ∙ take_is in
     let values : (fs : Files) → before ≡ Some fs → AreWords s (element fs) c.loop-done.done c.min-len.result vs =
     held_beside before (g.D.Disk.files c.loop-done.disk) c.args.array.now (stored c.loop-done.done) c.args.packed.now (λ b. AreWords s (full_cell c.args.shape.now.extents c.args.s.now b) c.loop-done.done c.min-len.result vs)
     c.loop-done.invariant.files c.requires.names
     (λ x told. subst (λ n. AreWords s (full_cell c.args.shape.now.extents c.args.s.now (contents x c.args.packed.now)) c.loop-done.done n vs) take_is (c.in-Ok-read_piece.ensures.read x told)) in
-    let room : c.loop-done.done + c.min-len.result ≤ padded_words s = omega (arith, c.min-len.ensures, c.padded_words-padded.ensures.words, c.loop-done-test.true) in
+    let room : c.loop-done.done + c.min-len.result ≤ padded_words s = ends_inside c.min-len.result c.padded_words-padded.result c.loop-done.done c.min-len.ensures c.min-len.result (padded_words s) refl c.padded_words-padded.ensures.words c.loop-done-test.true in
     let at : c.head_len-head.result + 8 * c.loop-done.done ≡ head_len One s + 8 * c.loop-done.done = ap (λ n. n + 8 * c.loop-done.done) c.head_len-head.ensures in
     record {
-      done = omega (arith, c.min-len.ensures, c.loop-done-test.true);
+      done = ends c.min-len.result c.padded_words-padded.result c.loop-done.done c.min-len.ensures c.loop-done-test.true;
       files = held_written before (g.D.Disk.files c.read_piece.new.disk) (g.D.Disk.files c.write_words.new.disk) c.args.array.now (stored c.loop-done.done) (stored (c.loop-done.done + c.min-len.result))
           (c.head_len-head.result + 8 * c.loop-done.done) (flat_map (word_bytes (width One)) vs) (c.in-Ok-read_piece.ensures.same ∙ c.loop-done.invariant.files) c.in-Ok-write_words.ensures.written
           (λ fs was. ap (λ n. overwritten (stored c.loop-done.done fs) n (flat_map (word_bytes (width One)) vs)) at
@@ -93,14 +120,14 @@ loop-done-preserved g c =
       lines = held_beside before (g.D.Disk.files c.loop-done.disk) c.args.array.now (stored c.loop-done.done) c.args.packed.now (λ b. AreHeld c.triangles_of-triangles.result.slots.grid.layout c.triangles_of-triangles.result.slots.grid b c.read_piece.new.lines)
           c.loop-done.invariant.files c.requires.names c.in-Ok-read_piece.ensures.lines;
       others = c.in-Ok-write_words.ensures.others ∙ ap (others c.args.array.now) c.in-Ok-read_piece.ensures.same ∙ c.loop-done.invariant.others;
-      later = omega (arith, c.in-Ok-read_piece.ensures.cause.later, c.in-Ok-write_words.ensures.cause.later, c.loop-done.invariant.later);
+      later = le_trans c.loop-done.invariant.later (le_trans c.in-Ok-read_piece.ensures.cause.later c.in-Ok-write_words.ensures.cause.later);
       counted = c.in-Ok-write_words.ensures.told false≢true ∙ c.in-Ok-read_piece.ensures.told false≢true ∙ c.loop-done.invariant.counted;
     }
 
 pub returns-clause-made : goal.returns-clause-made
 returns-clause-made g c =
     held_same (g.D.Disk.files c.args.disk.now) _ c.args.array.now _ (λ fs. bare_bytes (Array One) c.args.shape.now (full_cell c.args.shape.now.extents c.args.s.now (contents fs c.args.packed.now))) c.loop-done.invariant.files
-    (λ fs. all_words c.args.shape.now c.padded_words-padded.ensures.limits (full_cell c.args.shape.now.extents c.args.s.now (contents fs c.args.packed.now)) c.loop-done.done (omega (arith, c.loop-done-test.false, c.padded_words-padded.ensures.words)))
+    (λ fs. all_words c.args.shape.now c.padded_words-padded.ensures.limits (full_cell c.args.shape.now.extents c.args.s.now (contents fs c.args.packed.now)) c.loop-done.done (all_done c.padded_words-padded.result (padded_words c.args.shape.now) c.loop-done.done c.padded_words-padded.ensures.words c.loop-done-test.false))
 
 pub returns-clause-told : goal.returns-clause-told
 returns-clause-told g c = λ _. c.loop-done.invariant.counted
@@ -115,7 +142,7 @@ pub returns-in_default-write_words-clause-no_half : goal.returns-in_default-writ
 returns-in_default-write_words-clause-no_half g c =
     first_left One c.args.shape.now c.padded_words-padded.ensures.limits c.args.array.now (λ fs. first_words c.args.shape.now (full_cell c.args.shape.now.extents c.args.s.now (contents fs c.args.packed.now)) c.loop-done.done) 0
     (g.D.Disk.files c.args.disk.now) (g.D.Disk.files c.read_piece.new.disk) _ (c.read_piece.ensures.same ∙ c.loop-done.invariant.files)
-    (shorter_before c.args.array.now (head_len One c.args.shape.now) (c.head_len-head.result + 8 * c.loop-done.done) (g.D.Disk.files c.read_piece.new.disk) _ (omega (arith, c.head_len-head.ensures)) c.write_words.ensures.before)
+    (shorter_before c.args.array.now (head_len One c.args.shape.now) (c.head_len-head.result + 8 * c.loop-done.done) (g.D.Disk.files c.read_piece.new.disk) _ (behind c.head_len-head.result (head_len One c.args.shape.now) c.loop-done.done c.head_len-head.ensures) c.write_words.ensures.before)
     (λ fs. array_bytes c.args.shape.now (full_cell c.args.shape.now.extents c.args.s.now (contents fs c.args.packed.now)))
 
 pub returns-clause-no_half : goal.returns-clause-no_half
@@ -124,13 +151,13 @@ returns-clause-no_half g c =
 
 pub read_piece-requires-clause-inside : goal.read_piece-requires-clause-inside
 read_piece-requires-clause-inside g c =
-    let size : length (take c.min-len.result c.loop-done.buffer) ≡ c.min-len.result = length-take-le c.min-len.result c.loop-done.buffer (omega (arith, c.min-len.ensures, c.min-len.array_long)) in
-    omega (arith, size, c.min-len.ensures, c.padded_words-padded.ensures.words, c.loop-done-test.true)
+    let size : length (take c.min-len.result c.loop-done.buffer) ≡ c.min-len.result = length-take-le c.min-len.result c.loop-done.buffer (in_buffer c.min-len.result c.padded_words-padded.result c.loop-done.done c.min-len.ensures (length c.loop-done.buffer) c.min-len.array_long) in
+    ends_inside c.min-len.result c.padded_words-padded.result c.loop-done.done c.min-len.ensures (length (take c.min-len.result c.loop-done.buffer)) (padded_words c.args.shape.now) size c.padded_words-padded.ensures.words c.loop-done-test.true
 
 pub read_piece-requires-clause-fits : goal.read_piece-requires-clause-fits
 read_piece-requires-clause-fits g c =
-    let size : length (take c.min-len.result c.loop-done.buffer) ≡ c.min-len.result = length-take-le c.min-len.result c.loop-done.buffer (omega (arith, c.min-len.ensures, c.min-len.array_long)) in
-    omega (arith, size, c.min-len.ensures, c.padded_words-padded.ensures.words, c.padded_words-padded.ensures.limits.room, c.loop-done-test.true)
+    let size : length (take c.min-len.result c.loop-done.buffer) ≡ c.min-len.result = length-take-le c.min-len.result c.loop-done.buffer (in_buffer c.min-len.result c.padded_words-padded.result c.loop-done.done c.min-len.ensures (length c.loop-done.buffer) c.min-len.array_long) in
+    ends_small c.min-len.result c.padded_words-padded.result c.loop-done.done c.min-len.ensures (length (take c.min-len.result c.loop-done.buffer)) (padded_words c.args.shape.now) size c.padded_words-padded.ensures.words c.padded_words-padded.ensures.limits.room c.loop-done-test.true
 
 pub read_piece-requires-clause-room : goal.read_piece-requires-clause-room
 read_piece-requires-clause-room g c =
@@ -156,17 +183,17 @@ pub returns-clause-others : goal.returns-clause-others
 returns-clause-others g c = c.loop-done.invariant.others
 
 pub returns-in_default-clause-cause : goal.returns-in_default-clause-cause
-returns-in_default-clause-cause g c = failed_from _ (g.D.Disk.faults c.args.disk.now) _ _ _ (omega arith) c.hold_words.ensures.cause (ap is_err c.in_default.is)
+returns-in_default-clause-cause g c = failed_from _ (g.D.Disk.faults c.args.disk.now) _ _ _ (le_refl (g.D.Disk.faults c.args.disk.now)) c.hold_words.ensures.cause (ap is_err c.in_default.is)
 
 pub returns-in_default-read_piece-clause-cause : goal.returns-in_default-read_piece-clause-cause
 returns-in_default-read_piece-clause-cause g c = failed_from _ (g.D.Disk.faults c.loop-done.disk) _ _ _ c.loop-done.invariant.later c.read_piece.ensures.cause (ap is_err c.in_default-read_piece.is)
 
 pub returns-in_default-write_words-clause-cause : goal.returns-in_default-write_words-clause-cause
 returns-in_default-write_words-clause-cause g c =
-    failed_from _ (g.D.Disk.faults c.read_piece.new.disk) _ _ _ (omega (arith, c.loop-done.invariant.later, c.in-Ok-read_piece.ensures.cause.later)) c.write_words.ensures.cause (ap is_err c.in_default-write_words.is)
+    failed_from _ (g.D.Disk.faults c.read_piece.new.disk) _ _ _ (le_trans c.loop-done.invariant.later c.in-Ok-read_piece.ensures.cause.later) c.write_words.ensures.cause (ap is_err c.in_default-write_words.is)
 
 pub returns-clause-cause : goal.returns-clause-cause
-returns-clause-cause g c = record { later = c.loop-done.invariant.later; rose = λ e. absurd cc }
+returns-clause-cause g c = record { later = c.loop-done.invariant.later; rose = λ e. absurd (ok_not_err e) }
 
 pub triangles_of-triangles-requires-clause-right : goal.triangles_of-triangles-requires-clause-right
 triangles_of-triangles-requires-clause-right g c = c.requires.right
@@ -178,7 +205,7 @@ pub hold_words-requires-clause-room : goal.hold_words-requires-clause-room
 hold_words-requires-clause-room g c = c.triangles_of-triangles.ensures.room
 
 pub hold_words-requires-clause-count : goal.hold_words-requires-clause-count
-hold_words-requires-clause-count g c = omega (arith, c.triangles_of-triangles.ensures.triangles.grid, c.triangles_of-triangles.ensures.triangles.small)
+hold_words-requires-clause-count g c = subst (λ n. n ≤ max_array_words) (sym c.triangles_of-triangles.ensures.triangles.grid) c.triangles_of-triangles.ensures.triangles.small
 
 pub hold_words-requires-clause-file : goal.hold_words-requires-clause-file
 hold_words-requires-clause-file g c = λ x told.
@@ -209,18 +236,18 @@ pub overflow_sub-padded : goal.overflow_sub-padded
 overflow_sub-padded g c = c.loop-done.invariant.done
 
 pub slice_bounds-buffer-end : goal.slice_bounds-buffer-end
-slice_bounds-buffer-end g c = omega (arith, c.min-len.ensures, c.min-len.array_long)
+slice_bounds-buffer-end g c = in_buffer c.min-len.result c.padded_words-padded.result c.loop-done.done c.min-len.ensures (length c.loop-done.buffer) c.min-len.array_long
 
 pub slice_bounds-words-end : goal.slice_bounds-words-end
-slice_bounds-words-end g c = sym (length-take-le c.min-len.result c.loop-done.buffer (omega (arith, c.min-len.ensures, c.min-len.array_long)))
+slice_bounds-words-end g c = sym (length-take-le c.min-len.result c.loop-done.buffer (in_buffer c.min-len.result c.padded_words-padded.result c.loop-done.done c.min-len.ensures (length c.loop-done.buffer) c.min-len.array_long))
 
 pub read_piece-requires-clause-right : goal.read_piece-requires-clause-right
 read_piece-requires-clause-right g c = c.requires.right
 
 pub read_piece-requires-clause-few : goal.read_piece-requires-clause-few
 read_piece-requires-clause-few g c =
-    let size : length (take c.min-len.result c.loop-done.buffer) ≡ c.min-len.result = length-take-le c.min-len.result c.loop-done.buffer (omega (arith, c.min-len.ensures, c.min-len.array_long)) in
-    omega (arith, size, c.min-len.ensures)
+    let size : length (take c.min-len.result c.loop-done.buffer) ≡ c.min-len.result = length-take-le c.min-len.result c.loop-done.buffer (in_buffer c.min-len.result c.padded_words-padded.result c.loop-done.done c.min-len.ensures (length c.loop-done.buffer) c.min-len.array_long) in
+    few_words c.min-len.result c.padded_words-padded.result c.loop-done.done c.min-len.ensures (length (take c.min-len.result c.loop-done.buffer)) size
 
 pub read_piece-requires-clause-triangles : goal.read_piece-requires-clause-triangles
 read_piece-requires-clause-triangles g c = c.triangles_of-triangles.ensures.triangles

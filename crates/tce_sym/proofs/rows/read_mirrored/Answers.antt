@@ -6,7 +6,7 @@ use Rattle.tce_tools.specs.Flat.{contents}
 use Rattle.tce_sym.specs.Storage.{stored_word, turned}
 use Rattle.tce_sym.specs.declared.cells.Pair.{Pair}
 use Rattle.tce_sym.specs.Cells.{IsAmong, IsMirrored, moved_pair}
-use Rattle.tce_sym.proofs.Walked.{mirrored_walk_is, mirrored_placed, moved_nowhere}
+use Rattle.tce_sym.proofs.Walked.{mirrored_walk_is, mirrored_placed, moved_nowhere, number_left}
 use Rattle.std.proofs.lemmas.Result.{IfOk-from_err}
 use Rattle.std.proofs.lemmas.Bool.{false≢true}
 use Rattle.tce_sym.proofs.rows.read_mirrored.Goals as goal
@@ -26,10 +26,10 @@ returns-clause-read g c x told k l =
     ∙ ap (stored_word (contents x c.args.packed.now)) (mirrored_walk_is c.args.triangles.now c.args.row.now c.mirrored_walk-walk.result k c.mirrored_walk-walk.ensures))
 
 pub mirrored_walk-walk-requires-clause-among : goal.mirrored_walk-walk-requires-clause-among
-mirrored_walk-walk-requires-clause-among g c = subst (IsAmong c.args.triangles.now) (moved_nowhere c.args.row.now) (c.requires.among 0 (grind (arith, c.if-is_empty.false, c.is_empty.ensures)))
+mirrored_walk-walk-requires-clause-among g c = subst (IsAmong c.args.triangles.now) (moved_nowhere c.args.row.now) (c.requires.among 0 (number_left (length c.args.words.now) _ c.is_empty.ensures c.if-is_empty.false))
 
 pub mirrored_walk-walk-requires-clause-mirrored : goal.mirrored_walk-walk-requires-clause-mirrored
-mirrored_walk-walk-requires-clause-mirrored g c = subst (λ (p : Pair). IsMirrored p) (moved_nowhere c.args.row.now) (c.requires.mirrored 0 (grind (arith, c.if-is_empty.false, c.is_empty.ensures)))
+mirrored_walk-walk-requires-clause-mirrored g c = subst (λ (p : Pair). IsMirrored p) (moved_nowhere c.args.row.now) (c.requires.mirrored 0 (number_left (length c.args.words.now) _ c.is_empty.ensures c.if-is_empty.false))
 
 pub read_walk-requires-clause-count : goal.read_walk-requires-clause-count
 read_walk-requires-clause-count g c = omega (arith, c.requires.triangles.grid, c.requires.triangles.small)

@@ -4,19 +4,19 @@ use Rattle.tce_tools.specs.Flat.{contents}
 use Rattle.tce_sym.specs.declared.cells.Pair.{Pair}
 use Rattle.tce_sym.specs.Lines.{HasRoom}
 use Rattle.tce_sym.specs.Cells.{IsAmong, IsUpper, cell_of, moved_pair}
-use Rattle.tce_sym.proofs.Walked.{joined_words, moved_on, moved_nowhere, mirrored_is}
+use Rattle.tce_sym.proofs.Walked.{joined_words, moved_on, moved_nowhere, mirrored_is, number_left}
 use Rattle.std.proofs.lemmas.Result.{IfOk-from_err, on_ok_weaker}
 use Rattle.std.proofs.lemmas.Bool.{false≢true}
 use Rattle.tce_sym.proofs.rows.read_row.Goals as goal
 
 pub moved_row-behind-requires-clause-outer : goal.moved_row-behind-requires-clause-outer
 moved_row-behind-requires-clause-outer g c =
-    let first = subst (IsAmong c.args.triangles.now) (moved_nowhere c.args.row.now) (c.requires.among 0 (grind (arith, c.if-is_empty.false, c.is_empty.ensures))) in
+    let first = subst (IsAmong c.args.triangles.now) (moved_nowhere c.args.row.now) (c.requires.among 0 (number_left (length c.args.words.now) _ c.is_empty.ensures c.if-is_empty.false)) in
     omega (arith, first.outer, c.requires.triangles.few, c.mirrored_len-len.ensures.within, c.requires.few)
 
 pub moved_row-behind-requires-clause-second : goal.moved_row-behind-requires-clause-second
 moved_row-behind-requires-clause-second g c =
-    let first = subst (IsAmong c.args.triangles.now) (moved_nowhere c.args.row.now) (c.requires.among 0 (grind (arith, c.if-is_empty.false, c.is_empty.ensures))) in
+    let first = subst (IsAmong c.args.triangles.now) (moved_nowhere c.args.row.now) (c.requires.among 0 (number_left (length c.args.words.now) _ c.is_empty.ensures c.if-is_empty.false)) in
     omega (arith, first.second, c.requires.triangles.extent, c.mirrored_len-len.ensures.within, c.requires.few)
 
 pub read_mirrored-requires-clause-among : goal.read_mirrored-requires-clause-among

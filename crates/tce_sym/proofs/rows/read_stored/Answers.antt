@@ -9,15 +9,15 @@ use Rattle.tce_sym.specs.declared.cells.Pair.{Pair}
 use Rattle.tce_sym.specs.Storage.{stored_word}
 use Rattle.tce_sym.specs.Cells.{IsAmong, IsStoredPair, moved_pair}
 use Rattle.tce_sym.proofs.FullCells.{pair_placed}
-use Rattle.tce_sym.proofs.Walked.{walk_is, moved_nowhere}
+use Rattle.tce_sym.proofs.Walked.{walk_is, moved_nowhere, number_left}
 use Rattle.tce_sym.proofs.rows.read_stored.Goals as goal
 
 pub stored_walk-walk-requires-clause-among : goal.stored_walk-walk-requires-clause-among
-stored_walk-walk-requires-clause-among g c = subst (IsAmong c.args.triangles.now) (moved_nowhere c.args.row.now) (c.requires.among 0 (grind (arith, c.if-is_empty.false, c.is_empty.ensures)))
+stored_walk-walk-requires-clause-among g c = subst (IsAmong c.args.triangles.now) (moved_nowhere c.args.row.now) (c.requires.among 0 (number_left (length c.args.words.now) _ c.is_empty.ensures c.if-is_empty.false))
 
 pub stored_walk-walk-requires-clause-stored : goal.stored_walk-walk-requires-clause-stored
 stored_walk-walk-requires-clause-stored g c =
-    subst (λ (p : Pair). IsStoredPair c.args.triangles.now.negated p) (moved_nowhere c.args.row.now) (c.requires.stored 0 (grind (arith, c.if-is_empty.false, c.is_empty.ensures)))
+    subst (λ (p : Pair). IsStoredPair c.args.triangles.now.negated p) (moved_nowhere c.args.row.now) (c.requires.stored 0 (number_left (length c.args.words.now) _ c.is_empty.ensures c.if-is_empty.false))
 
 pub read_walk-requires-clause-count : goal.read_walk-requires-clause-count
 read_walk-requires-clause-count g c = omega (arith, c.requires.triangles.grid, c.requires.triangles.small)

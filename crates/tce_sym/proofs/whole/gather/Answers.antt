@@ -1,12 +1,12 @@
 use Rattle.std.proofs.Common.{◌≡◌, ◌∙◌, ℕ, ◌+◌, ◌-◌, ◌*◌, ◌<◌, length, slice_index, ap, arith}
 use Rattle.tce_sym.specs.Lines.{walk_place}
 use Rattle.tce_sym.proofs.StoredReads.{place_small}
-use Rattle.tce_sym.proofs.Walked.{more, step_place}
+use Rattle.tce_sym.proofs.Walked.{more, step_place, number_left}
 use Rattle.tce_sym.proofs.whole.gather.Goals as goal
 
 pub copy_words-requires : goal.copy_words-requires
 copy_words-requires c =
-    let some : 0 < length c.args.words.now = grind (arith, c.if-not-is_empty.true, c.is_empty.ensures) in
+    let some : 0 < length c.args.words.now = number_left (length c.args.words.now) _ c.is_empty.ensures c.if-not-is_empty.true in
     let last : ℕ = length c.args.words.now - 1 in
     let place : walk_place c.args.walk.now last ≡ c.args.walk.now.place + 1 * last = step_place c.args.walk.now last c.if-not-walk.true ∙ ap (λ n. c.args.walk.now.place + n * last) c.if-walk-eq1.true in
     omega (arith, some, place, c.requires.places last (omega (arith, some)), c.requires.room)

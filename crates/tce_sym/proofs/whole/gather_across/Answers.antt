@@ -1,13 +1,13 @@
 use Rattle.std.proofs.Common.{◌≡◌, ◌∙◌, ℕ, ◌+◌, ◌-◌, ◌*◌, ◌<◌, length, slice_index, sym, ap, arith}
 use Rattle.std.proofs.Math.Nat.{div-le_self}
 use Rattle.tce_sym.specs.Lines.{walk_place}
-use Rattle.tce_sym.proofs.Walked.{more, step_place}
+use Rattle.tce_sym.proofs.Walked.{more, step_place, number_left}
 use Rattle.tce_sym.proofs.Across.{across, across_within, across_step}
 use Rattle.tce_sym.proofs.StoredReads.{place_small}
 use Rattle.tce_sym.proofs.whole.gather_across.Goals as goal
 
 some : (c : goal.Then-not-is_empty) → 0 < length c.args.words.now
-some c = grind (arith, c.if-not-is_empty.true, c.is_empty.ensures)
+some c = number_left (length c.args.words.now) _ c.is_empty.ensures c.if-not-is_empty.true
 
 first : (c : goal.Then-not-is_empty) → c.args.walk.now.place < c.args.grid.now.count
 first c = omega (arith, step_place c.args.walk.now 0 c.if-not-walk.true, c.requires.places 0 (some c))
@@ -20,7 +20,7 @@ across_at-requires-clause-outer c = omega (arith, div-le_self c.args.walk.now.pl
 
 pub copy_words-requires : goal.copy_words-requires
 copy_words-requires c =
-    let some : 0 < length c.args.words.now = grind (arith, c.if-not-is_empty.true, c.is_empty.ensures) in
+    let some : 0 < length c.args.words.now = number_left (length c.args.words.now) _ c.is_empty.ensures c.if-not-is_empty.true in
     let last : ℕ = length c.args.words.now - 1 in
     let place : walk_place c.args.walk.now last ≡ c.args.walk.now.place + c.args.grid.now.pairs * last = step_place c.args.walk.now last c.if-not-walk.true ∙ ap (λ n. c.args.walk.now.place + n * last) c.if-walk-grid.true in
     let within = across_within c.args.grid.now (length c.args.lines.now) (walk_place c.args.walk.now last) c.requires.room (c.requires.places last (omega (arith, some))) in
