@@ -13,7 +13,7 @@ use Rattle.tce_cache.proofs.Tiles.{told_from}
 use Rattle.std.proofs.Math.Seq.{drop-append_seam}
 use Rattle.tce_outside.proofs.Places.{tied, same_name}
 use Rattle.tce_space.specs.Box.{IsInside}
-use Rattle.tce_space.specs.Space.{extent_at}
+use Rattle.tce_space.specs.Space.{IndexSpace, extent_at}
 use Rattle.tce_space.specs.Tiling.{Tiling, tile_words, tiles, tile_number, place_in_tile, word_number}
 use Rattle.tce_array.specs.declared.form.Form.TheVariants.{One}
 use Rattle.tce_array.specs.Forms.{form_len, head, head_len}
@@ -26,6 +26,7 @@ use Rattle.tce_cache.specs.Cache.{State as CacheState, OnlyWritableDiffers, word
 use Rattle.tce_cache.specs.Transfer.{contents, word_in_file}
 use Rattle.tce_cache.specs.Touch.{AreWritten, KeepsArrays}
 use Rattle.tce_cache.proofs.Steps.{front_has}
+use Rattle.tce_tree.specs.ContractionTree.{ContractionTree}
 use Rattle.tce_tree.specs.Value.{value, assignment}
 use Rattle.tce_formula.specs.Contraction.{has_tensor}
 use Rattle.tce_spec.specs.Specification.{Specification, IsSpecification}
@@ -48,7 +49,7 @@ use Rattle.tce_tensors.proofs.Reading.{read}
 use Rattle.tce_tensors.proofs.Flushed.{flushed, whole}
 use Rattle.tce_job.specs.declared.prepared.Prepared.{Prepared}
 use Rattle.tce_job.specs.Run.{IsBegun}
-use Rattle.tce_job.proofs.Begun.{workspace_with, workspace_for, array_of, result_at, result_shape_is}
+use Rattle.tce_job.proofs.Begun.{workspace_at, workspace_with, workspace_for, of_parts, array_of, result_at, result_shape_is}
 
 -- ---- files that keep their fronts
 
@@ -257,6 +258,18 @@ ended s p words cache cache2 told (Some hs) None rules b run kept written arrays
 ended s p words cache cache2 told None (Some gs) rules b run kept written arrays other = absurd (some_none gs other.tells)
 ended s p words cache cache2 (Some fs) None after rules b run kept written arrays other = absurd (none_some fs kept.files.tells)
 ended s p words cache cache2 None (Some hs) after rules b run kept written arrays other = absurd (some_none hs kept.files.tells)
+
+-- both, where what ran is said of parts that are the specification's
+pub ran_over : (s : Specification) (p : Prepared) (words : List ℕ) (cache cache2 : CacheState) (told ran after : Option Files) (space : IndexSpace) (tree : ContractionTree) (result : ℕ) (indexes : List ℕ)
+    → space ≡ s.declarations.space → tree ≡ s.tree → result ≡ s.result → indexes ≡ s.indexes → IsSpecification s → IsBegun s told p
+    → IsRun (workspace_at p p.words p.cache told space tree result indexes) (workspace_at p words cache ran space tree result indexes) p.code
+    → IsKept (workspace_at p p.words p.cache told space tree result indexes) (workspace_at p words cache ran space tree result indexes)
+    → AreWritten cache ran after words → KeepsArrays cache cache2 ran after words words → OnlyWritableDiffers cache ran after
+    → LackHead s told after × (written (file_of s s.result) 0 (head One (shape_of s s.result)) after ≡ option_map (with_result s) told)
+ran_over s p words cache cache2 told ran after space tree result indexes a b c d rules begun run kept written arrays other =
+    let is_run = of_parts (λ space tree t is. IsRun (workspace_at p p.words p.cache told space tree t is) (workspace_at p words cache ran space tree t is) p.code) _ _ _ _ _ _ _ _ a b c d run in
+    let is_kept = of_parts (λ space tree t is. IsKept (workspace_at p p.words p.cache told space tree t is) (workspace_at p words cache ran space tree t is)) _ _ _ _ _ _ _ _ a b c d kept in
+    (lacking s p words cache cache2 told ran after rules begun is_run is_kept written arrays other, ended s p words cache cache2 told ran after rules begun is_run is_kept written arrays other)
 
 -- a result's file that lacks its head alone has room for it
 room_in : (s : Specification) (fs : Files) (o : Option (List ℕ)) → LacksHead s fs o → IsSomeAnd o (λ found. head_len One (shape_of s s.result) ≤ length found)

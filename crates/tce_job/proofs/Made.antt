@@ -55,3 +55,11 @@ room_left (IntermediatesTooLarge n) s budget plan before after least free may = 
 room_left (Array t fault) s budget plan before after least free may = absurd free
 room_left Disk s budget plan before after least free may = has_taken s budget plan before after least may
 room_left Memory s budget plan before after least free may = has_taken s budget plan before after least may
+
+-- and what one leaves that took nothing
+pub room_as_it_was : (f : JobFault) (s : Specification) (budget : ℕ) (takings : List (ℕ × ℕ)) → IsRoomLeft f s budget takings takings
+room_as_it_was (BudgetTooSmall n) s budget takings = refl
+room_as_it_was (IntermediatesTooLarge n) s budget takings = refl
+room_as_it_was (Array t fault) s budget takings = refl
+room_as_it_was Disk s budget takings = inl refl
+room_as_it_was Memory s budget takings = inl refl

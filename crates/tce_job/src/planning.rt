@@ -39,7 +39,9 @@ pub fn affordable_plan(alloc: Global, spec: &Spec, budget: u64) -> Result<Plan, 
         return Err(JobFault::Memory);
     };
     if plan.memory > MAX_MEMORY as u128 {
-        return Err(JobFault::IntermediatesTooLarge(plan.memory));
+        let memory = plan.memory;
+        drop(plan);
+        return Err(JobFault::IntermediatesTooLarge(memory));
     }
     Ok(plan)
 }
@@ -89,6 +91,11 @@ pub fn tested<D: Disk>(
     ensures quiet { TellsFaults (D.faults disk.old) (D.faults disk.new) (result ≡ Err Fault.Disk) }
 {
     let plan = affordable_plan(alloc, spec, budget)?;
-    let forms = opened_forms(spec, disk)?;
-    Ok((plan, forms))
+    match opened_forms(spec, disk) {
+        Ok(forms) => Ok((plan, forms)),
+        Err(fault) => {
+            drop(plan);
+            Err(fault)
+        }
+    }
 }

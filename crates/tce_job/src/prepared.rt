@@ -35,6 +35,19 @@ impl Prepared {
     pub(crate) fn into_report(self) -> RunReport
         ensures { result ≡ self.report }
     {
-        self.report
+        let Prepared {
+            plan,
+            code,
+            layout,
+            words,
+            cache,
+            report,
+        } = self;
+        drop(plan);
+        drop(code);
+        drop(layout);
+        drop(words);
+        drop(cache);
+        report
     }
 }

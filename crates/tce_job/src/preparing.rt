@@ -43,13 +43,15 @@ fn empty_cache(
     ensures { IfOk result (IsEmptyCache spec.now budget forms.now.0 memory) }
 {
     let arrays = arrays_of(alloc, spec, forms)?;
-    Cache::new(
+    let cache = Cache::new(
         alloc,
         &arrays,
         memory,
         frame_count(spec, budget),
         spec.largest_tile(),
-    )
+    );
+    drop(arrays);
+    cache
 }
 
 // The report of a run by this plan.

@@ -3,7 +3,11 @@ ghost use Rattle.std.specs.Prelude.{◌≡◌, ◌⊎◌, ◌≤◌, IfOk, IfErr
 ghost use Rattle.tce_space.specs.Limits.{max_memory};
 ghost use Rattle.tce_outside.specs.Files.{others};
 ghost use Rattle.tce_outside.specs.Fault.{HasCause, TellsFaults};
+ghost use Rattle.tce_array.specs.declared.form.Form.TheVariants.{One};
+ghost use Rattle.tce_array.specs.OnDisk.{HasRoomForHead, HoldsHead, SameBehindHead};
+ghost use Rattle.tce_spec.specs.Operands.{shape_of};
 ghost use Rattle.tce_tensors.specs.Laws.{LeavesNoHalfResult};
+ghost use Rattle.tce_tensors.specs.TensorFiles.{file_of};
 ghost use Rattle.tce_tensors.specs.Takings.{least_budget};
 ghost use Rattle.tce_tensors.specs.Opened.{AreOpenedOn};
 ghost use Rattle.tce_job.specs.declared.fault.JobFault.{JobFault as Fault};
@@ -59,10 +63,24 @@ pub fn run_prepared<D: Disk>(
         disk,
     )?;
     prepared.cache.flush(disk, &prepared.words)?;
+    write_result_head(spec, disk)
+}
+
+// Writes the head of the result's file, which makes it an array.
+fn write_result_head<D: Disk>(spec: &Spec, disk: &mut D) -> Result<(), Failed>
+    requires { HasRoomForHead (D.files disk.old)
+        (file_of spec.now spec.now.result) One (shape_of spec.now spec.now.result) }
+    ensures written { OnOk result (HoldsHead D.files disk.old disk.new
+        (file_of spec.now spec.now.result) One (shape_of spec.now spec.now.result)) }
+    ensures behind { SameBehindHead (file_of spec.now spec.now.result) One
+        (shape_of spec.now spec.now.result) (D.files disk.old) (D.files disk.new) }
+    ensures others { ResultAlone spec.now (D.files disk.old) (D.files disk.new) }
+    ensures cause { HasCause (D.faults disk.old) (D.faults disk.new) (IsErr result) }
+    ensures quiet { TellsFaults (D.faults disk.old) (D.faults disk.new) (IsErr result) }
+{
     let number = spec.result().tensor;
     let name = file_of(spec, number);
-    write_head(disk, name.as_str(), Form::One, &spec.tensor(number).shape)?;
-    Ok(())
+    write_head(disk, name.as_str(), Form::One, &spec.tensor(number).shape)
 }
 
 /// Runs a specification by any plan whose orders carry its fusion, over operands that were opened.

@@ -1,7 +1,8 @@
 use Rattle.std.proofs.Common.{inr, refl}
-use Rattle.tce_outside.proofs.Causes.{cause_as, answered_quiet}
+use Rattle.tce_outside.proofs.Causes.{cause_as, no_cause, answered_quiet}
 use Rattle.tce_job.proofs.Answered.{answered, same_fault}
 use Rattle.tce_job.proofs.Made.{begun}
+use Rattle.tce_job.proofs.Ended.{same_is_no_half}
 use Rattle.tce_job.proofs.preparing.begin.Goals as goal
 
 pub returns-in-Ok-make_result-clause-begun : goal.returns-in-Ok-make_result-clause-begun
@@ -53,3 +54,30 @@ returns-in-Err-clause-cause g c = cause_as _ _ (same_fault c.in-Err.fault _ _ re
 
 pub returns-in-Err-clause-quiet : goal.returns-in-Err-clause-quiet
 returns-in-Err-clause-quiet g c = λ none. c.in-Err.ensures.quiet (λ failed. none (same_fault c.in-Err.fault _ _ refl refl failed))
+
+pub take_memory-requires-clause-enough : goal.take_memory-requires-clause-enough
+take_memory-requires-clause-enough g c = c.requires.enough
+
+pub take_memory-requires-clause-limit : goal.take_memory-requires-clause-limit
+take_memory-requires-clause-limit g c = c.requires.limit
+
+pub take_memory-requires-clause-plan : goal.take_memory-requires-clause-plan
+take_memory-requires-clause-plan g c = c.requires.plan
+
+pub take_memory-requires-clause-small : goal.take_memory-requires-clause-small
+take_memory-requires-clause-small g c = c.requires.small
+
+pub returns-in_default-clause-unchanged : goal.returns-in_default-clause-unchanged
+returns-in_default-clause-unchanged g c = inr refl
+
+pub returns-in_default-clause-no_half : goal.returns-in_default-clause-no_half
+returns-in_default-clause-no_half g c = same_is_no_half c.args.spec.now (g.D.Disk.files c.args.disk.now) (g.D.Disk.files c.args.disk.now) refl
+
+pub returns-in_default-clause-others : goal.returns-in_default-clause-others
+returns-in_default-clause-others g c = refl
+
+pub returns-in_default-clause-cause : goal.returns-in_default-clause-cause
+returns-in_default-clause-cause g c = no_cause _ _ refl (λ failed. absurd (cc))
+
+pub returns-in_default-clause-quiet : goal.returns-in_default-clause-quiet
+returns-in_default-clause-quiet g c = λ none. refl

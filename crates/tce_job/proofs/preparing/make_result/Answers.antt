@@ -1,8 +1,21 @@
-use Rattle.std.proofs.Common.{◌≡◌, ◌∙◌, ap, List, ℕ, subst}
+use Rattle.std.proofs.Common.{◌≡◌, ◌∙◌, ap, List, ℕ, Result, Err, refl, subst, inl, inr}
 use Rattle.tce_outside.specs.Files.{others, IsKeptOrZeros}
 use Rattle.tce_tensors.specs.TensorFiles.{file_of}
+use Rattle.tce_outside.specs.declared.device.OutFault.{OutFault}
+use Rattle.tce_outside.specs.declared.device.OutFault.TheVariants as out
+use Rattle.tce_job.specs.declared.fault.JobFault.{JobFault}
+use Rattle.tce_job.specs.declared.fault.JobFault.TheVariants.{Disk, Memory}
+use Rattle.tce_job.proofs.Answered.{answered}
 use Rattle.tce_job.proofs.Ended.{failed_is_no_half}
+use Rattle.tce_outside.proofs.Causes.{cause_as}
 use Rattle.tce_job.proofs.preparing.make_result.Goals as goal
+
+-- want of memory is no failure
+wanting : {A Q : Type 0} (given : Result A JobFault) → given ≡ Err Memory → given ≡ Err Disk → Q
+wanting given is failed = absurd (cc)
+
+no_failure : {A Q : Type 0} (f : OutFault) (given : Result A OutFault) → f ≡ out.Memory → given ≡ Err f → given ≡ Err out.Failed → Q
+no_failure f given is told failed = absurd (cc)
 
 pub returns-in-Ok-clause-no_half : goal.returns-in-Ok-clause-no_half
 returns-in-Ok-clause-no_half g c =
@@ -30,3 +43,27 @@ returns-in-Err-Memory-clause-no_half g c =
 pub returns-in-Err-Memory-clause-others : goal.returns-in-Err-Memory-clause-others
 returns-in-Err-Memory-clause-others g c =
     subst (λ (name : List ℕ). others name (g.D.Disk.files c.make.new.self) ≡ others name (g.D.Disk.files c.args.disk.now)) (c.as_str.ensures.value ∙ c.file_of-name.ensures ∙ ap (file_of c.args.spec.now) c.result.ensures.tensor) c.make.ensures.others
+
+pub returns-in-Ok-clause-cause : goal.returns-in-Ok-clause-cause
+returns-in-Ok-clause-cause g c = cause_as _ _ (answered _ _ refl) c.in-Ok.ensures.cause
+
+pub returns-in-Ok-clause-quiet : goal.returns-in-Ok-clause-quiet
+returns-in-Ok-clause-quiet g c = λ none. c.in-Ok.ensures.told (answered _ _ refl)
+
+pub returns-in-Err-Failed-clause-unchanged : goal.returns-in-Err-Failed-clause-unchanged
+returns-in-Err-Failed-clause-unchanged g c = inl refl
+
+pub returns-in-Err-Failed-clause-cause : goal.returns-in-Err-Failed-clause-cause
+returns-in-Err-Failed-clause-cause g c = cause_as _ _ (λ failed. ap Err c.in-Err-Failed.field-0-is) c.in-Err-Failed.ensures.cause
+
+pub returns-in-Err-Failed-clause-quiet : goal.returns-in-Err-Failed-clause-quiet
+returns-in-Err-Failed-clause-quiet g c = λ none. absurd (none refl)
+
+pub returns-in-Err-Memory-clause-unchanged : goal.returns-in-Err-Memory-clause-unchanged
+returns-in-Err-Memory-clause-unchanged g c = inr (c.in-Err-Memory.ensures.memory (ap Err c.in-Err-Memory.field-0-is))
+
+pub returns-in-Err-Memory-clause-cause : goal.returns-in-Err-Memory-clause-cause
+returns-in-Err-Memory-clause-cause g c = cause_as _ _ (wanting _ refl) c.in-Err-Memory.ensures.cause
+
+pub returns-in-Err-Memory-clause-quiet : goal.returns-in-Err-Memory-clause-quiet
+returns-in-Err-Memory-clause-quiet g c = λ none. c.in-Err-Memory.ensures.told (no_failure c.in-Err-Memory.field-0 _ c.in-Err-Memory.field-0-is refl)

@@ -4,8 +4,9 @@ use Rattle.tce_nesting.specs.declared.plan.Plan.{Plan}
 use Rattle.tce_tensors.specs.Laws.{made_result}
 use Rattle.tce_job.specs.declared.report.RunReport.{RunReport}
 use Rattle.tce_job.specs.Prepared.{IsReport}
-use Rattle.tce_job.proofs.Answered.{answered}
+use Rattle.tce_job.proofs.Answered.{answered, same_fault}
 use Rattle.tce_job.proofs.Ended.{told_before, no_half_before, whole_is_no_half}
+use Rattle.std.proofs.lemmas.Result.{IfOk-from_err, err_from_is_err_and}
 use Rattle.tce_job.proofs.run.run_by.Goals as goal
 
 pub returns-in-Ok-clause-told : goal.returns-in-Ok-clause-told
@@ -52,3 +53,61 @@ returns-in-Err-clause-no_half g c =
 
 pub returns-in-Ok-clause-no_half : goal.returns-in-Ok-clause-no_half
 returns-in-Ok-clause-no_half g c = whole_is_no_half c.args.spec.now (g.D.Disk.files c.args.disk.now) (g.D.Disk.files c.run_prepared-ran.new.disk) (returns-in-Ok-clause-told g c)
+
+pub begin-requires-clause-enough : goal.begin-requires-clause-enough
+begin-requires-clause-enough g c = c.requires.enough
+
+pub begin-requires-clause-limit : goal.begin-requires-clause-limit
+begin-requires-clause-limit g c = c.requires.limit
+
+pub begin-requires-clause-plan : goal.begin-requires-clause-plan
+begin-requires-clause-plan g c = c.requires.plan
+
+pub begin-requires-clause-small : goal.begin-requires-clause-small
+begin-requires-clause-small g c = c.requires.small
+
+pub begin-requires-clause-opened : goal.begin-requires-clause-opened
+begin-requires-clause-opened g c = c.requires.opened
+
+pub returns-in_err-prepared-clause-told : goal.returns-in_err-prepared-clause-told
+returns-in_err-prepared-clause-told g c = IfOk-from_err c.from_residual.result _ c.from_residual.ensures.0
+
+pub returns-in_err-prepared-clause-report : goal.returns-in_err-prepared-clause-report
+returns-in_err-prepared-clause-report g c = IfOk-from_err c.from_residual.result _ c.from_residual.ensures.0
+
+pub returns-in_err-prepared-clause-taken : goal.returns-in_err-prepared-clause-taken
+returns-in_err-prepared-clause-taken g c = IfOk-from_err c.from_residual.result _ c.from_residual.ensures.0
+
+pub returns-in_err-prepared-clause-free : goal.returns-in_err-prepared-clause-free
+returns-in_err-prepared-clause-free g c =
+    let p = err_from_is_err_and c.from_residual.result c.from_residual.ensures.1 in
+    rw (p.1, p.2) c.in_err-prepared.ensures.free
+
+pub returns-in_err-prepared-clause-unchanged : goal.returns-in_err-prepared-clause-unchanged
+returns-in_err-prepared-clause-unchanged g c =
+    let p = err_from_is_err_and c.from_residual.result c.from_residual.ensures.1 in
+    rw (p.1, p.2) c.in_err-prepared.ensures.unchanged
+
+pub returns-in_err-prepared-clause-takings : goal.returns-in_err-prepared-clause-takings
+returns-in_err-prepared-clause-takings g c =
+    let p = err_from_is_err_and c.from_residual.result c.from_residual.ensures.1 in
+    rw p.1 c.in_err-prepared.ensures.takings
+
+pub returns-in_err-prepared-clause-cause : goal.returns-in_err-prepared-clause-cause
+returns-in_err-prepared-clause-cause g c =
+    let p = err_from_is_err_and c.from_residual.result c.from_residual.ensures.1 in
+    rw (p.1, p.2) (cause_as _ _ (same_fault c.in_err-prepared.field-0.0 _ _ refl refl) c.in_err-prepared.ensures.cause)
+
+pub returns-in_err-prepared-clause-quiet : goal.returns-in_err-prepared-clause-quiet
+returns-in_err-prepared-clause-quiet g c =
+    let p = err_from_is_err_and c.from_residual.result c.from_residual.ensures.1 in
+    rw (p.1, p.2) (λ none. c.in_err-prepared.ensures.quiet (λ failed. none (same_fault c.in_err-prepared.field-0.0 _ _ refl refl failed)))
+
+pub returns-in_err-prepared-clause-no_half : goal.returns-in_err-prepared-clause-no_half
+returns-in_err-prepared-clause-no_half g c = c.begin.ensures.no_half
+
+pub returns-in_err-prepared-clause-others : goal.returns-in_err-prepared-clause-others
+returns-in_err-prepared-clause-others g c = c.begin.ensures.others
+
+pub run_prepared-ran-requires : goal.run_prepared-ran-requires
+run_prepared-ran-requires g c = c.in_ok-prepared.ensures.begun
