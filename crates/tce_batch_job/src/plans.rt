@@ -34,12 +34,20 @@ impl KeptPlan {
         ensures number { result.number ≡ number }
         ensures plan { IsKeptOf plan result }
     {
+        let Plan {
+            fusion,
+            orders,
+            sizes,
+            memory,
+            tables,
+        } = plan;
+        drop(tables);
         KeptPlan {
             number,
-            fusion: plan.fusion,
-            orders: plan.orders,
-            sizes: plan.sizes,
-            memory: plan.memory,
+            fusion,
+            orders,
+            sizes,
+            memory,
         }
     }
 
@@ -115,6 +123,7 @@ pub(crate) fn find_plans(
     let mut plans = Vec::new(alloc);
     for number in 0..count {
         if let Err(fault) = find_plan(alloc, batch, budget, number, &mut plans) {
+            drop(plans);
             return Err(before_runs(number, fault));
         }
     }

@@ -138,7 +138,9 @@ fn run_all<D: Disk, R: Room>(
         let formula = number as u64 + 1;
         match run_formula(alloc, batch, &plans[number], budget, disk, room) {
             Ok(report) => {
-                let Ok(()) = push_section(alloc, &mut text, formula, report.text.as_slice()) else {
+                let pushed = push_section(alloc, &mut text, formula, report.text.as_slice());
+                drop(report);
+                let Ok(()) = pushed else {
                     return Err(BatchFault {
                         formula,
                         fault: JobFault::Memory,

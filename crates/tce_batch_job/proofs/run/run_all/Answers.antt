@@ -39,8 +39,8 @@ run_formula-requires-clause-kept g c =
 pub run_formula-requires-clause-affordable : goal.run_formula-requires-clause-affordable
 run_formula-requires-clause-affordable g c = c.requires.affordable
 
-pub returns-in_default-push_section-clause-refused : goal.returns-in_default-push_section-clause-refused
-returns-in_default-push_section-clause-refused g c = record { some = omega arith; within = omega (arith, c.loop-number-test.true, c.len-count.ensures.count) }
+pub returns-in_default-pushed-clause-refused : goal.returns-in_default-pushed-clause-refused
+returns-in_default-pushed-clause-refused g c = record { some = omega arith; within = omega (arith, c.loop-number-test.true, c.len-count.ensures.count) }
 
 pub returns-clause-told : goal.returns-clause-told
 returns-clause-told g c =
@@ -63,8 +63,8 @@ returns-in_default-clause-takings g c =
     let (s, at) = some_at c.args.batch.now 0 c.len-count.ensures.rules.some in
     record { number = 0; specification = s; counted = refl; at = at; here = inl (none_taken c.args.batch.now c.args.budget (g.R.Room.takings c.args.room.now)) }
 
-pub returns-in_default-push_section-clause-left : goal.returns-in_default-push_section-clause-left
-returns-in_default-push_section-clause-left g c =
+pub returns-in_default-pushed-clause-left : goal.returns-in_default-pushed-clause-left
+returns-in_default-pushed-clause-left g c =
     let number = c.loop-number.number in
     let (s, at) = some_at c.args.batch.now number (omega (arith, c.loop-number-test.true, c.len-count.ensures.count)) in
     let here = kept_place c.args.batch.now c.args.plans.now number c.index-plans-number.result s c.requires.kept (omega (arith, c.loop-number-test.true, c.len-count.ensures.count)) c.index-plans-number.is at in record {
@@ -75,8 +75,8 @@ returns-in_default-push_section-clause-left g c =
       here = inr (told_more (g.D.Disk.files c.args.disk.now) (g.D.Disk.files c.loop-number.disk) (g.D.Disk.files c.run_formula.new.disk) c.args.batch.now number s at c.loop-number.invariant.told (c.in-Ok-run_formula.ensures.told s here));
     }
 
-pub returns-in_default-push_section-clause-takings : goal.returns-in_default-push_section-clause-takings
-returns-in_default-push_section-clause-takings g c =
+pub returns-in_default-pushed-clause-takings : goal.returns-in_default-pushed-clause-takings
+returns-in_default-pushed-clause-takings g c =
     let number = c.loop-number.number in
     let before = g.R.Room.takings c.args.room.now in
     let now = g.R.Room.takings c.loop-number.room in
@@ -141,16 +141,16 @@ loop-number-preserved g c =
     let (s, at) = some_at c.args.batch.now number (omega (arith, c.loop-number-test.true, c.len-count.ensures.count)) in
     let here = kept_place c.args.batch.now c.args.plans.now number c.index-plans-number.result s c.requires.kept (omega (arith, c.loop-number-test.true, c.len-count.ensures.count)) c.index-plans-number.is at in record {
       told = told_more (g.D.Disk.files c.args.disk.now) (g.D.Disk.files c.loop-number.disk) (g.D.Disk.files c.run_formula.new.disk) c.args.batch.now number s at c.loop-number.invariant.told (c.in-Ok-run_formula.ensures.told s here);
-      run = run_more c.args.budget c.args.batch.now number s (g.R.Room.takings c.args.room.now) (g.R.Room.takings c.loop-number.room) (g.R.Room.takings c.run_formula.new.room) text c.push_section.new.text.items c.in-Ok-run_formula.report at
-          c.loop-number.invariant.run (c.in-Ok-run_formula.ensures.reported s here) (c.in-Ok-push_section.ensures ∙ ap (λ (xs : List ℕ). text ++ section_of (number + 1) xs) c.as_slice.ensures);
+      run = run_more c.args.budget c.args.batch.now number s (g.R.Room.takings c.args.room.now) (g.R.Room.takings c.loop-number.room) (g.R.Room.takings c.run_formula.new.room) text c.push_section-pushed.new.text.items c.in-Ok-run_formula.report at
+          c.loop-number.invariant.run (c.in-Ok-run_formula.ensures.reported s here) (c.in-Ok-pushed.ensures ∙ ap (λ (xs : List ℕ). text ++ section_of (number + 1) xs) c.as_slice.ensures);
       counted = answered_quiet _ _ c.in-Ok-run_formula.report _ refl c.in-Ok-run_formula.ensures.quiet ∙ c.loop-number.invariant.counted;
     }
 
-pub returns-in_default-push_section-clause-cause : goal.returns-in_default-push_section-clause-cause
-returns-in_default-push_section-clause-cause g c = cause_after _ _ _ c.loop-number.invariant.counted (cause_as _ _ (λ failed. absurd (cc)) c.in-Ok-run_formula.ensures.cause)
+pub returns-in_default-pushed-clause-cause : goal.returns-in_default-pushed-clause-cause
+returns-in_default-pushed-clause-cause g c = cause_after _ _ _ c.loop-number.invariant.counted (cause_as _ _ (λ failed. absurd (cc)) c.in-Ok-run_formula.ensures.cause)
 
-pub returns-in_default-push_section-clause-quiet : goal.returns-in_default-push_section-clause-quiet
-returns-in_default-push_section-clause-quiet g c = λ none. answered_quiet _ _ c.in-Ok-run_formula.report _ refl c.in-Ok-run_formula.ensures.quiet ∙ c.loop-number.invariant.counted
+pub returns-in_default-pushed-clause-quiet : goal.returns-in_default-pushed-clause-quiet
+returns-in_default-pushed-clause-quiet g c = λ none. answered_quiet _ _ c.in-Ok-run_formula.report _ refl c.in-Ok-run_formula.ensures.quiet ∙ c.loop-number.invariant.counted
 
 pub returns-in-Err-clause-cause : goal.returns-in-Err-clause-cause
 returns-in-Err-clause-cause g c = cause_after _ _ _ c.loop-number.invariant.counted (cause_as _ _ (fault_of c.in-Err.fault _ refl) c.in-Err.ensures.cause)

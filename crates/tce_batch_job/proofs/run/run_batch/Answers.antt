@@ -1,5 +1,5 @@
 use Rattle.std.proofs.Common.{refl, arith}
-use Rattle.std.proofs.lemmas.Result.{err_from_is_err_and}
+use Rattle.std.proofs.lemmas.Result.{IfOk-from_err, err_from_is_err_and}
 use Rattle.tce_batch_job.proofs.Afforded.{on_ok_as}
 use Rattle.tce_batch_job.proofs.Causes.{one_cause}
 use Rattle.tce_batch_job.proofs.Ended.{left_before, takings_before}
@@ -77,3 +77,29 @@ returns-clause-quiet g c = c.run_planned-ran.ensures.quiet
 
 pub returns-clause-affordable : goal.returns-clause-affordable
 returns-clause-affordable g c = on_ok_as c.run_planned-ran.result c.in_ok-plans.ensures.affordable
+
+pub returns-in_err-plans-clause-told : goal.returns-in_err-plans-clause-told
+returns-in_err-plans-clause-told g c = IfOk-from_err c.from_residual.result _ c.from_residual.ensures.0
+
+pub returns-in_err-plans-clause-reported : goal.returns-in_err-plans-clause-reported
+returns-in_err-plans-clause-reported g c = IfOk-from_err c.from_residual.result _ c.from_residual.ensures.0
+
+pub returns-in_err-plans-clause-affordable : goal.returns-in_err-plans-clause-affordable
+returns-in_err-plans-clause-affordable g c = IfOk-from_err c.from_residual.result _ c.from_residual.ensures.0
+
+pub returns-in_err-plans-clause-sources : goal.returns-in_err-plans-clause-sources
+returns-in_err-plans-clause-sources g c = IfOk-from_err c.from_residual.result _ c.from_residual.ensures.0
+
+pub returns-in_err-plans-clause-tested : goal.returns-in_err-plans-clause-tested
+returns-in_err-plans-clause-tested g c =
+    let p = err_from_is_err_and c.from_residual.result c.from_residual.ensures.1 in
+    rw (p.1, p.2) (λ files eq real. refl)
+
+pub returns-in_err-plans-clause-quiet : goal.returns-in_err-plans-clause-quiet
+returns-in_err-plans-clause-quiet g c = λ none. refl
+
+pub run_planned-ran-requires-clause-budget : goal.run_planned-ran-requires-clause-budget
+run_planned-ran-requires-clause-budget g c = c.requires
+
+pub run_planned-ran-requires-clause-affordable : goal.run_planned-ran-requires-clause-affordable
+run_planned-ran-requires-clause-affordable g c = c.in_ok-plans.ensures.affordable

@@ -1,12 +1,15 @@
-use Rattle.std.proofs.Common.{◌≡◌}
+use Rattle.std.proofs.Common.{◌≡◌, refl, inl, inr}
 use Rattle.std.specs.Option.{option_map}
 use Rattle.std.proofs.lemmas.Result.{on_ok_weaker}
+use Rattle.tce_outside.proofs.Causes.{no_cause}
 use Rattle.tce_spec.specs.Specification.{Specification}
 use Rattle.tce_tensors.specs.ResultBytes.{with_result}
 use Rattle.tce_tensors.specs.Laws.{LeavesNoHalfResult}
 use Rattle.tce_job.specs.Refusals.{IsCause, MayBeRefused}
 use Rattle.tce_job.specs.Run.{IsReported}
 use Rattle.tce_job.specs.Prepared.{IsRoomLeft}
+use Rattle.tce_job.specs.Told.{ResultAlone}
+use Rattle.tce_job.proofs.Ended.{same_is_no_half}
 use Rattle.tce_batch_job.proofs.Afforded.{if_ok, if_err, at_place}
 use Rattle.tce_batch_job.proofs.run.run_formula.Goals as goal
 
@@ -32,3 +35,40 @@ run_kept-ran-requires-clause-affordable g c = c.requires.affordable c.args.kept.
 pub returns-clause-no_half : goal.returns-clause-no_half
 returns-clause-no_half g c = λ s at.
     at_place (λ (x : Specification). LeavesNoHalfResult x (g.D.Disk.files c.args.disk.now) (g.D.Disk.files c.run_kept-ran.new.disk)) c.in-Ok.spec s _ c.in-Ok.ensures c.run_kept-ran.ensures.no_half at
+
+pub returns-in_default-clause-refused : goal.returns-in_default-clause-refused
+returns-in_default-clause-refused g c = λ s at. tt
+
+pub returns-in_default-clause-unchanged : goal.returns-in_default-clause-unchanged
+returns-in_default-clause-unchanged g c = inr refl
+
+pub returns-in_default-clause-takings : goal.returns-in_default-clause-takings
+returns-in_default-clause-takings g c = λ s at. inl refl
+
+pub returns-in_default-clause-no_half : goal.returns-in_default-clause-no_half
+returns-in_default-clause-no_half g c = λ s at. same_is_no_half s (g.D.Disk.files c.args.disk.now) (g.D.Disk.files c.args.disk.now) refl
+
+pub returns-in_default-clause-others : goal.returns-in_default-clause-others
+returns-in_default-clause-others g c = λ s at. refl
+
+pub returns-in_default-clause-cause : goal.returns-in_default-clause-cause
+returns-in_default-clause-cause g c = no_cause _ _ refl (λ failed. absurd (cc))
+
+pub returns-in_default-clause-quiet : goal.returns-in_default-clause-quiet
+returns-in_default-clause-quiet g c = λ none. refl
+
+pub returns-clause-unchanged : goal.returns-clause-unchanged
+returns-clause-unchanged g c = c.run_kept-ran.ensures.unchanged
+
+pub returns-clause-cause : goal.returns-clause-cause
+returns-clause-cause g c = c.run_kept-ran.ensures.cause
+
+pub returns-clause-quiet : goal.returns-clause-quiet
+returns-clause-quiet g c = c.run_kept-ran.ensures.quiet
+
+pub returns-clause-others : goal.returns-clause-others
+returns-clause-others g c = λ s at.
+    at_place (λ (x : Specification). ResultAlone x (g.D.Disk.files c.args.disk.now) (g.D.Disk.files c.run_kept-ran.new.disk)) c.in-Ok.spec s _ c.in-Ok.ensures c.run_kept-ran.ensures.others at
+
+pub run_kept-ran-requires-clause-budget : goal.run_kept-ran-requires-clause-budget
+run_kept-ran-requires-clause-budget g c = c.requires.budget

@@ -1,7 +1,8 @@
-use Rattle.std.proofs.Common.{Option, refl, subst, inr, ap, ◌∙◌}
+use Rattle.std.proofs.Common.{Option, refl, sym, subst, inl, inr, ap, ◌∙◌}
 use Rattle.std.specs.Prelude.{OnOk}
 use Rattle.tce_outside.specs.Files.{Files, others}
-use Rattle.tce_outside.proofs.Causes.{cause_as, answered_quiet, cause_since}
+use Rattle.tce_outside.proofs.Causes.{cause_as, no_cause, answered_quiet, cause_since}
+use Rattle.tce_tensors.specs.Opened.{AreOpenedOn}
 use Rattle.tce_tensors.specs.TensorFiles.{file_of}
 use Rattle.tce_tensors.specs.Laws.{LeavesNoHalfResult}
 use Rattle.tce_job.specs.Told.{FailsOrKeeps, ResultAlone, WritesResult}
@@ -70,3 +71,31 @@ returns-in-Err-clause-cause g c = cause_as _ _ (same_fault c.in-Err.fault _ _ re
 
 pub returns-in-Err-clause-quiet : goal.returns-in-Err-clause-quiet
 returns-in-Err-clause-quiet g c = λ none. c.in-Err.ensures.quiet (λ failed. none (same_fault c.in-Err.fault _ _ refl refl failed))
+
+pub returns-in_default-clause-unchanged : goal.returns-in_default-clause-unchanged
+returns-in_default-clause-unchanged g c = inr refl
+
+pub returns-in_default-clause-takings : goal.returns-in_default-clause-takings
+returns-in_default-clause-takings g c = inl refl
+
+pub returns-in_default-clause-no_half : goal.returns-in_default-clause-no_half
+returns-in_default-clause-no_half g c = same_is_no_half c.args.spec.now (g.D.Disk.files c.args.disk.now) (g.D.Disk.files c.args.disk.now) refl
+
+pub returns-in_default-clause-others : goal.returns-in_default-clause-others
+returns-in_default-clause-others g c = refl
+
+pub returns-in_default-clause-cause : goal.returns-in_default-clause-cause
+returns-in_default-clause-cause g c = no_cause _ _ refl (λ failed. absurd (cc))
+
+pub returns-in_default-clause-quiet : goal.returns-in_default-clause-quiet
+returns-in_default-clause-quiet g c = λ none. refl
+
+pub run_by-requires-clause-enough : goal.run_by-requires-clause-enough
+run_by-requires-clause-enough g c = c.requires.affordable.enough
+
+pub run_by-requires-clause-limit : goal.run_by-requires-clause-limit
+run_by-requires-clause-limit g c = c.requires.budget
+
+pub run_by-requires-clause-opened : goal.run_by-requires-clause-opened
+run_by-requires-clause-opened g c =
+    subst (λ (told : Option Files). AreOpenedOn told c.args.spec.now c.in-Ok-opened_forms.forms.0) (sym c.in-Ok-opened_forms.ensures.same) c.in-Ok-opened_forms.ensures.opened

@@ -1,11 +1,13 @@
 use Rattle.std.proofs.Common.{Option, List, ℕ, refl, sym, ap, ◌∙◌, subst}
-use Rattle.std.proofs.lemmas.Result.{err_from_is_err_and}
+use Rattle.std.proofs.lemmas.Result.{IfOk-from_err, err_from_is_err_and}
 use Rattle.tce_outside.specs.Files.{Files}
+use Rattle.tce_outside.proofs.Causes.{cause_as, cause_since}
 use Rattle.tce_batch_job.specs.Refusals.{IsCauseAt}
 use Rattle.std.specs.Option.{option_map}
 use Rattle.tce_job.specs.Several.{files_after, OnlyResultsDiffer}
 use Rattle.tce_batch_job.specs.Left.{IsLeftAt}
 use Rattle.tce_batch_job.specs.Reports.{HasRun}
+use Rattle.tce_batch_job.specs.Told.{HasAllSources}
 use Rattle.tce_batch_job.proofs.Causes.{one_cause, no_cause}
 use Rattle.tce_batch_job.proofs.Ended.{left_before, takings_before}
 use Rattle.tce_batch_job.proofs.Others.{left_others, same_others, told_others}
@@ -99,3 +101,61 @@ returns-clause-reported g c =
 
 pub returns-clause-sources : goal.returns-clause-sources
 returns-clause-sources g c = c.in_ok-open_sources.ensures.opened
+
+pub returns-in_err-open_sources-clause-told : goal.returns-in_err-open_sources-clause-told
+returns-in_err-open_sources-clause-told g c = IfOk-from_err c.from_residual.result _ c.from_residual.ensures.0
+
+pub returns-in_err-open_sources-clause-reported : goal.returns-in_err-open_sources-clause-reported
+returns-in_err-open_sources-clause-reported g c = IfOk-from_err c.from_residual.result _ c.from_residual.ensures.0
+
+pub returns-in_err-open_sources-clause-sources : goal.returns-in_err-open_sources-clause-sources
+returns-in_err-open_sources-clause-sources g c = IfOk-from_err c.from_residual.result _ c.from_residual.ensures.0
+
+pub returns-in_err-open_sources-clause-cause : goal.returns-in_err-open_sources-clause-cause
+returns-in_err-open_sources-clause-cause g c =
+    let p = err_from_is_err_and c.from_residual.result c.from_residual.ensures.1 in
+    rw (p.1, p.2) c.in_err-open_sources.ensures.cause
+
+pub returns-in_err-open_sources-clause-quiet : goal.returns-in_err-open_sources-clause-quiet
+returns-in_err-open_sources-clause-quiet g c =
+    let p = err_from_is_err_and c.from_residual.result c.from_residual.ensures.1 in
+    rw (p.1, p.2) c.in_err-open_sources.ensures.quiet
+
+pub returns-in_err-text-clause-told : goal.returns-in_err-text-clause-told
+returns-in_err-text-clause-told g c = IfOk-from_err c.from_residual-in_err-text.result _ c.from_residual-in_err-text.ensures.0
+
+pub returns-in_err-text-clause-reported : goal.returns-in_err-text-clause-reported
+returns-in_err-text-clause-reported g c = IfOk-from_err c.from_residual-in_err-text.result _ c.from_residual-in_err-text.ensures.0
+
+pub returns-in_err-text-clause-sources : goal.returns-in_err-text-clause-sources
+returns-in_err-text-clause-sources g c = IfOk-from_err c.from_residual-in_err-text.result _ c.from_residual-in_err-text.ensures.0
+
+pub returns-in_err-text-clause-cause : goal.returns-in_err-text-clause-cause
+returns-in_err-text-clause-cause g c =
+    let p = err_from_is_err_and c.from_residual-in_err-text.result c.from_residual-in_err-text.ensures.1 in
+    rw (p.1, p.2) (cause_since _ _ _ c.in_ok-open_sources.ensures.cause.later c.in_err-text.ensures.cause)
+
+pub returns-in_err-text-clause-quiet : goal.returns-in_err-text-clause-quiet
+returns-in_err-text-clause-quiet g c =
+    let p = err_from_is_err_and c.from_residual-in_err-text.result c.from_residual-in_err-text.ensures.1 in
+    rw (p.1, p.2) (λ none. c.in_err-text.ensures.quiet none ∙ c.in_ok-open_sources.ensures.quiet (λ failed. absurd failed))
+
+pub returns-clause-cause : goal.returns-clause-cause
+returns-clause-cause g c =
+    cause_since _ _ _ c.in_ok-open_sources.ensures.cause.later (cause_as _ _ (λ failed. absurd failed) c.in_ok-text.ensures.cause)
+
+pub returns-clause-quiet : goal.returns-clause-quiet
+returns-clause-quiet g c = λ none. c.in_ok-text.ensures.quiet (λ failed. absurd failed) ∙ c.in_ok-open_sources.ensures.quiet (λ failed. absurd failed)
+
+pub run_all-requires-clause-budget : goal.run_all-requires-clause-budget
+run_all-requires-clause-budget g c = c.requires.budget
+
+pub run_all-requires-clause-kept : goal.run_all-requires-clause-kept
+run_all-requires-clause-kept g c = c.requires.kept
+
+pub run_all-requires-clause-affordable : goal.run_all-requires-clause-affordable
+run_all-requires-clause-affordable g c = c.requires.affordable
+
+pub run_all-requires-clause-sources : goal.run_all-requires-clause-sources
+run_all-requires-clause-sources g c =
+    subst (λ (told : Option Files). HasAllSources told c.args.batch.now) (sym c.in_ok-open_sources.ensures.same) c.in_ok-open_sources.ensures.opened
