@@ -1,5 +1,5 @@
 -- The pieces are not run for one reason.
-use Rattle.std.proofs.Common.{inl, inr, ◌⊎◌, ◌≡◌, ℕ, zero, suc, ◌*◌, ◌<◌, ◌≤◌, max, cond, List, length, Option, Some, None, refl, sym, ◌∙◌, ap, ap₂, arith}
+use Rattle.std.proofs.Common.{inl, inr, ◌⊎◌, ◌≡◌, ℕ, zero, suc, ◌*◌, ◌<◌, ◌≤◌, max, cond, List, length, Option, Some, None, Result, Err, refl, sym, ◌∙◌, ap, ap₂, subst, arith}
 use Rattle.std.specs.Prelude.{⊤, IsSomeAnd}
 use Rattle.std.specs.Option.{ForSome}
 use Rattle.tce_outside.specs.Files.{Files}
@@ -22,7 +22,7 @@ use Rattle.tce_spill.specs.declared.fault.SpillFault.TheVariants.{TooManyTensors
 use Rattle.tce_spill.proofs.Limits.{cuts_are_one}
 use Rattle.tce_spill.proofs.Turns.{one_fault as one_cut_fault}
 use Rattle.tce_spill_job.specs.Pieces.{largest_below, largest_of}
-use Rattle.tce_spill_job.specs.Refusals.{AreCut, IsRefusedSource, IsSpillCause, IsKnown, IsSameFault, IsTestFault, IsLateFault, IsTensorRefused}
+use Rattle.tce_spill_job.specs.Refusals.{AreCut, IsRefusedSource, IsSpillCause, IsKnown, IsSameFault, IsTestFault, IsLateFault, IsOpeningFault, IsRunFault, IsTensorRefused}
 
 -- ---- the largest tile is one
 
@@ -33,6 +33,29 @@ largest_same s cut other (suc n) within same =
 
 one_largest : (s : Specification) (limit : ℕ) (cut other : Cuts) → AreCut s limit cut → AreCut s limit other → largest_of s cut ≡ largest_of s other
 one_largest s limit cut other a b = largest_same s cut other (operations s.tree) (omega arith) (cuts_are_one s.declarations.space s.tree limit cut other a.cuts b.cuts)
+
+-- ---- what is no failure
+
+-- want of memory
+pub wanting : {A Q : Type 0} (given : Result A SpillFault) → given ≡ Err Memory → given ≡ Err Disk → Q
+wanting given is failed = absurd (cc)
+
+-- ---- where operands are there
+
+-- none is refused where the disk tells its files
+pub run_fault : (told : Option Files) (s : Specification) (f : SpillFault) → ForSome told (λ files. HasOperands files s (operand_count s)) → IsOpeningFault told s f → IsRunFault told s f
+run_fault told s TooManyTensors operands why = absurd why
+run_fault told s (LimitTooSmall v n) operands why = absurd why
+run_fault told s (BudgetTooSmall n) operands why = absurd why
+run_fault told s (Array name fault) operands why = record {
+  number = why.number;
+  declared = why.declared;
+  named = why.named;
+  refused = λ files is. none_refused files s (record { tensor = why.number; fault = fault }) (operands files is) (why.refused files is) why.real;
+  real = why.real;
+}
+run_fault told s Disk operands why = tt
+run_fault told s Memory operands why = absurd why
 
 -- ---- where there are no cuts
 
@@ -52,6 +75,20 @@ with_cuts s limit (BudgetTooSmall n) due cut why are = absurd why
 with_cuts s limit (Array name fault) due cut why are = absurd why
 with_cuts s limit Disk due cut why are = absurd why
 with_cuts s limit Memory due cut why are = inr tt
+
+pub cut_cause : (told : Option Files) (s : Specification) (budget limit : ℕ) (f : SpillFault) → IsCutFault s limit f → IsSpillCause told s budget limit f
+cut_cause told s budget limit TooManyTensors why = why
+cut_cause told s budget limit (LimitTooSmall v n) why = why
+cut_cause told s budget limit (BudgetTooSmall n) why = absurd why
+cut_cause told s budget limit (Array name fault) why = absurd why
+cut_cause told s budget limit Disk why = tt
+cut_cause told s budget limit Memory why = tt
+
+-- no cuts are wanting for a failure of the disk
+pub no_disk_cuts : {A : Type 0} (s : Specification) (limit : ℕ) (f : SpillFault) (given : Result A SpillFault) → given ≡ Err f → IsCutFault s limit f → given ≡ Err Disk → ⊥
+no_disk_cuts s limit f given is why failed =
+    let disk : f ≡ Disk = cc in
+    subst (IsCutFault s limit) disk why
 
 pub cut_exact : (told : Option Files) (s : Specification) (budget limit : ℕ) (f due : SpillFault) → IsCutFault s limit f → (IsFree due → ⊥) → IsSpillCause told s budget limit due → IsSameFault f due ⊎ IsFree f
 cut_exact told s budget limit f TooManyTensors why free cause = as_same s limit f TooManyTensors why (one_cut_fault s limit f TooManyTensors why cause free)

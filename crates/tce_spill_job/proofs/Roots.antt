@@ -1,5 +1,5 @@
 -- The pieces of one node more, and the files that they leave.
-use Rattle.std.proofs.Common.{◌≡◌, ℕ, suc, ◌+◌, true, false, cond, [], ◌∷◌, ◌++◌, map, Option, Some, None, refl, sym, ap, ◌∙◌, arith}
+use Rattle.std.proofs.Common.{◌≡◌, ℕ, suc, ◌+◌, Bool, true, false, cond, [], ◌∷◌, ◌++◌, map, Option, Some, None, refl, sym, ap, ◌∙◌, arith}
 use Rattle.std.specs.Option.{option_map}
 use Rattle.std.proofs.lemmas.List.{map-append, append-nil}
 use Rattle.tce_outside.specs.Files.{Files}
@@ -12,6 +12,10 @@ use Rattle.tce_job.specs.Several.{files_after}
 use Rattle.tce_job.proofs.Several.{after_more}
 use Rattle.tce_spill_job.specs.Pieces.{roots_below, pieces_below}
 use Rattle.tce_spill_job.specs.Left.{files_at}
+
+-- what the test of a root answers
+pub as_tested : (s : Specification) (cut : Cuts) (v : ℕ) (tested answer : Bool) → tested ≡ is_root s.tree cut v → tested ≡ answer → is_root s.tree cut v ≡ answer
+as_tested s cut v tested answer is told = sym is ∙ told
 
 pub roots_more : (tree : ContractionTree) (cut : Cuts) (n : ℕ) → is_root tree cut n ≡ true → roots_below tree cut (n + 1) ≡ roots_below tree cut n ++ n ∷ []
 roots_more tree cut n is =

@@ -1,10 +1,13 @@
 // What the runs of the pieces report.
 ghost use Rattle.std.specs.Prelude.{◌≡◌, ◌++◌, OnOk, IfOk, codes};
+ghost use Rattle.std.specs.Fmt.{decimal};
+ghost use Rattle.std.specs.String.{string_bytes};
 ghost use Rattle.tce_spill_job.specs.Reports.{piece_line, wrote_line};
 
 use std::alloc::{AllocError, Global};
 use tce_array::{Form, form_len};
 use tce_job::{Bytes, RunReport};
+use tce_space::FileName;
 use tce_spec::Spec;
 use tce_tensors::file_of;
 
@@ -33,10 +36,21 @@ pub(crate) fn push_piece(
 ) -> Result<(), AllocError>
     ensures { OnOk result (text.new.items ≡ text.old.items ++ piece_line root run.now.memory run.now.tiles) }
 {
-    let line = format!(in alloc;
-        "piece {} memory {} tiles {}\n",
-        root, run.memory, run.tiles
-    )?;
+    let line = line_of_piece(alloc, root, run.memory, run.tiles)?;
+    push_line(text, line)
+}
+
+// The line of a piece.
+fn line_of_piece(alloc: Global, root: u8, memory: u128, tiles: u64) -> Result<String, AllocError>
+    ensures { IfOk result (λ line. string_bytes line ≡ piece_line root memory tiles) }
+{
+    format!(in alloc; "piece {root} memory {memory} tiles {tiles}\n")
+}
+
+// Puts a line behind the others.
+fn push_line(text: &mut Vec<u8>, line: String) -> Result<(), AllocError>
+    ensures { OnOk result (text.new.items ≡ text.old.items ++ string_bytes line) }
+{
     let pushed = text.extend_from_slice(line.as_str().as_bytes());
     drop(line);
     pushed
@@ -49,8 +63,14 @@ pub(crate) fn push_wrote(alloc: Global, text: &mut Vec<u8>, spec: &Spec) -> Resu
     let number = spec.result().tensor;
     let name = file_of(spec, number);
     let bytes = form_len(Form::One, &spec.tensor(number).shape);
-    let line = format!(in alloc; "wrote {name} {bytes}\n")?;
-    let pushed = text.extend_from_slice(line.as_str().as_bytes());
-    drop(line);
-    pushed
+    let line = line_of_file(alloc, &name, bytes)?;
+    push_line(text, line)
+}
+
+// The line of a file of so many bytes.
+fn line_of_file(alloc: Global, name: &FileName, bytes: u64) -> Result<String, AllocError>
+    ensures { IfOk result (λ line. string_bytes line
+        ≡ codes "wrote " ++ (name.now.bytes ++ (codes " " ++ (decimal bytes ++ codes "\n")))) }
+{
+    format!(in alloc; "wrote {name} {bytes}\n")
 }

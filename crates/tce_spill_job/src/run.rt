@@ -104,6 +104,7 @@ fn run_piece<D: Disk, R: Room>(
     // Specifications keep their rules.
     let _tree = spec.tree();
     let Ok(piece) = piece(alloc, spec, turn.root, spilling.cuts) else {
+        drop(turn);
         return Err(SpillFault::Memory);
     };
     let ran = run_one(alloc, &piece, spilling.budget, turn.plan, disk, room);
@@ -132,16 +133,44 @@ fn run_all<D: Disk, R: Room>(
     ensures cause { HasCause (D.faults disk.old) (D.faults disk.new) (result ≡ Err Fault.Disk) }
     ensures quiet { TellsFaults (D.faults disk.old) (D.faults disk.new) (result ≡ Err Fault.Disk) }
 {
+    let ran = run_turns(alloc, spec, spilling, &mut plans, disk, room);
+    drop(plans);
+    ran
+}
+
+// The same by plans that stay with the caller, out of which each piece takes its own.
+fn run_turns<D: Disk, R: Room>(
+    alloc: Global,
+    spec: &Spec,
+    spilling: Spilling,
+    plans: &mut Vec<Option<Plan>>,
+    disk: &mut D,
+    room: &mut R,
+) -> Result<Vec<u8>, SpillFault>
+    requires can { CanSpill spec.now (has spilling.cuts) spilling.budget }
+    requires plans { HavePlans spec.now (has spilling.cuts) plans.old.items }
+    requires operands { ForSome (D.files disk.old) (λ files. HasOperands files spec.now (operand_count spec.now)) }
+    ensures told { OnOk result (D.files disk.new ≡ files_at (D.files disk.old) spec.now (has spilling.cuts) (operations spec.now.tree)) }
+    ensures spilled { OnOk result (ForSome (D.files disk.old) (λ start. ForSome (D.files disk.new) (λ after. IsSpilled start after spec.now (has spilling.cuts)))) }
+    ensures reported { IfOk result (λ text. HasRunAll spec.now (has spilling.cuts) spilling.budget (R.takings room.old) (R.takings room.new) text.items) }
+    ensures refused { IfErr result (IsLateFault (D.files disk.old) spec.now (has spilling.cuts)) }
+    ensures left { IfErr result (IsLeftBy (D.files disk.old) (D.files disk.new) spec.now (has spilling.cuts)) }
+    ensures takings { IfErr result (λ _. HasTakenTo spec.now (has spilling.cuts) spilling.budget (R.takings room.old) (R.takings room.new)) }
+    ensures cause { HasCause (D.faults disk.old) (D.faults disk.new) (result ≡ Err Fault.Disk) }
+    ensures quiet { TellsFaults (D.faults disk.old) (D.faults disk.new) (result ≡ Err Fault.Disk) }
+{
     let count = spec.tree().count();
     let Ok(mut text) = first_line(alloc) else {
         return Err(SpillFault::Memory);
     };
     for root in 0..count {
         if spilling.has_root(spec, root) {
-            let plan = take_plan(&mut plans, root);
+            let plan = take_plan(plans, root);
             match run_piece(alloc, spec, spilling, Turn { root, plan }, disk, room) {
                 Ok(report) => {
-                    let Ok(()) = push_piece(alloc, &mut text, root, &report) else {
+                    let pushed = push_piece(alloc, &mut text, root, &report);
+                    drop(report);
+                    let Ok(()) = pushed else {
                         return Err(SpillFault::Memory);
                     };
                 }

@@ -8,6 +8,7 @@ use Rattle.tce_tensors.specs.Laws.{LeavesNoHalfResult}
 use Rattle.tce_job.proofs.Answered.{same_fault, answered}
 use Rattle.tce_job.proofs.Ended.{same_is_no_half}
 use Rattle.tce_spill_job.proofs.PlannedRuns.{can_run, is_small, is_reported, taken_left}
+use Rattle.tce_spill_job.proofs.Causes.{run_fault}
 use Rattle.tce_spill_job.proofs.run.run_one.Goals as goal
 
 pub run_by-requires-clause-plan : goal.run_by-requires-clause-plan
@@ -72,3 +73,12 @@ returns-in-Err-Disk-clause-no_half g c =
 
 pub returns-in-Err-Disk-clause-others : goal.returns-in-Err-Disk-clause-others
 returns-in-Err-Disk-clause-others g c = c.run_by.ensures.others ∙ ap (λ (told : Option Files). others (file_of c.args.spec.now c.args.spec.now.result) told) c.in-Ok.ensures.same
+
+pub returns-in-Err-clause-refused : goal.returns-in-Err-clause-refused
+returns-in-Err-clause-refused g c = run_fault (g.D.Disk.files c.args.disk.now) c.args.spec.now c.in-Err.fault c.requires.operands c.in-Err.ensures.refused
+
+pub run_by-requires-clause-enough : goal.run_by-requires-clause-enough
+run_by-requires-clause-enough g c = c.requires.affordable.enough
+
+pub run_by-requires-clause-limit : goal.run_by-requires-clause-limit
+run_by-requires-clause-limit g c = c.requires.budget

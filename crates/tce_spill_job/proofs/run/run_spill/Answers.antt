@@ -1,11 +1,15 @@
-use Rattle.std.proofs.Common.{inl, inr, Option, refl, subst}
-use Rattle.std.proofs.lemmas.Result.{err_from_is_err_and}
+use Rattle.std.proofs.Common.{inl, inr, Option, refl, sym, subst, ◌∙◌}
+use Rattle.std.proofs.lemmas.Result.{IfOk-from_err, err_from_is_err_and}
+use Rattle.std.specs.Option.{ForSome}
 use Rattle.tce_outside.specs.Files.{Files}
+use Rattle.tce_outside.proofs.Causes.{cause_as, cause_since, answered_quiet, no_cause as no_fault}
 use Rattle.tce_space.specs.IndexSet.{has}
+use Rattle.tce_tensors.specs.Opened.{HasOperands, operand_count}
+use Rattle.tce_job.proofs.Answered.{answered, same_fault}
 use Rattle.tce_job.specs.Several.{OnlyResultsDiffer}
 use Rattle.tce_spill_job.specs.Pieces.{pieces_of}
 use Rattle.tce_spill_job.specs.Refusals.{IsLateFault}
-use Rattle.tce_spill_job.proofs.Causes.{test_cause, test_exact, no_cause, late_cause, late_exact, late_free}
+use Rattle.tce_spill_job.proofs.Causes.{cut_cause, cut_exact, no_disk_cuts, test_cause, test_exact, no_cause, late_cause, late_exact, late_free}
 use Rattle.tce_spill_job.proofs.Others.{left_others}
 use Rattle.tce_spill_job.proofs.Ready.{few_of, are_cut, can_spill, has_spilled, reported_for, only_pieces}
 use Rattle.tce_spill_job.proofs.Spared.{same_room, late_room, late_left}
@@ -145,3 +149,74 @@ returns-in_err-text-clause-takings g c =
     let p = err_from_is_err_and c.from_residual-in_err-text.result c.from_residual-in_err-text.ensures.1 in
     rw (p.1, p.2) (late_room (g.D.Disk.files c.test_budget.new.disk) c.args.spec.now cut c.args.budget c.args.limit c.in_err-text.field-0.0 (g.R.Room.takings c.args.room.now) (g.R.Room.takings c.run_all.new.room) are
     c.in_err-text.ensures.refused c.in_err-text.ensures.takings)
+
+pub returns-in_err-planned-clause-told : goal.returns-in_err-planned-clause-told
+returns-in_err-planned-clause-told g c = IfOk-from_err c.from_residual.result _ c.from_residual.ensures.0
+
+pub returns-in_err-planned-clause-reported : goal.returns-in_err-planned-clause-reported
+returns-in_err-planned-clause-reported g c = IfOk-from_err c.from_residual.result _ c.from_residual.ensures.0
+
+pub returns-in_err-planned-clause-refused : goal.returns-in_err-planned-clause-refused
+returns-in_err-planned-clause-refused g c =
+    let p = err_from_is_err_and c.from_residual.result c.from_residual.ensures.1 in
+    rw (p.1, p.2) (cut_cause (g.D.Disk.files c.args.disk.now) c.args.spec.now c.args.budget c.args.limit c.in_err-planned.field-0.0 c.in_err-planned.ensures.refused)
+
+pub returns-in_err-planned-clause-exactly : goal.returns-in_err-planned-clause-exactly
+returns-in_err-planned-clause-exactly g c due free cause known =
+    let p = err_from_is_err_and c.from_residual.result c.from_residual.ensures.1 in
+    rw (p.1, p.2) (cut_exact (g.D.Disk.files c.args.disk.now) c.args.spec.now c.args.budget c.args.limit c.in_err-planned.field-0.0 due c.in_err-planned.ensures.refused free cause)
+
+pub returns-in_err-planned-clause-cause : goal.returns-in_err-planned-clause-cause
+returns-in_err-planned-clause-cause g c =
+    let p = err_from_is_err_and c.from_residual.result c.from_residual.ensures.1 in
+    rw (p.1, p.2) (no_fault _ _ refl (no_disk_cuts c.args.spec.now c.args.limit c.in_err-planned.field-0.0 _ refl c.in_err-planned.ensures.refused))
+
+pub returns-in_err-planned-clause-quiet : goal.returns-in_err-planned-clause-quiet
+returns-in_err-planned-clause-quiet g c = λ none. refl
+
+pub returns-in_err-test_budget-clause-told : goal.returns-in_err-test_budget-clause-told
+returns-in_err-test_budget-clause-told g c = IfOk-from_err c.from_residual-in_err-test_budget.result _ c.from_residual-in_err-test_budget.ensures.0
+
+pub returns-in_err-test_budget-clause-reported : goal.returns-in_err-test_budget-clause-reported
+returns-in_err-test_budget-clause-reported g c = IfOk-from_err c.from_residual-in_err-test_budget.result _ c.from_residual-in_err-test_budget.ensures.0
+
+pub returns-in_err-test_budget-clause-cause : goal.returns-in_err-test_budget-clause-cause
+returns-in_err-test_budget-clause-cause g c =
+    let p = err_from_is_err_and c.from_residual-in_err-test_budget.result c.from_residual-in_err-test_budget.ensures.1 in
+    rw (p.1, p.2) (cause_as _ _ (same_fault c.in_err-test_budget.field-0.0 _ _ refl refl) c.in_err-test_budget.ensures.cause)
+
+pub returns-in_err-test_budget-clause-quiet : goal.returns-in_err-test_budget-clause-quiet
+returns-in_err-test_budget-clause-quiet g c =
+    let p = err_from_is_err_and c.from_residual-in_err-test_budget.result c.from_residual-in_err-test_budget.ensures.1 in
+    rw (p.1, p.2) (λ none. c.in_err-test_budget.ensures.quiet (λ failed. none (same_fault c.in_err-test_budget.field-0.0 _ _ refl refl failed)))
+
+pub returns-in_err-text-clause-told : goal.returns-in_err-text-clause-told
+returns-in_err-text-clause-told g c = IfOk-from_err c.from_residual-in_err-text.result _ c.from_residual-in_err-text.ensures.0
+
+pub returns-in_err-text-clause-reported : goal.returns-in_err-text-clause-reported
+returns-in_err-text-clause-reported g c = IfOk-from_err c.from_residual-in_err-text.result _ c.from_residual-in_err-text.ensures.0
+
+pub returns-in_err-text-clause-cause : goal.returns-in_err-text-clause-cause
+returns-in_err-text-clause-cause g c =
+    let p = err_from_is_err_and c.from_residual-in_err-text.result c.from_residual-in_err-text.ensures.1 in
+    rw (p.1, p.2) (cause_since _ _ _ c.in_ok-test_budget.ensures.cause.later (cause_as _ _ (same_fault c.in_err-text.field-0.0 _ _ refl refl) c.in_err-text.ensures.cause))
+
+pub returns-in_err-text-clause-quiet : goal.returns-in_err-text-clause-quiet
+returns-in_err-text-clause-quiet g c =
+    let p = err_from_is_err_and c.from_residual-in_err-text.result c.from_residual-in_err-text.ensures.1 in
+    rw (p.1, p.2) (λ none.
+    c.in_err-text.ensures.quiet (λ failed. none (same_fault c.in_err-text.field-0.0 _ _ refl refl failed)) ∙ answered_quiet _ _ tt _ refl c.in_ok-test_budget.ensures.quiet)
+
+pub returns-clause-cause : goal.returns-clause-cause
+returns-clause-cause g c = cause_since _ _ _ c.in_ok-test_budget.ensures.cause.later (cause_as _ _ (answered _ _ refl) c.in_ok-text.ensures.cause)
+
+pub returns-clause-quiet : goal.returns-clause-quiet
+returns-clause-quiet g c = λ none.
+    answered_quiet _ _ c.in_ok-text.text _ refl c.in_ok-text.ensures.quiet ∙ answered_quiet _ _ tt _ refl c.in_ok-test_budget.ensures.quiet
+
+pub run_all-requires-clause-plans : goal.run_all-requires-clause-plans
+run_all-requires-clause-plans g c = c.in_ok-planned.ensures.plans
+
+pub run_all-requires-clause-operands : goal.run_all-requires-clause-operands
+run_all-requires-clause-operands g c =
+    subst (λ (told : Option Files). ForSome told (λ files. HasOperands files c.args.spec.now (operand_count c.args.spec.now))) (sym c.in_ok-test_budget.ensures.same) c.in_ok-test_budget.ensures.opened
