@@ -1,6 +1,7 @@
-use Rattle.std.proofs.Common.{refl, ◌∙◌}
-use Rattle.std.proofs.lemmas.Result.{err_from_is_err_and, IfOk-weaker, IfErr-weaker}
-use Rattle.tce_outside.proofs.Causes.{answered_quiet, cause_since}
+use Rattle.std.proofs.Common.{inl, refl, ◌∙◌}
+use Rattle.std.proofs.lemmas.Result.{IfOk-from_err, err_from_is_err_and, IfOk-weaker, IfErr-weaker}
+use Rattle.tce_outside.proofs.Causes.{cause_as, answered_quiet, cause_since}
+use Rattle.tce_job.proofs.Answered.{same_fault}
 use Rattle.tce_sequence.proofs.BatchRan.{batch_refused, unchanged_left, batch_left, batch_room, same_room, batch_others, batch_ran}
 use Rattle.tce_sequence.proofs.batch.run_all.Goals as goal
 
@@ -44,3 +45,27 @@ returns-clause-cause g c = cause_since _ _ _ c.in_ok-batch.ensures.cause.later c
 
 pub returns-clause-told : goal.returns-clause-told
 returns-clause-told g c = λ none. c.run_formulas-ran.ensures.told none ∙ answered_quiet _ _ c.in_ok-batch.batch _ refl c.in_ok-batch.ensures.told
+
+pub returns-in_err-batch-clause-done : goal.returns-in_err-batch-clause-done
+returns-in_err-batch-clause-done g c = IfOk-from_err c.from_residual.result _ c.from_residual.ensures.0
+
+pub returns-in_err-batch-clause-refused : goal.returns-in_err-batch-clause-refused
+returns-in_err-batch-clause-refused g c =
+    let p = err_from_is_err_and c.from_residual.result c.from_residual.ensures.1 in
+    rw (p.1, p.2) (λ files is. inl (c.in_err-batch.ensures.refused files is))
+
+pub returns-in_err-batch-clause-others : goal.returns-in_err-batch-clause-others
+returns-in_err-batch-clause-others g c = inl c.in_err-batch.ensures.same
+
+pub returns-in_err-batch-clause-cause : goal.returns-in_err-batch-clause-cause
+returns-in_err-batch-clause-cause g c =
+    let p = err_from_is_err_and c.from_residual.result c.from_residual.ensures.1 in
+    rw (p.1, p.2) (cause_as _ _ (same_fault c.in_err-batch.field-0.0 _ _ refl refl) c.in_err-batch.ensures.cause)
+
+pub returns-in_err-batch-clause-told : goal.returns-in_err-batch-clause-told
+returns-in_err-batch-clause-told g c =
+    let p = err_from_is_err_and c.from_residual.result c.from_residual.ensures.1 in
+    rw (p.1, p.2) (λ none. c.in_err-batch.ensures.told (λ failed. none (same_fault c.in_err-batch.field-0.0 _ _ refl refl failed)))
+
+pub run_formulas-ran-requires : goal.run_formulas-ran-requires
+run_formulas-ran-requires g c = c.requires.budget
