@@ -1,6 +1,7 @@
-use Rattle.std.proofs.Common.{refl, ◌∙◌}
-use Rattle.std.proofs.lemmas.Result.{IfOk-weaker, IfErr-weaker}
-use Rattle.tce_outside.proofs.Causes.{answered_quiet, cause_since}
+use Rattle.std.proofs.Common.{inl, inr, refl, ◌∙◌}
+use Rattle.std.proofs.lemmas.Result.{IfOk-from_err, err_from_is_err_and, IfOk-weaker, IfErr-weaker}
+use Rattle.tce_outside.proofs.Causes.{cause_as, answered_quiet, cause_since}
+use Rattle.tce_job.proofs.Answered.{same_fault}
 use Rattle.tce_run.proofs.Ran.{ran, refused, left_unchanged, left_room, others_stay}
 use Rattle.tce_run.proofs.command.run.Goals as goal
 
@@ -33,3 +34,32 @@ returns-clause-cause g c = cause_since _ _ _ c.in_ok-source.ensures.cause.later 
 
 pub returns-clause-told : goal.returns-clause-told
 returns-clause-told g c = λ none. c.run_source-ran.ensures.told none ∙ answered_quiet _ _ c.in_ok-source.source _ refl c.in_ok-source.ensures.told
+
+pub returns-in_err-source-clause-done : goal.returns-in_err-source-clause-done
+returns-in_err-source-clause-done g c = IfOk-from_err c.from_residual.result _ c.from_residual.ensures.0
+
+pub returns-in_err-source-clause-refused : goal.returns-in_err-source-clause-refused
+returns-in_err-source-clause-refused g c =
+    let p = err_from_is_err_and c.from_residual.result c.from_residual.ensures.1 in
+    rw (p.1, p.2) (λ files is. inl (c.in_err-source.ensures.refused files is))
+
+pub returns-in_err-source-clause-others : goal.returns-in_err-source-clause-others
+returns-in_err-source-clause-others g c = inl c.in_err-source.ensures.same
+
+pub returns-in_err-source-clause-cause : goal.returns-in_err-source-clause-cause
+returns-in_err-source-clause-cause g c =
+    let p = err_from_is_err_and c.from_residual.result c.from_residual.ensures.1 in
+    rw (p.1, p.2) (cause_as _ _ (same_fault c.in_err-source.field-0.0 _ _ refl refl) c.in_err-source.ensures.cause)
+
+pub returns-in_err-source-clause-told : goal.returns-in_err-source-clause-told
+returns-in_err-source-clause-told g c =
+    let p = err_from_is_err_and c.from_residual.result c.from_residual.ensures.1 in
+    rw (p.1, p.2) (λ none. c.in_err-source.ensures.told (λ failed. none (same_fault c.in_err-source.field-0.0 _ _ refl refl failed)))
+
+pub run_source-ran-requires : goal.run_source-ran-requires
+run_source-ran-requires g c = c.requires.budget
+
+pub returns-in_err-source-clause-unchanged : goal.returns-in_err-source-clause-unchanged
+returns-in_err-source-clause-unchanged g c =
+    let p = err_from_is_err_and c.from_residual.result c.from_residual.ensures.1 in
+    rw (p.1, p.2) (inr c.in_err-source.ensures.same)
