@@ -1,5 +1,6 @@
 pub mod Joined
 pub mod Left
+pub mod Endings
 pub mod Expansions
 pub mod Written
 pub mod Carried

@@ -1,7 +1,7 @@
 // The program over what the system gives it: the words of its command line and the files of the current folder.
 use crate::tce;
 use std::alloc::{AllocError, Global};
-use std::env;
+use std::env::{self, Args};
 use std::fs::File;
 use std::io::ErrorKind;
 use std::process::ExitCode;
@@ -16,12 +16,16 @@ use tce_words::HeapRoom;
 /// # Errors
 /// There is no memory.
 pub fn words_of<R: Env>(alloc: Global, env: &R) -> Result<Vec<String>, AllocError> {
+    match env::args(&(env, alloc)) {
+        Ok(args) => behind_first(alloc, args),
+        Err(error) if error.kind() == ErrorKind::OutOfMemory => Err(AllocError),
+        Err(_) => Ok(Vec::new(alloc)),
+    }
+}
+
+// The arguments behind the first, which is the program's name.
+fn behind_first(alloc: Global, args: Args) -> Result<Vec<String>, AllocError> {
     let mut words = Vec::new(alloc);
-    let args = match env::args(&(env, alloc)) {
-        Ok(args) => args,
-        Err(error) if error.kind() == ErrorKind::OutOfMemory => return Err(AllocError),
-        Err(_) => return Ok(words),
-    };
     for word in args.skip(1) {
         words.push(word)?;
     }
@@ -37,5 +41,8 @@ pub fn answer<R: Files<File = File>, K: Sink>(
 ) -> ExitCode {
     let mut disk = SparseDisk::new(alloc, FileDisk::new(alloc, files));
     let mut room = HeapRoom::new(alloc);
-    tce(alloc, words, &mut disk, out, &mut room).exit_code()
+    let status = tce(alloc, words, &mut disk, out, &mut room);
+    drop(room);
+    drop(disk);
+    status.exit_code()
 }

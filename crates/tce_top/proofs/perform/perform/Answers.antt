@@ -1,5 +1,6 @@
-use Rattle.std.proofs.Common.{◌≡◌, ◌≢◌, refl, ap}
+use Rattle.std.proofs.Common.{◌≡◌, ◌≢◌, refl, ap, subst}
 use Rattle.std.specs.Prelude.{string_bytes, vec_items}
+use Rattle.tce_command.specs.Command.{KeepsRules}
 use Rattle.tce_command.specs.CommandCode.{command_of}
 use Rattle.tce_command.specs.declared.refusal.Refusal.TheVariants.{Disk}
 use Rattle.tce_top.proofs.Carried.{if_err}
@@ -92,3 +93,60 @@ returns-in-Demo-clause-done g c = (demonstrates string_bytes vec_items _ _ _ c.d
 
 pub returns-in-Demo-clause-refused : goal.returns-in-Demo-clause-refused
 returns-in-Demo-clause-refused g c = (demonstrates string_bytes vec_items _ _ _ c.demo.result c.of_text-in-Demo.result _ _ _ (ap command_of c.in-Demo.is) c.of_text-in-Demo.ensures c.demo.ensures.done c.demo.ensures.refused c.demo.ensures.takings c.demo.ensures.no_half c.demo.ensures.others (record { cause = c.demo.ensures.cause; told = c.demo.ensures.told })).refused
+
+pub run-requires-clause-spec : goal.run-requires-clause-spec
+run-requires-clause-spec g c = (subst KeepsRules (ap command_of c.in-Run.is) c.requires).0
+
+pub run-requires-clause-budget : goal.run-requires-clause-budget
+run-requires-clause-budget g c = (subst KeepsRules (ap command_of c.in-Run.is) c.requires).1
+
+pub run_all-requires-clause-spec : goal.run_all-requires-clause-spec
+run_all-requires-clause-spec g c = (subst KeepsRules (ap command_of c.in-Batch.is) c.requires).0
+
+pub run_all-requires-clause-budget : goal.run_all-requires-clause-budget
+run_all-requires-clause-budget g c = (subst KeepsRules (ap command_of c.in-Batch.is) c.requires).1
+
+pub spill-requires-clause-spec : goal.spill-requires-clause-spec
+spill-requires-clause-spec g c = (subst KeepsRules (ap command_of c.in-Spill.is) c.requires).0
+
+pub spill-requires-clause-budget : goal.spill-requires-clause-budget
+spill-requires-clause-budget g c = (subst KeepsRules (ap command_of c.in-Spill.is) c.requires).1
+
+pub spill-requires-clause-limit : goal.spill-requires-clause-limit
+spill-requires-clause-limit g c = (subst KeepsRules (ap command_of c.in-Spill.is) c.requires).2
+
+pub certify-requires-clause-spec : goal.certify-requires-clause-spec
+certify-requires-clause-spec g c = (subst KeepsRules (ap command_of c.in-Cert.is) c.requires).0
+
+pub certify-requires-clause-cert : goal.certify-requires-clause-cert
+certify-requires-clause-cert g c = (subst KeepsRules (ap command_of c.in-Cert.is) c.requires).1
+
+pub verify-requires-clause-spec : goal.verify-requires-clause-spec
+verify-requires-clause-spec g c = (subst KeepsRules (ap command_of c.in-Check.is) c.requires).0
+
+pub verify-requires-clause-cert : goal.verify-requires-clause-cert
+verify-requires-clause-cert g c = (subst KeepsRules (ap command_of c.in-Check.is) c.requires).1
+
+pub demo-requires-clause-seed : goal.demo-requires-clause-seed
+demo-requires-clause-seed g c = (subst KeepsRules (ap command_of c.in-Demo.is) c.requires).0
+
+pub demo-requires-clause-v : goal.demo-requires-clause-v
+demo-requires-clause-v g c = (subst KeepsRules (ap command_of c.in-Demo.is) c.requires).1
+
+pub demo-requires-clause-o : goal.demo-requires-clause-o
+demo-requires-clause-o g c = (subst KeepsRules (ap command_of c.in-Demo.is) c.requires).2
+
+pub plan-requires : goal.plan-requires
+plan-requires g c = subst KeepsRules (ap command_of c.in-Plan.is) c.requires
+
+pub pack-requires : goal.pack-requires
+pack-requires g c = subst KeepsRules (ap command_of c.in-Pack.is) c.requires
+
+pub unpack-requires : goal.unpack-requires
+unpack-requires g c = subst KeepsRules (ap command_of c.in-Unpack.is) c.requires
+
+pub convert-requires : goal.convert-requires
+convert-requires g c = subst KeepsRules (ap command_of c.in-Convert.is) c.requires
+
+pub expand-requires : goal.expand-requires
+expand-requires g c = subst KeepsRules (ap command_of c.in-Expand.is) c.requires
