@@ -194,7 +194,9 @@ fn plan_of_piece(alloc: Global, spec: &Spec, root: u8, cuts: u32) -> Result<Plan
     ensures { IfOk result (IsPlanOfPiece spec.now (has cuts) root) }
 {
     let piece = piece(alloc, spec, root, cuts)?;
-    least_plan(alloc, &piece)
+    let plan = least_plan(alloc, &piece);
+    drop(piece);
+    plan
 }
 
 // The same, where its memory is at most the limit; none where each fusion of the piece takes more.
@@ -214,7 +216,9 @@ fn plan_within(
     ensures none { IfOk result (λ found. IfNone found (IsAbove spec.now (has cuts) root limit)) }
 {
     let piece = piece(alloc, spec, root, cuts)?;
-    least_plan_within(alloc, &piece, guess, limit)
+    let found = least_plan_within(alloc, &piece, guess, limit);
+    drop(piece);
+    found
 }
 
 // Whether a node is the root of a piece.

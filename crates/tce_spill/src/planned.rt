@@ -24,14 +24,19 @@ pub struct PlannedCuts {
 fn without_rows(alloc: Global, plan: Plan) -> Result<Plan, AllocError>
     ensures { IfOk result (IsWithoutRows plan) }
 {
-    let tables = Tables::new(alloc, plan.tables.lists())?;
-    Ok(Plan {
-        fusion: plan.fusion,
-        orders: plan.orders,
-        sizes: plan.sizes,
-        memory: plan.memory,
-        tables,
-    })
+    match Tables::new(alloc, plan.tables.lists()) {
+        Ok(tables) => Ok(Plan {
+            fusion: plan.fusion,
+            orders: plan.orders,
+            sizes: plan.sizes,
+            memory: plan.memory,
+            tables,
+        }),
+        Err(error) => {
+            drop(plan);
+            Err(error)
+        }
+    }
 }
 
 /// A plan of a least fusion of a specification's tree, without rows.

@@ -9,9 +9,9 @@ use Rattle.tce_spill.proofs.cutting.plan_within.Goals as goal
 
 pub returns-clause-plan : goal.returns-clause-plan
 returns-clause-plan c =
-    subst (λ (p : Specification). IfOk c.least_plan_within.result (λ found. IfSome found (IsLeastButRows p.declarations.space p.tree))) c.in_ok-piece.ensures c.least_plan_within.ensures.plan
+    subst (λ (p : Specification). IfOk c.least_plan_within-found.result (λ found. IfSome found (IsLeastButRows p.declarations.space p.tree))) c.in_ok-piece.ensures c.least_plan_within-found.ensures.plan
 
 pub returns-clause-none : goal.returns-clause-none
 returns-clause-none c =
-    IfOk-weaker c.least_plan_within.result _ _
-    (λ found more. piece_is_above c.args.spec.now c.in_ok-piece.piece (has c.args.cuts) c.args.root c.args.limit found c.in_ok-piece.ensures more) c.least_plan_within.ensures.none
+    IfOk-weaker c.least_plan_within-found.result _ _
+    (λ found more. piece_is_above c.args.spec.now c.in_ok-piece.piece (has c.args.cuts) c.args.root c.args.limit found c.in_ok-piece.ensures more) c.least_plan_within-found.ensures.none
