@@ -284,6 +284,37 @@ fn specified(
     }
 }
 
+// The specification of a piece of which this is left, with the numbers of the whole.
+fn piece_over(
+    alloc: Global,
+    spec: &Spec,
+    root: u8,
+    cuts: u32,
+    rest: &Expr,
+) -> Result<Spec, AllocError>
+    requires names { HaveNames spec.now.declarations.tensors }
+    requires few { length spec.now.declarations.tensors ≤ max_tensors - 1 }
+    requires cuts { CanCut spec.now (has cuts) root }
+    requires rest { tree_of rest.now ≡ model.piece spec.now.tree (has cuts) root }
+    ensures { IfOk result (λ own. own ≡ piece_of spec.now (has cuts) root) }
+{
+    let _rules = spec.space();
+    let mut numbers = sources_of(rest);
+    let target = Leaf {
+        tensor: numbers.len() as u8,
+        indexes: target_indexes(spec, root, cuts)?,
+    };
+    let expr = renumbered(alloc, rest, numbers.as_slice())?;
+    numbers.push(target_of(spec, root));
+    match declared(alloc, spec, numbers.as_slice()) {
+        Ok(declarations) => specified(alloc, declarations, target, expr),
+        Err(error) => {
+            drop(expr);
+            Err(error)
+        }
+    }
+}
+
 /// The specification of the piece of a tree whose root is node `root`.
 ///
 /// A bit of `cuts` that is set stands for a node whose values are stored in an array of their own, `spill-V` for node
@@ -296,15 +327,8 @@ pub fn piece(alloc: Global, spec: &Spec, root: u8, cuts: u32) -> Result<Spec, Al
     requires cuts { CanCut spec.now (has cuts) root }
     ensures { IfOk result (λ own. own ≡ piece_of spec.now (has cuts) root) }
 {
-    let _rules = spec.space();
     let rest = rest_of_piece(alloc, spec, root, cuts)?;
-    let mut numbers = sources_of(&rest);
-    let expr = renumbered(alloc, &rest, numbers.as_slice())?;
-    let target = Leaf {
-        tensor: numbers.len() as u8,
-        indexes: target_indexes(spec, root, cuts)?,
-    };
-    numbers.push(target_of(spec, root));
-    let declarations = declared(alloc, spec, numbers.as_slice())?;
-    specified(alloc, declarations, target, expr)
+    let made = piece_over(alloc, spec, root, cuts, &rest);
+    drop(rest);
+    made
 }
