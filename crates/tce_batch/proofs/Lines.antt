@@ -64,11 +64,11 @@ all_kept d cs None all one = subst (All (IsKept d)) (sym (append-nil cs)) all
 all_kept d cs (Some c) all one = All-push (IsKept d) cs c all one
 
 -- the fault of a line behind what was found is the fault of all
-pub fault_shown : (d : Declarations) (cs : List Contraction) (s : Specification) (rs : List (Result Specification Fault)) (n : ℕ) (l : Line) (ls : List Line) (f : SpecFault)
-    → Ok s ∷ rs ≡ as_found d cs ++ of_lines n d (l ∷ ls) → Shows (fault_in (together (of_line n d l))) f → Shows (fault_in (together rs)) f
-fault_shown d cs s rs n l ls f is shown =
+pub fault_shown : (d : Declarations) (first cs : List Contraction) (rs : List (Result Specification Fault)) (n : ℕ) (l : Line) (ls : List Line) (f : SpecFault)
+    → as_found d first ++ rs ≡ as_found d cs ++ of_lines n d (l ∷ ls) → Shows (fault_in (together (of_line n d l))) f → Shows (fault_in (together rs)) f
+fault_shown d first cs rs n l ls f is shown =
     let same : fault_in (together rs) ≡ fault_in (together (of_lines n d (l ∷ ls))) =
-    sym (behind_first s rs) ∙ ap (λ (xs : List (Result Specification Fault)). fault_in (together xs)) is ∙ behind_found d cs (of_lines n d (l ∷ ls)) in
+    sym (behind_found d first rs) ∙ ap (λ (xs : List (Result Specification Fault)). fault_in (together xs)) is ∙ behind_found d cs (of_lines n d (l ∷ ls)) in
     subst (λ (o : Option Fault). Shows o f) (sym same) (shown_more n d l (of_lines (n + 1) d ls) f shown)
 
 pub some_found : (d : Declarations) (cs : List Contraction) (s : Specification) (rs : List (Result Specification Fault)) → Ok s ∷ rs ≡ as_found d cs → 0 < length cs

@@ -1,13 +1,14 @@
 //! The reader of several formulas.
 
-ghost use Rattle.std.specs.Prelude.{◌≡◌, ◌+◌, ◌<◌, ◌^◌, ◌≤◌, ◌++◌, All, IfOk, IfErr, OnOk, length};
+ghost use Rattle.std.specs.Prelude.{◌≡◌, ◌+◌, ◌<◌, ◌^◌, ◌≤◌, ◌++◌, All, IfOk, IfErr, OnOk, length, map};
 ghost use Rattle.tce_space.specs.Limits.{max_spec_bytes};
 ghost use Rattle.tce_grammar.specs.Lines.{lines};
+ghost use Rattle.tce_grammar.specs.Reading.{line_of};
 ghost use Rattle.tce_declarations.specs.FaultCode.{Shows};
 ghost use Rattle.tce_declarations.specs.TextCode.{AnswersFault};
 ghost use Rattle.tce_spec.specs.SpecCode.{IsKept};
 ghost use Rattle.tce_spec.specs.OutcomeCode.{FormulaHasNames};
-ghost use Rattle.tce_batch.specs.Reading.{as_list};
+ghost use Rattle.tce_batch.specs.Reading.{as_found, as_list, of_lines};
 ghost use Rattle.tce_batch.specs.BatchCode.{behind_fault, further_fault, AnswersBatch, ReadsFurther, ReadsLines, LinesShow};
 
 use crate::batch::Batch;
@@ -45,6 +46,34 @@ fn keep(contractions: &mut Vec<Contraction>, next: Option<Contraction>) -> Resul
     Ok(())
 }
 
+/// Puts what the formula lines of a text compute behind the others. `first_number` is the number of the first line of
+/// the text.
+fn read_behind(
+    alloc: Global,
+    declarations: &Declarations,
+    contractions: &mut Vec<Contraction>,
+    first_number: u64,
+    text: &[u8],
+) -> Result<(), SpecFault>
+    requires kept { All (IsKept declarations.now) contractions.old.items }
+    requires few { first_number + length text.now < 2 ^ 64 }
+    ensures kept { OnOk result (All (IsKept declarations.now) contractions.new.items) }
+    ensures read { OnOk result (as_found declarations.now contractions.old.items
+        ++ of_lines first_number declarations.now (map line_of (lines text.now))
+        ≡ as_found declarations.now contractions.new.items) }
+    ensures fault { IfErr result (Shows (further_fault first_number declarations.now text.now)) }
+{
+    let mut number = first_number;
+    let mut rest = text;
+    while let Some((next, behind)) = first_line(rest) {
+        let read = read_next(alloc, declarations, number, next)?;
+        keep(contractions, read)?;
+        number += 1;
+        rest = behind;
+    }
+    Ok(())
+}
+
 /// Reads the further formula lines, behind what the first computes. `first_number` is the number of the first line of
 /// the text.
 fn read_further(
@@ -63,15 +92,13 @@ fn read_further(
 {
     let mut contractions = Vec::new(alloc);
     keep(&mut contractions, Some(first))?;
-    let mut number = first_number;
-    let mut rest = text;
-    while let Some((next, behind)) = first_line(rest) {
-        let read = read_next(alloc, declarations, number, next)?;
-        keep(&mut contractions, read)?;
-        number += 1;
-        rest = behind;
+    match read_behind(alloc, declarations, &mut contractions, first_number, text) {
+        Ok(()) => Ok(contractions),
+        Err(fault) => {
+            drop(contractions);
+            Err(fault)
+        }
     }
-    Ok(contractions)
 }
 
 /// What the formula lines of a text compute, of which the first stands in its head.
