@@ -109,4 +109,5 @@ fn indexes_are_named(rt: HostRuntime) {
     expect_bits(&rt, &space, "k,z", 99);
     expect_order(&rt, &space);
     expect_members(&rt, &space);
+    drop(space);
 }

@@ -138,6 +138,7 @@ fn tiles_are_held_in_the_order_of_their_last_use(rt: HostRuntime) {
                     "at row {number}"
                 );
             }
+            drop(table);
         }
     }
 }

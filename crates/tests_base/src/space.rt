@@ -104,6 +104,7 @@ fn spaces_keep_what_was_declared(rt: HostRuntime) {
     expect_range_named(&rt, &space, "a", None);
     expect_index_named(&rt, &space, "V", Some(3));
     expect_index_named(&rt, &space, "a name that is too long", None);
+    drop(space);
 }
 
 #[test]
@@ -116,6 +117,7 @@ fn spaces_keep_names_and_sizes(rt: HostRuntime) {
     expect_index_kept(&rt, &space, 3, "V", 1);
     expect_size_kept(&rt, &space, 3, (100, 1));
     expect_size_kept(&rt, &space, 2, (3000, 10));
+    drop(space);
 }
 
 const LETTERS: &str = "a b c d e f g h i j k l m n o p q r s t u v w x y";
@@ -150,6 +152,7 @@ fn lists_of_declarations_are_limited(rt: HostRuntime) {
     fill_ranges(&rt, &mut space);
     fill_indexes(&rt, &mut space);
     expect_twice(&rt, &mut space, "a", "x");
+    drop(space);
 }
 
 // The volume of a set of the first four indexes.
@@ -183,6 +186,7 @@ fn volumes_end_at_their_limit(rt: HostRuntime) {
     expect_volume(&rt, &space, 11, Some(2 << 60));
     expect_volume(&rt, &space, 7, Some(1 << 90));
     expect_volume(&rt, &space, 15, None);
+    drop(space);
 }
 
 // The shape of two dimensions, each by its extent and edge.
@@ -199,7 +203,9 @@ fn shape_of_two(
     let mut ranges = ArrayVec::new();
     ranges.push(0);
     ranges.push(1);
-    space.shape(&ranges)
+    let shape = space.shape(&ranges);
+    drop(space);
+    shape
 }
 
 // The words of a tile, the tiles, the words with the padding, the elements, and the bytes of a file.

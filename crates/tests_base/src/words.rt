@@ -287,4 +287,5 @@ fn refusals_are_not_noted(rt: HostRuntime) {
     assert!(rt; room.takings() == [(1, 4)].as_slice());
     assert!(rt; taken(&mut room, 0, 2) == Some(2));
     assert!(rt; room.takings() == [(1, 4), (0, 2)].as_slice());
+    drop(room);
 }

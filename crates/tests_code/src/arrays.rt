@@ -51,6 +51,7 @@ fn expect_refused(
         Ok(_) => panic!(rt; "an operand is missing or damaged"),
         Err(refused) => assert!(rt; refused.tensor == tensor && refused.fault == fault),
     }
+    drop(spec);
 }
 
 #[test]
@@ -103,4 +104,5 @@ fn arrays_are_those_of_the_tensors(rt: HostRuntime) {
         Ok(arrays) => expect_arrays(&rt, arrays.as_slice()),
         Err(_) => panic!(rt; "no memory"),
     }
+    drop(spec);
 }

@@ -47,7 +47,9 @@ fn five(rt: &impl Abort, alloc: Global) -> Box<Expr> {
 fn tree_of(rt: &impl Abort, alloc: Global, expr: &Expr) -> Tree {
     let mut space = new_space(rt, alloc);
     declare_all(rt, &mut space, "a b c d e f i j k l", 3);
-    tree_over(rt, alloc, &space, expr)
+    let tree = tree_over(rt, alloc, &space, expr);
+    drop(space);
+    tree
 }
 
 // Whether the orders carry the fusion.
@@ -95,6 +97,8 @@ fn expect_words(rt: &impl Abort, alloc: Global, expr: &Expr, stated: &Stated, wo
     let mut run = Run::new(rt, alloc, &tree, &fusion, stated.extents, stated.tensors);
     run.run(rt, alloc, &tree, &fusion, code.ops());
     assert!(rt; run.root_words(rt, &tree) == words);
+    drop(run);
+    drop(tree);
 }
 
 // The operation of a word: of a node, `c` clears, `+`, `-`, `*` and `a` put a value in, and of an index `o` opens its loop.
@@ -133,6 +137,7 @@ fn expect_code(
         code.ops() == ops_of(rt, alloc, words).as_slice(),
         "{words}"
     );
+    drop(tree);
 }
 
 #[test]

@@ -65,6 +65,8 @@ fn fusions_of_two_sums(rt: HostRuntime) {
     expect_fusion(&rt, &space, &tree, &[&[0], &[1], &[]], Some(2), 2);
     expect_fusion(&rt, &space, &tree, &[&[], &[1], &[]], None, 6);
     expect_fusion(&rt, &space, &tree, &[&[0], &[], &[]], None, 8);
+    drop(tree);
+    drop(space);
 }
 
 // The standard orders, where the fusion is legal.
@@ -108,6 +110,8 @@ fn orders_of_two_sums(rt: HostRuntime) {
     let sets: &[&[u8]] = &[&[], &[1], &[]];
     expect_standard(&rt, &tree, sets, &[&[0, 2], &[1, 3], &[1, 0]]);
     expect_not_carried(&rt, &tree, sets, &[&[0, 2], &[1, 3], &[0, 1]], Some(1));
+    drop(tree);
+    drop(space);
 }
 
 // The elements that the node keeps.
@@ -145,4 +149,6 @@ fn fusion_of_three_sums(rt: HostRuntime) {
     expect_fusion(&rt, &space, &tree, LEAST, None, 10004);
     expect_size(&rt, &space, &tree, LEAST, 3, 10000);
     expect_standard(&rt, &tree, LEAST, LEAST_ORDERS);
+    drop(tree);
+    drop(space);
 }

@@ -67,6 +67,8 @@ fn expect_two_sums(rt: &impl Abort, alloc: Global, second: &[u8], wanted: &Slot)
     expect_count(rt, &layout, 2);
     expect_slot(rt, &layout, 0, &slot(0, 5, &[(0, 1)]));
     expect_slot(rt, &layout, 1, wanted);
+    drop(tree);
+    drop(space);
 }
 
 #[test]
@@ -96,6 +98,8 @@ fn slots_of_three_sums(rt: HostRuntime) {
     expect_slot(&rt, &layout, 2, &slot(2, 1, &[]));
     expect_slot(&rt, &layout, 3, &slot(3, 4, &[(7, 2), (8, 1)]));
     expect_slot(&rt, &layout, 4, &slot(7, 1, &[]));
+    drop(tree);
+    drop(space);
 }
 
 // The root has no slot, so the layout of a single node is empty.
@@ -111,4 +115,6 @@ fn no_slot_of_a_single_node(rt: HostRuntime) {
     );
     let tree = tree_over(&rt, alloc, &space, &*expr);
     expect_count(&rt, &laid_out(&rt, &space, &tree, &[&[]]), 0);
+    drop(tree);
+    drop(space);
 }

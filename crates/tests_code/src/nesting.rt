@@ -241,6 +241,7 @@ fn rows_stand_in_their_lists(rt: HostRuntime) {
     expect_row_count(&rt, &tables, 30, 2);
     expect_row(&rt, &tables, 30, 0, &row(&rt, &[0], 7));
     expect_row(&rt, &tables, 30, 1, &row(&rt, &[1], 6));
+    drop(tables);
 }
 
 // The subsets of the indexes are these, given by their bits, in this order.
@@ -289,6 +290,8 @@ fn choices_leave_the_worked_sizes(rt: HostRuntime) {
     expect_choices(&rt, &space, &tree, 1, &[(0, 7), (0b10, 1)]);
     let wanted = [(0, 35), (0b01, 7), (0b10, 5), (0b11, 1)];
     expect_choices(&rt, &space, &tree, 2, wanted.as_slice());
+    drop(tree);
+    drop(space);
 }
 
 // A plan that fuses a set on the second edge and has a row of one class in each list.
@@ -355,7 +358,9 @@ fn expect_number(rt: &impl Abort, alloc: Global, tree: &Tree, number: u128, fits
 
 fn tree_of_two_sums(rt: &impl Abort, alloc: Global) -> Tree {
     let space = short_space(rt, alloc);
-    tree_over(rt, alloc, &space, &*two_sums(rt, alloc))
+    let tree = tree_over(rt, alloc, &space, &*two_sums(rt, alloc));
+    drop(space);
+    tree
 }
 
 #[test]
@@ -367,6 +372,7 @@ fn plans_fit_by_their_sizes(rt: HostRuntime) {
     expect_sizes(&rt, alloc, &tree, &[5, 1, 0], false);
     expect_sizes(&rt, alloc, &tree, &[5, LARGEST], true);
     expect_sizes(&rt, alloc, &tree, &[5, LARGEST + 1], false);
+    drop(tree);
 }
 
 #[test]
@@ -374,6 +380,7 @@ fn plans_fit_by_their_numbers(rt: HostRuntime) {
     let tree = tree_of_two_sums(&rt, rt.alloc());
     expect_number(&rt, rt.alloc(), &tree, LARGEST, true);
     expect_number(&rt, rt.alloc(), &tree, LARGEST + 1, false);
+    drop(tree);
 }
 
 #[test]

@@ -62,10 +62,11 @@ fn three_dimensions(rt: &impl Abort, alloc: Global) -> Shape {
     ranges.push(0);
     ranges.push(1);
     ranges.push(0);
-    match space.shape(&ranges) {
-        Ok(shape) => shape,
-        Err(_) => panic!(rt; "within the limits"),
-    }
+    let Ok(shape) = space.shape(&ranges) else {
+        panic!(rt; "within the limits");
+    };
+    drop(space);
+    shape
 }
 
 #[test]

@@ -25,4 +25,5 @@ fn files_are_named_as_tensors(rt: HostRuntime) {
     let spec = spec_of(&rt, rt.alloc(), TEXT);
     expect_file(&rt, &spec, 0, "A_sixteen_bytes_.tca");
     expect_file(&rt, &spec, 1, "C.tca");
+    drop(spec);
 }

@@ -32,6 +32,7 @@ fn expect(
     assert!(rt; fixed.0 <= budget);
     assert!(rt; frame_count(&spec, budget) == want.0);
     assert!(rt; tile_take(&spec, budget) == want.1);
+    drop(spec);
 }
 
 #[test]

@@ -25,7 +25,10 @@ fn eleven(rt: &impl Abort, alloc: Global, extent: u64) -> Space {
 }
 
 fn tree_of_expr(rt: &impl Abort, alloc: Global, expr: &Expr) -> Tree {
-    tree_over(rt, alloc, &eleven(rt, alloc, 2), expr)
+    let space = eleven(rt, alloc, 2);
+    let tree = tree_over(rt, alloc, &space, expr);
+    drop(space);
+    tree
 }
 
 fn eleven_loops(rt: &impl Abort, alloc: Global) -> Box<Expr> {
@@ -82,6 +85,7 @@ fn nodes_of_two_sums(rt: HostRuntime) {
     expect_node(&rt, &tree, 0, Kind::Sum, [0b0001, 0b0101], Some(2));
     expect_node(&rt, &tree, 1, Kind::Sum, [0b0010, 0b1010], Some(2));
     expect_node(&rt, &tree, 2, Kind::Product, [0b0011, 0b0011], None);
+    drop(tree);
 }
 
 #[test]
@@ -97,6 +101,7 @@ fn nodes_of_three_sums(rt: HostRuntime) {
     expect_node(&rt, &tree, 4, Kind::Product, [0b01_1100_0111; 2], Some(5));
     let bits = [0b00_1100_0011, 0b01_1100_0111];
     expect_node(&rt, &tree, 5, Kind::Sum, bits, None);
+    drop(tree);
 }
 
 // The operands of a difference are a node and a leaf, and that of a product behind it a constant.
@@ -114,6 +119,7 @@ fn operands_of_a_difference(rt: HostRuntime) {
     expect_node(&rt, &tree, 1, Kind::Sub, [0b1; 2], Some(2));
     expect_node(&rt, &tree, 2, Kind::Add, [0b1; 2], None);
     expect_operands(&rt, &tree);
+    drop(tree);
 }
 
 // Over indexes of this extent the expression has this fault, and a tree where there is none.
@@ -129,6 +135,7 @@ fn expect_fault(
     assert!(rt; expr.is_declared(&space));
     assert!(rt; expr.sums_are_distinct());
     assert!(rt; Tree::build(alloc, &space, expr).err() == wanted);
+    drop(space);
 }
 
 // The sum is over an index that its operand lacks.
@@ -175,6 +182,7 @@ fn fusions_that_fit(rt: HostRuntime) {
     expect_fusion(&rt, &tree, &[&[0, 2], &[], &[]], false);
     expect_fusion(&rt, &tree, &[&[], &[], &[0]], false);
     expect_fusion(&rt, &tree, &[&[], &[]], false);
+    drop(tree);
 }
 
 #[test]
@@ -185,4 +193,5 @@ fn orders_that_fit(rt: HostRuntime) {
     expect_orders(&rt, &tree, &[&[2], &[1, 3], &[1, 0]], false);
     expect_orders(&rt, &tree, &[&[2, 0], &[1, 3], &[1, 0, 2]], false);
     expect_orders(&rt, &tree, &[&[2, 0], &[1, 200], &[1, 0]], false);
+    drop(tree);
 }

@@ -189,6 +189,7 @@ fn expect_calls(
         Err(_) => panic!(rt; "no run"),
     }
     assert!(rt; calls.as_slice() == wanted);
+    drop(space);
 }
 
 #[test]

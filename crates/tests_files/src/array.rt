@@ -281,6 +281,7 @@ fn expect_opened(rt: &impl Abort, alloc: Global, call: u64, opened: Result<Form,
     );
     assert!(rt; disk.faults() == u64::from(opened.is_err()));
     expect_kept(rt, alloc, &disk);
+    drop(disk);
 }
 
 // What creating answers where the call with this number fails.
@@ -291,6 +292,7 @@ fn expect_made(rt: &impl Abort, alloc: Global, call: u64, created: Result<(), Ou
     assert!(rt; made == created, "at call {call}");
     assert!(rt; disk.faults() == u64::from(created.is_err()));
     expect_kept(rt, alloc, &disk);
+    drop(disk);
 }
 
 #[test]

@@ -108,12 +108,20 @@ fn trial_of(alloc: Global, row: &Row, failing: Vec<u64>) -> Option<Trial> {
 fn calls_as_listed(alloc: Global, row: &Row) -> Option<u64> {
     let mut trial = trial_of(alloc, row, Vec::new(alloc))?;
     let mut plain = Plain::new(alloc, row.frames as usize);
+    let calls = calls_alike(alloc, row, &mut trial, &mut plain);
+    drop(plain);
+    drop(trial);
+    calls
+}
+
+// The same for this cache and this list.
+fn calls_alike(alloc: Global, row: &Row, trial: &mut Trial, plain: &mut Plain) -> Option<u64> {
     for (array, tile, word) in row.touches {
-        if !touch_both(&mut trial, &mut plain, *array, *tile, *word) {
+        if !touch_both(trial, plain, *array, *tile, *word) {
             return None;
         }
     }
-    if !trial.flush() || !holds_the_same(&trial, &plain) {
+    if !trial.flush() || !holds_the_same(trial, plain) {
         return None;
     }
     plain.flush();
@@ -163,10 +171,9 @@ fn fails_at(alloc: Global, row: &Row, call: u64) -> Option<bool> {
     let mut trial = trial_of(alloc, row, failing)?;
     let failed = !all_touches(&mut trial, row.touches);
     let [faults, _reads, _writes] = trial.disk.counts();
-    if faults != u64::from(failed) || !trial.others_are_same(alloc) {
-        return None;
-    }
-    Some(failed)
+    let is_told = faults == u64::from(failed) && trial.others_are_same(alloc);
+    drop(trial);
+    if is_told { Some(failed) } else { None }
 }
 
 #[test]
@@ -191,14 +198,11 @@ fn each_failure_of_the_disk_is_passed_on(rt: HostRuntime) {
 fn writes_of(alloc: Global, frame_words: u64, touches: &[(u8, u64, u64)]) -> Option<u64> {
     let sizes = [(1, 1), (1, 1), (5, 1)];
     let mut trial = Trial::new(alloc, &sizes, 6, frame_words, Vec::new(alloc))?;
-    if !all_touches(&mut trial, touches) {
-        return None;
-    }
-    if !trial.is_written(alloc) || !trial.others_are_same(alloc) {
-        return None;
-    }
+    let is_done = all_touches(&mut trial, touches);
+    let is_written = is_done && trial.is_written(alloc) && trial.others_are_same(alloc);
     let [_faults, _reads, writes] = trial.disk.counts();
-    Some(writes)
+    drop(trial);
+    if is_written { Some(writes) } else { None }
 }
 
 const IN_ORDER: [(u8, u64, u64); 5] = [(2, 0, 10), (2, 1, 20), (2, 2, 30), (2, 3, 40), (2, 4, 50)];
@@ -274,4 +278,5 @@ fn the_tile_touched_least_recently_is_given_up(rt: HostRuntime) {
         assert!(rt; trial.touch(array, 0, false).is_some());
         assert!(rt; held_of_five(&trial) == held);
     }
+    drop(trial);
 }

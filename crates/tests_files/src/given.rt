@@ -118,6 +118,7 @@ pub(crate) fn shape_of(rt: &impl Abort, alloc: Global, text: &str) -> Shape {
     let Ok(shape) = space.shape(&ranges) else {
         panic!(rt; "within the limits");
     };
+    drop(space);
     shape
 }
 

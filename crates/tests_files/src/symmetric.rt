@@ -170,7 +170,9 @@ fn check_call(rt: &impl Abort, alloc: Global, shape: &Shape, packed: &[u8], call
     check(rt, disk.faults() < 2, "one call fails");
     check_file(rt, disk.inner(), "A.sym", packed, "the stored pairs stay");
     check_file(rt, disk.inner(), "B.tca", b"old", "another file stays");
-    disk.faults() == 0
+    let faults = disk.faults();
+    drop(disk);
+    faults == 0
 }
 
 #[test]

@@ -24,9 +24,15 @@ fn printed(alloc: Global, text: &[u8]) -> Result<Vec<u8>, Fail> {
         head.indexes.as_slice(),
         &head.formula,
     );
-    match found {
-        Ok(found) => Ok(print_lines(alloc, &head.declarations, &found.result, &found.expr)?),
-        Err(_) => Err(Fail::new("the formula is refused")),
+    let text = match &found {
+        Ok(found) => Some(print_lines(alloc, &head.declarations, &found.result, &found.expr)),
+        Err(_) => None,
+    };
+    drop(found);
+    drop(head);
+    match text {
+        Some(text) => Ok(text?),
+        None => Err(Fail::new("the formula is refused")),
     }
 }
 

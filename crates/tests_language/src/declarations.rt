@@ -75,6 +75,7 @@ fn declarations_are_read_up_to_the_formula(rt: HostRuntime) {
     expect_tensor(&rt, &head, "C", Some(2));
     expect_tensor(&rt, &head, "N", None);
     expect_tensor(&rt, &head, "a_name_with_seventeen_bytes", None);
+    drop(head);
 }
 
 // The two tensors of the names that are alike.
@@ -101,6 +102,7 @@ fn names_of_ranges_indexes_and_tensors_are_separate(rt: HostRuntime) {
     expect_tensor(&rt, &head, "s", Some(1));
     expect_both(&rt, &head);
     assert!(rt; fault_behind(rt.alloc(), 8, head.rest).is_none());
+    drop(head);
 }
 
 // Each row is a text, with a slash for each line feed, and its fault.

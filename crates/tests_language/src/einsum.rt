@@ -34,7 +34,9 @@ fn words_of(answer: &Result<Spec, EinsumFault>) -> (&'static str, u64) {
 }
 
 fn expect_refusal(rt: &impl Abort, alloc: Global, text: &[u8], path: &[u8], wanted: &str) {
-    let (words, number) = words_of(&from_einsum(alloc, text, path));
+    let answer = from_einsum(alloc, text, path);
+    let (words, number) = words_of(&answer);
+    drop(answer);
     let found = numbered(rt, alloc, words, number);
     assert!(rt; found.as_slice() == wanted.as_bytes(), "{wanted}");
 }
@@ -59,13 +61,13 @@ fn repeated(rt: &impl Abort, alloc: Global, piece: &[u8], count: u32, behind: &[
 
 // The canonical text of what an einsum and its path specify, where they are not refused.
 fn text_of(alloc: Global, text: &str, path: &str) -> Option<Vec<u8>> {
-    match from_einsum(alloc, text.as_bytes(), path.as_bytes()) {
-        Ok(spec) => match print_spec(alloc, &spec) {
-            Ok(printed) => Some(printed),
-            Err(_) => None,
-        },
+    let found = from_einsum(alloc, text.as_bytes(), path.as_bytes());
+    let printed = match &found {
+        Ok(spec) => print_spec(alloc, spec).ok(),
         Err(_) => None,
-    }
+    };
+    drop(found);
+    printed
 }
 
 fn expect_text(rt: &impl Abort, alloc: Global, text: &str, path: &str, wanted: &str) {

@@ -128,19 +128,23 @@ fn told_of_head(rt: &impl Abort, alloc: Global, head: &Head) -> Vec<u8> {
         indexes,
         &head.formula,
     );
-    match answer {
-        Ok(found) => told(rt, alloc, &found),
-        Err(fault) => told_fault(rt, alloc, &fault),
-    }
+    let text = match &answer {
+        Ok(found) => told(rt, alloc, found),
+        Err(fault) => told_fault(rt, alloc, fault),
+    };
+    drop(answer);
+    text
 }
 
 /// What is told of a formula line behind the declarations.
 fn told_of_line(rt: &impl Abort, alloc: Global, line: &[u8]) -> Vec<u8> {
     let text = joined(rt, alloc, DECLARED, line);
-    match read_head(alloc, text.as_slice()) {
-        Ok(head) => told_of_head(rt, alloc, &head),
-        Err(_) => panic!(rt; "the declarations are refused"),
-    }
+    let Ok(head) = read_head(alloc, text.as_slice()) else {
+        panic!(rt; "the declarations are refused");
+    };
+    let told = told_of_head(rt, alloc, &head);
+    drop(head);
+    told
 }
 
 // Each row is a line behind the declarations, and what is told of it.

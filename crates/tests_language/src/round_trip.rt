@@ -7,8 +7,12 @@ use tce_spec::{SpecFault, read_spec};
 /// The canonical text of what came back from the canonical text of what a text specifies.
 fn printed_twice(alloc: Global, text: &[u8]) -> Result<Vec<u8>, SpecFault> {
     let spec = read_spec(alloc, text)?;
-    let back = read_back(alloc, &spec)?;
-    Ok(print_spec(alloc, &back)?)
+    let read = read_back(alloc, &spec);
+    drop(spec);
+    let back = read?;
+    let printed = print_spec(alloc, &back);
+    drop(back);
+    Ok(printed?)
 }
 
 #[test]

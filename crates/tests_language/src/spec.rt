@@ -47,10 +47,12 @@ fn told_spec(rt: &impl Abort, alloc: Global, spec: &Spec) -> Vec<u8> {
 
 // What is told of the text is this, at the row of a table.
 fn expect_told(rt: &impl Abort, alloc: Global, text: &[u8], wanted: &str, row: &str) {
-    let told = match read_spec(alloc, text) {
-        Ok(spec) => told_spec(rt, alloc, &spec),
-        Err(fault) => told_fault(rt, alloc, &fault),
+    let read = read_spec(alloc, text);
+    let told = match &read {
+        Ok(spec) => told_spec(rt, alloc, spec),
+        Err(fault) => told_fault(rt, alloc, fault),
     };
+    drop(read);
     expect_text(rt, told.as_slice(), wanted.as_bytes(), row);
 }
 
@@ -140,8 +142,9 @@ fn reprinted(rt: &impl Abort, alloc: Global, spec: &Spec) -> Vec<u8> {
 fn the_canonical_text_is_printed(rt: HostRuntime) {
     let text: &[u8] =
         b"# an outer product\r\nrange N 2\r\nindex N i j\r\ntensor A[N]\r\ntensor B[N]\r\ntensor C[N,N]\r\nC[i,j] = A[i] * B[j]";
-    match read_spec(rt.alloc(), text) {
-        Ok(spec) => assert!(rt; reprinted(&rt, rt.alloc(), &spec).as_slice() == OUTER),
-        Err(_) => panic!(rt; "the text is refused"),
-    }
+    let Ok(spec) = read_spec(rt.alloc(), text) else {
+        panic!(rt; "the text is refused");
+    };
+    assert!(rt; reprinted(&rt, rt.alloc(), &spec).as_slice() == OUTER);
+    drop(spec);
 }

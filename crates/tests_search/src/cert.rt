@@ -26,6 +26,8 @@ fn a_certificate_is_written(rt: HostRuntime) {
     let plan = plan_of(&rt, rt.alloc(), "- 1 -;02 13 10;5 1;6;5: 1:0;7: 1:1");
     let text = written(&rt, rt.alloc(), &spec, &plan);
     assert!(rt; text.as_slice() == CERTIFICATE);
+    drop(plan);
+    drop(spec);
 }
 
 // What reading answers: the plan, or the kind of the fault and its line.
@@ -57,20 +59,23 @@ fn expect_changed(
 ) {
     let spec = spec_of(rt, alloc, TWO_SUMS);
     let text = changed(rt, alloc, from, until, part);
-    match read(alloc, &spec, text.as_slice()) {
-        Ok(_) => panic!(rt; "a changed text is read"),
-        Err(fault) => assert!(rt; fault == want),
-    }
+    let Err(fault) = read(alloc, &spec, text.as_slice()) else {
+        panic!(rt; "a changed text is read");
+    };
+    assert!(rt; fault == want);
+    drop(spec);
 }
 
 // The plan that is read is written as the same text.
 #[test]
 fn a_certificate_is_read(rt: HostRuntime) {
     let spec = spec_of(&rt, rt.alloc(), TWO_SUMS);
-    match read(rt.alloc(), &spec, CERTIFICATE) {
-        Ok(plan) => assert!(rt; written(&rt, rt.alloc(), &spec, &plan).as_slice() == CERTIFICATE),
-        Err(_) => panic!(rt; "the certificate is refused"),
-    }
+    let Ok(plan) = read(rt.alloc(), &spec, CERTIFICATE) else {
+        panic!(rt; "the certificate is refused");
+    };
+    assert!(rt; written(&rt, rt.alloc(), &spec, &plan).as_slice() == CERTIFICATE);
+    drop(plan);
+    drop(spec);
 }
 
 #[test]

@@ -18,6 +18,7 @@ fn expect(rt: &impl Abort, alloc: Global, spec: &Spec, text: &str, wanted: Verdi
     let plan = plan_of(rt, alloc, text);
     assert!(rt; plan.fits(tree), "{text}");
     assert!(rt; check(space, tree, &plan) == wanted, "{text}");
+    drop(plan);
 }
 
 fn accepted_plans(rt: &impl Abort, alloc: Global, spec: &Spec) {
@@ -171,6 +172,7 @@ fn verdicts_on_two_sums(rt: HostRuntime) {
     wrong_sizes(&rt, rt.alloc(), &spec);
     missing_rows(&rt, rt.alloc(), &spec);
     low_sums(&rt, rt.alloc(), &spec);
+    drop(spec);
 }
 
 // i and j, which has the number 3, are fused at both edges.
@@ -257,6 +259,7 @@ fn verdicts_on_three_products(rt: HostRuntime) {
     sets_in_order(&rt, rt.alloc(), &spec);
     sets_of_one_index_in_order(&rt, rt.alloc(), &spec);
     right_rows_in_order(&rt, rt.alloc(), &spec);
+    drop(spec);
 }
 
 const ONE_NODE: &str =
@@ -268,6 +271,7 @@ fn verdicts_on_one_node(rt: HostRuntime) {
     let spec = spec_of(&rt, alloc, ONE_NODE);
     expect(&rt, alloc, &spec, "-;01;;0;;", Verdict::Accepted);
     expect(&rt, alloc, &spec, "-;01;;1;;", Verdict::TotalWrong(0));
+    drop(spec);
 }
 
 const WITH_CONSTANT: &str =
@@ -285,4 +289,5 @@ fn verdicts_on_a_constant(rt: HostRuntime) {
         "01 -;01 01;1;1;0:01;",
         Verdict::BelowTotal(0),
     );
+    drop(spec);
 }

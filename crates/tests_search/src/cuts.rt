@@ -41,6 +41,7 @@ fn expect(rt: &impl Abort, alloc: Global, text: &str, limit: u64, wanted: &str) 
         Ok(told) => assert!(rt; told.as_str() == wanted),
         Err(_) => panic!(rt; "no memory"),
     }
+    drop(spec);
 }
 
 // So many tensors of rank 0, and the sum of two of them.
@@ -188,6 +189,7 @@ fn expect_least(rt: &impl Abort, alloc: Global, formula: &str, limit: u64) {
         Err(SpillFault::LimitTooSmall(v, n)) => expect_none(rt, &spec, v, n, limit),
         Err(_) => panic!(rt; "no cuts: {formula}"),
     }
+    drop(spec);
 }
 
 #[test]

@@ -37,7 +37,9 @@ fn spec_of(rt: &impl Abort, alloc: Global, text: &str) -> Spec {
 
 // Whether a node may be stored.
 fn expect(rt: &impl Abort, alloc: Global, text: &str, v: u8, wanted: bool) {
-    expect_of(rt, &spec_of(rt, alloc, text), v, wanted);
+    let spec = spec_of(rt, alloc, text);
+    expect_of(rt, &spec, v, wanted);
+    drop(spec);
 }
 
 fn expect_of(rt: &impl Abort, spec: &Spec, v: u8, wanted: bool) {

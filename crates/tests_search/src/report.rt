@@ -39,6 +39,8 @@ fn check_plan(rt: &impl Abort, alloc: Global, text: &str, stated: &str, wanted: 
         Ok(text) => assert!(rt; text.as_slice() == wanted.as_bytes(), "{stated}"),
         Err(_) => panic!(rt; "no memory"),
     }
+    drop(plan);
+    drop(spec);
 }
 
 #[test]
@@ -98,6 +100,8 @@ fn check_run(rt: &impl Abort, alloc: Global, text: &str, stated: Stated, wanted:
         Ok(text) => assert!(rt; text.as_slice() == wanted.as_bytes()),
         Err(_) => panic!(rt; "no memory"),
     }
+    drop(plan);
+    drop(spec);
 }
 
 #[test]
@@ -133,6 +137,7 @@ fn the_longest_line_has_room(rt: HostRuntime) {
     let wanted =
         "node 0 product loops index_number_j_0,index_number_i_9,index_number_h_8,index_number_g_7,index_number_f_6,index_number_e_5,index_number_d_4,index_number_c_3,index_number_b_2,index_number_a_1 fused index_number_a_1,index_number_b_2,index_number_c_3,index_number_d_4,index_number_e_5,index_number_f_6,index_number_g_7,index_number_h_8,index_number_i_9,index_number_j_0 size 79228162514264337593543950335";
     expect_line(&rt, rt.alloc(), &spec, stated, wanted);
+    drop(spec);
 }
 
 // The line of the first node by this plan.
@@ -143,6 +148,7 @@ fn expect_line(rt: &impl Abort, alloc: Global, spec: &Spec, stated: &str, wanted
     assert!(rt; plan.fits(tree), "the plan does not fit");
     assert!(rt; 0 < tree.count());
     assert!(rt; node_line(space, tree, &plan, 0).as_str() == wanted);
+    drop(plan);
 }
 
 fn read_line(spec: &Spec, v: u8, line: &str) -> Result<NodeLine, LineFault> {
@@ -210,6 +216,7 @@ fn lines_of_a_tree_are_read(rt: HostRuntime) {
     );
     let line = "node 2 product loops j,i result";
     check_read(&rt, &spec, 2, line, ("10", "-", 0));
+    drop(spec);
 }
 
 #[test]
@@ -219,6 +226,7 @@ fn lines_that_a_tree_has_not(rt: HostRuntime) {
     check_fault(&rt, &spec, 0, WRONG_TREE, 2);
     let root = "node 2 product loops i,j fused - size 0";
     check_fault(&rt, &spec, 2, root, 2);
+    drop(spec);
 }
 
 #[test]
@@ -228,4 +236,5 @@ fn fused_indexes_are_read_in_order_of_declaration(rt: HostRuntime) {
     check_read(&rt, &spec, 1, line, ("123549", "1235", 1));
     let turned = "node 1 sum loops b,c,d,f,e,l fused c,b,d,f size 1";
     check_fault(&rt, &spec, 1, turned, 2);
+    drop(spec);
 }

@@ -12,10 +12,11 @@ const THREE_SUMS: &str =
 
 fn plan_for(rt: &impl Abort, alloc: Global, text: &str) -> Plan {
     let spec = spec_of(rt, alloc, text);
-    match search(alloc, spec.space(), spec.tree()) {
-        Ok(plan) => plan,
-        Err(_) => panic!(rt; "no memory"),
-    }
+    let Ok(plan) = search(alloc, spec.space(), spec.tree()) else {
+        panic!(rt; "no memory");
+    };
+    drop(spec);
+    plan
 }
 
 // The bits of the fused sets are these.
@@ -71,6 +72,7 @@ fn two_sums_fuse_one_index(rt: HostRuntime) {
     expect_fused(&rt, &plan, &[0, 0b10, 0]);
     expect_memory(&rt, &plan, 6);
     expect_sizes(&rt, &plan, &[5, 1]);
+    drop(plan);
 }
 
 #[test]
@@ -83,6 +85,7 @@ fn three_sums_keep_few_elements(rt: HostRuntime) {
     expect_first_row(&rt, &plan, 5, 0b1000111110, 1);
     // what costs more than one element above the memory is not told apart
     expect_costs(&rt, &plan, 10005);
+    drop(plan);
 }
 
 // Lines of a tree by its name, a guess of its least memory, a limit, and the memory and the sets of the plan within the
@@ -119,6 +122,7 @@ fn expect_within(rt: &impl Abort, alloc: Global, line: &str) {
         Ok(None) => assert!(rt; part(line, ';', 3) == "-", "{line}"),
         Err(_) => panic!(rt; "no memory"),
     }
+    drop(spec);
 }
 
 #[test]

@@ -59,21 +59,25 @@ pub fn file_bytes(alloc: Global, array: usize, count: u32) -> Result<Vec<u8>, Al
 
 // The shape of one dimension.
 fn shape_of(alloc: Global, extent: u64, edge: u64) -> Option<Shape> {
-    let Ok(mut space) = Space::new(alloc) else {
-        return None;
-    };
     let Ok(name) = Name::from("n") else {
         return None;
     };
     if !is_name(name.as_str().as_bytes()) || edge < 1 || extent < edge || 1 << 20 < extent {
         return None;
     }
-    let Ok(range) = space.add_range(&name, extent, edge) else {
+    let Ok(mut space) = Space::new(alloc) else {
         return None;
     };
-    let mut ranges = ArrayVec::new();
-    ranges.push(range);
-    space.shape(&ranges).ok()
+    let shape = match space.add_range(&name, extent, edge) {
+        Ok(range) => {
+            let mut ranges = ArrayVec::new();
+            ranges.push(range);
+            space.shape(&ranges).ok()
+        }
+        Err(_) => None,
+    };
+    drop(space);
+    shape
 }
 
 // An array of so many words in a file, which may be written where it is the last.

@@ -125,6 +125,7 @@ fn spilled(rt: &impl Abort, alloc: Global, text: &str, limit: u64, disk: &mut Me
     for taking in room.takings() {
         assert!(rt; taking.0 <= limit);
     }
+    drop(spec);
     made.text
 }
 
@@ -134,6 +135,7 @@ fn run(rt: &impl Abort, alloc: Global, text: &str, disk: &mut MemDisk) {
     };
     let mut room = HeapRoom::new(alloc);
     assert!(rt; run_job(alloc, &spec, 4096, disk, &mut room).is_ok());
+    drop(spec);
 }
 
 fn limit_of(rt: &impl Abort, word: &str) -> u64

@@ -64,6 +64,7 @@ fn is_done(rt: &impl Abort, alloc: Global, line: &str, call: u64) -> bool {
     if code != 0 {
         check_cut_off(rt, alloc, line, disk.inner(), room.takings());
     }
+    drop(disk);
     code == 0
 }
 
@@ -181,6 +182,7 @@ pub fn check_want(rt: &impl Abort, alloc: Global, line: &str, call: u64) {
     if call == 0 {
         check_again(rt, alloc, line, &mut disk, &mut room);
     }
+    drop(room);
 }
 
 fn check_again(
