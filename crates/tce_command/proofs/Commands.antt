@@ -1,18 +1,13 @@
 -- Which words are those of a command.
-use Rattle.std.proofs.Common.{Bool, true, false, ◌&&◌, if◌then◌else◌, ◌≡◌, ◌≢◌, ◌⊎◌, inl, inr, refl, sym, ap, subst, ◌∙◌, ℕ, suc, nat_eq, ◌<◌, ◌≤◌, ◌^◌, List, [], ◌∷◌, map, length, get_or, arith, String, Global, codes}
+use Rattle.std.proofs.Common.{Bool, ◌&&◌, if◌then◌else◌, ◌≡◌, ◌≢◌, refl, sym, ap, ◌∙◌, ℕ, suc, nat_eq, ◌<◌, ◌≤◌, ◌^◌, List, [], ◌∷◌, map, length, get_or, arith, String, Global, codes}
 use Rattle.std.specs.String.{string_bytes}
 use Rattle.std.specs.Fmt.{decimal}
-use Rattle.std.specs.Str.{bytes_eq}
-use Rattle.std.proofs.lemmas.Slice.Eq.{bytes_eq-Decides}
 use Rattle.std.specs.Str.Parse.{digits_value}
 use Rattle.std.proofs.lemmas.Fmt.{decimal_digit, decimal_is_IsNumeral}
 use Rattle.tce_array.specs.declared.form.Form.{Form}
 use Rattle.tce_array.specs.declared.form.Form.TheVariants.{One, Narrow, Wide}
 use Rattle.tce_array.specs.Forms.{width}
-use Rattle.tce_space.specs.Limits.{max_memory}
-use Rattle.tce_space.specs.Name.{is_name}
-use Rattle.tce_command.specs.Command.{Command, run, batch, spill, plan, cert, check, pack, unpack, convert, expand, einsum, demo, is_file_word, NamesSpec, NamesTensor, NamesCertificate, NamesFlat, IsBetween, IsCommand, IsNoCommand, KeepsRules, verb_of, arguments_of}
-use Rattle.tce_command.proofs.Numbers.{not_both}
+use Rattle.tce_command.specs.Command.{Command, run, batch, spill, plan, cert, check, pack, unpack, convert, expand, einsum, demo, IsBetween, IsCommand, IsNoCommand, KeepsRules, verb_of, arguments_of}
 
 -- a command has two to four words
 one_argument : (1 ≤ 1) × (1 ≤ 3)
@@ -157,149 +152,6 @@ pub one_command : (words : List (List ℕ)) (command other : Command) → IsComm
 one_command words command other h k =
     sym (is_read_back other k.rules) ∙ ap read_back (sym k.words_are ∙ h.words_are) ∙ is_read_back command h.rules
 
-as_read_back : (words : List (List ℕ)) (command : Command) → IsCommand words command → IsCommand words (read_back words)
-as_read_back words command is = subst (IsCommand words) (sym (ap read_back is.words_are ∙ is_read_back command is.rules)) is
-
--- words of a run, and of several formulas
-no_budget : (verb spec last : List ℕ) (command of_verb : Command) → IsCommand (verb ∷ spec ∷ last ∷ []) command → read_back (verb ∷ spec ∷ last ∷ []) ≡ of_verb → IsCommand (verb ∷ spec ∷ last ∷ []) of_verb
-no_budget verb spec last command of_verb is back = subst (IsCommand (verb ∷ spec ∷ last ∷ [])) back (as_read_back (verb ∷ spec ∷ last ∷ []) command is)
-
-pub no_run : (verb spec last : List ℕ) → verb ≡ codes "run" → ((n : ℕ) → IsBetween 0 max_memory n → last ≢ decimal n) → IsNoCommand (verb ∷ spec ∷ last ∷ [])
-no_run verb spec last v none command is =
-    let back = no_budget verb spec last command (run spec (value last)) is (ap (λ w. of_three w spec last) v) in
-    none (value last) (omega arith, back.rules.1) (ap (λ ws. get_or ws 2 []) back.words_are)
-
-pub no_batch : (verb spec last : List ℕ) → verb ≡ codes "batch" → ((n : ℕ) → IsBetween 0 max_memory n → last ≢ decimal n) → IsNoCommand (verb ∷ spec ∷ last ∷ [])
-no_batch verb spec last v none command is =
-    let back = no_budget verb spec last command (batch spec (value last)) is (ap (λ w. of_three w spec last) v) in
-    none (value last) (omega arith, back.rules.1) (ap (λ ws. get_or ws 2 []) back.words_are)
-
-pub is_run : (verb spec last : List ℕ) (budget : ℕ) → verb ≡ codes "run" → NamesSpec spec → IsBetween 0 max_memory budget × (last ≡ decimal budget)
-    → IsCommand (verb ∷ spec ∷ last ∷ []) (run spec budget)
-is_run verb spec last budget v names is = record { words_are = λ i. v i ∷ spec ∷ is.1 i ∷ []; rules = (names, is.0.1) }
-
-pub is_batch : (verb spec last : List ℕ) (budget : ℕ) → verb ≡ codes "batch" → NamesSpec spec → IsBetween 0 max_memory budget × (last ≡ decimal budget)
-    → IsCommand (verb ∷ spec ∷ last ∷ []) (batch spec budget)
-is_batch verb spec last budget v names is = record { words_are = λ i. v i ∷ spec ∷ is.1 i ∷ []; rules = (names, is.0.1) }
-
--- the second of three words is the name of a specification's file
-pub spec_of_three : (verb spec last : List ℕ) (command : Command) → IsCommand (verb ∷ spec ∷ last ∷ []) command → NamesSpec spec
-spec_of_three verb spec last (run s b) is = subst NamesSpec (sym (ap (λ ws. get_or ws 1 []) is.words_are)) is.rules.0
-spec_of_three verb spec last (batch s b) is = subst NamesSpec (sym (ap (λ ws. get_or ws 1 []) is.words_are)) is.rules.0
-spec_of_three verb spec last (spill s b l) is = absurd (omega (arith, ap length is.words_are))
-spec_of_three verb spec last (plan s) is = absurd (omega (arith, ap length is.words_are))
-spec_of_three verb spec last (cert s f) is = subst NamesSpec (sym (ap (λ ws. get_or ws 1 []) is.words_are)) is.rules.0
-spec_of_three verb spec last (check s f) is = subst NamesSpec (sym (ap (λ ws. get_or ws 1 []) is.words_are)) is.rules.0
-spec_of_three verb spec last (pack s t f) is = absurd (omega (arith, ap length is.words_are))
-spec_of_three verb spec last (unpack s t f) is = absurd (omega (arith, ap length is.words_are))
-spec_of_three verb spec last (convert s t f) is = absurd (omega (arith, ap length is.words_are))
-spec_of_three verb spec last (expand s t) is = subst NamesSpec (sym (ap (λ ws. get_or ws 1 []) is.words_are)) is.rules.0
-spec_of_three verb spec last (einsum t p s) is = absurd (omega (arith, ap length is.words_are))
-spec_of_three verb spec last (demo x v o) is = absurd (omega (arith, ap length is.words_are))
-
-pub no_spec_of_three : (verb spec last : List ℕ) → is_file_word (codes ".tce") spec ≡ false → IsNoCommand (verb ∷ spec ∷ last ∷ [])
-no_spec_of_three verb spec last other command is = not_both _ (spec_of_three verb spec last command is) other
-
--- the first word of a list of words
-verb_in : (words : List (List ℕ)) (command : Command) → IsCommand words command → get_or words 0 [] ≡ verb_of command
-verb_in words command is = ap (λ ws. get_or ws 0 []) is.words_are
-
--- three words with none of three first words are those of a command with a certificate
-record HasCertificate (verb cert : List ℕ) : Type 0 where
-  names : NamesCertificate cert
-  verb_is : (verb ≡ codes "cert") ⊎ (verb ≡ codes "check")
-
-has_certificate : (verb spec last : List ℕ) → verb ≢ codes "run" → verb ≢ codes "batch" → verb ≢ codes "expand" → (command : Command)
-    → IsCommand (verb ∷ spec ∷ last ∷ []) command → HasCertificate verb last
-has_certificate verb spec last no_run no_batch no_expand (run s b) is = absurd (no_run (verb_in _ (run s b) is))
-has_certificate verb spec last no_run no_batch no_expand (batch s b) is = absurd (no_batch (verb_in _ (batch s b) is))
-has_certificate verb spec last no_run no_batch no_expand (spill s b l) is = absurd (omega (arith, ap length is.words_are))
-has_certificate verb spec last no_run no_batch no_expand (plan s) is = absurd (omega (arith, ap length is.words_are))
-has_certificate verb spec last no_run no_batch no_expand (cert s f) is =
-    record { names = subst NamesCertificate (sym (ap (λ ws. get_or ws 2 []) is.words_are)) is.rules.1; verb_is = inl (verb_in _ (cert s f) is) }
-has_certificate verb spec last no_run no_batch no_expand (check s f) is =
-    record { names = subst NamesCertificate (sym (ap (λ ws. get_or ws 2 []) is.words_are)) is.rules.1; verb_is = inr (verb_in _ (check s f) is) }
-has_certificate verb spec last no_run no_batch no_expand (pack s t f) is = absurd (omega (arith, ap length is.words_are))
-has_certificate verb spec last no_run no_batch no_expand (unpack s t f) is = absurd (omega (arith, ap length is.words_are))
-has_certificate verb spec last no_run no_batch no_expand (convert s t f) is = absurd (omega (arith, ap length is.words_are))
-has_certificate verb spec last no_run no_batch no_expand (expand s t) is = absurd (no_expand (verb_in _ (expand s t) is))
-has_certificate verb spec last no_run no_batch no_expand (einsum t p s) is = absurd (omega (arith, ap length is.words_are))
-has_certificate verb spec last no_run no_batch no_expand (demo x v o) is = absurd (omega (arith, ap length is.words_are))
-
-pub no_certificate : (verb spec last : List ℕ) → verb ≢ codes "run" → verb ≢ codes "batch" → verb ≢ codes "expand" → is_file_word (codes ".cert") last ≡ false
-    → IsNoCommand (verb ∷ spec ∷ last ∷ [])
-no_certificate verb spec last no_run no_batch no_expand other command is = not_both _ (has_certificate verb spec last no_run no_batch no_expand command is).names other
-
-pub no_verb_of_three : (verb spec last : List ℕ) → verb ≢ codes "run" → verb ≢ codes "batch" → verb ≢ codes "expand" → verb ≢ codes "cert" → verb ≢ codes "check"
-    → IsNoCommand (verb ∷ spec ∷ last ∷ [])
-no_verb_of_three verb spec last no_run no_batch no_expand no_cert no_check command is = elim (has_certificate verb spec last no_run no_batch no_expand command is).verb_is [
-  | inl e ↦ no_cert e
-  | inr e ↦ no_check e
-]
-
-pub is_cert : (verb spec file : List ℕ) → verb ≡ codes "cert" → NamesSpec spec → NamesCertificate file → IsCommand (verb ∷ spec ∷ file ∷ []) (cert spec file)
-is_cert verb spec file v names certifies = record { words_are = λ i. v i ∷ spec ∷ file ∷ []; rules = (names, certifies) }
-
-pub is_check : (verb spec file : List ℕ) → verb ≡ codes "check" → NamesSpec spec → NamesCertificate file → IsCommand (verb ∷ spec ∷ file ∷ []) (check spec file)
-is_check verb spec file v names certifies = record { words_are = λ i. v i ∷ spec ∷ file ∷ []; rules = (names, certifies) }
-
--- four words with none of four first words are those of a command with a flat file
-record HasFlat (verb spec tensor flat : List ℕ) : Type 0 where
-  names : NamesSpec spec
-  tensor_is : NamesTensor tensor
-  flat_is : NamesFlat flat
-  verb_is : (verb ≡ codes "pack") ⊎ (verb ≡ codes "unpack")
-
-has_flat : (verb spec tensor flat : List ℕ) → verb ≢ codes "demo" → verb ≢ codes "einsum" → verb ≢ codes "spill" → verb ≢ codes "convert" → (command : Command)
-    → IsCommand (verb ∷ spec ∷ tensor ∷ flat ∷ []) command → HasFlat verb spec tensor flat
-has_flat verb spec tensor flat no_demo no_einsum no_spill no_convert (run s b) is = absurd (omega (arith, ap length is.words_are))
-has_flat verb spec tensor flat no_demo no_einsum no_spill no_convert (batch s b) is = absurd (omega (arith, ap length is.words_are))
-has_flat verb spec tensor flat no_demo no_einsum no_spill no_convert (spill s b l) is = absurd (no_spill (verb_in _ (spill s b l) is))
-has_flat verb spec tensor flat no_demo no_einsum no_spill no_convert (plan s) is = absurd (omega (arith, ap length is.words_are))
-has_flat verb spec tensor flat no_demo no_einsum no_spill no_convert (cert s f) is = absurd (omega (arith, ap length is.words_are))
-has_flat verb spec tensor flat no_demo no_einsum no_spill no_convert (check s f) is = absurd (omega (arith, ap length is.words_are))
-has_flat verb spec tensor flat no_demo no_einsum no_spill no_convert (pack s t f) is = record {
-  names = subst NamesSpec (sym (ap (λ ws. get_or ws 1 []) is.words_are)) is.rules.0;
-  tensor_is = subst NamesTensor (sym (ap (λ ws. get_or ws 2 []) is.words_are)) is.rules.1;
-  flat_is = subst NamesFlat (sym (ap (λ ws. get_or ws 3 []) is.words_are)) is.rules.2;
-  verb_is = inl (verb_in _ (pack s t f) is);
-}
-has_flat verb spec tensor flat no_demo no_einsum no_spill no_convert (unpack s t f) is = record {
-  names = subst NamesSpec (sym (ap (λ ws. get_or ws 1 []) is.words_are)) is.rules.0;
-  tensor_is = subst NamesTensor (sym (ap (λ ws. get_or ws 2 []) is.words_are)) is.rules.1;
-  flat_is = subst NamesFlat (sym (ap (λ ws. get_or ws 3 []) is.words_are)) is.rules.2;
-  verb_is = inr (verb_in _ (unpack s t f) is);
-}
-has_flat verb spec tensor flat no_demo no_einsum no_spill no_convert (convert s t f) is = absurd (no_convert (verb_in _ (convert s t f) is))
-has_flat verb spec tensor flat no_demo no_einsum no_spill no_convert (expand s t) is = absurd (omega (arith, ap length is.words_are))
-has_flat verb spec tensor flat no_demo no_einsum no_spill no_convert (einsum t p s) is = absurd (no_einsum (verb_in _ (einsum t p s) is))
-has_flat verb spec tensor flat no_demo no_einsum no_spill no_convert (demo x v o) is = absurd (no_demo (verb_in _ (demo x v o) is))
-
-pub no_spec_with_flat : (verb spec tensor flat : List ℕ) → verb ≢ codes "demo" → verb ≢ codes "einsum" → verb ≢ codes "spill" → verb ≢ codes "convert" → is_file_word (codes ".tce") spec ≡ false
-    → IsNoCommand (verb ∷ spec ∷ tensor ∷ flat ∷ [])
-no_spec_with_flat verb spec tensor flat no_demo no_einsum no_spill no_convert other command is = not_both _ (has_flat verb spec tensor flat no_demo no_einsum no_spill no_convert command is).names other
-
-pub no_tensor_with_flat : (verb spec tensor flat : List ℕ) → verb ≢ codes "demo" → verb ≢ codes "einsum" → verb ≢ codes "spill" → verb ≢ codes "convert" → is_name tensor ≡ false
-    → IsNoCommand (verb ∷ spec ∷ tensor ∷ flat ∷ [])
-no_tensor_with_flat verb spec tensor flat no_demo no_einsum no_spill no_convert other command is = not_both _ (has_flat verb spec tensor flat no_demo no_einsum no_spill no_convert command is).tensor_is other
-
-pub no_flat : (verb spec tensor flat : List ℕ) → verb ≢ codes "demo" → verb ≢ codes "einsum" → verb ≢ codes "spill" → verb ≢ codes "convert" → is_file_word (codes ".flat") flat ≡ false
-    → IsNoCommand (verb ∷ spec ∷ tensor ∷ flat ∷ [])
-no_flat verb spec tensor flat no_demo no_einsum no_spill no_convert other command is = not_both _ (has_flat verb spec tensor flat no_demo no_einsum no_spill no_convert command is).flat_is other
-
-pub no_verb_of_four : (verb spec tensor flat : List ℕ) → verb ≢ codes "demo" → verb ≢ codes "einsum" → verb ≢ codes "spill" → verb ≢ codes "convert" → verb ≢ codes "pack" → verb ≢ codes "unpack"
-    → IsNoCommand (verb ∷ spec ∷ tensor ∷ flat ∷ [])
-no_verb_of_four verb spec tensor flat no_demo no_einsum no_spill no_convert no_pack no_unpack command is = elim (has_flat verb spec tensor flat no_demo no_einsum no_spill no_convert command is).verb_is [
-  | inl e ↦ no_pack e
-  | inr e ↦ no_unpack e
-]
-
-pub is_pack : (verb spec tensor flat : List ℕ) → verb ≡ codes "pack" → NamesSpec spec → NamesTensor tensor → NamesFlat flat → IsCommand (verb ∷ spec ∷ tensor ∷ flat ∷ []) (pack spec tensor flat)
-is_pack verb spec tensor flat v names named is_flat = record { words_are = λ i. v i ∷ spec ∷ tensor ∷ flat ∷ []; rules = (names, named, is_flat) }
-
-pub is_unpack : (verb spec tensor flat : List ℕ) → verb ≡ codes "unpack" → NamesSpec spec → NamesTensor tensor → NamesFlat flat → IsCommand (verb ∷ spec ∷ tensor ∷ flat ∷ []) (unpack spec tensor flat)
-is_unpack verb spec tensor flat v names named is_flat = record { words_are = λ i. v i ∷ spec ∷ tensor ∷ flat ∷ []; rules = (names, named, is_flat) }
-
 -- the words of the forms
 four_word : codes "4" ≡ decimal 4
 four_word = sym (decimal_digit 4 (omega arith))
@@ -307,16 +159,13 @@ four_word = sym (decimal_digit 4 (omega arith))
 eight_word : codes "8" ≡ decimal 8
 eight_word = sym (decimal_digit 8 (omega arith))
 
-differs : (word given : List ℕ) → word ≡ given → bytes_eq word given ≡ false → ⊥
-differs word given e no_match = let same : bytes_eq word given ≡ true = (bytes_eq-Decides word given).1 e in absurd (cc)
+pub narrow_word : (word : List ℕ) → word ≡ codes "4" → (Narrow ≢ One) × (word ≡ decimal (width Narrow))
+narrow_word word e = ((λ f. absurd (cc)), e ∙ four_word)
 
-pub narrow_word : (word : List ℕ) → bytes_eq word (codes "4") ≡ true → (Narrow ≢ One) × (word ≡ decimal (width Narrow))
-narrow_word word e = ((λ f. absurd (cc)), (bytes_eq-Decides word (codes "4")).0 e ∙ four_word)
+pub wide_word : (word : List ℕ) → word ≡ codes "8" → (Wide ≢ One) × (word ≡ decimal (width Wide))
+wide_word word e = ((λ f. absurd (cc)), e ∙ eight_word)
 
-pub wide_word : (word : List ℕ) → bytes_eq word (codes "8") ≡ true → (Wide ≢ One) × (word ≡ decimal (width Wide))
-wide_word word e = ((λ f. absurd (cc)), (bytes_eq-Decides word (codes "8")).0 e ∙ eight_word)
-
-pub other_word : (word : List ℕ) → bytes_eq word (codes "4") ≡ false → bytes_eq word (codes "8") ≡ false → (form : Form) → form ≢ One → word ≡ decimal (width form) → ⊥
-other_word word a b One h e = h refl
-other_word word a b Narrow h e = differs word (codes "4") (e ∙ sym four_word) a
-other_word word a b Wide h e = differs word (codes "8") (e ∙ sym eight_word) b
+pub other_word : (word : List ℕ) → word ≢ codes "4" → word ≢ codes "8" → (form : Form) → form ≢ One → word ≡ decimal (width form) → ⊥
+other_word word no_four no_eight One h e = h refl
+other_word word no_four no_eight Narrow h e = no_four (e ∙ sym four_word)
+other_word word no_four no_eight Wide h e = no_eight (e ∙ sym eight_word)

@@ -38,10 +38,10 @@ pub fn read_command(words: &[String]) -> Option<Command<'_>>
 fn read_plan<'a>(verb: &str, spec: &'a str) -> Option<Command<'a>>
     ensures { ReadsCommand (verb.now ∷ spec.now ∷ []) result }
 {
-    if verb != "plan" || !may_name_file(".tce", spec) {
-        return None;
+    match verb {
+        "plan" if may_name_file(".tce", spec) => Some(Command::Plan { spec }),
+        _ => None,
     }
-    Some(Command::Plan { spec })
 }
 
 fn read_with_one<'a>(verb: &str, spec: &'a str, last: &'a str) -> Option<Command<'a>>
@@ -50,18 +50,32 @@ fn read_with_one<'a>(verb: &str, spec: &'a str, last: &'a str) -> Option<Command
     if !may_name_file(".tce", spec) {
         return None;
     }
-    if verb == "run" {
-        let budget = read_between(last.as_bytes(), 0, MAX_MEMORY)?;
-        return Some(Command::Run { spec, budget });
+    match verb {
+        "run" => read_run(spec, last),
+        "batch" => read_batch(spec, last),
+        "expand" => read_expand(spec, last),
+        _ => read_with_certificate(verb, spec, last),
     }
-    if verb == "batch" {
-        let budget = read_between(last.as_bytes(), 0, MAX_MEMORY)?;
-        return Some(Command::Batch { spec, budget });
-    }
-    if verb == "expand" {
-        return read_expand(spec, last);
-    }
-    read_with_certificate(verb, spec, last)
+}
+
+fn read_run<'a>(spec: &'a str, budget: &str) -> Option<Command<'a>>
+    requires { NamesSpec spec.now }
+    ensures { ReadsCommand (codes "run" ∷ spec.now ∷ budget.now ∷ []) result }
+{
+    let Some(budget) = read_between(budget, 0, MAX_MEMORY) else {
+        return None;
+    };
+    Some(Command::Run { spec, budget })
+}
+
+fn read_batch<'a>(spec: &'a str, budget: &str) -> Option<Command<'a>>
+    requires { NamesSpec spec.now }
+    ensures { ReadsCommand (codes "batch" ∷ spec.now ∷ budget.now ∷ []) result }
+{
+    let Some(budget) = read_between(budget, 0, MAX_MEMORY) else {
+        return None;
+    };
+    Some(Command::Batch { spec, budget })
 }
 
 fn read_with_certificate<'a>(verb: &str, spec: &'a str, cert: &'a str) -> Option<Command<'a>>
@@ -74,12 +88,10 @@ fn read_with_certificate<'a>(verb: &str, spec: &'a str, cert: &'a str) -> Option
     if !may_name_file(".cert", cert) {
         return None;
     }
-    if verb == "cert" {
-        Some(Command::Cert { spec, cert })
-    } else if verb == "check" {
-        Some(Command::Check { spec, cert })
-    } else {
-        None
+    match verb {
+        "cert" => Some(Command::Cert { spec, cert }),
+        "check" => Some(Command::Check { spec, cert }),
+        _ => None,
     }
 }
 
@@ -94,10 +106,10 @@ fn read_expand<'a>(spec: &'a str, tensor: &'a str) -> Option<Command<'a>>
 }
 
 // A number from the least to the most.
-fn read_between(digits: &[u8], least: u64, most: u64) -> Option<u64>
+fn read_between(digits: &str, least: u64, most: u64) -> Option<u64>
     ensures { ReadsBetween least most digits.now result }
 {
-    let number = read_number(digits)?;
+    let number = read_number(digits.as_bytes())?;
     if number < least || number > most {
         return None;
     }
@@ -112,25 +124,27 @@ fn read_with_three<'a>(
 ) -> Option<Command<'a>>
     ensures { ReadsCommand (verb.now ∷ first.now ∷ second.now ∷ last.now ∷ []) result }
 {
-    if verb == "demo" {
-        read_demo(first.as_bytes(), second.as_bytes(), last.as_bytes())
-    } else if verb == "einsum" {
-        read_einsum(first, second, last)
-    } else if verb == "spill" {
-        read_spill(first, second.as_bytes(), last.as_bytes())
-    } else if verb == "convert" {
-        read_convert(first, second, last)
-    } else {
-        read_with_flat(verb, first, second, last)
+    match verb {
+        "demo" => read_demo(first, second, last),
+        "einsum" => read_einsum(first, second, last),
+        "spill" => read_spill(first, second, last),
+        "convert" => read_convert(first, second, last),
+        _ => read_with_flat(verb, first, second, last),
     }
 }
 
-fn read_demo<'a>(seed: &[u8], v: &[u8], o: &[u8]) -> Option<Command<'a>>
+fn read_demo<'a>(seed: &str, v: &str, o: &str) -> Option<Command<'a>>
     ensures { ReadsCommand (codes "demo" ∷ seed.now ∷ v.now ∷ o.now ∷ []) result }
 {
-    let seed = read_between(seed, 1, MAX_SEED)?;
-    let v = read_between(v, 1, MAX_EXTENT)?;
-    let o = read_between(o, 1, MAX_EXTENT)?;
+    let Some(seed) = read_between(seed, 1, MAX_SEED) else {
+        return None;
+    };
+    let Some(v) = read_between(v, 1, MAX_EXTENT) else {
+        return None;
+    };
+    let Some(o) = read_between(o, 1, MAX_EXTENT) else {
+        return None;
+    };
     Some(Command::Demo { seed, v, o })
 }
 
@@ -143,14 +157,18 @@ fn read_einsum<'a>(text: &'a str, path: &'a str, spec: &'a str) -> Option<Comman
     Some(Command::Einsum { text, path, spec })
 }
 
-fn read_spill<'a>(spec: &'a str, budget: &[u8], limit: &[u8]) -> Option<Command<'a>>
+fn read_spill<'a>(spec: &'a str, budget: &str, limit: &str) -> Option<Command<'a>>
     ensures { ReadsCommand (codes "spill" ∷ spec.now ∷ budget.now ∷ limit.now ∷ []) result }
 {
     if !may_name_file(".tce", spec) {
         return None;
     }
-    let budget = read_between(budget, 0, MAX_MEMORY)?;
-    let limit = read_between(limit, 0, MAX_MEMORY)?;
+    let Some(budget) = read_between(budget, 0, MAX_MEMORY) else {
+        return None;
+    };
+    let Some(limit) = read_between(limit, 0, MAX_MEMORY) else {
+        return None;
+    };
     Some(Command::Spill {
         spec,
         budget,
@@ -164,7 +182,9 @@ fn read_convert<'a>(spec: &'a str, tensor: &'a str, form: &str) -> Option<Comman
     if !may_name_file(".tce", spec) || !is_name(tensor.as_bytes()) {
         return None;
     }
-    let form = read_form(form)?;
+    let Some(form) = read_form(form) else {
+        return None;
+    };
     Some(Command::Convert { spec, tensor, form })
 }
 
@@ -186,12 +206,10 @@ fn read_with_flat<'a>(
     if !may_name_file(".flat", flat) {
         return None;
     }
-    if verb == "pack" {
-        Some(Command::Pack { spec, tensor, flat })
-    } else if verb == "unpack" {
-        Some(Command::Unpack { spec, tensor, flat })
-    } else {
-        None
+    match verb {
+        "pack" => Some(Command::Pack { spec, tensor, flat }),
+        "unpack" => Some(Command::Unpack { spec, tensor, flat }),
+        _ => None,
     }
 }
 
@@ -199,12 +217,10 @@ fn read_with_flat<'a>(
 fn read_form(word: &str) -> Option<Form>
     ensures { ReadsForm word.now result }
 {
-    if word == "4" {
-        Some(Form::Narrow)
-    } else if word == "8" {
-        Some(Form::Wide)
-    } else {
-        None
+    match word {
+        "4" => Some(Form::Narrow),
+        "8" => Some(Form::Wide),
+        _ => None,
     }
 }
 
