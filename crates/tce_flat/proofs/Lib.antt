@@ -6,3 +6,4 @@ pub mod Names
 pub mod SymFiles
 pub mod SymInputs
 pub mod NoHalf
+pub mod ToolFaults

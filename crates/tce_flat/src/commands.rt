@@ -37,7 +37,9 @@ pub fn pack<D: Disk>(
     ensures told { TellsFaults (D.faults disk.old) (D.faults disk.new) (result ≡ Err Refusal.Disk) }
 {
     let shape = find_shape(alloc, spec, tensor, disk)?;
-    pack_tensor(alloc, &shape, tensor, flat, disk)
+    let done = pack_tensor(alloc, &shape, tensor, flat, disk);
+    drop(shape);
+    done
 }
 
 /// Makes a flat file of the elements of a tensor's array file, and gives the report.
@@ -62,7 +64,9 @@ pub fn unpack<D: Disk>(
     ensures told { TellsFaults (D.faults disk.old) (D.faults disk.new) (result ≡ Err Refusal.Disk) }
 {
     let shape = find_shape(alloc, spec, tensor, disk)?;
-    unpack_tensor(alloc, &shape, tensor, flat, disk)
+    let done = unpack_tensor(alloc, &shape, tensor, flat, disk);
+    drop(shape);
+    done
 }
 
 /// Makes a second array file of the elements of a tensor's array file, in the form that is asked for, and gives the
@@ -87,7 +91,9 @@ pub fn convert<D: Disk>(
     ensures told { TellsFaults (D.faults disk.old) (D.faults disk.new) (result ≡ Err Refusal.Disk) }
 {
     let shape = find_shape(alloc, spec, tensor, disk)?;
-    convert_tensor(alloc, &shape, tensor, form, disk)
+    let done = convert_tensor(alloc, &shape, tensor, form, disk);
+    drop(shape);
+    done
 }
 
 /// Makes the array file of a tensor of the file in which it is stored once for each pair of exchanged coordinates, and
@@ -111,5 +117,7 @@ pub fn expand<D: Disk>(
     ensures told { TellsFaults (D.faults disk.old) (D.faults disk.new) (result ≡ Err Refusal.Disk) }
 {
     let shape = find_shape(alloc, spec, tensor, disk)?;
-    expand_tensor(alloc, &shape, tensor, disk)
+    let done = expand_tensor(alloc, &shape, tensor, disk);
+    drop(shape);
+    done
 }

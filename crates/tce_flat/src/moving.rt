@@ -17,7 +17,6 @@ use tce_outside::Disk;
 use tce_space::Shape;
 
 /// Packs a tensor.
-#[tactic(auto, using(tce_tools::proofs::NoHalf::same_left))]
 pub fn pack_tensor<D: Disk>(
     alloc: Global,
     shape: &Shape,
@@ -49,7 +48,6 @@ pub fn pack_tensor<D: Disk>(
 }
 
 /// Unpacks a tensor.
-#[tactic(auto, using(tce_tools::proofs::NoHalf::same_left))]
 pub fn unpack_tensor<D: Disk>(
     alloc: Global,
     shape: &Shape,
@@ -80,7 +78,6 @@ pub fn unpack_tensor<D: Disk>(
 }
 
 /// Converts the array of a tensor.
-#[tactic(auto, using(tce_tools::proofs::NoHalf::same_left))]
 pub fn convert_tensor<D: Disk>(
     alloc: Global,
     shape: &Shape,

@@ -1,8 +1,11 @@
-use Rattle.std.proofs.Common.{rules, ◌∙◌, sym}
+use Rattle.std.proofs.Common.{rules, ◌∙◌, sym, ap, inl}
+use Rattle.std.proofs.lemmas.Result.{IfOk-from_err, err_from_is_err_and}
+use Rattle.tce_outside.specs.Files.{others}
 use Rattle.tce_outside.proofs.Causes.{cause_since}
 use Rattle.tce_flat.specs.Refusals.{IsArrayRefusal}
 use Rattle.tce_flat.proofs.Names.{short_tensor, short_spec, flat_apart}
 use Rattle.tce_flat.proofs.Tools.{unpacked_from, refused_for, unchanged_from}
+use Rattle.tce_flat.proofs.ToolFaults.{cause_for, told_for}
 use Rattle.tce_flat.specs.NoHalf.{LeavesUnpacking}
 use Rattle.tce_flat.proofs.NoHalf.{left_for}
 use Rattle.tce_flat.proofs.commands.unpack.Goals as goal
@@ -13,32 +16,61 @@ find_shape-requires-clause-spec g c = short_spec c.args.spec.now c.requires.0
 pub find_shape-requires-clause-tensor : goal.find_shape-requires-clause-tensor
 find_shape-requires-clause-tensor g c = short_tensor c.args.tensor.now c.requires.1
 
-pub unpack_tensor-requires-clause-tensor : goal.unpack_tensor-requires-clause-tensor
-unpack_tensor-requires-clause-tensor g c = short_tensor c.args.tensor.now c.requires.1
+pub unpack_tensor-done-requires-clause-tensor : goal.unpack_tensor-done-requires-clause-tensor
+unpack_tensor-done-requires-clause-tensor g c = short_tensor c.args.tensor.now c.requires.1
 
-pub unpack_tensor-requires-clause-apart : goal.unpack_tensor-requires-clause-apart
-unpack_tensor-requires-clause-apart g c = λ e. flat_apart c.args.tensor.now c.args.flat.now c.requires.1 c.requires.2 (sym e)
+pub unpack_tensor-done-requires-clause-apart : goal.unpack_tensor-done-requires-clause-apart
+unpack_tensor-done-requires-clause-apart g c = λ e. flat_apart c.args.tensor.now c.args.flat.now c.requires.1 c.requires.2 (sym e)
+
+pub returns-in_err-shape-clause-done : goal.returns-in_err-shape-clause-done
+returns-in_err-shape-clause-done g c = IfOk-from_err c.from_residual.result _ c.from_residual.ensures.0
+
+pub returns-in_err-shape-clause-refused : goal.returns-in_err-shape-clause-refused
+returns-in_err-shape-clause-refused g c =
+    let p = err_from_is_err_and c.from_residual.result c.from_residual.ensures.1 in
+    rw (p.1, p.2) (λ files told. inl (c.in_err-shape.ensures.refused files told))
+
+pub returns-in_err-shape-clause-unchanged : goal.returns-in_err-shape-clause-unchanged
+returns-in_err-shape-clause-unchanged g c =
+    let p = err_from_is_err_and c.from_residual.result c.from_residual.ensures.1 in
+    rw p.1 (λ real. c.in_err-shape.ensures.same)
+
+pub returns-in_err-shape-clause-no_half : goal.returns-in_err-shape-clause-no_half
+returns-in_err-shape-clause-no_half g c = inl c.in_err-shape.ensures.same
+
+pub returns-in_err-shape-clause-others : goal.returns-in_err-shape-clause-others
+returns-in_err-shape-clause-others g c = ap (others c.args.flat.now) c.in_err-shape.ensures.same
+
+pub returns-in_err-shape-clause-cause : goal.returns-in_err-shape-clause-cause
+returns-in_err-shape-clause-cause g c =
+    let p = err_from_is_err_and c.from_residual.result c.from_residual.ensures.1 in
+    rw (p.1, p.2) (cause_for _ _ c.in_err-shape.field-0.0 c.in_err-shape.ensures.cause)
+
+pub returns-in_err-shape-clause-told : goal.returns-in_err-shape-clause-told
+returns-in_err-shape-clause-told g c =
+    let p = err_from_is_err_and c.from_residual.result c.from_residual.ensures.1 in
+    rw (p.1, p.2) (told_for _ _ c.in_err-shape.field-0.0 c.in_err-shape.ensures.told)
 
 pub returns-clause-done : goal.returns-clause-done
 returns-clause-done g c =
-    unpacked_from c.unpack_tensor.result _ _ _ c.args.spec.now c.args.tensor.now c.args.flat.now c.in_ok-shape.shape c.in_ok-shape.ensures.same
-    c.in_ok-shape.ensures.found c.unpack_tensor.ensures.done
+    unpacked_from c.unpack_tensor-done.result _ _ _ c.args.spec.now c.args.tensor.now c.args.flat.now c.in_ok-shape.shape c.in_ok-shape.ensures.same
+    c.in_ok-shape.ensures.found c.unpack_tensor-done.ensures.done
 
 pub returns-clause-refused : goal.returns-clause-refused
 returns-clause-refused g c =
-    refused_for (λ files. IsArrayRefusal files c.args.tensor.now) _ _ c.args.spec.now c.args.tensor.now c.in_ok-shape.shape c.unpack_tensor.result c.in_ok-shape.ensures.same
-    c.in_ok-shape.ensures.found c.unpack_tensor.ensures.refused
+    refused_for (λ files. IsArrayRefusal files c.args.tensor.now) _ _ c.args.spec.now c.args.tensor.now c.in_ok-shape.shape c.unpack_tensor-done.result c.in_ok-shape.ensures.same
+    c.in_ok-shape.ensures.found c.unpack_tensor-done.ensures.refused
 
 pub returns-clause-unchanged : goal.returns-clause-unchanged
-returns-clause-unchanged g c = unchanged_from _ _ _ c.unpack_tensor.result c.in_ok-shape.ensures.same c.unpack_tensor.ensures.unchanged
+returns-clause-unchanged g c = unchanged_from _ _ _ c.unpack_tensor-done.result c.in_ok-shape.ensures.same c.unpack_tensor-done.ensures.unchanged
 
 pub returns-clause-cause : goal.returns-clause-cause
-returns-clause-cause g c = cause_since _ _ _ c.in_ok-shape.ensures.cause.later c.unpack_tensor.ensures.cause
+returns-clause-cause g c = cause_since _ _ _ c.in_ok-shape.ensures.cause.later c.unpack_tensor-done.ensures.cause
 
 pub returns-clause-told : goal.returns-clause-told
-returns-clause-told g c = λ no. c.unpack_tensor.ensures.told no ∙ c.in_ok-shape.ensures.told (search rules)
+returns-clause-told g c = λ no. c.unpack_tensor-done.ensures.told no ∙ c.in_ok-shape.ensures.told (search rules)
 
 pub returns-clause-no_half : goal.returns-clause-no_half
 returns-clause-no_half g c =
     left_for (LeavesUnpacking c.args.tensor.now c.args.flat.now) c.args.spec.now c.args.tensor.now c.in_ok-shape.shape (g.D.Disk.files c.args.disk.now) _ _ c.in_ok-shape.ensures.same
-    c.in_ok-shape.ensures.found c.unpack_tensor.ensures.no_half
+    c.in_ok-shape.ensures.found c.unpack_tensor-done.ensures.no_half

@@ -1,5 +1,5 @@
-use Rattle.std.proofs.Common.{◌≡◌, rules, ◌∙◌, ap, refl, Err, List, ℕ, Option, inl, inr, subst, codes}
-use Rattle.tce_outside.specs.Files.{Files, others}
+use Rattle.std.proofs.Common.{◌≡◌, rules, ◌∙◌, ap, refl, Err, List, ℕ, Option, inl, inr, subst, codes, arith}
+use Rattle.tce_outside.specs.Files.{Files, file, others}
 use Rattle.tce_space.specs.Tiling.{Tiling}
 use Rattle.tce_array.specs.declared.form.Form.TheVariants.{One}
 use Rattle.tce_array.specs.Forms.{head_len, array_bytes}
@@ -9,8 +9,11 @@ use Rattle.tce_sym.specs.declared.symmetry.Symmetry.{Symmetry}
 use Rattle.tce_sym.specs.Storage.{full_cell}
 use Rattle.tce_flat.specs.Tensors.{array_file, sym_file}
 use Rattle.tce_sym.specs.Told.{Expands, IsStoredIn}
-use Rattle.tce_flat.proofs.SymFiles.{files_apart}
+use Rattle.tce_flat.proofs.SymFiles.{files_apart, sym_cause, sym_told, sym_refused}
 use Rattle.tce_flat.proofs.Tools.{report_is}
+use Rattle.tce_outside.proofs.Causes.{answered_quiet, cause_as, cause_since}
+use Rattle.tce_source.proofs.Outcomes.{ok_no_disk}
+use Rattle.tce_sym.specs.Faults.{IsFault}
 use Rattle.tce_flat.proofs.expanding.expand_tensor.Goals as goal
 
 -- the stored elements are not in the array file
@@ -83,3 +86,47 @@ pub returns-clause-others : goal.returns-clause-others
 returns-clause-others g c =
     subst (λ (name : List ℕ). others name (g.D.Disk.files c.expand_file.new.disk) ≡ others name (g.D.Disk.files c.args.disk.now)) (c.as_str-4.ensures.value ∙ c.file_of-array.ensures)
     (c.expand_file.ensures.others ∙ ap (others c.as_str-4.result.now) c.open_sym.ensures.same)
+
+pub returns-in-Err-clause-refused : goal.returns-in-Err-clause-refused
+returns-in-Err-clause-refused g c = λ files told.
+    sym_refused files c.args.tensor.now c.args.shape.now c.in-Err.fault c.sym_refusal.result c.sym_refusal.ensures
+    (subst (λ (name : List ℕ). IsFault c.args.shape.now.extents (file files name) c.in-Err.fault) (c.as_str-2.ensures.value ∙ c.file_of-packed.ensures) (c.in-Err.ensures.fault files told))
+
+pub returns-in-Err-clause-unchanged : goal.returns-in-Err-clause-unchanged
+returns-in-Err-clause-unchanged g c = λ real. c.open_sym.ensures.same
+
+pub returns-in-Err-clause-no_half : goal.returns-in-Err-clause-no_half
+returns-in-Err-clause-no_half g c = inl c.open_sym.ensures.same
+
+pub returns-in-Err-clause-others : goal.returns-in-Err-clause-others
+returns-in-Err-clause-others g c = ap (others (array_file c.args.tensor.now)) c.open_sym.ensures.same
+
+pub returns-in-Err-clause-cause : goal.returns-in-Err-clause-cause
+returns-in-Err-clause-cause g c = sym_cause c.args.tensor.now c.in-Err.fault c.sym_refusal.result _ _ c.sym_refusal.ensures c.in-Err.ensures.cause
+
+pub returns-in-Err-clause-told : goal.returns-in-Err-clause-told
+returns-in-Err-clause-told g c = sym_told c.args.tensor.now c.in-Err.fault c.sym_refusal.result _ _ c.sym_refusal.ensures c.in-Err.ensures.told
+
+pub returns-in-Ok-expand_file-clause-cause : goal.returns-in-Ok-expand_file-clause-cause
+returns-in-Ok-expand_file-clause-cause g c = record { later = omega (arith, c.open_sym.ensures.cause.later, c.expand_file.ensures.cause.later); rose = λ failed. absurd (ok_no_disk _ _ refl failed) }
+
+pub returns-in-Ok-expand_file-clause-told : goal.returns-in-Ok-expand_file-clause-told
+returns-in-Ok-expand_file-clause-told g c = λ none. answered_quiet _ _ _ _ refl c.in-Ok-expand_file.ensures.told ∙ answered_quiet _ _ _ _ refl c.in-Ok-open_sym.ensures.told
+
+pub returns-in-Err-Failed-clause-refused : goal.returns-in-Err-Failed-clause-refused
+returns-in-Err-Failed-clause-refused g c = λ files told. inl tt
+
+pub returns-in-Err-Failed-clause-cause : goal.returns-in-Err-Failed-clause-cause
+returns-in-Err-Failed-clause-cause g c = cause_since _ _ _ c.open_sym.ensures.cause.later (cause_as _ _ (λ e. ap Err c.in-Err-Failed.field-0-is) c.in-Err-Failed.ensures.cause)
+
+pub returns-in-Err-Failed-clause-told : goal.returns-in-Err-Failed-clause-told
+returns-in-Err-Failed-clause-told g c = λ none. absurd (none refl)
+
+pub returns-clause-refused : goal.returns-clause-refused
+returns-clause-refused g c = λ files told. inl tt
+
+pub returns-clause-cause : goal.returns-clause-cause
+returns-clause-cause g c = record { later = omega (arith, c.open_sym.ensures.cause.later, c.expand_file.ensures.cause.later); rose = λ failed. absurd (cc) }
+
+pub returns-clause-told : goal.returns-clause-told
+returns-clause-told g c = λ none. c.in-Err-Memory.ensures.told (λ e. absurd (cc (c.in-Err-Memory.field-0-is))) ∙ answered_quiet _ _ _ _ refl c.in-Ok-open_sym.ensures.told

@@ -1,7 +1,8 @@
-use Rattle.std.proofs.Common.{rules}
-use Rattle.std.proofs.lemmas.Result.{IfOk-weaker, IfErr-weaker, IfErr-at_err}
+use Rattle.std.proofs.Common.{rules, inl}
+use Rattle.std.proofs.lemmas.Result.{IfOk-weaker, IfErr-weaker, IfErr-at_err, IfOk-from_err, err_from_is_err_and}
 use Rattle.tce_flat.specs.Refusals.{IsUndeclared}
 use Rattle.tce_flat.proofs.Tools.{found_in, undeclared_in}
+use Rattle.tce_flat.proofs.ToolFaults.{cause_for, told_for}
 use Rattle.tce_flat.proofs.tensor.find_shape.Goals as goal
 
 pub returns-clause-found : goal.returns-clause-found
@@ -22,3 +23,24 @@ returns-clause-cause g c = record {
 
 pub returns-clause-told : goal.returns-clause-told
 returns-clause-told g c = λ no. c.in_ok-source.ensures.told (search rules)
+
+pub returns-in_err-source-clause-found : goal.returns-in_err-source-clause-found
+returns-in_err-source-clause-found g c = IfOk-from_err c.from_residual.result _ c.from_residual.ensures.0
+
+pub returns-in_err-source-clause-refused : goal.returns-in_err-source-clause-refused
+returns-in_err-source-clause-refused g c =
+    let p = err_from_is_err_and c.from_residual.result c.from_residual.ensures.1 in
+    rw (p.1, p.2) (λ files told. inl (c.in_err-source.ensures.refused files told))
+
+pub returns-in_err-source-clause-same : goal.returns-in_err-source-clause-same
+returns-in_err-source-clause-same g c = c.in_err-source.ensures.same
+
+pub returns-in_err-source-clause-cause : goal.returns-in_err-source-clause-cause
+returns-in_err-source-clause-cause g c =
+    let p = err_from_is_err_and c.from_residual.result c.from_residual.ensures.1 in
+    rw (p.1, p.2) (cause_for _ _ c.in_err-source.field-0.0 c.in_err-source.ensures.cause)
+
+pub returns-in_err-source-clause-told : goal.returns-in_err-source-clause-told
+returns-in_err-source-clause-told g c =
+    let p = err_from_is_err_and c.from_residual.result c.from_residual.ensures.1 in
+    rw (p.1, p.2) (told_for _ _ c.in_err-source.field-0.0 c.in_err-source.ensures.told)
