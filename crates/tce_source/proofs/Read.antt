@@ -123,6 +123,13 @@ pub not_true : (b : Bool) → b ≡ false → IsTrue b → ⊥
 not_true true e t = absurd (cc)
 not_true false e t = absurd (cc)
 
+-- want of memory and a refused text are no failures of the disk
+pub memory_no_disk : {A : Type 0} (given : Result A Refusal) → given ≡ Err refusals.Memory → given ≡ Err Disk → ⊥
+memory_no_disk given is failed = absurd (cc)
+
+pub text_no_disk : {A : Type 0} (fault : SpecFault) (given : Result A Refusal) → given ≡ Err (OfText fault) → given ≡ Err Disk → ⊥
+text_no_disk fault given is failed = absurd (cc)
+
 -- Several formulas.
 
 pub formulas_specified : (found : Option (List ℕ)) (text : List ℕ) (batch : List Specification) → found ≡ Some text
