@@ -1,4 +1,9 @@
-use Rattle.std.proofs.Common.{refl}
+use Rattle.std.proofs.Common.{◌≡◌, ◌∙◌, refl, ap, inr, Err, arith}
+use Rattle.std.proofs.lemmas.Bool.{false≢true}
+use Rattle.std.proofs.lemmas.Result.{IfOk-from_err, err_from_is_err_and}
+use Rattle.tce_outside.proofs.Causes.{cause_as, cause_since}
+use Rattle.tce_command.specs.declared.refusal.Refusal.TheVariants.{Disk}
+use Rattle.tce_source.proofs.Outcomes.{ok_no_disk}
 use Rattle.tce_example.proofs.OtherFiles.{stay_twice}
 use Rattle.tce_demo.proofs.Operands.{operands_told, result_told}
 use Rattle.tce_demo.proofs.Ran.{result_stays, all_stay, all_written, sum_after, demonstrated}
@@ -64,3 +69,67 @@ pub returns-clause-no_half : goal.returns-clause-no_half
 returns-clause-no_half g c =
     run_left c.args.made.now.spec c.requires.spec c.args.seed c.args.made.now.text.items (g.D.Disk.files c.args.disk.now) (g.D.Disk.files c.put_input.new.disk) (g.D.Disk.files c.run_example.new.disk) _
     c.in_ok-put_input.ensures.written c.put_input.ensures.no_half c.run_example.ensures.others c.run_example.ensures.no_half c.result_sum.ensures.same
+
+pub returns-in_err-put_input-clause-done : goal.returns-in_err-put_input-clause-done
+returns-in_err-put_input-clause-done g c = IfOk-from_err c.from_residual.result _ c.from_residual.ensures.0
+
+pub returns-in_err-put_input-clause-refused : goal.returns-in_err-put_input-clause-refused
+returns-in_err-put_input-clause-refused g c =
+    let p = err_from_is_err_and c.from_residual.result c.from_residual.ensures.1 in
+    rw (p.1, p.2) (λ files told. c.in_err-put_input.ensures.free)
+
+pub returns-in_err-put_input-clause-takings : goal.returns-in_err-put_input-clause-takings
+returns-in_err-put_input-clause-takings g c =
+    let p = err_from_is_err_and c.from_residual.result c.from_residual.ensures.1 in
+    rw p.1 (inr refl)
+
+pub returns-in_err-put_input-clause-others : goal.returns-in_err-put_input-clause-others
+returns-in_err-put_input-clause-others g c = c.put_input.ensures.others
+
+pub returns-in_err-put_input-clause-cause : goal.returns-in_err-put_input-clause-cause
+returns-in_err-put_input-clause-cause g c =
+    let p = err_from_is_err_and c.from_residual.result c.from_residual.ensures.1 in
+    rw (p.1, p.2) (cause_as _ _ (λ failed. let same : c.in_err-put_input.field-0.0 ≡ Disk = cc in ap Err same) c.in_err-put_input.ensures.cause)
+
+pub returns-in_err-put_input-clause-told : goal.returns-in_err-put_input-clause-told
+returns-in_err-put_input-clause-told g c =
+    let p = err_from_is_err_and c.from_residual.result c.from_residual.ensures.1 in
+    rw (p.1, p.2) (λ none. c.in_err-put_input.ensures.told (λ failed. let same : c.in_err-put_input.field-0.0 ≡ Disk = cc in none (ap Err same)))
+
+pub returns-in_err-run-clause-done : goal.returns-in_err-run-clause-done
+returns-in_err-run-clause-done g c = IfOk-from_err c.from_residual-in_err-run.result _ c.from_residual-in_err-run.ensures.0
+
+pub returns-in_err-run-clause-as_run : goal.returns-in_err-run-clause-as_run
+returns-in_err-run-clause-as_run g c =
+    let p = err_from_is_err_and c.from_residual-in_err-run.result c.from_residual-in_err-run.ensures.1 in
+    rw (p.1, p.2) c.in_err-run.ensures.as_run
+
+pub returns-in_err-run-clause-takings : goal.returns-in_err-run-clause-takings
+returns-in_err-run-clause-takings g c =
+    let p = err_from_is_err_and c.from_residual-in_err-run.result c.from_residual-in_err-run.ensures.1 in
+    rw (p.1, p.2) c.in_err-run.ensures.takings
+
+pub returns-in_err-run-clause-cause : goal.returns-in_err-run-clause-cause
+returns-in_err-run-clause-cause g c =
+    let p = err_from_is_err_and c.from_residual-in_err-run.result c.from_residual-in_err-run.ensures.1 in
+    rw (p.1, p.2) (cause_since _ _ _ c.put_input.ensures.cause.later (cause_as _ _ (λ failed. let same : c.in_err-run.field-0.0 ≡ Disk = cc in ap Err same) c.in_err-run.ensures.cause))
+
+pub returns-in_err-run-clause-told : goal.returns-in_err-run-clause-told
+returns-in_err-run-clause-told g c =
+    let p = err_from_is_err_and c.from_residual-in_err-run.result c.from_residual-in_err-run.ensures.1 in
+    rw (p.1, p.2) (λ none. c.in_err-run.ensures.quiet (λ failed. let same : c.in_err-run.field-0.0 ≡ Disk = cc in none (ap Err same)) ∙ c.in_ok-put_input.ensures.told (ok_no_disk _ _ refl))
+
+pub returns-in_default-clause-told : goal.returns-in_default-clause-told
+returns-in_default-clause-told g c = λ none. absurd (none refl)
+
+pub returns-in-Ok-report-clause-cause : goal.returns-in-Ok-report-clause-cause
+returns-in-Ok-report-clause-cause g c = record {
+  later = omega (arith, c.put_input.ensures.cause.later, c.run_example.ensures.cause.later, c.result_sum.ensures.cause.later);
+  rose = λ failed. absurd (ok_no_disk _ _ refl failed);
+}
+
+pub returns-in-Ok-report-clause-told : goal.returns-in-Ok-report-clause-told
+returns-in-Ok-report-clause-told g c = λ none. c.in-Ok.ensures.told false≢true ∙ (c.in_ok-run.ensures.quiet (ok_no_disk _ _ refl) ∙ c.in_ok-put_input.ensures.told (ok_no_disk _ _ refl))
+
+pub returns-clause-told : goal.returns-clause-told
+returns-clause-told g c = λ none. c.in-Ok.ensures.told false≢true ∙ (c.in_ok-run.ensures.quiet (ok_no_disk _ _ refl) ∙ c.in_ok-put_input.ensures.told (ok_no_disk _ _ refl))
