@@ -4,14 +4,14 @@ use Rattle.std.proofs.lemmas.List.{drop-map}
 use Rattle.tce_grammar.specs.Lines.{lines}
 use Rattle.tce_grammar.specs.Grammar.{Line}
 use Rattle.tce_grammar.specs.Reading.{line_of}
-use Rattle.tce_declarations.specs.Declarations.{nothing_declared}
-use Rattle.tce_declarations.specs.Faults.{Fault, too_long}
-use Rattle.tce_declarations.specs.FaultCode.{Shows}
-use Rattle.tce_declarations.specs.Text.{Head, head_of, closing_fault}
-use Rattle.tce_declarations.specs.TextCode.{fault_in}
-use Rattle.tce_declarations.specs.declared.fault.SpecFault.{SpecFault}
-use Rattle.tce_declarations.proofs.Readings.{computed_head, lines_of}
-use Rattle.tce_formula.specs.declared.read.Contraction.{Contraction}
+use Rattle.tce_spec.specs.Declarations.{nothing_declared}
+use Rattle.tce_spec.specs.Faults.{Fault, too_long}
+use Rattle.tce_spec.specs.FaultCode.{Shows}
+use Rattle.tce_spec.specs.Text.{Head, head_of, closing_fault}
+use Rattle.tce_spec.specs.TextCode.{fault_in}
+use Rattle.tce_spec.specs.declared.fault.SpecFault.{SpecFault}
+use Rattle.tce_spec.proofs.Readings.{computed_head, lines_of}
+use Rattle.tce_spec.specs.declared.read.Contraction.{Contraction}
 use Rattle.tce_spec.specs.Specification.{Specification}
 use Rattle.tce_spec.specs.SpecCode.{specification_of}
 use Rattle.tce_spec.proofs.Reading.{shows_none}

@@ -7,11 +7,11 @@ use Rattle.tce_grammar.specs.Lines.{lines, ended}
 use Rattle.tce_grammar.specs.Grammar.{Line}
 use Rattle.tce_grammar.specs.Reading.{line_of}
 use Rattle.tce_grammar.proofs.FirstLines.{feed, split_some}
-use Rattle.tce_declarations.specs.Declarations.{nothing_declared}
-use Rattle.tce_declarations.specs.Faults.{Fault, too_long}
-use Rattle.tce_declarations.specs.Text.{Head, head_of, closing_fault, unless}
-use Rattle.tce_declarations.proofs.Readings.{lines_of, lines_are, lines_only}
-use Rattle.tce_formula.specs.FormulaFaults.{formula_fault}
+use Rattle.tce_spec.specs.Declarations.{nothing_declared}
+use Rattle.tce_spec.specs.Faults.{Fault, too_long}
+use Rattle.tce_spec.specs.Text.{Head, head_of, closing_fault, unless}
+use Rattle.tce_spec.proofs.Readings.{lines_of, lines_are, lines_only}
+use Rattle.tce_spec.specs.FormulaFaults.{formula_fault}
 use Rattle.tce_spec.specs.Specification.{Specification}
 use Rattle.tce_spec.specs.Outcome.{IsOutcome, outcome, outcome_in, specified}
 use Rattle.tce_spec.proofs.Reading.{computed, computed_is, computed_only}

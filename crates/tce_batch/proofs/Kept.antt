@@ -7,12 +7,12 @@ use Rattle.tce_tree.specs.WellFormed.{sums_distinct}
 use Rattle.tce_tree.specs.Faults.{fault_of}
 use Rattle.tce_tree.specs.Measure.{IsMeasured}
 use Rattle.tce_grammar.specs.Formula.{Formula}
-use Rattle.tce_declarations.specs.Declarations.{Declarations, IsDeclarations}
-use Rattle.tce_declarations.specs.declared.fault.SpecFault.{SpecFault}
-use Rattle.tce_formula.specs.Contraction.{IsContraction}
-use Rattle.tce_formula.specs.FormulaFaults.{formula_fault}
-use Rattle.tce_formula.specs.Meaning.{meaning}
-use Rattle.tce_formula.specs.declared.read.Contraction.{Contraction}
+use Rattle.tce_spec.specs.Declarations.{Declarations, IsDeclarations}
+use Rattle.tce_spec.specs.declared.fault.SpecFault.{SpecFault}
+use Rattle.tce_spec.specs.Contraction.{IsContraction}
+use Rattle.tce_spec.specs.FormulaFaults.{formula_fault}
+use Rattle.tce_spec.specs.Meaning.{meaning}
+use Rattle.tce_spec.specs.declared.read.Contraction.{Contraction}
 use Rattle.tce_spec.specs.Specification.{ConstantsAreWords}
 use Rattle.tce_spec.specs.SpecCode.{IsKept}
 use Rattle.tce_spec.proofs.Kept.{line_keeps}

@@ -5,13 +5,13 @@ use Rattle.std.specs.List.{list_any}
 use Rattle.std.proofs.lemmas.List.{length-map}
 use Rattle.std.proofs.lemmas.List.Elements.{All-push, All-cons, All-nil}
 use Rattle.tce_grammar.specs.Grammar.{Line, skipped, bad, says, range, index, declaration, formula}
-use Rattle.tce_declarations.specs.Declarations.{Declarations}
-use Rattle.tce_declarations.specs.Faults.{Fault}
-use Rattle.tce_declarations.specs.FaultCode.{Shows}
-use Rattle.tce_declarations.specs.TextCode.{fault_in}
-use Rattle.tce_declarations.specs.declared.fault.SpecFault.{SpecFault}
+use Rattle.tce_spec.specs.Declarations.{Declarations}
+use Rattle.tce_spec.specs.Faults.{Fault}
+use Rattle.tce_spec.specs.FaultCode.{Shows}
+use Rattle.tce_spec.specs.TextCode.{fault_in}
+use Rattle.tce_spec.specs.declared.fault.SpecFault.{SpecFault}
 use Rattle.tce_tree.specs.declared.fault.TreeFault.TheVariants as tree_faults
-use Rattle.tce_formula.specs.declared.read.Contraction.{Contraction}
+use Rattle.tce_spec.specs.declared.read.Contraction.{Contraction}
 use Rattle.tce_spec.specs.Specification.{Specification, IsSpecification}
 use Rattle.tce_batch.specs.BatchCode.{AreKept, IsBatch, specifications_of, results_before}
 use Rattle.tce_batch.specs.Outcome.{together, with_first}

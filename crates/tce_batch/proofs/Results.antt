@@ -2,12 +2,12 @@
 use Rattle.std.proofs.Common.{inl, inr, ◌≡◌, ℕ, ◌+◌, zero, suc, add-one, drop, true, false, List, [], ◌∷◌, map, Option, Some, None, Result, Ok, Err, refl, sym, subst, ◌∙◌, ap, if◌then◌else◌}
 use Rattle.std.specs.Prelude.{◌⊎◌, IsTrue}
 use Rattle.tce_grammar.specs.Grammar.{Line, skipped, bad, says, range, index, declaration, formula}
-use Rattle.tce_declarations.specs.Declarations.{Declarations, nothing_declared}
-use Rattle.tce_declarations.specs.DeclarationLines.{statement_fault, with_statement}
-use Rattle.tce_declarations.specs.Faults.{Fault, bad_text}
-use Rattle.tce_declarations.specs.Text.{Head, head_of, closing_fault, unless}
-use Rattle.tce_declarations.proofs.Readings.{unless_ok}
-use Rattle.tce_formula.specs.FormulaFaults.{formula_fault}
+use Rattle.tce_spec.specs.Declarations.{Declarations, nothing_declared}
+use Rattle.tce_spec.specs.DeclarationLines.{statement_fault, with_statement}
+use Rattle.tce_spec.specs.Faults.{Fault, bad_text}
+use Rattle.tce_spec.specs.Text.{Head, head_of, closing_fault, unless}
+use Rattle.tce_spec.proofs.Readings.{unless_ok}
+use Rattle.tce_spec.specs.FormulaFaults.{formula_fault}
 use Rattle.tce_spec.specs.Specification.{Specification}
 use Rattle.tce_spec.specs.Outcome.{outcome, outcome_in, specified}
 use Rattle.tce_batch.specs.Texts.{is_formula}

@@ -4,7 +4,7 @@ use Rattle.std.specs.declared.result.Result.TheVariants.{Ok, Err}
 use Rattle.std.specs.List.{AllZip}
 use Rattle.tce_grammar.specs.Lines.{lines}
 use Rattle.tce_grammar.specs.Grammar.{Line, AreLines}
-use Rattle.tce_declarations.specs.Faults.{Fault, too_long}
+use Rattle.tce_spec.specs.Faults.{Fault, too_long}
 use Rattle.tce_spec.specs.Specification.{Specification}
 use Rattle.tce_spec.specs.Outcome.{IsOutcome}
 use Rattle.tce_batch.specs.Texts.{texts}

@@ -4,11 +4,11 @@ use Rattle.std.specs.declared.option.Option.TheVariants.{Some, None}
 use Rattle.std.specs.declared.result.Result.TheVariants.{Ok}
 use Rattle.tce_grammar.specs.Formula.{Formula}
 use Rattle.tce_grammar.specs.Grammar.{Line, skipped, bad, says, range, index, declaration, formula}
-use Rattle.tce_declarations.specs.Declarations.{Declarations}
-use Rattle.tce_declarations.specs.Faults.{Fault}
-use Rattle.tce_declarations.specs.Text.{unless}
-use Rattle.tce_formula.specs.FormulaFaults.{formula_fault}
-use Rattle.tce_formula.specs.declared.read.Contraction.{Contraction}
+use Rattle.tce_spec.specs.Declarations.{Declarations}
+use Rattle.tce_spec.specs.Faults.{Fault}
+use Rattle.tce_spec.specs.Text.{unless}
+use Rattle.tce_spec.specs.FormulaFaults.{formula_fault}
+use Rattle.tce_spec.specs.declared.read.Contraction.{Contraction}
 use Rattle.tce_spec.specs.Specification.{Specification}
 use Rattle.tce_spec.specs.SpecCode.{specification_of}
 use Rattle.tce_spec.specs.Outcome.{specified}

@@ -5,16 +5,15 @@ ghost use Rattle.tce_space.specs.Name.{is_name};
 ghost use Rattle.tce_grammar.specs.Code.{names, formula, line as line_view};
 ghost use Rattle.tce_grammar.specs.Grammar.{AreNames, IsLine};
 ghost use Rattle.tce_grammar.specs.Reading.{line_of};
-ghost use Rattle.tce_declarations.specs.FaultCode.{Shows};
-ghost use Rattle.tce_formula.specs.Places.{IsNamed};
+ghost use Rattle.tce_spec.specs.FaultCode.{Shows};
+ghost use Rattle.tce_spec.specs.Places.{IsNamed};
 ghost use Rattle.tce_spec.specs.SpecCode.{IsKept};
 ghost use Rattle.tce_batch.specs.Reading.{may_follow};
 ghost use Rattle.tce_batch.specs.BatchCode.{line_fault, HasFormula, HasFormulaFault, ReadsLine};
 
 use std::alloc::{AllocError, Global};
-use tce_declarations::{Declarations, SpecFault};
-use tce_formula::{Contraction, read_formula};
 use tce_grammar::{Formula, Line, Statement, read_line};
+use tce_spec::{Contraction, Declarations, SpecFault, read_formula};
 
 /// Reads a line.
 fn read_named<'a>(alloc: Global, text: &'a [u8]) -> Result<Line<'a>, AllocError>

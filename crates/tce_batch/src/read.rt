@@ -4,8 +4,8 @@ ghost use Rattle.std.specs.Prelude.{◌≡◌, ◌+◌, ◌<◌, ◌^◌, ◌≤
 ghost use Rattle.tce_space.specs.Limits.{max_spec_bytes};
 ghost use Rattle.tce_grammar.specs.Lines.{lines};
 ghost use Rattle.tce_grammar.specs.Reading.{line_of};
-ghost use Rattle.tce_declarations.specs.FaultCode.{Shows};
-ghost use Rattle.tce_declarations.specs.TextCode.{AnswersFault};
+ghost use Rattle.tce_spec.specs.FaultCode.{Shows};
+ghost use Rattle.tce_spec.specs.TextCode.{AnswersFault};
 ghost use Rattle.tce_spec.specs.SpecCode.{IsKept};
 ghost use Rattle.tce_spec.specs.OutcomeCode.{FormulaHasNames};
 ghost use Rattle.tce_batch.specs.Reading.{as_found, as_list, of_lines};
@@ -14,9 +14,8 @@ ghost use Rattle.tce_batch.specs.BatchCode.{behind_fault, further_fault, Answers
 use crate::batch::Batch;
 use crate::line::{contraction_of, may_follow, read_next};
 use std::alloc::{AllocError, Global};
-use tce_declarations::{Declarations, Head, SpecFault, read_head};
-use tce_formula::Contraction;
 use tce_grammar::first_line;
+use tce_spec::{Contraction, Declarations, Head, SpecFault, read_head};
 
 /// Checks that each line behind a formula is skipped or a further formula line. The first that is neither is `BadText`;
 /// `first_number` is the number of the first.

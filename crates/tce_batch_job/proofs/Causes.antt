@@ -10,8 +10,8 @@ use Rattle.tce_array.specs.declared.fault.ArrayFault.TheVariants as array_fault
 use Rattle.tce_array.specs.Faults.{IsFault}
 use Rattle.tce_spec.specs.Specification.{Specification}
 use Rattle.tce_spec.specs.Operands.{shape_of}
-use Rattle.tce_tensors.specs.TensorFiles.{file_of}
-use Rattle.tce_tensors.specs.Opened.{operand, operand_count, HasArray}
+use Rattle.tce_job.specs.TensorFiles.{file_of}
+use Rattle.tce_job.specs.Opened.{operand, operand_count, HasArray}
 use Rattle.tce_job.specs.declared.fault.JobFault.{JobFault}
 use Rattle.tce_job.specs.declared.fault.JobFault.TheVariants.{BudgetTooSmall, IntermediatesTooLarge, Array, Disk, Memory}
 use Rattle.tce_job.specs.Refusals.{IsAffordable, IsCause, IsFree}

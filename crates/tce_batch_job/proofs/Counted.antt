@@ -4,7 +4,7 @@ use Rattle.std.specs.Option.{ForSome}
 use Rattle.std.proofs.lemmas.Bool.{cases_lt}
 use Rattle.tce_outside.specs.Files.{Files}
 use Rattle.tce_spec.specs.Specification.{Specification}
-use Rattle.tce_tensors.specs.Opened.{operand, HasArray}
+use Rattle.tce_job.specs.Opened.{operand, HasArray}
 use Rattle.tce_job.specs.declared.fault.JobFault.{JobFault}
 use Rattle.tce_job.specs.declared.fault.JobFault.TheVariants.{Disk}
 use Rattle.tce_batch_job.specs.Refusals.{IsSource, HasSources}

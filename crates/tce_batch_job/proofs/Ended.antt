@@ -7,11 +7,11 @@ use Rattle.std.proofs.lemmas.Option.{slice_get_within, get_or_from_slice_get}
 use Rattle.tce_outside.specs.Files.{Files, others}
 use Rattle.tce_spec.specs.Specification.{Specification, IsSpecification}
 use Rattle.tce_spec.proofs.Seen.{operand_declared}
-use Rattle.tce_tensors.specs.TensorFiles.{file_of}
-use Rattle.tce_tensors.specs.Laws.{LeavesNoHalfResult}
+use Rattle.tce_job.specs.TensorFiles.{file_of}
+use Rattle.tce_job.specs.Laws.{LeavesNoHalfResult}
 use Rattle.tce_job.proofs.Ended.{same_is_no_half}
-use Rattle.tce_tensors.specs.ResultLaws.{IsTensorOf}
-use Rattle.tce_tensors.specs.Opened.{operand, operand_count, HasOperands}
+use Rattle.tce_job.specs.ResultLaws.{IsTensorOf}
+use Rattle.tce_job.specs.Opened.{operand, operand_count, HasOperands}
 use Rattle.tce_job.specs.declared.fault.JobFault.{JobFault}
 use Rattle.tce_job.specs.declared.fault.JobFault.TheVariants.{BudgetTooSmall, IntermediatesTooLarge, Array, Disk, Memory}
 use Rattle.tce_job.specs.Refusals.{IsAffordable, IsCause, MayBeRefused, IsFree}

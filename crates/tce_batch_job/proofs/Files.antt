@@ -12,15 +12,15 @@ use Rattle.tce_space.specs.Space.{tiling_of}
 use Rattle.tce_array.specs.declared.form.Form.TheVariants.{One}
 use Rattle.tce_array.specs.Forms.{form_of, IsForm, IsArray}
 use Rattle.tce_array.proofs.FormOf.{form_of_file}
-use Rattle.tce_declarations.specs.Declarations.{Declarations, tensor_at}
+use Rattle.tce_spec.specs.Declarations.{Declarations, tensor_at}
 use Rattle.tce_spec.specs.Specification.{Specification, IsSpecification}
 use Rattle.tce_spec.specs.Operands.{shape_of}
-use Rattle.tce_tensors.specs.TensorFiles.{file_of, bytes_in}
-use Rattle.tce_tensors.specs.ResultLaws.{IsTensorOf}
-use Rattle.tce_tensors.specs.ResultBytes.{with_result, result_bytes}
-use Rattle.tce_tensors.proofs.Names.{different_files}
-use Rattle.tce_tensors.proofs.Results.{result_holds}
-use Rattle.tce_tensors.specs.Opened.{HasArray}
+use Rattle.tce_job.specs.TensorFiles.{file_of, bytes_in}
+use Rattle.tce_job.specs.ResultLaws.{IsTensorOf}
+use Rattle.tce_job.specs.ResultBytes.{with_result, result_bytes}
+use Rattle.tce_job.proofs.Names.{different_files}
+use Rattle.tce_job.proofs.Results.{result_holds}
+use Rattle.tce_job.specs.Opened.{HasArray}
 use Rattle.tce_batch_job.specs.Refusals.{IsSource}
 use Rattle.tce_job.specs.Several.{files_after}
 use Rattle.tce_job.proofs.Several.{after_more}

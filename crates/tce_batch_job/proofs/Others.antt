@@ -6,8 +6,8 @@ use Rattle.tce_outside.specs.Files.{Files, file}
 use Rattle.tce_outside.proofs.Files.{without_file-with_file}
 use Rattle.tce_outside.proofs.Told.{other_files}
 use Rattle.tce_spec.specs.Specification.{Specification}
-use Rattle.tce_tensors.specs.TensorFiles.{file_of}
-use Rattle.tce_tensors.specs.ResultBytes.{with_result, result_bytes}
+use Rattle.tce_job.specs.TensorFiles.{file_of}
+use Rattle.tce_job.specs.ResultBytes.{with_result, result_bytes}
 use Rattle.tce_job.specs.declared.fault.JobFault.{JobFault}
 use Rattle.tce_job.specs.declared.fault.JobFault.TheVariants.{BudgetTooSmall, IntermediatesTooLarge, Array, Disk, Memory}
 use Rattle.tce_job.specs.Several.{files_after, OnlyResultsDiffer}

@@ -3,18 +3,18 @@ use Rattle.std.proofs.Common.{inl, inr, ◌≡◌, ℕ, ◌+◌, ◌≤◌, ◌^
 use Rattle.std.specs.Prelude.{OnOk, IfOk, IfErr}
 use Rattle.std.proofs.lemmas.List.{length-replicate}
 use Rattle.tce_tree.specs.ContractionTree.{operations, node_dims}
-use Rattle.tce_states.specs.Row.{rows_at}
-use Rattle.tce_nesting.specs.declared.plan.Plan.{Plan}
-use Rattle.tce_nesting.specs.Plan.{PlanFits}
-use Rattle.tce_nesting.proofs.RowLists.{no_rows, empty_fits}
-use Rattle.tce_report.specs.NodeLine.{stated}
-use Rattle.tce_report.specs.Report.{run_text}
+use Rattle.tce_fusion.specs.Row.{rows_at}
+use Rattle.tce_fusion.specs.declared.plan.Plan.{Plan}
+use Rattle.tce_fusion.specs.Plan.{PlanFits}
+use Rattle.tce_fusion.proofs.RowLists.{no_rows, empty_fits}
+use Rattle.tce_cert.specs.NodeLine.{stated}
+use Rattle.tce_cert.specs.Report.{run_text}
 use Rattle.tce_array.specs.declared.form.Form.TheVariants.{One}
 use Rattle.tce_array.specs.Forms.{form_len}
 use Rattle.tce_spec.specs.Specification.{Specification}
 use Rattle.tce_spec.specs.Operands.{shape_of}
-use Rattle.tce_tensors.specs.TensorFiles.{file_of}
-use Rattle.tce_tensors.specs.Takings.{tile_take}
+use Rattle.tce_job.specs.TensorFiles.{file_of}
+use Rattle.tce_job.specs.Takings.{tile_take}
 use Rattle.tce_job.specs.declared.fault.JobFault.{JobFault}
 use Rattle.tce_job.specs.declared.fault.JobFault.TheVariants.{BudgetTooSmall, IntermediatesTooLarge, Array, Disk, Memory}
 use Rattle.tce_job.specs.declared.report.RunReport.{RunReport}

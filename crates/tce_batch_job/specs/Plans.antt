@@ -1,7 +1,7 @@
 -- The plans that are kept of formulas until they are run.
 use Rattle.std.specs.Prelude.{◌≡◌, ℕ, ◌≤◌, List, [], ◌∷◌, ◌++◌, length, replicate, Some, slice_get}
 use Rattle.tce_space.specs.Limits.{max_memory}
-use Rattle.tce_nesting.specs.declared.plan.Plan.{Plan}
+use Rattle.tce_fusion.specs.declared.plan.Plan.{Plan}
 use Rattle.tce_search.specs.LeastPlan.{IsLeastPlan}
 use Rattle.tce_spec.specs.Specification.{Specification}
 use Rattle.tce_batch_job.specs.declared.plans.KeptPlan.{KeptPlan}

@@ -4,14 +4,14 @@ use Rattle.std.specs.List.{AllZip}
 use Rattle.std.specs.Fmt.{decimal}
 use Rattle.tce_array.specs.declared.form.Form.TheVariants.{One}
 use Rattle.tce_array.specs.Forms.{form_len}
-use Rattle.tce_nesting.specs.declared.plan.Plan.{Plan}
+use Rattle.tce_fusion.specs.declared.plan.Plan.{Plan}
 use Rattle.tce_search.specs.LeastPlan.{IsLeastPlan}
-use Rattle.tce_report.specs.NodeLine.{stated}
-use Rattle.tce_report.specs.Report.{run_text}
+use Rattle.tce_cert.specs.NodeLine.{stated}
+use Rattle.tce_cert.specs.Report.{run_text}
 use Rattle.tce_spec.specs.Specification.{Specification}
 use Rattle.tce_spec.specs.Operands.{shape_of}
-use Rattle.tce_tensors.specs.TensorFiles.{file_of}
-use Rattle.tce_tensors.specs.Takings.{tile_take}
+use Rattle.tce_job.specs.TensorFiles.{file_of}
+use Rattle.tce_job.specs.Takings.{tile_take}
 use Rattle.tce_job.specs.Several.{takings_of}
 
 -- the lines of a run behind the first, which is `tce run 1`

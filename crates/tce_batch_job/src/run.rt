@@ -1,7 +1,7 @@
 // The formulas in turn.
 ghost use Rattle.std.specs.Prelude.{◌≡◌, ◌<◌, ◌≤◌, IfOk, IfErr, OnOk, Err, length};
 ghost use Rattle.tce_outside.specs.Files.{others};
-ghost use Rattle.tce_tensors.specs.Laws.{LeavesNoHalfResult};
+ghost use Rattle.tce_job.specs.Laws.{LeavesNoHalfResult};
 ghost use Rattle.tce_job.specs.Refusals.{IsAffordable};
 ghost use Rattle.tce_job.specs.Run.{IsReported};
 ghost use Rattle.tce_job.specs.Prepared.{IsRoomLeft as IsRoomLeftByOne};

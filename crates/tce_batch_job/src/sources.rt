@@ -6,9 +6,9 @@ ghost use Rattle.tce_job.specs.declared.fault.JobFault.{JobFault as Fault};
 ghost use Rattle.tce_spec.specs.Specification.{Specification};
 ghost use Rattle.tce_spec.specs.Operands.{shape_of};
 ghost use Rattle.tce_array.specs.Faults.{IsFault};
-ghost use Rattle.tce_tensors.specs.Opened.{HasArray};
+ghost use Rattle.tce_job.specs.Opened.{HasArray};
 ghost use Rattle.tce_outside.specs.Files.{file};
-ghost use Rattle.tce_tensors.specs.TensorFiles.{file_of};
+ghost use Rattle.tce_job.specs.TensorFiles.{file_of};
 ghost use Rattle.tce_batch.specs.BatchCode.{results_before};
 ghost use Rattle.tce_batch_job.specs.Refusals.{IsSource, IsOperandFault, IsOpeningFault};
 ghost use Rattle.tce_batch_job.specs.Told.{HoldsOf, HasSourceFile, HasSourceFiles, HasAllSources, IsSourceFaultOf, HasDiskFault};
@@ -17,10 +17,9 @@ use crate::fault::{BatchFault, before_runs};
 use std::alloc::Global;
 use tce_array::{ArrayFault, open};
 use tce_batch::Batch;
-use tce_job::JobFault;
+use tce_job::{JobFault, file_of};
 use tce_outside::Disk;
 use tce_spec::Spec;
-use tce_tensors::file_of;
 
 // Opens the file of one tensor.
 fn open_tensor<D: Disk>(spec: &Spec, t: u8, disk: &mut D) -> Result<(), JobFault>

@@ -1,3 +1,12 @@
+pub mod Folds
+pub mod Fours
+pub mod FourWords
+pub mod Innermost
+pub mod Moves
+pub mod Outer
+pub mod Regions
+pub mod Growths
+pub mod Lasts
 pub mod Cover
 pub mod Carry
 pub mod Dimensions

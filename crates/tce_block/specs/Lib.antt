@@ -1,3 +1,10 @@
+pub mod Places
+pub mod StrideSteps
+pub mod Turns
+pub mod Running
+pub mod Rows
+pub mod StrideLaws
+pub mod Results
 pub mod Parts
 pub mod Cuts
 pub mod Laws

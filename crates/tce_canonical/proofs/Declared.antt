@@ -4,8 +4,8 @@ use Rattle.std.proofs.lemmas.Bool.{ltb-true, ltb-false}
 use Rattle.std.proofs.lemmas.List.{get_or-map, get_or_past, length-map}
 use Rattle.std.proofs.lemmas.List.Elements.{All-get_or}
 use Rattle.tce_space.specs.Space.{Index, no_index, index_at}
-use Rattle.tce_declarations.specs.Declarations.{Declarations, IsTensor, IsDeclarations, tensor_at, no_tensor}
-use Rattle.tce_formula.specs.Contraction.{FitsTensor}
+use Rattle.tce_spec.specs.Declarations.{Declarations, IsTensor, IsDeclarations, tensor_at, no_tensor}
+use Rattle.tce_spec.specs.Contraction.{FitsTensor}
 
 -- the rules of a declared tensor
 pub declared_tensor : (d : Declarations) (t : ℕ) → IsDeclarations d → t < length d.tensors → IsTensor d.space (tensor_at d t)

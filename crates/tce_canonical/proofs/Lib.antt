@@ -1,3 +1,17 @@
+pub mod Lookups
+pub mod SpaceNames
+pub mod Numbers
+pub mod Lengths
+pub mod NumbersBack
+pub mod WrittenStatements
+pub mod Meanings
+pub mod Heads
+pub mod TextLengths
+pub mod Outcomes
+pub mod KeptDeclarations
+pub mod Written
+pub mod ReadBack
+pub mod Printed
 pub mod Printing
 pub mod Lists
 pub mod Groups

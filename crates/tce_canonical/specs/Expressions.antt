@@ -6,8 +6,8 @@ use Rattle.tce_tree.specs.declared.expr.Leaf.{Leaf}
 use Rattle.tce_grammar.specs.Grammar.{Written, spelling}
 use Rattle.tce_grammar.specs.Canonical.{written_of}
 use Rattle.tce_grammar.specs.Printed.{Printing, with_tokens}
-use Rattle.tce_declarations.specs.Declarations.{Declarations}
-use Rattle.tce_formula.specs.Contraction.{IsContraction}
+use Rattle.tce_spec.specs.Declarations.{Declarations}
+use Rattle.tce_spec.specs.Contraction.{IsContraction}
 use Rattle.tce_canonical.specs.Statements.{formula_of, canonical}
 
 -- the expression with names for its numbers, and no more parentheses than it needs

@@ -5,7 +5,7 @@ use Rattle.tce_grammar.specs.Canonical.{canonical_tokens}
 use Rattle.tce_grammar.specs.Printed.{Printing, with_tokens, line_start}
 use Rattle.tce_space.specs.Space.{IndexSpace}
 use Rattle.tce_canonical.specs.Statements.{range_names, index_names, tensor_statement, tensor_statements}
-use Rattle.tce_declarations.specs.Declarations.{Declarations, tensor_at}
+use Rattle.tce_spec.specs.Declarations.{Declarations, tensor_at}
 
 -- the line of a statement, with its line feed
 abbrev pub with_line : Printing → Statement → Printing

@@ -8,7 +8,7 @@ use Rattle.tce_grammar.specs.Formula as formulas
 use Rattle.tce_grammar.specs.Formula.{Formula}
 use Rattle.tce_grammar.specs.Grammar.{Statement, range, index, declaration, formula}
 use Rattle.tce_grammar.specs.Canonical.{canonical_text}
-use Rattle.tce_declarations.specs.Declarations.{Declarations, Tensor, tensor_at}
+use Rattle.tce_spec.specs.Declarations.{Declarations, Tensor, tensor_at}
 
 -- an edge of 1 is not written
 abbrev pub edge_digits : ℕ → Option (List ℕ)

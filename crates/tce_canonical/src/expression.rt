@@ -9,17 +9,17 @@ ghost use Rattle.tce_grammar.specs.Grammar as grammar;
 ghost use Rattle.tce_grammar.specs.Grammar.{listed, spelling};
 ghost use Rattle.tce_grammar.specs.Canonical.{written_of, grouped_if};
 ghost use Rattle.tce_grammar.specs.Printed.{with_tokens};
-ghost use Rattle.tce_declarations.specs.Declarations as model;
-ghost use Rattle.tce_formula.specs.Contraction.{LeavesFit};
+ghost use Rattle.tce_spec.specs.Declarations as model;
+ghost use Rattle.tce_spec.specs.Contraction.{LeavesFit};
 ghost use Rattle.tce_canonical.specs.Statements.{formula_of, index_names};
 ghost use Rattle.tce_canonical.specs.Expressions.{written_expr, with_expr};
 
 use crate::tensors::push_reference;
 use crate::words::{push_index_list, push_number, push_symbol, push_word};
 use std::alloc::{AllocError, Global};
-use tce_declarations::Declarations;
 use tce_grammar::Printer;
 use tce_space::{Arithmetic, Space};
+use tce_spec::Declarations;
 use tce_tree::Expr;
 
 fn sign(operator: Arithmetic) -> u8

@@ -2,7 +2,7 @@
 
 ghost use Rattle.std.specs.Prelude.{◌≡◌, IfOk, OnOk};
 ghost use Rattle.tce_tree.specs.Expr.{tree_of};
-ghost use Rattle.tce_declarations.specs.Declarations.{IsDeclarations};
+ghost use Rattle.tce_spec.specs.Declarations.{IsDeclarations};
 ghost use Rattle.tce_canonical.specs.Statements.{formula_statement};
 ghost use Rattle.tce_canonical.specs.Lines.{with_line};
 ghost use Rattle.tce_canonical.specs.Expressions.{IsContractionTo, canonical_to};
@@ -13,8 +13,8 @@ use crate::ranges::print_ranges;
 use crate::tensors::{print_tensors, push_reference};
 use crate::words::push_symbol;
 use std::alloc::{AllocError, Global};
-use tce_declarations::Declarations;
 use tce_grammar::Printer;
+use tce_spec::Declarations;
 use tce_tree::{Expr, Leaf};
 
 fn print_formula(

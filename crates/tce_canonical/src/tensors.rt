@@ -3,14 +3,14 @@
 ghost use Rattle.std.specs.Prelude.{◌≡◌, ◌<◌, length, All, OnOk};
 ghost use Rattle.tce_grammar.specs.Grammar.{bracketed};
 ghost use Rattle.tce_grammar.specs.Printed.{with_tokens};
-ghost use Rattle.tce_declarations.specs.Declarations.{tensor_at};
+ghost use Rattle.tce_spec.specs.Declarations.{tensor_at};
 ghost use Rattle.tce_canonical.specs.Statements.{index_names};
 ghost use Rattle.tce_canonical.specs.Lines.{with_tensor, with_tensors};
 
 use crate::words::{push_index_list, push_range_list, push_symbol, push_word};
 use std::alloc::AllocError;
-use tce_declarations::Declarations;
 use tce_grammar::Printer;
+use tce_spec::Declarations;
 use tce_tree::Leaf;
 
 fn print_tensor(

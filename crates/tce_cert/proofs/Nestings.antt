@@ -2,7 +2,7 @@
 use Rattle.std.proofs.Common.{◌≡◌, ℕ, ◌+◌, ◌<◌, ◌^◌, List, length, sym, subst, arith, inl, inr}
 use Rattle.std.specs.List.{All}
 use Rattle.std.proofs.Math.Nat.{eq-or-lt_of_le}
-use Rattle.tce_states.specs.Row.{Row, rows_at}
+use Rattle.tce_fusion.specs.Row.{Row, rows_at}
 use Rattle.tce_cert.specs.Laws.{IsNestingRow, AreNestingRows}
 
 pub nestings_more : (tables : List (List Row)) (v : ℕ) (rows : List Row) → rows ≡ rows_at tables v → All IsNestingRow rows → length rows < 2 ^ 96

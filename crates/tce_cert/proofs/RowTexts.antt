@@ -6,7 +6,7 @@ use Rattle.std.proofs.lemmas.Grind.{flat_map-append}
 use Rattle.std.proofs.lemmas.List.{map-append, take_all, take_more}
 use Rattle.std.proofs.lemmas.List.Elements.{at_read}
 use Rattle.tce_space.specs.Space.{IndexSpace}
-use Rattle.tce_states.specs.Row.{Row}
+use Rattle.tce_fusion.specs.Row.{Row}
 use Rattle.tce_cert.specs.Lines.{row_line}
 use Rattle.tce_cert.specs.Certificate.{text_of, with_row, with_rows}
 

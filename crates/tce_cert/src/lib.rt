@@ -1,4 +1,7 @@
-//! Certificates: plans as texts, which anyone may write and check.
+//! Plans as texts: reports, and certificates, which anyone may write and check.
+//!
+//! Texts are bytes of ASCII. Indexes stand as their names with commas between them, `-` where there are none. Reports are
+//! the lines of a plan's nodes, and what `plan` and `run` say.
 //!
 //! A certificate has the lines of a plan's nodes, its memory, and the table of each node but the root. The lines but
 //! those of nodes (the opening line, the memory, tables, rows and the end) are read here: a value is given exactly where
@@ -10,11 +13,17 @@ mod cursor;
 mod cut;
 mod due;
 mod fault;
+mod form;
 mod forms;
 mod laws;
+mod line;
+mod name_lists;
 mod names;
 mod nodes;
 mod read;
+mod reader;
+mod report;
+mod report_laws;
 mod rows;
 mod tables;
 mod write;
@@ -23,6 +32,11 @@ pub use cut::cut_at;
 pub use fault::CertFault;
 pub use forms::{has_form, is_end_line, is_opening_line, read_memory_line, read_table_line};
 pub use laws::{certificates_have_no_fault, first_faults_are_alone, plans_are_their_certificates};
+pub use line::node_line;
+pub use name_lists::push_names;
 pub use read::read_cert;
+pub use reader::{LineFault, NodeLine, read_node_line};
+pub use report::{plan_text, run_text};
+pub use report_laws::written_lines_say_the_plan;
 pub use rows::read_row_line;
 pub use write::write_cert;

@@ -3,7 +3,7 @@ use Rattle.std.proofs.Common.{◌≡◌, ◌∙◌, ap, ℕ, List, Option}
 use Rattle.std.specs.Option.{ForSome}
 use Rattle.tce_outside.specs.Files.{Files, holding}
 use Rattle.tce_spec.specs.Specification.{Specification}
-use Rattle.tce_source.specs.Source.{HasSpecification}
+use Rattle.tce_command.specs.Source.{HasSpecification}
 use Rattle.tce_certify.specs.Done.{IsCertified, IsSaved}
 
 -- reading the specification changes no file

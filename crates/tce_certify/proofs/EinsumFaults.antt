@@ -1,13 +1,13 @@
 -- Faults of the text that an einsum and a path produce: what the program answers is one of them, and each has one line.
 use Rattle.std.proofs.Common.{◌≡◌, sym, ap, ◌∙◌, ◌++◌, Option, if◌then◌else◌, codes}
-use Rattle.tce_declarations.specs.Faults as faults
-use Rattle.tce_declarations.specs.declared.fault.SpecFault.{SpecFault}
+use Rattle.tce_spec.specs.Faults as faults
+use Rattle.tce_spec.specs.declared.fault.SpecFault.{SpecFault}
 use Rattle.tce_command.specs.Report.{code_of, status_of, error_text}
 use Rattle.tce_command.specs.Refusals.{SameRefusal}
 use Rattle.tce_command.specs.declared.status.Status.TheVariants.{EinsumRefused, WantOfMemory}
 use Rattle.tce_command.specs.declared.trouble.EinsumTrouble.TheVariants.{Spec}
 use Rattle.tce_command.specs.declared.refusal.Refusal.TheVariants.{Einsum}
-use Rattle.tce_source.proofs.Faults.{IsTold, place_in, text_in}
+use Rattle.tce_command.proofs.Faults.{IsTold, place_in, text_in}
 
 -- two answers to one fault are told alike
 pub told_alike : (o : Option faults.Fault) (f g : SpecFault) → IsTold o f → IsTold o g → SameRefusal (Einsum (Spec f)) (Einsum (Spec g))

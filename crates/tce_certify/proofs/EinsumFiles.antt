@@ -5,8 +5,8 @@ use Rattle.tce_spec.specs.Specification.{Specification}
 use Rattle.tce_einsum.specs.Produced.{produced_text}
 use Rattle.tce_einsum.specs.Answer.{Produces}
 use Rattle.tce_einsum.specs.HasValue.{HasValueOfEinsum}
-use Rattle.tce_round_trip.proofs.Outcomes.{canonical_outcome}
-use Rattle.tce_round_trip.proofs.Written.{outcome_writable}
+use Rattle.tce_canonical.proofs.Outcomes.{canonical_outcome}
+use Rattle.tce_canonical.proofs.Written.{outcome_writable}
 use Rattle.tce_certify.specs.EinsumDone.{IsEinsumWritten, IsProducedWritten}
 
 -- what was produced is written, and the text that was written specifies it

@@ -1,7 +1,7 @@
 -- The command has one answer.
 use Rattle.std.proofs.Common.{ℕ, List}
 use Rattle.tce_outside.specs.Files.{Files}
-use Rattle.tce_source.proofs.Outcomes.{not_both}
+use Rattle.tce_command.proofs.Outcomes.{not_both}
 use Rattle.tce_command.specs.Refusals.{IsFree}
 use Rattle.tce_command.specs.declared.refusal.Refusal.{Refusal}
 use Rattle.tce_certify.specs.Refusals.{CanCertify, IsCertifyRefusal}

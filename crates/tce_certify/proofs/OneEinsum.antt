@@ -1,9 +1,9 @@
 -- The command on einsums has one answer.
 use Rattle.std.proofs.Common.{◌≡◌, refl, sym, ap, subst, ◌∙◌, ◌⊎◌, inl, inr, ℕ, List, ◌++◌, length, Some, Ok, Err, Result, codes}
 use Rattle.std.specs.Fmt.{decimal}
-use Rattle.tce_declarations.specs.Faults.{Fault}
-use Rattle.tce_declarations.specs.FaultCode.{Shows}
-use Rattle.tce_declarations.specs.declared.fault.SpecFault.{SpecFault}
+use Rattle.tce_spec.specs.Faults.{Fault}
+use Rattle.tce_spec.specs.FaultCode.{Shows}
+use Rattle.tce_spec.specs.declared.fault.SpecFault.{SpecFault}
 use Rattle.tce_spec.specs.Specification.{Specification as Specified}
 use Rattle.tce_spec.proofs.Reading.{computed, computed_only}
 use Rattle.tce_einsum.specs.Text.{IsText}
@@ -22,7 +22,7 @@ use Rattle.tce_command.specs.declared.trouble.EinsumTrouble.TheVariants.{BadText
 use Rattle.tce_command.specs.declared.refusal.Refusal.{Refusal}
 use Rattle.tce_command.specs.declared.refusal.Refusal.TheVariants.{Einsum, Disk, Memory}
 use Rattle.tce_certify.specs.EinsumRefusals.{CanWriteEinsum, IsEinsumRefusal}
-use Rattle.tce_source.proofs.Faults.{told}
+use Rattle.tce_command.proofs.Faults.{told}
 use Rattle.tce_certify.proofs.EinsumFaults.{told_alike}
 use Rattle.tce_certify.proofs.OnePath.{few_operands, sized_or_bad, one_label, same_items, one_bad_item, bad_or_read}
 

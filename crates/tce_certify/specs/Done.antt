@@ -6,12 +6,12 @@ use Rattle.tce_outside.specs.Files.{Files, holding}
 use Rattle.tce_space.specs.Space.{IsSpace}
 use Rattle.tce_tree.specs.FlatTree.{IsTree}
 use Rattle.tce_tree.specs.WellFormed.{IsDeclaredTree}
-use Rattle.tce_nesting.specs.declared.plan.Plan.{Plan}
+use Rattle.tce_fusion.specs.declared.plan.Plan.{Plan}
 use Rattle.tce_search.specs.LeastPlan.{IsLeastPlan}
 use Rattle.tce_cert.specs.Certificate.{certificate}
 use Rattle.tce_cert.specs.Laws.{RowsAreNestings}
 use Rattle.tce_spec.specs.Specification.{Specification}
-use Rattle.tce_source.specs.Source.{HasSpecification}
+use Rattle.tce_command.specs.Source.{HasSpecification}
 
 -- the report: the memory, the file that was written, and its length in bytes
 abbrev pub report_text : ℕ → List ℕ → ℕ → List ℕ

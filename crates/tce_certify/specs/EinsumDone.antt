@@ -5,8 +5,8 @@ use Rattle.std.specs.Fmt.{decimal}
 use Rattle.tce_outside.specs.Files.{Files, holding}
 use Rattle.tce_tree.specs.ContractionTree.{operations}
 use Rattle.tce_spec.specs.Specification.{Specification}
-use Rattle.tce_round_trip.specs.Canonical.{canonical_of}
-use Rattle.tce_source.specs.Source.{Specifies}
+use Rattle.tce_canonical.specs.Canonical.{canonical_of}
+use Rattle.tce_command.specs.Source.{Specifies}
 use Rattle.tce_einsum.specs.Answer.{Produces}
 use Rattle.tce_einsum.specs.HasValue.{HasValueOfEinsum}
 

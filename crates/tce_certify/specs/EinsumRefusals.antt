@@ -1,7 +1,7 @@
 -- Why the command on einsums is refused. No file has a part in it.
 use Rattle.std.specs.Prelude.{◌≢◌, ⊤, ℕ, List}
 use Rattle.std.specs.declared.result.Result.TheVariants.{Ok, Err}
-use Rattle.tce_declarations.specs.declared.fault.SpecFault.TheVariants as spec_faults
+use Rattle.tce_spec.specs.declared.fault.SpecFault.TheVariants as spec_faults
 use Rattle.tce_spec.specs.Specification.{Specification}
 use Rattle.tce_einsum.specs.Input.{IsBadText, HasBadSize, HasBadItem}
 use Rattle.tce_einsum.specs.Answer.{Produces, ProducesFault, AnswersEinsum}

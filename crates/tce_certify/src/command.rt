@@ -11,9 +11,8 @@ ghost use Rattle.tce_certify.specs.Refusals.{IsCertifyRefusalIfTold};
 use crate::certificate::certificate_of;
 use crate::saving::save;
 use std::alloc::Global;
-use tce_command::Refusal;
+use tce_command::{Refusal, read_source};
 use tce_outside::Disk;
-use tce_source::read_source;
 use tce_spec::Spec;
 
 /// Writes the certificate of a plan of least memory for the specification in a file, and gives the report.

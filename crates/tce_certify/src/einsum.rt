@@ -10,10 +10,10 @@ ghost use Rattle.tce_command.specs.Refusals.{IsFree, SameUnlessDisk};
 
 use crate::saving::save;
 use std::alloc::{AllocError, Global};
+use tce_canonical::print_spec;
 use tce_command::{EinsumTrouble, Refusal};
 use tce_einsum::{EinsumFault, from_einsum};
 use tce_outside::Disk;
-use tce_round_trip::print_spec;
 use tce_spec::Spec;
 
 /// Writes the specification of an einsum text and a path to a file, as its canonical text, and gives the report.

@@ -1,7 +1,7 @@
 -- Pairs of rows that are covered part by part.
 use Rattle.std.proofs.Common.{◌≡◌, List, ◌++◌, All, get_or, sym, subst}
 use Rattle.std.proofs.lemmas.List.Elements.{All-append}
-use Rattle.tce_states.specs.Row.{Row}
+use Rattle.tce_fusion.specs.Row.{Row}
 
 -- something holds of each left row with each right one
 abbrev pub OfEachPair : (Row → Row → Type 0) → List Row → List Row → Type 0

@@ -3,8 +3,8 @@ use Rattle.std.proofs.Common.{◌≡◌, ℕ, ◌+◌, ◌-◌, ◌<◌, ◌≤�
 use Rattle.tce_space.specs.Space.{IndexSpace}
 use Rattle.tce_tree.specs.ContractionTree.{ContractionTree, operations, node_loops, parent}
 use Rattle.tce_tree.proofs.Parents.{parent_is}
-use Rattle.tce_states.specs.Row.{Row, rows_at}
-use Rattle.tce_states.specs.Cover.{left_rows, right_rows, StepsCovered, NodesCovered, RootBelow}
+use Rattle.tce_fusion.specs.Row.{Row, rows_at}
+use Rattle.tce_fusion.specs.Cover.{left_rows, right_rows, StepsCovered, NodesCovered, RootBelow}
 use Rattle.tce_check.specs.First.{FirstPair}
 use Rattle.tce_check.specs.Verdict.{WhereJoined, IsLeastUncovered, CoversAt, FailsAt, IsBelow, FirstBelow}
 

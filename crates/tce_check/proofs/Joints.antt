@@ -10,16 +10,16 @@ use Rattle.std.proofs.lemmas.List.Kept.{AllPairs-from_increasing}
 use Rattle.tce_space.specs.IndexSet.{IsWithin}
 use Rattle.tce_space.specs.Space.{IndexSpace}
 use Rattle.tce_tree.specs.ContractionTree.{ContractionTree, operations, node_dims, node_loops}
-use Rattle.tce_states.specs.Relation.{Relation, above, none, IsCoarser, HasNoConflict}
-use Rattle.tce_states.specs.Row.{Row, StandsFor, step_relation, step_cost, rows_joined}
-use Rattle.tce_states.specs.Cover.{StepsCovered}
-use Rattle.tce_states.specs.Classes.{IsNesting}
-use Rattle.tce_nesting.specs.Classes.{restricted}
-use Rattle.tce_nesting.specs.Laws.{TellsStep}
-use Rattle.tce_nesting.proofs.NestingLaws.{joins_tell_steps}
-use Rattle.tce_nesting.specs.declared.choice.Choice.{Choice}
-use Rattle.tce_nesting.specs.Choices.{AreChoices, LeavesSize}
-use Rattle.tce_nesting.proofs.SubsetLists.{dims_within}
+use Rattle.tce_fusion.specs.Relation.{Relation, above, none, IsCoarser, HasNoConflict}
+use Rattle.tce_fusion.specs.Row.{Row, StandsFor, step_relation, step_cost, rows_joined}
+use Rattle.tce_fusion.specs.Cover.{StepsCovered}
+use Rattle.tce_fusion.specs.StateClasses.{IsNesting}
+use Rattle.tce_fusion.specs.NestingClasses.{restricted}
+use Rattle.tce_fusion.specs.NestingLaws.{TellsStep}
+use Rattle.tce_fusion.proofs.NestingLaws.{joins_tell_steps}
+use Rattle.tce_fusion.specs.declared.choice.Choice.{Choice}
+use Rattle.tce_fusion.specs.Choices.{AreChoices, LeavesSize}
+use Rattle.tce_fusion.proofs.SubsetLists.{dims_within}
 use Rattle.tce_check.specs.Joint.{IsJointOf, ChoiceCovered, IsFirstUncovered, IsBound}
 use Rattle.tce_check.specs.Verdict.{StepCovered, IsLeastUncovered}
 

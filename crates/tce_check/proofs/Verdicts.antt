@@ -7,10 +7,10 @@ use Rattle.tce_tree.specs.Orders.{lists_of, LeadsUp}
 use Rattle.tce_fusion.specs.Scope.{IsIllegalAt}
 use Rattle.tce_tree.specs.Memory.{size_at}
 use Rattle.tce_fusion.proofs.Illegal.{none_from_legal}
-use Rattle.tce_states.specs.Row.{Row, rows_at, step_relation, step_cost}
-use Rattle.tce_states.specs.Cover.{left_rows, right_rows, StepsCovered}
-use Rattle.tce_nesting.specs.declared.plan.Plan.{Plan}
-use Rattle.tce_nesting.proofs.NestingLaws.{nestings_are_their_relations}
+use Rattle.tce_fusion.specs.Row.{Row, rows_at, step_relation, step_cost}
+use Rattle.tce_fusion.specs.Cover.{left_rows, right_rows, StepsCovered}
+use Rattle.tce_fusion.specs.declared.plan.Plan.{Plan}
+use Rattle.tce_fusion.proofs.NestingLaws.{nestings_are_their_relations}
 use Rattle.tce_check.specs.First.{FirstPair}
 use Rattle.tce_check.specs.Verdict.{HasSize, IsLegalPlan, IsOrdered, IsSized, IsTotalled, IsCovered, IsAccepted, WhereJoined, IsLeastUncovered, CoversAt, FailsAt, IsBelow, IsVerdict}
 use Rattle.tce_check.specs.declared.verdict.Verdict.{Verdict}

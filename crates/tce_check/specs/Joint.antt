@@ -1,10 +1,10 @@
 -- The steps from two rows that are joined, by the join's classes and choice by choice, and what stands for all states from a cost on.
 use Rattle.std.specs.Prelude.{◌≡◌, ℕ, ◌+◌, ◌<◌, List, length, slice_index_or, Option, IfSome}
 use Rattle.std.specs.List.{AllWithin, Any}
-use Rattle.tce_states.specs.Relation.{above, none}
-use Rattle.tce_states.specs.Row.{Row, StandsFor}
-use Rattle.tce_nesting.specs.Classes.{restricted, IsJoinOf, AllowsSet}
-use Rattle.tce_nesting.specs.declared.choice.Choice.{Choice}
+use Rattle.tce_fusion.specs.Relation.{above, none}
+use Rattle.tce_fusion.specs.Row.{Row, StandsFor}
+use Rattle.tce_fusion.specs.NestingClasses.{restricted, IsJoinOf, AllowsSet}
+use Rattle.tce_fusion.specs.declared.choice.Choice.{Choice}
 
 -- the row has all loops as both rows put them above each other, and costs as much as both
 pub record IsJointOf (loops : ℕ) (left right joint : Row) : Type 0 where

@@ -9,11 +9,11 @@ use Rattle.tce_tree.specs.Fusion.{Carries}
 use Rattle.tce_tree.specs.Orders.{lists_of, LeadsUp}
 use Rattle.tce_fusion.specs.Scope.{IsLegal, IsIllegalAt}
 use Rattle.tce_tree.specs.Memory.{size_at, memory}
-use Rattle.tce_states.specs.Relation.{HasNoConflict, Allows}
-use Rattle.tce_states.specs.Row.{Row, rows_at, rows_joined, StandsForStep, IsStepRow}
-use Rattle.tce_states.specs.Cover.{left_rows, right_rows, StepsCovered, NodeCovered, NodesCovered, RootBelow}
-use Rattle.tce_states.specs.Classes.{IsNesting}
-use Rattle.tce_nesting.specs.declared.plan.Plan.{Plan}
+use Rattle.tce_fusion.specs.Relation.{HasNoConflict, Allows}
+use Rattle.tce_fusion.specs.Row.{Row, rows_at, rows_joined, StandsForStep, IsStepRow}
+use Rattle.tce_fusion.specs.Cover.{left_rows, right_rows, StepsCovered, NodeCovered, NodesCovered, RootBelow}
+use Rattle.tce_fusion.specs.StateClasses.{IsNesting}
+use Rattle.tce_fusion.specs.declared.plan.Plan.{Plan}
 use Rattle.tce_check.specs.First.{IsFirst, FirstPair}
 use Rattle.tce_check.specs.declared.verdict.Verdict.{Verdict}
 use Rattle.tce_check.specs.declared.verdict.Verdict.TheVariants.{Accepted, NotLegal, OrderWrong, SizeWrong, TotalWrong, NotCovered, BelowTotal}

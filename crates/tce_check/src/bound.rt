@@ -1,10 +1,10 @@
 // From which cost on a row stands for every state.
 ghost use Rattle.std.specs.Prelude.{◌≡◌, ◌⊎◌};
 ghost use Rattle.std.specs.declared.option.Option.TheVariants.{Some};
-ghost use Rattle.tce_states.specs.Relation.{above, none, IsCoarser};
+ghost use Rattle.tce_fusion.specs.Relation.{above, none, IsCoarser};
 ghost use Rattle.tce_check.specs.Joint.{IsBound};
 
-use tce_nesting::{Nesting, Row};
+use tce_fusion::{Nesting, Row};
 use tce_space::IndexSet;
 
 // The least cost of a row that puts no outer loop above another, and so is coarser than every state; none where no row does so.

@@ -1,10 +1,10 @@
 // Rows of a node by what they put above all else, so that few of them need be compared with a state.
 ghost use Rattle.std.specs.Prelude.{◌↔◌, ◌<◌, IsTrue, IsNone, IfSome, Any};
-ghost use Rattle.tce_states.specs.Relation.{above};
-ghost use Rattle.tce_states.specs.Row.{StandsFor};
+ghost use Rattle.tce_fusion.specs.Relation.{above};
+ghost use Rattle.tce_fusion.specs.Row.{StandsFor};
 
 use crate::uppers::{Parts, group_of, hint_of, marks_of, parts_of, single_of, uppers_of};
-use tce_nesting::Row;
+use tce_fusion::Row;
 use tce_space::IndexSet;
 
 // How many rows have an entry. Those behind them are asked one by one.

@@ -1,3 +1,6 @@
+pub mod Steps
+pub mod Slots
+pub mod Filling
 pub mod Frames
 pub mod Settled
 pub mod Lists

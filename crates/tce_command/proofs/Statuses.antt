@@ -5,8 +5,8 @@ use Rattle.tce_command.specs.Refusals.{IsFree, SameRefusal}
 use Rattle.tce_command.specs.CommandRefusals.{EndsAlike, HasNames, MayReplace}
 use Rattle.tce_command.specs.Report.{LineNames, IsWellFormed, IsWrong, NamesNoIndex, NamesNothing, code_of, einsum_status, ending_of, error_text, line_over, refusal_line, status_of, sym_line, trouble_of, wants_memory}
 use Rattle.tce_tree.specs.declared.fault.TreeFault.TheVariants as trees
-use Rattle.tce_declarations.specs.declared.fault.SpecFault.{SpecFault}
-use Rattle.tce_declarations.specs.declared.fault.SpecFault.TheVariants.{Memory, Tree}
+use Rattle.tce_spec.specs.declared.fault.SpecFault.{SpecFault}
+use Rattle.tce_spec.specs.declared.fault.SpecFault.TheVariants.{Memory, Tree}
 use Rattle.tce_command.specs.declared.trouble.ArrayTrouble.TheVariants as contents
 use Rattle.tce_command.specs.declared.trouble.CertFlaw.{CertFlaw}
 use Rattle.tce_command.specs.declared.trouble.CertFlaw.TheVariants as flaws

@@ -1,3 +1,6 @@
+pub mod Source
+pub mod BatchSource
+pub mod SourceLaws
 pub mod Command
 pub mod CommandCode
 pub mod Number

@@ -3,7 +3,7 @@ use Rattle.std.specs.Prelude.{⊤, ℕ, Bool, true, false, if◌then◌else◌, 
 use Rattle.std.specs.Fmt.{decimal}
 use Rattle.std.specs.List.{All}
 use Rattle.tce_space.specs.Space.{IndexSpace, IsDeclared}
-use Rattle.tce_report.specs.NodeLine.{set_text}
+use Rattle.tce_cert.specs.NodeLine.{set_text}
 use Rattle.tce_cert.specs.Lines.{classes_text}
 use Rattle.tce_cert.specs.declared.fault.CertFault.{CertFault}
 use Rattle.tce_cert.specs.declared.fault.CertFault.TheVariants as certs
@@ -11,10 +11,10 @@ use Rattle.tce_check.specs.declared.verdict.Verdict.{Verdict}
 use Rattle.tce_check.specs.declared.verdict.Verdict.TheVariants as verdicts
 use Rattle.tce_tree.specs.declared.fault.TreeFault.{TreeFault}
 use Rattle.tce_tree.specs.declared.fault.TreeFault.TheVariants as trees
-use Rattle.tce_declarations.specs.declared.fault.Limit.{Limit}
-use Rattle.tce_declarations.specs.declared.fault.Limit.TheVariants.{Ranges, Indexes, Tensors, Rank, TileWords, ArrayWords}
-use Rattle.tce_declarations.specs.declared.fault.SpecFault.{SpecFault}
-use Rattle.tce_declarations.specs.declared.fault.SpecFault.TheVariants.{TooLong, BadText, TooManyNodes, NameTwice, UnknownName, BadNumber, LimitPassed, RankDiffers, RangeDiffers, IndexTwice, ResultIsOperand, Tree, ResultIndices, Memory}
+use Rattle.tce_spec.specs.declared.fault.Limit.{Limit}
+use Rattle.tce_spec.specs.declared.fault.Limit.TheVariants.{Ranges, Indexes, Tensors, Rank, TileWords, ArrayWords}
+use Rattle.tce_spec.specs.declared.fault.SpecFault.{SpecFault}
+use Rattle.tce_spec.specs.declared.fault.SpecFault.TheVariants.{TooLong, BadText, TooManyNodes, NameTwice, UnknownName, BadNumber, LimitPassed, RankDiffers, RangeDiffers, IndexTwice, ResultIsOperand, Tree, ResultIndices, Memory}
 use Rattle.tce_array.specs.declared.fault.ArrayFault.{ArrayFault}
 use Rattle.tce_array.specs.declared.fault.ArrayFault.TheVariants as arrays
 use Rattle.tce_command.specs.declared.status.Status.{Status}

@@ -6,9 +6,9 @@ ghost use Rattle.tce_command.specs.Report as reports;
 use crate::refusal::wants_memory;
 use crate::{ArrayTrouble, EinsumTrouble, Refusal, SpillTrouble, Status, SymTrouble};
 use arrayvec::ArrayString;
-use tce_declarations::{Limit, SpecFault};
 use tce_fields::decimal_text;
 use tce_space::Name;
+use tce_spec::{Limit, SpecFault};
 use tce_tree::TreeFault;
 
 pub(crate) type Line = ArrayString<256>;

@@ -5,8 +5,8 @@ ghost use Rattle.tce_command.specs.Report.{IsWellFormed, einsum_status, status_o
 
 use crate::Status;
 use crate::trouble::{ArrayTrouble, EinsumTrouble, SpillTrouble, SymTrouble};
-use tce_declarations::SpecFault;
 use tce_space::{FileName, Name};
+use tce_spec::SpecFault;
 use tce_tree::TreeFault;
 
 /// Why a command is refused.

@@ -6,8 +6,8 @@ ghost use Rattle.tce_command.specs.Report.{code_of};
 use crate::trouble::{CertTrouble, EinsumTrouble, SpillTrouble, SymTrouble};
 use std::process::ExitCode;
 use tce_array::ArrayFault;
-use tce_declarations::SpecFault;
 use tce_space::{FileName, Name};
+use tce_spec::SpecFault;
 
 /// What a command ends with.
 #[derive(Drop)]

@@ -5,9 +5,9 @@ ghost use Rattle.tce_command.specs.Report.{fault_of, trouble_of, IsFlawOfPlan, I
 use tce_array::ArrayFault;
 use tce_cert::CertFault;
 use tce_check::Verdict;
-use tce_declarations::SpecFault;
-use tce_nesting::Nesting;
+use tce_fusion::Nesting;
 use tce_space::IndexSet;
+use tce_spec::SpecFault;
 
 /// Why a file that is there is no array of a tensor's shape.
 #[derive(Clone, Copy)]

@@ -6,17 +6,17 @@ use Rattle.tce_space.specs.Tiling.{tile_words}
 use Rattle.tce_tree.specs.ContractionTree.{node, node_dims, operations}
 use Rattle.tce_tree.specs.Fusion.{kept_dims}
 use Rattle.tce_tree.specs.Memory.{size_at, size_before, memory}
-use Rattle.tce_states.proofs.Unfused.{zeros_fit}
+use Rattle.tce_fusion.proofs.Unfused.{zeros_fit}
 use Rattle.tce_search.proofs.LastLimit.{zeros_legal}
 use Rattle.tce_spec.specs.Specification.{Specification, IsSpecification}
 use Rattle.tce_spec.specs.Operands.{operands, shape_of, largest_tile}
-use Rattle.tce_tensors.specs.Takings.{tile_count, tile_take}
-use Rattle.tce_tensors.proofs.Tiles.{largest_some}
+use Rattle.tce_job.specs.Takings.{tile_count, tile_take}
+use Rattle.tce_job.proofs.Tiles.{largest_some}
 use Rattle.tce_job.specs.Refusals.{IsLeastMemory, IsAffordable}
-use Rattle.tce_example.specs.Specification.{IsExtent, IsDemo, demo_space, demo_tree, demo_specification}
-use Rattle.tce_example.proofs.Bounds.{sum_le, demo_volume_le}
-use Rattle.tce_example.proofs.Declared.{tile_le}
-use Rattle.tce_example.proofs.Specified.{rules}
+use Rattle.tce_demo.specs.Specification.{IsExtent, IsDemo, demo_space, demo_tree, demo_specification}
+use Rattle.tce_demo.proofs.Bounds.{sum_le, demo_volume_le}
+use Rattle.tce_demo.proofs.Declared.{tile_le}
+use Rattle.tce_demo.proofs.Specified.{rules}
 use Rattle.tce_demo.specs.Done.{demo_budget}
 
 largest_le : (f : ℕ → ℕ) (m : ℕ) → ((t : ℕ) → f t ≤ m) → (ts : List ℕ) (a : ℕ) → a ≤ m → fold (λ largest t. max largest (f t)) a ts ≤ m

@@ -4,8 +4,8 @@ use Rattle.tce_job.specs.declared.fault.JobFault.TheVariants as faults
 use Rattle.tce_spec.specs.Specification.{Specification}
 use Rattle.tce_command.specs.declared.refusal.Refusal.{Refusal}
 use Rattle.tce_command.specs.declared.refusal.Refusal.TheVariants as refusals
-use Rattle.tce_example.specs.Specification.{IsDemoOf, IsExtent, demo_specification}
-use Rattle.tce_example.proofs.Specified.{specified}
+use Rattle.tce_demo.specs.Specification.{IsDemoOf, IsExtent, demo_specification}
+use Rattle.tce_demo.proofs.Specified.{specified}
 use Rattle.tce_demo.specs.Done.{IsOfRun, IsDemoRefusal}
 
 -- of the example, which is made for these extents

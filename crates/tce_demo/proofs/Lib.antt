@@ -1,3 +1,12 @@
+pub mod Bounds
+pub mod Tree
+pub mod Declared
+pub mod Text
+pub mod Specified
+pub mod Seeds
+pub mod OtherFiles
+pub mod Arrays
+pub mod NoHalfOperand
 pub mod Affordable
 pub mod Operands
 pub mod Ran

@@ -9,14 +9,14 @@ use Rattle.tce_tools.specs.Demo.{demo_text}
 use Rattle.tce_tools.specs.NoHalf.{LeavesNoHalfOf}
 use Rattle.tce_spec.specs.Specification.{Specification}
 use Rattle.tce_spec.specs.Operands.{shape_of}
-use Rattle.tce_tensors.specs.TensorFiles.{file_of}
-use Rattle.tce_tensors.specs.ResultBytes.{result_bytes}
-use Rattle.tce_tensors.specs.Laws.{LeavesNoHalfResult}
-use Rattle.tce_example.specs.Specification.{IsDemo, IsDemoOf, IsExtent, demo_specification}
-use Rattle.tce_example.specs.Files.{found, LeavesOperands, with_input}
-use Rattle.tce_example.proofs.Specified.{specified}
-use Rattle.tce_example.proofs.OtherFiles.{same_found}
-use Rattle.tce_example.proofs.NoHalf.{left_then, kept, apart, result_is_last}
+use Rattle.tce_job.specs.TensorFiles.{file_of}
+use Rattle.tce_job.specs.ResultBytes.{result_bytes}
+use Rattle.tce_job.specs.Laws.{LeavesNoHalfResult}
+use Rattle.tce_demo.specs.Specification.{IsDemo, IsDemoOf, IsExtent, demo_specification}
+use Rattle.tce_demo.specs.Files.{found, LeavesOperands, with_input}
+use Rattle.tce_demo.proofs.Specified.{specified}
+use Rattle.tce_demo.proofs.OtherFiles.{same_found}
+use Rattle.tce_demo.proofs.NoHalfOperand.{left_then, kept, apart, result_is_last}
 use Rattle.tce_demo.specs.Done.{LeavesRun, LeavesDemonstration}
 
 -- where the operands are not all written, the result's file is as it was

@@ -12,17 +12,17 @@ use Rattle.tce_array.proofs.Contents.{form_bytes_is}
 use Rattle.tce_array.proofs.FormOf.{form_of_file}
 use Rattle.tce_tools.specs.Demo.{demo_element}
 use Rattle.tce_tools.proofs.Told.{file_beside}
-use Rattle.tce_declarations.specs.Declarations.{IsDeclarations}
+use Rattle.tce_spec.specs.Declarations.{IsDeclarations}
 use Rattle.tce_spec.specs.Specification.{Specification}
 use Rattle.tce_spec.specs.Operands.{shape_of}
-use Rattle.tce_tensors.specs.TensorFiles.{file_of, bytes_in}
-use Rattle.tce_tensors.specs.ResultBytes.{with_result, result_bytes, result_element}
-use Rattle.tce_tensors.specs.ResultLaws.{IsTensorOf}
-use Rattle.tce_tensors.proofs.Names.{different_files}
-use Rattle.tce_tensors.specs.Opened.{HasArray, HasOperands, operand_count, operand}
-use Rattle.tce_example.specs.Specification.{IsExtent, IsDemo, demo_specification}
-use Rattle.tce_example.specs.Files.{with_array, number_after, with_operands, with_input}
-use Rattle.tce_example.proofs.Declared.{declarations_fit}
+use Rattle.tce_job.specs.TensorFiles.{file_of, bytes_in}
+use Rattle.tce_job.specs.ResultBytes.{with_result, result_bytes, result_element}
+use Rattle.tce_job.specs.ResultLaws.{IsTensorOf}
+use Rattle.tce_job.proofs.Names.{different_files}
+use Rattle.tce_job.specs.Opened.{HasArray, HasOperands, operand_count, operand}
+use Rattle.tce_demo.specs.Specification.{IsExtent, IsDemo, demo_specification}
+use Rattle.tce_demo.specs.Files.{with_array, number_after, with_operands, with_input}
+use Rattle.tce_demo.proofs.Declared.{declarations_fit}
 
 -- a file that is made as an array is one
 array_is : (s : Tiling) (element : List ℕ → ℕ) → IsArray s (array_bytes s element)

@@ -11,19 +11,19 @@ use Rattle.tce_command.specs.Refusals.{IsFree}
 use Rattle.tce_command.specs.declared.refusal.Refusal.{Refusal}
 use Rattle.tce_spec.specs.Specification.{Specification}
 use Rattle.tce_spec.specs.Operands.{shape_of}
-use Rattle.tce_tensors.specs.TensorFiles.{file_of}
+use Rattle.tce_job.specs.TensorFiles.{file_of}
 use Rattle.tce_job.specs.declared.fault.JobFault.{JobFault}
 use Rattle.tce_job.specs.declared.fault.JobFault.TheVariants.{BudgetTooSmall, IntermediatesTooLarge, Array, Disk, Memory}
 use Rattle.tce_job.specs.Refusals.{IsFree as IsFreeFault}
 use Rattle.tce_job.specs.Prepared.{HasTaken, IsRoomLeft}
-use Rattle.tce_tensors.specs.ResultBytes.{with_result}
+use Rattle.tce_job.specs.ResultBytes.{with_result}
 use Rattle.tce_job.specs.Run.{IsReported}
 use Rattle.tce_job.specs.declared.report.RunReport.{RunReport}
-use Rattle.tce_example.specs.Specification.{IsDemo, IsDemoOf, IsExtent, demo_specification}
-use Rattle.tce_example.proofs.Specified.{specified}
+use Rattle.tce_demo.specs.Specification.{IsDemo, IsDemoOf, IsExtent, demo_specification}
+use Rattle.tce_demo.proofs.Specified.{specified}
 use Rattle.tce_tools.specs.Demo.{demo_text}
-use Rattle.tce_example.specs.Files.{DemoOthersStay, with_input, with_demo}
-use Rattle.tce_example.proofs.OtherFiles.{tensor_stays, stay_twice}
+use Rattle.tce_demo.specs.Files.{DemoOthersStay, with_input, with_demo}
+use Rattle.tce_demo.proofs.OtherFiles.{tensor_stays, stay_twice}
 use Rattle.tce_demo.specs.Done.{demo_budget, result_sum, report_text, IsRunOf, CanRunDemo, IsDemonstrated, IsDemoTaking}
 use Rattle.tce_demo.proofs.Affordable.{affordable, take_within}
 use Rattle.tce_demo.proofs.Operands.{has_operands}

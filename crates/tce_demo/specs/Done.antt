@@ -9,14 +9,14 @@ use Rattle.tce_array.specs.Forms.{head_len, cell, IsForm}
 use Rattle.tce_tools.specs.Flat.{in_order, contents}
 use Rattle.tce_tools.specs.Demo.{demo_text}
 use Rattle.tce_tools.specs.NoHalf.{LeavesNoHalfOf}
-use Rattle.tce_nesting.specs.declared.plan.Plan.{Plan}
+use Rattle.tce_fusion.specs.declared.plan.Plan.{Plan}
 use Rattle.tce_search.specs.LeastPlan.{IsLeastPlan}
 use Rattle.tce_spec.specs.Specification.{Specification}
 use Rattle.tce_spec.specs.Operands.{shape_of}
-use Rattle.tce_tensors.specs.TensorFiles.{file_of}
-use Rattle.tce_tensors.specs.ResultBytes.{result_bytes}
-use Rattle.tce_tensors.specs.Takings.{tile_take}
-use Rattle.tce_tensors.specs.Opened.{HasOperands, operand_count}
+use Rattle.tce_job.specs.TensorFiles.{file_of}
+use Rattle.tce_job.specs.ResultBytes.{result_bytes}
+use Rattle.tce_job.specs.Takings.{tile_take}
+use Rattle.tce_job.specs.Opened.{HasOperands, operand_count}
 use Rattle.tce_job.specs.Prepared.{taking_of, HasTaken}
 use Rattle.tce_job.specs.Refusals.{CanRun}
 use Rattle.tce_job.specs.declared.fault.JobFault.{JobFault}
@@ -25,9 +25,9 @@ use Rattle.tce_job.specs.declared.report.RunReport.{RunReport}
 use Rattle.tce_command.specs.declared.refusal.Refusal.{Refusal}
 use Rattle.tce_command.specs.Refusals.{IsFree}
 use Rattle.tce_run.specs.Told.{IsToldAs}
-use Rattle.tce_example.specs.Specification.{IsDemoOf}
-use Rattle.tce_example.specs.Files.{LeavesArrays, with_input, with_demo}
-use Rattle.tce_example.specs.declared.input.Example.{Example}
+use Rattle.tce_demo.specs.Specification.{IsDemoOf}
+use Rattle.tce_demo.specs.Files.{LeavesArrays, with_input, with_demo}
+use Rattle.tce_demo.specs.declared.input.Example.{Example}
 
 -- the words that the tiles of a run may take
 abbrev pub demo_budget : ℕ

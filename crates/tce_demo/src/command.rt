@@ -4,17 +4,17 @@ ghost use Rattle.std.specs.Option.{ForSome};
 ghost use Rattle.std.specs.String.{string_bytes};
 ghost use Rattle.tce_outside.specs.Fault.{HasCause, TellsFaults};
 ghost use Rattle.tce_command.specs.Refusals.{IsFree};
-ghost use Rattle.tce_example.specs.Specification.{IsDemo};
-ghost use Rattle.tce_example.specs.Files.{IsSeed, DemoOthersStay, LeavesOperands};
-ghost use Rattle.tce_example.specs.Input.{PutsInput};
+ghost use Rattle.tce_demo.specs.Specification.{IsDemo};
+ghost use Rattle.tce_demo.specs.Files.{IsSeed, DemoOthersStay, LeavesOperands};
+ghost use Rattle.tce_demo.specs.Input.{PutsInput};
 ghost use Rattle.tce_demo.specs.Done.{IsDemonstrated, IsDemoRefusal, IsOfRun, LeavesDemonstration, IsRunOfExample, LeavesDemoRoom, LeavesExample, LeavesRoom};
 
+use crate::input::{Example, make_example, write_input};
 use crate::report::report;
 use crate::running::run_example;
 use crate::sum::result_sum;
 use std::alloc::Global;
 use tce_command::Refusal;
-use tce_example::{Example, make_example, write_input};
 use tce_outside::{Disk, OutFault};
 use tce_words::Room;
 

@@ -4,10 +4,10 @@ ghost use Rattle.std.specs.Option.{ForSome};
 ghost use Rattle.tce_outside.specs.Files.{others};
 ghost use Rattle.tce_outside.specs.Fault.{HasCause, TellsFaults};
 ghost use Rattle.tce_command.specs.Refusals.{IsFree};
-ghost use Rattle.tce_tensors.specs.Laws.{LeavesNoHalfResult};
+ghost use Rattle.tce_job.specs.Laws.{LeavesNoHalfResult};
 ghost use Rattle.tce_job.specs.Refusals.{NamesDeclared, IsFree as IsFreeFault};
 ghost use Rattle.tce_job.specs.Told.{ResultAlone, WritesResult};
-ghost use Rattle.tce_example.specs.Specification.{IsDemo};
+ghost use Rattle.tce_demo.specs.Specification.{IsDemo};
 ghost use Rattle.tce_run.specs.Told.{IsOfFiles, IsToldAs};
 ghost use Rattle.tce_demo.specs.Done.{IsOfRun, HasAllOperands, HasRunReport, LeavesRoom};
 

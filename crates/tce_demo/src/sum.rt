@@ -4,9 +4,9 @@ ghost use Rattle.tce_outside.specs.Fault.{HasCause, TellsFaults};
 ghost use Rattle.tce_demo.specs.Done.{HasResultArray, IsSumOfResult};
 
 use tce_array::Form;
+use tce_job::file_of;
 use tce_outside::{Disk, Failed};
 use tce_spec::Spec;
-use tce_tensors::file_of;
 use tce_tools::cell_sum;
 
 /// The sum of all elements of the result, modulo 2^64.

@@ -8,7 +8,7 @@ use Rattle.tce_grammar.specs.Canonical.{canonical_line, canonical_text, AreState
 use Rattle.tce_grammar.specs.Reading.{line_of}
 use Rattle.tce_grammar.proofs.FirstLines.{feed, split_some, ended_more, lines_none}
 use Rattle.tce_grammar.proofs.CanonicalLines.{canonical_text_says}
-use Rattle.tce_declarations.proofs.Readings.{lines_of, lines_only}
+use Rattle.tce_spec.proofs.Readings.{lines_of, lines_only}
 
 -- the parts of two texts with a line feed between them
 parts_joined : (a b : List ℕ) → slice_split feed (a ++ 10 ∷ b) ≡ slice_split feed a ++ slice_split feed b

@@ -9,21 +9,21 @@ use Rattle.tce_tree.specs.ContractionTree.{ContractionTree, operations}
 use Rattle.tce_tree.specs.Value.{value}
 use Rattle.tce_grammar.specs.Grammar.{Line, Statement, says}
 use Rattle.tce_grammar.specs.Canonical.{IsStatement, AreStatements, canonical_text}
-use Rattle.tce_declarations.specs.Declarations.{Declarations, IsDeclarations, Tensor, nothing_declared}
-use Rattle.tce_declarations.specs.DeclarationLines.{number_of_range}
-use Rattle.tce_declarations.specs.Faults.{Fault, too_long}
-use Rattle.tce_declarations.specs.Text.{Head, head_of, unless, closing_fault}
-use Rattle.tce_declarations.proofs.Readings.{lines_of}
-use Rattle.tce_formula.specs.FormulaFaults.{formula_fault}
-use Rattle.tce_formula.specs.Meaning.{indexes_of}
+use Rattle.tce_spec.specs.Declarations.{Declarations, IsDeclarations, Tensor, nothing_declared}
+use Rattle.tce_spec.specs.DeclarationLines.{number_of_range}
+use Rattle.tce_spec.specs.Faults.{Fault, too_long}
+use Rattle.tce_spec.specs.Text.{Head, head_of, unless, closing_fault}
+use Rattle.tce_spec.proofs.Readings.{lines_of}
+use Rattle.tce_spec.specs.FormulaFaults.{formula_fault}
+use Rattle.tce_spec.specs.Meaning.{indexes_of}
 use Rattle.tce_canonical.specs.Statements.{Group, groups}
 use Rattle.tce_spec.specs.Specification.{Specification}
 use Rattle.tce_spec.specs.Outcome.{IsOutcome, outcome_in, specified}
 use Rattle.tce_spec.proofs.Reading.{computed_only}
-use Rattle.tce_round_trip.proofs.Heads.{only_ranges, without_tensors, with_tensors, groups_of}
-use Rattle.tce_round_trip.proofs.KeptDeclarations.{nothing_is}
-use Rattle.tce_round_trip.proofs.NumbersBack.{range_back}
-use Rattle.tce_round_trip.proofs.WrittenStatements.{IsGroup}
+use Rattle.tce_canonical.proofs.Heads.{only_ranges, without_tensors, with_tensors, groups_of}
+use Rattle.tce_canonical.proofs.KeptDeclarations.{nothing_is}
+use Rattle.tce_canonical.proofs.NumbersBack.{range_back}
+use Rattle.tce_canonical.proofs.WrittenStatements.{IsGroup}
 use Rattle.tce_einsum.specs.Text.{Size, Einsum}
 use Rattle.tce_einsum.specs.Path.{Item, Leave}
 use Rattle.tce_einsum.specs.Input.{IsInput}

@@ -6,8 +6,8 @@ use Rattle.tce_grammar.specs.Tokens.{Token, symbol}
 use Rattle.tce_grammar.specs.Grammar.{Statement, declaration, listed}
 use Rattle.tce_grammar.specs.Printed.{Front, bracket, kind, is_spaced, spaced_text, printed_behind, token_text}
 use Rattle.tce_grammar.specs.Canonical.{canonical_line, canonical_text}
-use Rattle.tce_declarations.specs.Faults.{Fault, too_long}
-use Rattle.tce_declarations.specs.TextCode.{fault_in}
+use Rattle.tce_spec.specs.Faults.{Fault, too_long}
+use Rattle.tce_spec.specs.TextCode.{fault_in}
 use Rattle.tce_spec.specs.Specification.{Specification}
 use Rattle.tce_spec.specs.Outcome.{IsOutcome, outcome}
 use Rattle.tce_einsum.specs.Text.{Size, Einsum}

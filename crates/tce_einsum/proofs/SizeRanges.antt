@@ -11,7 +11,7 @@ use Rattle.tce_fields.specs.Digits.{starts_as_number}
 use Rattle.tce_grammar.specs.Tokens.{IsNumber}
 use Rattle.tce_grammar.specs.Canonical.{IsNumberIfSome}
 use Rattle.tce_grammar.proofs.CanonicalLines.{all_joined}
-use Rattle.tce_declarations.specs.Numbers.{edge_of}
+use Rattle.tce_spec.specs.Numbers.{edge_of}
 use Rattle.tce_einsum.specs.Text.{Size, is_size, is_label, is_number, is_number_if_some}
 use Rattle.tce_einsum.specs.Produced.{Tiled, edge_or_one, tiled, is_same, with_new, ranges, written_edge}
 use Rattle.tce_einsum.proofs.Places.{place_within}

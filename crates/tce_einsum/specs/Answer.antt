@@ -2,10 +2,10 @@
 use Rattle.std.specs.Prelude.{⊤, ℕ, List, Result}
 use Rattle.std.specs.declared.option.Option.TheVariants.{Some}
 use Rattle.std.specs.declared.result.Result.TheVariants.{Ok, Err}
-use Rattle.tce_declarations.specs.Faults.{Fault}
-use Rattle.tce_declarations.specs.FaultCode.{Shows}
-use Rattle.tce_declarations.specs.declared.fault.SpecFault.{SpecFault}
-use Rattle.tce_declarations.specs.declared.fault.SpecFault.TheVariants as spec_faults
+use Rattle.tce_spec.specs.Faults.{Fault}
+use Rattle.tce_spec.specs.FaultCode.{Shows}
+use Rattle.tce_spec.specs.declared.fault.SpecFault.{SpecFault}
+use Rattle.tce_spec.specs.declared.fault.SpecFault.TheVariants as spec_faults
 use Rattle.tce_spec.specs.Specification.{Specification}
 use Rattle.tce_spec.specs.Outcome.{IsOutcome}
 use Rattle.tce_einsum.specs.Text.{Einsum}

@@ -3,8 +3,8 @@ use Rattle.std.specs.Prelude.{◌≡◌, ℕ, ◌<◌, List, [], ◌∷◌, ◌+
 use Rattle.std.specs.declared.result.Result.TheVariants.{Ok}
 use Rattle.tce_space.specs.Space.{IndexSpace, index_at, extent_at, edge_at}
 use Rattle.tce_tree.specs.Value.{Assignment, Elements, value}
-use Rattle.tce_declarations.specs.Declarations.{Tensor}
-use Rattle.tce_declarations.specs.Numbers.{value_of, edge_of}
+use Rattle.tce_spec.specs.Declarations.{Tensor}
+use Rattle.tce_spec.specs.Numbers.{value_of, edge_of}
 use Rattle.tce_spec.specs.Specification.{Specification}
 use Rattle.tce_einsum.specs.Text.{Size, Einsum}
 use Rattle.tce_einsum.specs.Path.{Item}

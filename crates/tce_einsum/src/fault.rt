@@ -1,7 +1,7 @@
 //! Why there is no specification.
 
 use std::alloc::{AllocError, AllocFailed};
-use tce_declarations::SpecFault;
+use tce_spec::SpecFault;
 
 /// Why an einsum and a path give no specification. The first in this order decides.
 #[derive(Drop)]

@@ -12,7 +12,9 @@ ghost use Rattle.tce_einsum.specs.ProducedCode.{task_tokens, pending, IsTask, Ar
 
 use crate::entries::Node;
 use crate::size::Size;
-use crate::words::{push_letters, push_letters_of, push_operand_name, push_symbol, push_word};
+use crate::words::{
+    push_bracketed_letters, push_letters, push_operand_name, push_symbol, push_word,
+};
 use std::alloc::{AllocError, Global};
 use tce_grammar::Printer;
 
@@ -61,7 +63,7 @@ fn push_operand_with(
     ensures { OnOk result (printer.new ≡ with_tokens printer.old (bracketed (produced.operand_name operand) (produced.letter_names letters.now))) }
 {
     push_operand_name(alloc, printer, operand)?;
-    push_letters_of(printer, letters)
+    push_bracketed_letters(printer, letters)
 }
 
 /// Prints an operand with its labels in brackets.

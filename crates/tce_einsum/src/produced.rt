@@ -17,7 +17,7 @@ use crate::input::Input;
 use crate::lines::{print_indexes, print_operands, print_ranges, print_result};
 use crate::ranges::{range_numbers, ranges_of};
 use crate::text::Einsum;
-use crate::words::{push_letters_of, push_symbol, push_word};
+use crate::words::{push_bracketed_letters, push_symbol, push_word};
 use std::alloc::{AllocError, Global};
 use tce_grammar::Printer;
 
@@ -48,7 +48,7 @@ fn push_result(printer: &mut Printer, labels: &[u8]) -> Result<(), AllocError>
         (bracketed produced.result_name (produced.letter_names labels.now) ++ symbol 61 ∷ [])) }
 {
     push_word(printer, "Y")?;
-    push_letters_of(printer, labels)?;
+    push_bracketed_letters(printer, labels)?;
     push_symbol(printer, b'=')
 }
 

@@ -1,12 +1,12 @@
 //! Specifications from einsums.
 
 ghost use Rattle.std.specs.Prelude.{◌≡◌, ◌≤◌, ◌⊎◌, IfOk, Result, length};
-ghost use Rattle.tce_declarations.specs.Declarations.{HaveNames};
-ghost use Rattle.tce_declarations.specs.Faults.{Fault};
+ghost use Rattle.tce_spec.specs.Declarations.{HaveNames};
+ghost use Rattle.tce_spec.specs.Faults.{Fault};
 ghost use Rattle.tce_spec.specs.Specification.{Specification};
 ghost use Rattle.tce_spec.specs.Outcome.{IsOutcome};
 ghost use Rattle.tce_spec.specs.OutcomeCode.{Answers};
-ghost use Rattle.tce_declarations.specs.declared.fault.SpecFault.TheVariants as spec_faults;
+ghost use Rattle.tce_spec.specs.declared.fault.SpecFault.TheVariants as spec_faults;
 ghost use Rattle.tce_einsum.specs.Answer.{AnswersEinsum};
 ghost use Rattle.tce_einsum.specs.Code as code;
 ghost use Rattle.tce_einsum.specs.HasValue.{HasValueOfEinsum};

@@ -75,7 +75,10 @@ pub(crate) fn push_letters(printer: &mut Printer, letters: &[u8]) -> Result<(), 
 }
 
 /// Prints letters in brackets.
-pub(crate) fn push_letters_of(printer: &mut Printer, letters: &[u8]) -> Result<(), AllocError>
+pub(crate) fn push_bracketed_letters(
+    printer: &mut Printer,
+    letters: &[u8],
+) -> Result<(), AllocError>
     ensures { OnOk result (printer.new ≡ with_tokens printer.old
         (tokens.symbol 91 ∷ (listed (letter_names letters.now) ++ tokens.symbol 93 ∷ []))) }
 {

@@ -26,8 +26,8 @@ use Rattle.tce_windows.specs.declared.window.Window.{Window}
 use Rattle.tce_windows.proofs.Leaving.{parts_are_within, parts_are_apart}
 use Rattle.tce_exec.specs.WindowLaws.{StandApart}
 use Rattle.tce_exec.specs.OperandWindows.{IsSlotWindow}
-use Rattle.tce_layout.specs.Layout.{slot_at}
-use Rattle.tce_operands.specs.Slots.{IsSlotAt}
+use Rattle.tce_code.specs.Layout.{slot_at}
+use Rattle.tce_workspace.specs.Slots.{IsSlotAt}
 use Rattle.tce_workspace.specs.Workspace.{Workspace, setting_in}
 use Rattle.tce_workspace.specs.Operands.{IsPlaceOf}
 use Rattle.tce_workspace.proofs.Operating.{own_place}

@@ -14,10 +14,10 @@ use Rattle.tce_tree.specs.Fusion.{kept_dims}
 use Rattle.tce_tree.specs.Memory.{memory}
 use Rattle.tce_tree.specs.Value.{Assignment}
 use Rattle.tce_code.specs.Execution.{coordinates}
-use Rattle.tce_layout.specs.Layout.{IsLayout}
-use Rattle.tce_layout.proofs.Filling.{places_fill}
-use Rattle.tce_operands.specs.NodeStates.{Places}
-use Rattle.tce_operands.specs.Laws.{StandsBefore}
+use Rattle.tce_code.specs.Layout.{IsLayout}
+use Rattle.tce_code.proofs.Filling.{places_fill}
+use Rattle.tce_workspace.specs.NodeStates.{Places}
+use Rattle.tce_workspace.specs.OperandLaws.{StandsBefore}
 use Rattle.tce_windows.specs.Turns.{Turns, IsTurn}
 use Rattle.tce_windows.specs.Windows.{DifferOnlyAt}
 use Rattle.tce_windows.specs.declared.window.Window.{Window}

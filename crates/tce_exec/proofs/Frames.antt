@@ -23,11 +23,11 @@ use Rattle.tce_tree.proofs.Values.{map-same}
 use Rattle.tce_tree.proofs.Assignments.{assignment_inside, same_at, numbers_inside}
 use Rattle.tce_space.specs.IndexSet.{IsIndexSet}
 use Rattle.tce_code.specs.Execution.{coordinates}
-use Rattle.tce_layout.specs.Places.{kept_extents, word_at, PlacesFill}
-use Rattle.tce_layout.proofs.Filling.{places_fill}
-use Rattle.tce_operands.specs.NodeStates.{Places, root, root_dims, current_cell, IsResult}
-use Rattle.tce_operands.proofs.Assignments.{map-assignment}
-use Rattle.tce_operands.proofs.States.{places_have_their_words, listed}
+use Rattle.tce_code.specs.Places.{kept_extents, word_at, PlacesFill}
+use Rattle.tce_code.proofs.Filling.{places_fill}
+use Rattle.tce_workspace.specs.NodeStates.{Places, root, root_dims, current_cell, IsResult}
+use Rattle.tce_workspace.proofs.Assignments.{map-assignment}
+use Rattle.tce_workspace.proofs.States.{places_have_their_words, listed}
 use Rattle.tce_windows.specs.Turns.{Turns, IsTurn}
 use Rattle.tce_windows.specs.Windows.{stands_at, ShowsNode, DifferOnlyAt}
 use Rattle.tce_windows.specs.declared.window.Window.{Window}

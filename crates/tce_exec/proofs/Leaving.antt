@@ -12,7 +12,7 @@ use Rattle.tce_block.specs.Parts.{Part}
 use Rattle.tce_walk.specs.Parts.{grown_by_part, set_by_part, node_after_part, after_part}
 use Rattle.tce_code.specs.Execution.{Setting, State, left_word, right_word}
 use Rattle.tce_code.specs.Shape.{IsBinary, IsSum}
-use Rattle.tce_strides.specs.Turns.{grown, grown_by_products, computed, operate}
+use Rattle.tce_block.specs.Turns.{grown, grown_by_products, computed, operate}
 use Rattle.tce_walk.specs.TailLaws.{computed_word}
 use Rattle.tce_walk.specs.Laws.{HoldsWords}
 use Rattle.tce_walk.specs.Machine.{IsJoinedTo, IsJoined}

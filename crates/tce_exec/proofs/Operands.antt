@@ -14,7 +14,7 @@ use Rattle.tce_tree.proofs.Parents.{dims_within_loops}
 use Rattle.tce_code.specs.Generation.{computing}
 use Rattle.tce_code.specs.Shape.{IsSum}
 use Rattle.tce_code.proofs.Emitted.{node-not_leaf}
-use Rattle.tce_operands.specs.NodeStates.{root}
+use Rattle.tce_workspace.specs.NodeStates.{root}
 use Rattle.tce_walk.specs.Tails.{is_constant, reads_constant}
 use Rattle.tce_walk.specs.Machine.{operation_of_node, IsNodeAt}
 use Rattle.tce_walk.proofs.Searching.{sum-node}

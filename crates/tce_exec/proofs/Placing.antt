@@ -9,7 +9,7 @@ use Rattle.tce_tree.specs.ContractionTree.{operations}
 use Rattle.tce_tree.specs.Value.{Assignment}
 use Rattle.tce_tree.specs.declared.node.Operand.{Operand}
 use Rattle.tce_tree.specs.declared.node.Operand.TheVariants.{Leaf, Constant, Node}
-use Rattle.tce_operands.specs.NodeStates.{root}
+use Rattle.tce_workspace.specs.NodeStates.{root}
 use Rattle.tce_windows.specs.Turns.{Turns, IsTurn}
 use Rattle.tce_windows.specs.Windows.{stands_at, ShowsNode, DifferOnlyAt}
 use Rattle.tce_windows.specs.declared.window.Window.{Window}

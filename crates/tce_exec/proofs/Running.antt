@@ -7,8 +7,8 @@ use Rattle.tce_tree.specs.declared.node.Operand.{Operand}
 use Rattle.tce_tree.specs.declared.node.Kind.{Kind}
 use Rattle.tce_block.specs.Parts.{Part}
 use Rattle.tce_walk.specs.Parts.{after_part}
-use Rattle.tce_strides.specs.Turns.{grown, computed, operate}
-use Rattle.tce_layout.specs.Layout.{slot_at}
+use Rattle.tce_block.specs.Turns.{grown, computed, operate}
+use Rattle.tce_code.specs.Layout.{slot_at}
 use Rattle.tce_walk.specs.declared.machine.Tail.{Tail}
 use Rattle.tce_windows.specs.Loops.{AreMade, AreProductsJoined, place_along}
 use Rattle.tce_windows.specs.declared.window.Window.{Window}

@@ -11,14 +11,14 @@ use Rattle.tce_tree.specs.Fusion.{kept_dims}
 use Rattle.tce_tree.specs.Memory.{memory}
 use Rattle.tce_tree.specs.Value.{Assignment, Elements}
 use Rattle.tce_code.specs.Execution.{Setting, coordinates}
-use Rattle.tce_layout.specs.Layout.{slot_at, IsLayout}
-use Rattle.tce_layout.specs.Places.{kept_extents, word_at, IsPlace, PlacesFill}
-use Rattle.tce_layout.proofs.Filling.{places_fill}
-use Rattle.tce_operands.specs.Slots.{slot_word, IsSlotAt}
-use Rattle.tce_operands.specs.NodeStates.{Places, are_inside, root, result_coordinates, state_of, current_cell}
-use Rattle.tce_operands.proofs.Assignments.{are_inside-holds}
-use Rattle.tce_operands.proofs.Slots.{is_place}
-use Rattle.tce_operands.proofs.States.{places_have_their_words}
+use Rattle.tce_code.specs.Layout.{slot_at, IsLayout}
+use Rattle.tce_code.specs.Places.{kept_extents, word_at, IsPlace, PlacesFill}
+use Rattle.tce_code.proofs.Filling.{places_fill}
+use Rattle.tce_workspace.specs.Slots.{slot_word, IsSlotAt}
+use Rattle.tce_workspace.specs.NodeStates.{Places, are_inside, root, result_coordinates, state_of, current_cell}
+use Rattle.tce_workspace.proofs.Assignments.{are_inside-holds}
+use Rattle.tce_workspace.proofs.Slots.{is_place}
+use Rattle.tce_workspace.proofs.States.{places_have_their_words}
 use Rattle.tce_windows.specs.Turns.{Turns, IsTurn}
 use Rattle.tce_windows.specs.Windows.{stands_at, ShowsNode}
 use Rattle.tce_windows.specs.declared.window.Window.{Window}

@@ -8,8 +8,8 @@ use Rattle.tce_tree.specs.WellFormed.{among}
 use Rattle.tce_tree.specs.declared.node.Operand.{Operand}
 use Rattle.tce_tree.specs.declared.node.Operand.TheVariants.{Leaf, Constant, Node}
 use Rattle.tce_tree.proofs.Parents.{parent_is}
-use Rattle.tce_layout.specs.Layout.{slot_at}
-use Rattle.tce_operands.specs.NodeStates.{Places}
+use Rattle.tce_code.specs.Layout.{slot_at}
+use Rattle.tce_workspace.specs.NodeStates.{Places}
 use Rattle.tce_walk.specs.Machine.{IsNodeAt, IsTailAt}
 use Rattle.tce_walk.specs.declared.machine.Tail.{Tail}
 use Rattle.tce_windows.specs.Sequences.{AreFilled}

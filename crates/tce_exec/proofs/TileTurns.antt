@@ -6,10 +6,10 @@ use Rattle.tce_space.specs.Box.{product, place}
 use Rattle.tce_space.specs.Tiling.{ArePositive, divided, remainders, tile_counts, place_in_tile}
 use Rattle.tce_tree.specs.Value.{Assignment}
 use Rattle.tce_tree.specs.WellFormed.{among}
-use Rattle.tce_layout.specs.Places.{steps_to}
-use Rattle.tce_operands.specs.Slots.{slot_word}
-use Rattle.tce_operands.proofs.States.{length-mapped}
-use Rattle.tce_layout.specs.declared.slot.Slot.{Slot}
+use Rattle.tce_code.specs.Places.{steps_to}
+use Rattle.tce_workspace.specs.Slots.{slot_word}
+use Rattle.tce_workspace.proofs.States.{length-mapped}
+use Rattle.tce_code.specs.declared.slot.Slot.{Slot}
 use Rattle.tce_windows.specs.Turns.{Turns, IsTurn}
 use Rattle.tce_windows.specs.Windows.{stands_at}
 use Rattle.tce_windows.specs.declared.window.Window.{Window}

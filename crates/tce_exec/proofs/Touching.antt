@@ -12,8 +12,8 @@ use Rattle.tce_cache.specs.Touch.{IsTouched, with_held}
 use Rattle.tce_tree.specs.Value.{Assignment}
 use Rattle.tce_tree.specs.declared.node.Operand.{Operand}
 use Rattle.tce_tree.specs.declared.node.Operand.TheVariants.{Leaf, Constant, Node}
-use Rattle.tce_operands.specs.Laws.{HasShape}
-use Rattle.tce_operands.specs.NodeStates.{Places}
+use Rattle.tce_workspace.specs.OperandLaws.{HasShape}
+use Rattle.tce_workspace.specs.NodeStates.{Places}
 use Rattle.tce_windows.specs.declared.window.Window.{Window}
 use Rattle.tce_exec.specs.OperandWindows.{IsTileWindow}
 use Rattle.tce_exec.specs.Touches.{IsHeldAt, IsAmongLast}

@@ -21,8 +21,8 @@ use Rattle.tce_tree.proofs.NamedIndexes.{node_loops_declared}
 use Rattle.tce_tree.proofs.Assignments.{all_positive}
 use Rattle.tce_block.specs.Parts.{Part}
 use Rattle.tce_code.specs.Execution.{State}
-use Rattle.tce_operands.specs.NodeStates.{Places, current_cell}
-use Rattle.tce_operands.specs.Laws.{HasShape}
+use Rattle.tce_workspace.specs.NodeStates.{Places, current_cell}
+use Rattle.tce_workspace.specs.OperandLaws.{HasShape}
 use Rattle.tce_walk.specs.Machine.{IsTailAt, IsNodeAt}
 use Rattle.tce_walk.specs.declared.machine.Tail.{Tail}
 use Rattle.tce_windows.specs.Loops.{AreLoops}

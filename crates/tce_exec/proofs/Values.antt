@@ -24,10 +24,10 @@ use Rattle.tce_tree.proofs.Assignments.{assignment_inside}
 use Rattle.tce_code.specs.Execution.{State, coordinates, exec}
 use Rattle.tce_code.specs.Program.{program_of}
 use Rattle.tce_code.specs.declared.op.Op.{Op}
-use Rattle.tce_operands.specs.NodeStates.{root, root_dims, state_of, current_cell}
-use Rattle.tce_operands.specs.Laws.{IsRootAt}
-use Rattle.tce_operands.proofs.Assignments.{map-assignment}
-use Rattle.tce_operands.proofs.States.{places_have_their_words}
+use Rattle.tce_workspace.specs.NodeStates.{root, root_dims, state_of, current_cell}
+use Rattle.tce_workspace.specs.OperandLaws.{IsRootAt}
+use Rattle.tce_workspace.proofs.Assignments.{map-assignment}
+use Rattle.tce_workspace.proofs.States.{places_have_their_words}
 use Rattle.tce_walk.specs.Touches.{touch_bound}
 use Rattle.tce_walk.specs.Machine.{after}
 use Rattle.tce_walk.specs.Run.{zeros, IsCodeOf}

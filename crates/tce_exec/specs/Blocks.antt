@@ -4,7 +4,7 @@ use Rattle.tce_space.specs.Space.{IndexSpace, extent_at, edge_at}
 use Rattle.tce_block.specs.Parts.{Part, blocks}
 use Rattle.tce_tree.specs.Value.{Assignment}
 use Rattle.tce_tree.specs.WellFormed.{among}
-use Rattle.tce_strides.specs.Places.{AreWithin, AreApart}
+use Rattle.tce_block.specs.Places.{AreWithin, AreApart}
 use Rattle.tce_walk.specs.declared.machine.Tail.{Tail}
 use Rattle.tce_windows.specs.Loops.{numbers_along, place_along}
 use Rattle.tce_windows.specs.declared.window.Window.{Window}

@@ -1,7 +1,7 @@
 -- The places of an evaluation.
 use Rattle.std.specs.Prelude.{◌≡◌, ℕ, false}
 use Rattle.tce_space.specs.Tiling.{Tiling}
-use Rattle.tce_operands.specs.NodeStates.{Places}
+use Rattle.tce_workspace.specs.NodeStates.{Places}
 use Rattle.tce_tree.specs.declared.expr.Leaf.{Leaf}
 use Rattle.tce_walk.specs.Machine.{operation_of_node}
 use Rattle.tce_walk.specs.Tails.{reads_constant}

@@ -3,7 +3,7 @@ use Rattle.std.specs.Prelude.{◌≡◌, ℕ, IsTrue, map, Some}
 use Rattle.std.specs.List.{All}
 use Rattle.tce_space.specs.Space.{extent_at, edge_at}
 use Rattle.tce_block.specs.Cuts.{IsCut, extents_of, edges_of}
-use Rattle.tce_operands.specs.NodeStates.{Places}
+use Rattle.tce_workspace.specs.NodeStates.{Places}
 use Rattle.tce_tree.specs.FlatTree.{right_of}
 use Rattle.tce_tree.specs.declared.node.Operand.{Operand}
 use Rattle.tce_walk.specs.declared.machine.Tail.{Tail}

@@ -13,8 +13,8 @@ use Rattle.tce_tree.specs.declared.expr.Leaf.{Leaf}
 use Rattle.tce_code.specs.Execution.{exec}
 use Rattle.tce_code.specs.Program.{program_of}
 use Rattle.tce_code.specs.declared.op.Op.{Op}
-use Rattle.tce_layout.specs.declared.slot.Slot.{Slot}
-use Rattle.tce_operands.specs.NodeStates.{current_cell}
+use Rattle.tce_code.specs.declared.slot.Slot.{Slot}
+use Rattle.tce_workspace.specs.NodeStates.{current_cell}
 use Rattle.tce_walk.specs.Touches.{touch_bound}
 use Rattle.tce_walk.specs.Run.{zeros}
 use Rattle.tce_workspace.specs.Workspace.{Workspace, setting_in, state_in, result_shape}

@@ -12,10 +12,10 @@ use Rattle.tce_tree.specs.Fusion.{kept_dims}
 use Rattle.tce_tree.specs.Memory.{memory}
 use Rattle.tce_tree.specs.Value.{Assignment}
 use Rattle.tce_code.specs.Execution.{Setting, State, coordinates}
-use Rattle.tce_layout.specs.Layout.{slot_at, IsLayout}
+use Rattle.tce_code.specs.Layout.{slot_at, IsLayout}
 use Rattle.tce_walk.specs.TailLaws.{dims_at}
-use Rattle.tce_operands.specs.NodeStates.{Places, root, root_dims, state_of, current_cell, IsResult}
-use Rattle.tce_operands.specs.Laws.{HasShape, StandsBefore}
+use Rattle.tce_workspace.specs.NodeStates.{Places, root, root_dims, state_of, current_cell, IsResult}
+use Rattle.tce_workspace.specs.OperandLaws.{HasShape, StandsBefore}
 use Rattle.tce_windows.specs.Turns.{Turns, IsTurn}
 use Rattle.tce_windows.specs.Windows.{stands_at, ShowsWords, ShowsNode, DifferOnlyAt}
 use Rattle.tce_windows.specs.declared.window.Window.{Window}

@@ -9,10 +9,10 @@ use Rattle.tce_tree.specs.FlatTree.{left_of, right_of}
 use Rattle.tce_tree.specs.Value.{Assignment}
 use Rattle.tce_tree.specs.declared.node.Operand.{Operand}
 use Rattle.tce_tree.specs.declared.node.Operand.TheVariants.{Leaf, Constant, Node}
-use Rattle.tce_layout.specs.Layout.{slot_at, IsLayout}
-use Rattle.tce_operands.specs.Laws.{HasShape}
-use Rattle.tce_operands.specs.NodeStates.{Places}
-use Rattle.tce_operands.specs.Slots.{IsSlotAt}
+use Rattle.tce_code.specs.Layout.{slot_at, IsLayout}
+use Rattle.tce_workspace.specs.OperandLaws.{HasShape}
+use Rattle.tce_workspace.specs.NodeStates.{Places}
+use Rattle.tce_workspace.specs.Slots.{IsSlotAt}
 use Rattle.tce_walk.specs.declared.machine.Tail.{Tail}
 use Rattle.tce_windows.specs.Sequences.{FitWindows}
 use Rattle.tce_windows.specs.declared.sequence.LoopSequence.{LoopSequence}

@@ -1,7 +1,7 @@
 // One block of a tail.
 ghost use Rattle.std.specs.Prelude.{◌≡◌, ◌≢◌, ◌+◌, ◌≤◌, ◌^◌, ℕ, OnOk, IsErr, Some, None};
 ghost use Rattle.tce_tree.specs.FlatTree.{right_of};
-ghost use Rattle.tce_strides.specs.Turns.{operate};
+ghost use Rattle.tce_block.specs.Turns.{operate};
 ghost use Rattle.tce_workspace.specs.Prepared.{IsPrepared};
 ghost use Rattle.tce_workspace.specs.Operands.{combined};
 ghost use Rattle.tce_workspace.specs.Storages.{work_of, IsSame, Keeps, Changes, FailsByDisk, TellsOfDisk};

@@ -1,7 +1,7 @@
 // What stays from run to run of one tail.
 ghost use Rattle.std.specs.Prelude.{◌≡◌, ◌<◌, ◌≤◌, false, length, map, All, IsTrue};
 ghost use Rattle.tce_space.specs.Limits.{max_loops};
-ghost use Rattle.tce_operands.specs.NodeStates.{Places};
+ghost use Rattle.tce_workspace.specs.NodeStates.{Places};
 ghost use Rattle.tce_space.specs.Space.{edge_at};
 ghost use Rattle.tce_windows.specs.Loops.{AreLoops};
 ghost use Rattle.tce_exec.specs.Blocks.{loops_of};

@@ -8,8 +8,8 @@ ghost use Rattle.tce_tree.specs.WellFormed.{among};
 ghost use Rattle.tce_workspace.specs.Elements.{IsElementAt};
 ghost use Rattle.tce_workspace.specs.Workspace.{shape_over};
 
-use tce_operands::ElementPlace;
 use tce_space::{MAX_INDEXES, Numbers, Space};
+use tce_workspace::ElementPlace;
 
 /// A number for each index, in which tile of the index's range it lies, and how far behind the beginning of that tile.
 ///

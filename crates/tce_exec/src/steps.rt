@@ -2,7 +2,7 @@
 ghost use Rattle.std.specs.Prelude.{◌≡◌, ◌+◌, ◌<◌, All};
 ghost use Rattle.tce_space.specs.Limits.{max_indexes};
 ghost use Rattle.tce_tree.specs.ContractionTree.{operations};
-ghost use Rattle.tce_operands.specs.Laws.{HasShape};
+ghost use Rattle.tce_workspace.specs.OperandLaws.{HasShape};
 ghost use Rattle.tce_workspace.specs.Evaluations.{IsLaid, slot_of};
 ghost use Rattle.tce_exec.specs.Windows.{AreTensorSteps, AreOperandSteps, ArePlaceSteps, AreSteps, HasSteps, CanStep};
 ghost use Rattle.tce_exec.specs.Evaluations.{places_of, shape_of};

@@ -1,7 +1,7 @@
 // The turns of one block of a tail.
 ghost use Rattle.std.specs.Prelude.{◌≡◌, ◌<◌, IsTrue, length, slice_index};
 ghost use Rattle.tce_block.specs.Cuts.{part_of};
-ghost use Rattle.tce_strides.specs.Turns.{grown, computed};
+ghost use Rattle.tce_block.specs.Turns.{grown, computed};
 ghost use Rattle.tce_windows.specs.Loops.{AreLoops, AreMade, AreProductsJoined, IsResultWindow, place_along};
 ghost use Rattle.tce_windows.specs.Sequences.{IsLoopSequence};
 ghost use Rattle.tce_windows.specs.Turns.{turns_of};

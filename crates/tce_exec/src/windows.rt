@@ -4,7 +4,7 @@ ghost use Rattle.tce_space.specs.Limits.{max_indexes};
 ghost use Rattle.tce_space.specs.Box.{IsInside};
 ghost use Rattle.tce_cache.specs.Cache.{IsWritable};
 ghost use Rattle.tce_tree.specs.FlatTree.{left_of, right_of};
-ghost use Rattle.tce_operands.specs.Slots.{slot_word};
+ghost use Rattle.tce_workspace.specs.Slots.{slot_word};
 ghost use Rattle.tce_walk.specs.Machine.{IsNodeAt};
 ghost use Rattle.tce_workspace.specs.Elements.{coordinates_at};
 ghost use Rattle.tce_workspace.specs.Evaluations.{IsLaid, slot_of, HasSlotAt, HasRoomIn};
@@ -18,12 +18,11 @@ ghost use Rattle.tce_exec.specs.Windows.{AreTensorSteps, AreOperandSteps, ArePla
 
 use crate::position::Position;
 use crate::steps::Windows;
-use tce_operands::slot_place;
 use tce_outside::{Disk, Failed};
 use tce_tree::{Leaf, Operand};
 use tce_windows::Window;
 use tce_words::Words;
-use tce_workspace::{Evaluation, Storage};
+use tce_workspace::{Evaluation, Storage, slot_place};
 
 /// With which operand the left one of a node is paired, and to which node's places the results go.
 #[derive(Clone, Copy)]

@@ -20,7 +20,7 @@ use Rattle.tce_command.specs.declared.trouble.ArrayTrouble.TheVariants as conten
 use Rattle.tce_command.specs.Refusals.{SameRefusal}
 use Rattle.tce_command.specs.declared.refusal.Refusal.{Refusal}
 use Rattle.tce_command.specs.declared.refusal.Refusal.TheVariants.{Specification, Missing, Array, Budget, Intermediates, Flat, Tensor, Misfit, Einsum, Spill, Symmetry, Disk, Memory}
-use Rattle.tce_source.proofs.Outcomes.{not_absent}
+use Rattle.tce_command.proofs.Outcomes.{not_absent}
 use Rattle.tce_flat.specs.Tensors.{array_file}
 use Rattle.tce_flat.specs.Refusals.{IsFlatRefusal, IsArrayRefusal, IsFormRefusal}
 use Rattle.tce_flat.proofs.Lines.{Says, say_alike, say_same}

@@ -2,10 +2,10 @@
 use Rattle.std.proofs.Common.{◌≡◌, refl, sym, ap, subst, ◌∙◌, ◌⊎◌, inl, inr, ℕ, List, ◌++◌, Some, None, codes}
 use Rattle.tce_outside.specs.Files.{Files, file}
 use Rattle.tce_space.specs.Tiling.{Tiling}
-use Rattle.tce_declarations.specs.Declarations.{tensor_number}
+use Rattle.tce_spec.specs.Declarations.{tensor_number}
 use Rattle.tce_spec.specs.Specification.{Specification as Specified}
 use Rattle.tce_spec.specs.Operands.{shape_of}
-use Rattle.tce_source.proofs.Outcomes.{one, one_refusal, not_both}
+use Rattle.tce_command.proofs.Outcomes.{one, one_refusal, not_both}
 use Rattle.tce_command.specs.Refusals.{IsFree, SameRefusal}
 use Rattle.tce_command.specs.declared.refusal.Refusal.{Refusal}
 use Rattle.tce_command.specs.declared.refusal.Refusal.TheVariants.{Specification, Missing, Array, Budget, Intermediates, Flat, Tensor, Misfit, Einsum, Spill, Symmetry, Disk, Memory}

@@ -13,7 +13,7 @@ use Rattle.tce_command.specs.declared.trouble.SymTrouble.{SymTrouble}
 use Rattle.tce_command.specs.declared.trouble.SymTrouble.TheVariants as trouble
 use Rattle.tce_command.specs.declared.refusal.Refusal.{Refusal}
 use Rattle.tce_command.specs.declared.refusal.Refusal.TheVariants.{Specification, Missing, Array, Budget, Intermediates, Flat, Tensor, Misfit, Einsum, Spill, Symmetry, Disk, Memory}
-use Rattle.tce_source.proofs.Outcomes.{not_absent}
+use Rattle.tce_command.proofs.Outcomes.{not_absent}
 use Rattle.tce_flat.specs.Tensors.{sym_file}
 use Rattle.tce_flat.specs.Refusals.{HasPairs, IsSymRefusal}
 use Rattle.tce_flat.proofs.Lines.{Says, say_alike, say_same}

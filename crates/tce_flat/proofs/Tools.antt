@@ -7,7 +7,7 @@ use Rattle.tce_outside.specs.Files.{Files, file}
 use Rattle.tce_space.specs.Tiling.{Tiling}
 use Rattle.tce_array.specs.declared.form.Form.{Form}
 use Rattle.tce_spec.specs.Specification.{Specification as Specified}
-use Rattle.tce_source.specs.Source.{HasSpecification}
+use Rattle.tce_command.specs.Source.{HasSpecification}
 use Rattle.tce_command.specs.declared.refusal.Refusal.{Refusal}
 use Rattle.tce_command.specs.declared.refusal.Refusal.TheVariants.{Specification, Missing, Array, Budget, Intermediates, Flat, Tensor, Misfit, Einsum, Spill, Symmetry, Disk, Memory}
 use Rattle.tce_command.specs.Refusals.{IsFree}

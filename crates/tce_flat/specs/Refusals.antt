@@ -8,7 +8,7 @@ use Rattle.tce_array.specs.declared.form.Form.TheVariants.{Narrow}
 use Rattle.tce_array.specs.Forms.{IsArray}
 use Rattle.tce_tools.specs.Flat.{flat_len, array_element}
 use Rattle.tce_tools.specs.Answers.{IsFirstMisfit, IsRefused, HasFlat, HasArray, HasFitting}
-use Rattle.tce_declarations.specs.Declarations.{tensor_number}
+use Rattle.tce_spec.specs.Declarations.{tensor_number}
 use Rattle.tce_spec.specs.Specification.{Specification}
 use Rattle.tce_command.specs.Report.{fault_of}
 use Rattle.tce_command.specs.declared.refusal.Refusal.{Refusal}
@@ -18,7 +18,7 @@ use Rattle.tce_sym.specs.declared.symmetry.Symmetry.{Symmetry as Exchange}
 use Rattle.tce_sym.specs.declared.fault.SymFault.TheVariants as sym
 use Rattle.tce_sym.specs.Storage.{IsStored}
 use Rattle.tce_sym.specs.Faults as sym_faults
-use Rattle.tce_source.specs.Source.{IsSourceRefusal}
+use Rattle.tce_command.specs.Source.{IsSourceRefusal}
 use Rattle.tce_flat.specs.Tensors.{HasTensor, LacksTensor, array_file, sym_file}
 
 -- the refusal names the tensor

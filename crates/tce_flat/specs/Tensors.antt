@@ -2,10 +2,10 @@
 use Rattle.std.specs.Prelude.{◌≡◌, ℕ, List, ◌++◌, None, Some, codes}
 use Rattle.tce_outside.specs.Files.{Files}
 use Rattle.tce_space.specs.Tiling.{Tiling}
-use Rattle.tce_declarations.specs.Declarations.{tensor_number}
+use Rattle.tce_spec.specs.Declarations.{tensor_number}
 use Rattle.tce_spec.specs.Specification.{Specification}
 use Rattle.tce_spec.specs.Operands.{shape_of}
-use Rattle.tce_source.specs.Source.{HasSpecification}
+use Rattle.tce_command.specs.Source.{HasSpecification}
 
 -- a tensor of this name is declared in the specification, and this is its shape
 pub record DeclaresTensor (s : Specification) (tensor : List ℕ) (shape : Tiling) : Type 0 where

@@ -7,9 +7,8 @@ ghost use Rattle.tce_flat.specs.Refusals.{IsUndeclared};
 ghost use Rattle.tce_flat.specs.Told.{FindsTensor, RefusesTensor};
 
 use std::alloc::Global;
-use tce_command::Refusal;
+use tce_command::{Refusal, read_source};
 use tce_outside::Disk;
-use tce_source::read_source;
 use tce_space::{Name, Shape};
 use tce_spec::Spec;
 

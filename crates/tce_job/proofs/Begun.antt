@@ -26,8 +26,8 @@ use Rattle.tce_tree.specs.Fusion.{FusionFits, kept_dims, fused_at}
 use Rattle.tce_tree.specs.Orders.{lists_of}
 use Rattle.tce_tree.proofs.Nodes.{node-root}
 use Rattle.tce_tree.proofs.NamedIndexes.{has-set_of_list}
-use Rattle.tce_declarations.specs.Declarations.{Declarations, no_tensor, tensor_at}
-use Rattle.tce_formula.specs.Contraction.{FitsTensor, LeavesFit, has_tensor}
+use Rattle.tce_spec.specs.Declarations.{Declarations, no_tensor, tensor_at}
+use Rattle.tce_spec.specs.Contraction.{FitsTensor, LeavesFit, has_tensor}
 use Rattle.tce_spec.specs.Specification.{Specification, IsSpecification}
 use Rattle.tce_spec.specs.Operands.{largest_tile, shape_of}
 use Rattle.tce_code.specs.Plan.{plan_of}
@@ -37,13 +37,13 @@ use Rattle.tce_walk.proofs.TouchBound.{touches_are_few}
 use Rattle.tce_workspace.specs.Workspace.{Workspace, shape_over}
 use Rattle.tce_workspace.specs.Prepared.{IsStored, HasOperands, IsPrepared as IsWorkspace}
 use Rattle.tce_exec.specs.Run.{IsZero}
-use Rattle.tce_tensors.proofs.Results.{result_tiling}
-use Rattle.tce_tensors.specs.Takings.{tile_count, frame_count, tile_take}
-use Rattle.tce_tensors.proofs.Tiles.{largest_some}
-use Rattle.tce_tensors.specs.Arrays.{AreArraysOf, IsResultArray, IsOperandArray}
-use Rattle.tce_tensors.specs.Laws.{made_result}
-use Rattle.tce_tensors.proofs.Made.{made_zero}
-use Rattle.tce_tensors.proofs.Operands.{not_result}
+use Rattle.tce_job.proofs.Results.{result_tiling}
+use Rattle.tce_job.specs.Takings.{tile_count, frame_count, tile_take}
+use Rattle.tce_job.proofs.Tiles.{largest_some}
+use Rattle.tce_job.specs.Arrays.{AreArraysOf, IsResultArray, IsOperandArray}
+use Rattle.tce_job.specs.Laws.{made_result}
+use Rattle.tce_job.proofs.ResultMade.{made_zero}
+use Rattle.tce_job.proofs.Operands.{not_result}
 use Rattle.tce_job.specs.declared.prepared.Prepared.{Prepared}
 use Rattle.tce_job.specs.Run.{IsBegun}
 

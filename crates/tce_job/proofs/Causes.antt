@@ -10,13 +10,13 @@ use Rattle.tce_array.specs.declared.fault.ArrayFault.TheVariants as array_fault
 use Rattle.tce_array.specs.Forms.{form_of, IsArray}
 use Rattle.tce_array.specs.Faults.{IsFault}
 use Rattle.tce_array.proofs.OneAnswer.{agree}
-use Rattle.tce_nesting.specs.declared.plan.Plan.{Plan}
+use Rattle.tce_fusion.specs.declared.plan.Plan.{Plan}
 use Rattle.tce_search.specs.LeastPlan.{IsLeastPlan}
 use Rattle.tce_spec.specs.Specification.{Specification}
 use Rattle.tce_spec.specs.Operands.{shape_of}
-use Rattle.tce_tensors.specs.TensorFiles.{file_of}
-use Rattle.tce_tensors.specs.declared.opening.Refused.{Refused}
-use Rattle.tce_tensors.specs.Opened.{operand, operand_count, HasArray, HasOperands, form_at, IsOpened, AreOpened, IsRefusedAt, IsRefused, IsRefusedOn}
+use Rattle.tce_job.specs.TensorFiles.{file_of}
+use Rattle.tce_job.specs.declared.opening.Refused.{Refused}
+use Rattle.tce_job.specs.Opened.{operand, operand_count, HasArray, HasOperands, form_at, IsOpened, AreOpened, IsRefusedAt, IsRefused, IsRefusedOn}
 use Rattle.tce_job.specs.declared.fault.JobFault.{JobFault}
 use Rattle.tce_job.specs.declared.fault.JobFault.TheVariants.{BudgetTooSmall, IntermediatesTooLarge, Array, Disk, Memory}
 use Rattle.tce_job.specs.Refusals.{IsLeastMemory, IsAffordable, IsCause, MayBeRefused, MustBeRefused, NamesDeclared, CanRun, IsFree}

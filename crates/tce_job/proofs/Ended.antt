@@ -28,25 +28,25 @@ use Rattle.tce_cache.specs.Touch.{AreWritten, KeepsArrays}
 use Rattle.tce_cache.proofs.Steps.{front_has}
 use Rattle.tce_tree.specs.ContractionTree.{ContractionTree}
 use Rattle.tce_tree.specs.Value.{value, assignment}
-use Rattle.tce_formula.specs.Contraction.{has_tensor}
+use Rattle.tce_spec.specs.Contraction.{has_tensor}
 use Rattle.tce_spec.specs.Specification.{Specification, IsSpecification}
 use Rattle.tce_spec.specs.Operands.{shape_of}
-use Rattle.tce_operands.specs.NodeStates.{current_cell}
+use Rattle.tce_workspace.specs.NodeStates.{current_cell}
 use Rattle.tce_workspace.specs.Workspace.{Workspace, shape_over, setting_in, element_of, filed_element}
 use Rattle.tce_workspace.specs.Steps.{IsKept}
 use Rattle.tce_exec.specs.Run.{IsRun, HasValues}
-use Rattle.tce_tensors.specs.TensorFiles.{file_of, bytes_in, elements}
-use Rattle.tce_tensors.specs.ResultBytes.{result_element, result_bytes, with_result}
-use Rattle.tce_tensors.proofs.Results.{result_before}
-use Rattle.tce_tensors.proofs.Agreement.{same_values}
-use Rattle.tce_tensors.specs.Arrays.{AreArraysOf, IsResultArray, IsOperandArray}
-use Rattle.tce_tensors.specs.Finished.{IsFinished, IsFlushed}
-use Rattle.tce_tensors.specs.Laws.{made_result, IsOperand, LeavesNoHalfResult}
-use Rattle.tce_tensors.proofs.Operands.{is_operand}
+use Rattle.tce_job.specs.TensorFiles.{file_of, bytes_in, elements}
+use Rattle.tce_job.specs.ResultBytes.{result_element, result_bytes, with_result}
+use Rattle.tce_job.proofs.Results.{result_before}
+use Rattle.tce_job.proofs.Agreement.{same_values}
+use Rattle.tce_job.specs.Arrays.{AreArraysOf, IsResultArray, IsOperandArray}
+use Rattle.tce_job.specs.Finished.{IsFinished, IsFlushed}
+use Rattle.tce_job.specs.Laws.{made_result, IsOperand, LeavesNoHalfResult}
+use Rattle.tce_job.proofs.Operands.{is_operand}
 use Rattle.tce_spec.proofs.Seen.{operand_declared}
-use Rattle.tce_tensors.proofs.Made.{made_zero}
-use Rattle.tce_tensors.proofs.Reading.{read}
-use Rattle.tce_tensors.proofs.Flushed.{flushed, whole}
+use Rattle.tce_job.proofs.ResultMade.{made_zero}
+use Rattle.tce_job.proofs.Reading.{read}
+use Rattle.tce_job.proofs.Flushed.{flushed, whole}
 use Rattle.tce_job.specs.declared.prepared.Prepared.{Prepared}
 use Rattle.tce_job.specs.Run.{IsBegun}
 use Rattle.tce_job.proofs.Begun.{workspace_at, workspace_with, workspace_for, of_parts, array_of, result_at, result_shape_is}

@@ -1,3 +1,15 @@
+pub mod Operands
+pub mod ResultMade
+pub mod Flushed
+pub mod OpenedTensors
+pub mod ArrayLists
+pub mod Reading
+pub mod Shapes
+pub mod Names
+pub mod Agreement
+pub mod Results
+pub mod Counted
+pub mod Tiles
 pub mod Causes
 pub mod Plans
 pub mod Begun

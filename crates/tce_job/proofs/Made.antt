@@ -4,15 +4,15 @@ use Rattle.std.specs.Option.{ForSome}
 use Rattle.tce_outside.specs.Files.{Files, file, with_file, holding}
 use Rattle.tce_outside.proofs.Files.{file-with_file}
 use Rattle.tce_array.specs.declared.form.Form.{Form}
-use Rattle.tce_nesting.specs.declared.plan.Plan.{Plan}
+use Rattle.tce_fusion.specs.declared.plan.Plan.{Plan}
 use Rattle.tce_search.specs.LeastPlan.{IsLeastPlan}
 use Rattle.tce_spec.specs.Specification.{Specification, IsSpecification}
-use Rattle.tce_tensors.specs.TensorFiles.{file_of}
-use Rattle.tce_tensors.specs.Takings.{least_budget}
-use Rattle.tce_tensors.specs.Opened.{AreOpened, operand_count}
-use Rattle.tce_tensors.specs.Laws.{made_result}
-use Rattle.tce_tensors.specs.Reading.{HoldOperands}
-use Rattle.tce_tensors.proofs.Reading.{hold, made}
+use Rattle.tce_job.specs.TensorFiles.{file_of}
+use Rattle.tce_job.specs.Takings.{least_budget}
+use Rattle.tce_job.specs.Opened.{AreOpened, operand_count}
+use Rattle.tce_job.specs.Laws.{made_result}
+use Rattle.tce_job.specs.Reading.{HoldOperands}
+use Rattle.tce_job.proofs.Reading.{hold, made}
 use Rattle.tce_job.specs.declared.fault.JobFault.{JobFault}
 use Rattle.tce_job.specs.declared.fault.JobFault.TheVariants.{BudgetTooSmall, IntermediatesTooLarge, Array, Disk, Memory}
 use Rattle.tce_job.specs.declared.prepared.Prepared.{Prepared}

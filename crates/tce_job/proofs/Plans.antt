@@ -4,11 +4,11 @@ use Rattle.tce_outside.specs.Files.{Files}
 use Rattle.tce_outside.specs.Fault.{HasCause, TellsFaults}
 use Rattle.tce_array.specs.declared.fault.ArrayFault.{ArrayFault}
 use Rattle.tce_array.specs.declared.fault.ArrayFault.TheVariants as array_fault
-use Rattle.tce_nesting.specs.declared.plan.Plan.{Plan}
+use Rattle.tce_fusion.specs.declared.plan.Plan.{Plan}
 use Rattle.tce_search.specs.LeastPlan.{IsLeastPlan}
 use Rattle.tce_spec.specs.Specification.{Specification}
-use Rattle.tce_tensors.specs.Takings.{least_budget}
-use Rattle.tce_tensors.specs.declared.opening.Refused.{Refused}
+use Rattle.tce_job.specs.Takings.{least_budget}
+use Rattle.tce_job.specs.declared.opening.Refused.{Refused}
 use Rattle.tce_job.specs.declared.fault.JobFault.{JobFault}
 use Rattle.tce_job.specs.declared.fault.JobFault.TheVariants.{BudgetTooSmall, IntermediatesTooLarge, Array, Disk, Memory}
 use Rattle.tce_job.specs.Refusals.{IsAffordable, IsCause, MayBeRefused, IsFaultOf, IsOpeningFault}

@@ -4,10 +4,10 @@ use Rattle.std.specs.List.{AllZip}
 use Rattle.std.specs.Option.{option_map}
 use Rattle.tce_outside.specs.Files.{Files, file, others}
 use Rattle.tce_outside.proofs.Told.{other_files}
-use Rattle.tce_nesting.specs.declared.plan.Plan.{Plan}
+use Rattle.tce_fusion.specs.declared.plan.Plan.{Plan}
 use Rattle.tce_spec.specs.Specification.{Specification}
-use Rattle.tce_tensors.specs.ResultBytes.{with_result}
-use Rattle.tce_tensors.specs.TensorFiles.{file_of}
+use Rattle.tce_job.specs.ResultBytes.{with_result}
+use Rattle.tce_job.specs.TensorFiles.{file_of}
 use Rattle.tce_job.specs.Prepared.{taking_of}
 use Rattle.tce_job.specs.Several.{files_after, takings_of}
 

@@ -1,3 +1,14 @@
+pub mod Opened
+pub mod Arrays
+pub mod Finished
+pub mod Laws
+pub mod Reading
+pub mod TensorFiles
+pub mod ResultBytes
+pub mod ResultLaws
+pub mod Examples
+pub mod Takings
+pub mod FrameLaws
 pub mod Refusals
 pub mod Prepared
 pub mod Run

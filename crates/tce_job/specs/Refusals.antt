@@ -8,9 +8,9 @@ use Rattle.tce_array.specs.declared.fault.ArrayFault.TheVariants as array_fault
 use Rattle.tce_tree.specs.Memory.{memory}
 use Rattle.tce_fusion.specs.Least.{IsLeast}
 use Rattle.tce_spec.specs.Specification.{Specification}
-use Rattle.tce_tensors.specs.Takings.{least_budget}
-use Rattle.tce_tensors.specs.declared.opening.Refused.{Refused}
-use Rattle.tce_tensors.specs.Opened.{HasOperands, operand_count, IsRefused}
+use Rattle.tce_job.specs.Takings.{least_budget}
+use Rattle.tce_job.specs.declared.opening.Refused.{Refused}
+use Rattle.tce_job.specs.Opened.{HasOperands, operand_count, IsRefused}
 use Rattle.tce_job.specs.declared.fault.JobFault.{JobFault}
 use Rattle.tce_job.specs.declared.fault.JobFault.TheVariants.{BudgetTooSmall, IntermediatesTooLarge, Array, Disk, Memory}
 

@@ -3,13 +3,13 @@ use Rattle.std.specs.Prelude.{◌≡◌, ℕ, ◌≤◌, List, [], ◌∷◌, �
 use Rattle.std.specs.Option.{ForSome}
 use Rattle.tce_outside.specs.Files.{Files, file}
 use Rattle.tce_array.specs.declared.form.Form.{Form}
-use Rattle.tce_nesting.specs.declared.plan.Plan.{Plan}
+use Rattle.tce_fusion.specs.declared.plan.Plan.{Plan}
 use Rattle.tce_search.specs.LeastPlan.{IsLeastPlan}
 use Rattle.tce_spec.specs.Specification.{Specification}
-use Rattle.tce_tensors.specs.TensorFiles.{file_of}
-use Rattle.tce_tensors.specs.Takings.{least_budget}
-use Rattle.tce_tensors.specs.Laws.{made_result}
-use Rattle.tce_tensors.specs.Reading.{HoldOperands}
+use Rattle.tce_job.specs.TensorFiles.{file_of}
+use Rattle.tce_job.specs.Takings.{least_budget}
+use Rattle.tce_job.specs.Laws.{made_result}
+use Rattle.tce_job.specs.Reading.{HoldOperands}
 use Rattle.tce_job.specs.declared.report.RunReport.{RunReport}
 use Rattle.tce_job.specs.declared.prepared.Prepared.{Prepared}
 use Rattle.tce_job.specs.Prepared.{IsPrepared, IsReport, taking_of}

@@ -4,20 +4,21 @@ ghost use Rattle.tce_space.specs.Limits.{max_memory};
 ghost use Rattle.tce_outside.specs.Fault.{HasCause, TellsFaults};
 ghost use Rattle.tce_array.specs.declared.fault.ArrayFault.TheVariants as array_fault;
 ghost use Rattle.tce_search.specs.LeastPlan.{IsLeastPlan};
-ghost use Rattle.tce_tensors.specs.Opened.{AreOpenedOn};
+ghost use Rattle.tce_job.specs.Opened.{AreOpenedOn};
 ghost use Rattle.tce_job.specs.declared.fault.JobFault.{JobFault as Fault};
 ghost use Rattle.tce_job.specs.Refusals.{IsAffordable, IsCause, IsOpeningFault, IsFaultOf};
 ghost use Rattle.tce_job.specs.Told.{IsLeastPlanOf, IsRefusalOf};
 
 use crate::fault::JobFault;
+use crate::opening::{Forms, Refused, open_operands};
+use crate::takings::least_budget;
 use std::alloc::Global;
 use tce_array::ArrayFault;
-use tce_nesting::Plan;
+use tce_fusion::Plan;
 use tce_outside::Disk;
 use tce_search::search;
 use tce_space::MAX_MEMORY;
 use tce_spec::Spec;
-use tce_tensors::{Forms, Refused, least_budget, open_operands};
 
 /// A plan of a least fusion, where the budget is at least three of the largest tiles, in words, and the plan's memory at
 /// most 2^40 words.

@@ -6,10 +6,10 @@ ghost use Rattle.tce_outside.specs.Fault.{HasCause, TellsFaults};
 ghost use Rattle.tce_array.specs.declared.form.Form.TheVariants.{One};
 ghost use Rattle.tce_array.specs.OnDisk.{HasRoomForHead, HoldsHead, SameBehindHead};
 ghost use Rattle.tce_spec.specs.Operands.{shape_of};
-ghost use Rattle.tce_tensors.specs.Laws.{LeavesNoHalfResult};
-ghost use Rattle.tce_tensors.specs.TensorFiles.{file_of};
-ghost use Rattle.tce_tensors.specs.Takings.{least_budget};
-ghost use Rattle.tce_tensors.specs.Opened.{AreOpenedOn};
+ghost use Rattle.tce_job.specs.Laws.{LeavesNoHalfResult};
+ghost use Rattle.tce_job.specs.TensorFiles.{file_of};
+ghost use Rattle.tce_job.specs.Takings.{least_budget};
+ghost use Rattle.tce_job.specs.Opened.{AreOpenedOn};
 ghost use Rattle.tce_job.specs.declared.fault.JobFault.{JobFault as Fault};
 ghost use Rattle.tce_job.specs.Refusals.{IsFree};
 ghost use Rattle.tce_job.specs.Prepared.{IsCarriedPlan, IsReport};
@@ -17,6 +17,7 @@ ghost use Rattle.tce_job.specs.Run.{IsBegun};
 ghost use Rattle.tce_job.specs.Told.{CanRunIn, IsRefusalOf, RefusesExactly, GrantsAble, FailsOrKeeps, WritesResult, ResultAlone, Takes, MayTake, Reports, LeavesRoom, TouchesWithin};
 
 use crate::fault::JobFault;
+use crate::naming::file_of;
 use crate::planning::tested;
 use crate::prepared::{PlannedRun, Prepared};
 use crate::preparing::begin;
@@ -26,7 +27,6 @@ use tce_array::{Form, write_head};
 use tce_exec::run_code;
 use tce_outside::{Disk, Failed};
 use tce_spec::Spec;
-use tce_tensors::file_of;
 use tce_words::Room;
 
 /// Runs the code of a run that was begun, writes the tiles of the result to its file, and last the head of that file.

@@ -1,2 +1,7 @@
+pub mod Names
+pub mod Declared
+pub mod OneVerification
+pub mod Accepted
+pub mod Judged
 pub mod OneAnswer
 pub mod Planned

@@ -1,3 +1,9 @@
+pub mod Certificates
+pub mod Judging
+pub mod VerificationDone
+pub mod VerificationRefusals
+pub mod OfFile
+pub mod VerificationLaws
 pub mod Done
 pub mod Refusals
 pub mod Laws

@@ -5,15 +5,15 @@ use Rattle.std.specs.Option.{ForSome, option_map}
 use Rattle.tce_outside.specs.Files.{Files, others}
 use Rattle.tce_spec.specs.Specification.{Specification}
 use Rattle.tce_spec.specs.Operands.{largest_tile}
-use Rattle.tce_tensors.specs.TensorFiles.{file_of}
-use Rattle.tce_tensors.specs.ResultBytes.{with_result}
-use Rattle.tce_tensors.specs.Laws.{LeavesNoHalfResult}
-use Rattle.tce_tensors.specs.Takings.{tile_take, frame_count}
-use Rattle.tce_tensors.specs.Opened.{IsRefused}
+use Rattle.tce_job.specs.TensorFiles.{file_of}
+use Rattle.tce_job.specs.ResultBytes.{with_result}
+use Rattle.tce_job.specs.Laws.{LeavesNoHalfResult}
+use Rattle.tce_job.specs.Takings.{tile_take, frame_count}
+use Rattle.tce_job.specs.Opened.{IsRefused}
 use Rattle.tce_job.specs.Refusals.{MayBeRefused}
 use Rattle.tce_command.specs.declared.refusal.Refusal.{Refusal}
 use Rattle.tce_command.specs.declared.refusal.Refusal.TheVariants.{Disk}
-use Rattle.tce_source.specs.Source.{HasSpecification}
+use Rattle.tce_command.specs.Source.{HasSpecification}
 use Rattle.tce_run.specs.Refusals.{IsRunRefusalIfTold}
 use Rattle.tce_run.specs.Done.{IsRun, IsRoomLeft, OnlyResultDiffers}
 use Rattle.tce_run.specs.OfSource.{IsRunFault, IsRunOf}

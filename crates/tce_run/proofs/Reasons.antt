@@ -3,9 +3,9 @@ use Rattle.std.proofs.Common.{◌≡◌, ℕ, ◌⊎◌, List, ◌++◌, Option,
 use Rattle.tce_outside.specs.Files.{Files, file}
 use Rattle.tce_array.specs.declared.fault.ArrayFault.TheVariants as array_fault
 use Rattle.tce_spec.specs.Specification.{Specification}
-use Rattle.tce_tensors.specs.TensorFiles.{name_of, file_of}
-use Rattle.tce_tensors.specs.declared.opening.Refused.{Refused}
-use Rattle.tce_tensors.specs.Opened.{IsRefused, IsRefusedOn}
+use Rattle.tce_job.specs.TensorFiles.{name_of, file_of}
+use Rattle.tce_job.specs.declared.opening.Refused.{Refused}
+use Rattle.tce_job.specs.Opened.{IsRefused, IsRefusedOn}
 use Rattle.tce_job.specs.declared.fault.JobFault.{JobFault}
 use Rattle.tce_job.specs.declared.fault.JobFault.TheVariants as faults
 use Rattle.tce_job.specs.Refusals.{IsCause, MustBeRefused, CanRun, IsFree as IsFreeFault}
@@ -16,7 +16,7 @@ use Rattle.tce_command.specs.declared.status.Status.TheVariants as statuses
 use Rattle.tce_command.specs.declared.trouble.ArrayTrouble.TheVariants as contents
 use Rattle.tce_command.specs.declared.refusal.Refusal.{Refusal}
 use Rattle.tce_command.specs.declared.refusal.Refusal.TheVariants.{Missing, Array, Budget, Intermediates, Disk, Memory}
-use Rattle.tce_source.proofs.Outcomes.{one, one_refusal, not_both}
+use Rattle.tce_command.proofs.Outcomes.{one, one_refusal, not_both}
 use Rattle.tce_run.specs.Done.{IsRun}
 use Rattle.tce_run.specs.Refusals.{CanRunFile, IsJobRefusal, IsRunRefusal}
 

@@ -5,8 +5,8 @@ use Rattle.tce_outside.specs.Files.{Files}
 use Rattle.tce_array.specs.declared.fault.ArrayFault.{ArrayFault}
 use Rattle.tce_array.specs.declared.fault.ArrayFault.TheVariants as array_fault
 use Rattle.tce_spec.specs.Specification.{Specification}
-use Rattle.tce_tensors.specs.declared.opening.Refused.{Refused}
-use Rattle.tce_tensors.specs.Opened.{IsRefused}
+use Rattle.tce_job.specs.declared.opening.Refused.{Refused}
+use Rattle.tce_job.specs.Opened.{IsRefused}
 use Rattle.tce_job.specs.declared.fault.JobFault.{JobFault}
 use Rattle.tce_job.specs.declared.fault.JobFault.TheVariants as faults
 use Rattle.tce_job.specs.Refusals.{IsCause, CanRun, IsFree as IsFreeFault}
@@ -14,7 +14,7 @@ use Rattle.tce_job.specs.Prepared.{IsRoomLeft as JobRoomLeft, HasTaken}
 use Rattle.tce_command.specs.declared.refusal.Refusal.{Refusal}
 use Rattle.tce_command.specs.declared.refusal.Refusal.TheVariants.{Missing, Array, Disk, Memory}
 use Rattle.tce_command.specs.Refusals.{IsFree}
-use Rattle.tce_source.specs.Source.{HasSpecification}
+use Rattle.tce_command.specs.Source.{HasSpecification}
 use Rattle.tce_run.specs.Refusals.{IsFirstRefused, IsJobRefusal}
 use Rattle.tce_run.specs.Done.{IsTaking, IsRoomLeft}
 use Rattle.tce_run.specs.Told.{TellsOperand, IsOfFiles, IsToldAs}

@@ -4,20 +4,20 @@ use Rattle.std.specs.Option.{ForSome, option_map}
 use Rattle.tce_outside.specs.Files.{Files, others}
 use Rattle.tce_array.specs.declared.form.Form.TheVariants.{One}
 use Rattle.tce_array.specs.Forms.{form_len}
-use Rattle.tce_nesting.specs.declared.plan.Plan.{Plan}
+use Rattle.tce_fusion.specs.declared.plan.Plan.{Plan}
 use Rattle.tce_search.specs.LeastPlan.{IsLeastPlan}
-use Rattle.tce_report.specs.NodeLine.{stated}
-use Rattle.tce_report.specs.Report.{run_text}
+use Rattle.tce_cert.specs.NodeLine.{stated}
+use Rattle.tce_cert.specs.Report.{run_text}
 use Rattle.tce_spec.specs.Specification.{Specification}
 use Rattle.tce_spec.specs.Operands.{shape_of}
-use Rattle.tce_tensors.specs.TensorFiles.{file_of}
-use Rattle.tce_tensors.specs.ResultBytes.{with_result}
-use Rattle.tce_tensors.specs.Laws.{LeavesNoHalfResult}
-use Rattle.tce_tensors.specs.Takings.{tile_take}
+use Rattle.tce_job.specs.TensorFiles.{file_of}
+use Rattle.tce_job.specs.ResultBytes.{with_result}
+use Rattle.tce_job.specs.Laws.{LeavesNoHalfResult}
+use Rattle.tce_job.specs.Takings.{tile_take}
 use Rattle.tce_job.specs.Refusals.{CanRun}
 use Rattle.tce_command.specs.declared.refusal.Refusal.{Refusal}
 use Rattle.tce_command.specs.declared.refusal.Refusal.TheVariants.{Disk, Memory}
-use Rattle.tce_source.specs.Source.{HasSpecification}
+use Rattle.tce_command.specs.Source.{HasSpecification}
 
 -- the file specifies what was run, and all that the run needs was there; the result's file has the bytes of the formula, and no other file differs; the room gave once, the memory of a plan whose fusion is legal and least and the words for tiles, which are within the budget; and the report states that plan, these words, the result's file and its length
 pub record IsRun (before after : Option Files) (taken taken_after : List (ℕ × ℕ)) (spec : List ℕ) (budget : ℕ) (report : List ℕ) : Type 0 where

@@ -6,14 +6,14 @@ use Rattle.tce_outside.specs.Files.{Files, file}
 use Rattle.tce_array.specs.declared.fault.ArrayFault.{ArrayFault}
 use Rattle.tce_array.specs.declared.fault.ArrayFault.TheVariants.{NoFile}
 use Rattle.tce_spec.specs.Specification.{Specification}
-use Rattle.tce_tensors.specs.TensorFiles.{name_of, file_of}
-use Rattle.tce_tensors.specs.Takings.{least_budget}
-use Rattle.tce_tensors.specs.Opened.{IsRefused}
+use Rattle.tce_job.specs.TensorFiles.{name_of, file_of}
+use Rattle.tce_job.specs.Takings.{least_budget}
+use Rattle.tce_job.specs.Opened.{IsRefused}
 use Rattle.tce_job.specs.Refusals.{IsLeastMemory, IsAffordable, CanRun}
 use Rattle.tce_command.specs.Report.{fault_of}
 use Rattle.tce_command.specs.declared.refusal.Refusal.{Refusal}
 use Rattle.tce_command.specs.declared.refusal.Refusal.TheVariants.{Missing, Array, Budget, Intermediates, Disk, Memory}
-use Rattle.tce_source.specs.Source.{HasSpecification, IsSourceRefusal}
+use Rattle.tce_command.specs.Source.{HasSpecification, IsSourceRefusal}
 
 -- the file holds a specification that can be run under this budget
 abbrev pub CanRunFile : Files → List ℕ → ℕ → Type 0

@@ -3,7 +3,7 @@ use Rattle.std.specs.Prelude.{◌≡◌, ◌≢◌, ⊤, ℕ, List, ◌++◌, co
 use Rattle.tce_array.specs.declared.fault.ArrayFault.{ArrayFault}
 use Rattle.tce_array.specs.declared.fault.ArrayFault.TheVariants as array_fault
 use Rattle.tce_spec.specs.Specification.{Specification}
-use Rattle.tce_tensors.specs.TensorFiles.{name_of}
+use Rattle.tce_job.specs.TensorFiles.{name_of}
 use Rattle.tce_job.specs.declared.fault.JobFault.{JobFault}
 use Rattle.tce_job.specs.declared.fault.JobFault.TheVariants as faults
 use Rattle.tce_command.specs.Refusals.{NamesFile}

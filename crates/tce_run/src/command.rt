@@ -4,7 +4,7 @@ ghost use Rattle.tce_space.specs.Limits.{max_memory};
 ghost use Rattle.tce_outside.specs.Fault.{HasCause, TellsFaults};
 ghost use Rattle.tce_command.specs.Command.{NamesSpec};
 ghost use Rattle.tce_command.specs.Refusals.{SameOrDisk};
-ghost use Rattle.tce_tensors.specs.Laws.{LeavesNoHalfResult};
+ghost use Rattle.tce_job.specs.Laws.{LeavesNoHalfResult};
 ghost use Rattle.tce_job.specs.Told.{ResultAlone};
 ghost use Rattle.tce_run.specs.Done.{IsRun, IsRoomLeft, OnlyResultDiffers};
 ghost use Rattle.tce_run.specs.OfSource.{IsRunFault, IsRunOf};
@@ -12,10 +12,9 @@ ghost use Rattle.tce_run.specs.Refusals.{IsRunRefusalIfTold};
 
 use crate::refusals::refusal_of;
 use std::alloc::Global;
-use tce_command::Refusal;
+use tce_command::{Refusal, read_source};
 use tce_job::run_job;
 use tce_outside::Disk;
-use tce_source::read_source;
 use tce_spec::Spec;
 use tce_words::Room;
 

@@ -9,16 +9,16 @@ use Rattle.tce_space.specs.Space.{IndexSpace}
 use Rattle.tce_tree.specs.ContractionTree.{ContractionTree, operations, node_loops}
 use Rattle.tce_tree.proofs.Nodes.{node-root}
 use Rattle.tce_tree.proofs.Parents.{parent_is}
-use Rattle.tce_states.specs.Relation.{HasNoConflict}
-use Rattle.tce_states.specs.Row.{Row, rows_joined}
-use Rattle.tce_states.specs.Cover.{NodesCovered, RootBelow, ArePruned}
-use Rattle.tce_states.specs.Reached as reached
-use Rattle.tce_states.specs.Reached.{left_below, right_below, IsLegalWith}
-use Rattle.tce_states.proofs.Covers.{total_is_bound}
-use Rattle.tce_states.proofs.Reached.{root_is_reached}
-use Rattle.tce_states.proofs.Unfused.{some_rows_join}
-use Rattle.tce_candidates.specs.declared.candidate.Candidate.{Candidate}
-use Rattle.tce_candidates.specs.Laws.{rows_of}
+use Rattle.tce_fusion.specs.Relation.{HasNoConflict}
+use Rattle.tce_fusion.specs.Row.{Row, rows_joined}
+use Rattle.tce_fusion.specs.Cover.{NodesCovered, RootBelow, ArePruned}
+use Rattle.tce_fusion.specs.Reached as reached
+use Rattle.tce_fusion.specs.Reached.{left_below, right_below, IsLegalWith}
+use Rattle.tce_fusion.proofs.Covers.{total_is_bound}
+use Rattle.tce_fusion.proofs.Reached.{root_is_reached}
+use Rattle.tce_fusion.proofs.Unfused.{some_rows_join}
+use Rattle.tce_search.specs.declared.candidate.Candidate.{Candidate}
+use Rattle.tce_search.specs.Laws.{rows_of}
 use Rattle.tce_search.specs.declared.root.WholeFusion.{WholeFusion}
 use Rattle.tce_search.specs.CandidateLists.{tables_of, leaf_candidate, left_candidates, right_candidates, Searched, IsKept, AreFound}
 use Rattle.tce_search.specs.LeastPlan.{IsBelowFusions}

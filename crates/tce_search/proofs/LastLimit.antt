@@ -10,9 +10,9 @@ use Rattle.tce_tree.specs.Measure.{IsMeasured}
 use Rattle.tce_tree.specs.Memory.{size_at, size_before, memory}
 use Rattle.tce_fusion.specs.Scope.{IsLegal}
 use Rattle.tce_fusion.proofs.SizeLaws.{kept_small}
-use Rattle.tce_states.specs.State.{first_right}
-use Rattle.tce_states.proofs.Legality.{legal_from_states}
-use Rattle.tce_states.proofs.Unfused.{joined_unfused, state_unfused, zeros_fuse_nothing, zeros_fit}
+use Rattle.tce_fusion.specs.State.{first_right}
+use Rattle.tce_fusion.proofs.LegalStates.{legal_from_states}
+use Rattle.tce_fusion.proofs.Unfused.{joined_unfused, state_unfused, zeros_fuse_nothing, zeros_fit}
 use Rattle.tce_search.specs.LeastPlan.{IsBelowFusions}
 
 pub zeros_legal : (tree : ContractionTree) → IsLegal tree (replicate (operations tree) 0)

@@ -3,8 +3,8 @@ use Rattle.std.proofs.Common.{◌≡◌, ◌⊎◌, ℕ, ◌+◌, ◌<◌, ◌�
 use Rattle.std.specs.Prelude.{IfSome}
 use Rattle.std.specs.List.{All, AllWithin, Contains}
 use Rattle.std.proofs.lemmas.List.Elements.{All-from_all_within, AllWithin-more, AllWithin-upto, at_read}
-use Rattle.tce_candidates.specs.declared.candidate.Candidate.{Candidate}
-use Rattle.tce_candidates.specs.Candidates.{LeavesRoom, HaveRoom}
+use Rattle.tce_search.specs.declared.candidate.Candidate.{Candidate}
+use Rattle.tce_search.specs.Candidates.{LeavesRoom, HaveRoom}
 use Rattle.tce_search.specs.Root.{IsMadeOf, IsMadeOfSome, IsAtMost, IsBound}
 use Rattle.tce_search.specs.declared.root.WholeFusion.{WholeFusion}
 

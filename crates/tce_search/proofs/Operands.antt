@@ -13,16 +13,16 @@ use Rattle.tce_tree.specs.declared.node.Operand.{Operand}
 use Rattle.tce_tree.specs.declared.node.Operand.TheVariants.{Leaf, Constant, Node}
 use Rattle.tce_tree.proofs.Nodes.{size_bounds, node_of_some}
 use Rattle.tce_tree.proofs.Operands.{left_before, right_before}
-use Rattle.tce_states.specs.Row.{rows_at}
-use Rattle.tce_states.specs.Cover.{operand_rows, right_operand_rows, left_rows, right_rows}
-use Rattle.tce_states.specs.Reached.{tree_of_operand, tree_of_right, left_below, right_below}
-use Rattle.tce_states.proofs.Operands.{operations-node}
-use Rattle.tce_states.proofs.Reached.{operands_are_joined}
-use Rattle.tce_candidates.specs.declared.candidate.Candidate.{Candidate}
-use Rattle.tce_candidates.specs.Candidates.{IsLimited, HaveRoom, AreOperands}
-use Rattle.tce_candidates.specs.Laws.{rows_of}
-use Rattle.tce_candidates.specs.Reached.{IsStateOf}
-use Rattle.tce_candidates.proofs.ReachedStates.{leaves_have_states}
+use Rattle.tce_fusion.specs.Row.{rows_at}
+use Rattle.tce_fusion.specs.Cover.{operand_rows, right_operand_rows, left_rows, right_rows}
+use Rattle.tce_fusion.specs.Reached.{tree_of_operand, tree_of_right, left_below, right_below}
+use Rattle.tce_fusion.proofs.Operands.{operations-node}
+use Rattle.tce_fusion.proofs.Reached.{operands_are_joined}
+use Rattle.tce_search.specs.declared.candidate.Candidate.{Candidate}
+use Rattle.tce_search.specs.Candidates.{IsLimited, HaveRoom, AreOperands}
+use Rattle.tce_search.specs.Laws.{rows_of}
+use Rattle.tce_search.specs.Reached.{IsStateOf}
+use Rattle.tce_search.proofs.ReachedStates.{leaves_have_states}
 use Rattle.tce_search.specs.CandidateLists.{candidates_at, tables_of, leaf_candidate, operand_candidates, right_operand_candidates, left_candidates, right_candidates, Searched, IsKept, AreKept}
 
 -- ---- their rows

@@ -8,14 +8,14 @@ use Rattle.tce_tree.specs.ContractionTree.{ContractionTree, operations, node_dim
 use Rattle.tce_tree.specs.Fusion.{FusionFits}
 use Rattle.tce_tree.specs.Memory.{memory}
 use Rattle.tce_fusion.specs.Scope.{IsLegal}
-use Rattle.tce_states.specs.Row.{Row}
-use Rattle.tce_states.specs.Cover.{Covers, ArePruned, NodesCovered, RootBelow}
-use Rattle.tce_states.specs.Reached.{IsLegalWith}
-use Rattle.tce_states.proofs.Covers.{least_by_cover}
-use Rattle.tce_nesting.specs.declared.plan.Plan.{Plan}
-use Rattle.tce_nesting.specs.Plan.{RowFits, RowsFit}
-use Rattle.tce_candidates.specs.declared.candidate.Candidate.{Candidate}
-use Rattle.tce_candidates.specs.Laws.{rows_of}
+use Rattle.tce_fusion.specs.Row.{Row}
+use Rattle.tce_fusion.specs.Cover.{Covers, ArePruned, NodesCovered, RootBelow}
+use Rattle.tce_fusion.specs.Reached.{IsLegalWith}
+use Rattle.tce_fusion.proofs.Covers.{least_by_cover}
+use Rattle.tce_fusion.specs.declared.plan.Plan.{Plan}
+use Rattle.tce_fusion.specs.Plan.{RowFits, RowsFit}
+use Rattle.tce_search.specs.declared.candidate.Candidate.{Candidate}
+use Rattle.tce_search.specs.Laws.{rows_of}
 use Rattle.tce_search.specs.CandidateLists.{candidates_at, tables_of, Searched, AreCandidates, AreFound}
 use Rattle.tce_search.specs.LeastPlan.{IsLeastPlan, IsPlanOf}
 use Rattle.tce_search.proofs.Operands.{tables-at}

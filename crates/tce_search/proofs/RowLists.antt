@@ -1,9 +1,9 @@
 -- Tables that are filled row by row.
 use Rattle.std.proofs.Common.{◌≡◌, ℕ, ◌+◌, ◌<◌, ◌≤◌, List, [], ◌∷◌, ◌++◌, map, take, set, length, get_or, sym, ap, ◌∙◌, arith}
 use Rattle.std.proofs.lemmas.List.{append_assoc, length-map, get_or-set_same, set-set, map_more, ext_get_or}
-use Rattle.tce_states.specs.Row.{Row, rows_at}
-use Rattle.tce_candidates.specs.declared.candidate.Candidate.{Candidate}
-use Rattle.tce_candidates.specs.Laws.{rows_of}
+use Rattle.tce_fusion.specs.Row.{Row, rows_at}
+use Rattle.tce_search.specs.declared.candidate.Candidate.{Candidate}
+use Rattle.tce_search.specs.Laws.{rows_of}
 use Rattle.tce_search.specs.CandidateLists.{candidates_at, tables_of}
 use Rattle.tce_search.proofs.Operands.{tables-at}
 

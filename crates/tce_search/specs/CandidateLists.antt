@@ -8,14 +8,14 @@ use Rattle.tce_tree.specs.ContractionTree.{ContractionTree, operations, node, no
 use Rattle.tce_tree.specs.FlatTree.{left_of, right_of}
 use Rattle.tce_tree.specs.declared.node.Operand.{Operand}
 use Rattle.tce_tree.specs.declared.node.Operand.TheVariants.{Leaf, Constant, Node}
-use Rattle.tce_states.specs.Row.{Row, leaf_row, AreApart}
-use Rattle.tce_states.specs.Cover.{NodeCovered}
-use Rattle.tce_nesting.specs.Plan.{LiesWithin}
-use Rattle.tce_candidates.specs.declared.candidate.Candidate.{Candidate}
-use Rattle.tce_candidates.specs.declared.limits.Limits.{Limits}
-use Rattle.tce_candidates.specs.Candidates.{IsLimited}
-use Rattle.tce_candidates.specs.Laws.{rows_of}
-use Rattle.tce_candidates.specs.Reached.{IsStateOf}
+use Rattle.tce_fusion.specs.Row.{Row, leaf_row, AreApart}
+use Rattle.tce_fusion.specs.Cover.{NodeCovered}
+use Rattle.tce_fusion.specs.Plan.{LiesWithin}
+use Rattle.tce_search.specs.declared.candidate.Candidate.{Candidate}
+use Rattle.tce_search.specs.declared.limits.Limits.{Limits}
+use Rattle.tce_search.specs.Candidates.{IsLimited}
+use Rattle.tce_search.specs.Laws.{rows_of}
+use Rattle.tce_search.specs.Reached.{IsStateOf}
 
 -- the candidates of node `v`
 abbrev pub candidates_at : List (List Candidate) → ℕ → List Candidate

@@ -9,10 +9,10 @@ use Rattle.tce_tree.specs.Orders.{lists_of}
 use Rattle.tce_tree.specs.Memory.{size_at, memory}
 use Rattle.tce_fusion.specs.Scope.{IsLegal, IsStandardAt}
 use Rattle.tce_fusion.specs.Least.{IsLeast}
-use Rattle.tce_states.specs.Row.{Row}
-use Rattle.tce_states.specs.Cover.{Covers, ArePruned}
-use Rattle.tce_nesting.specs.declared.plan.Plan.{Plan}
-use Rattle.tce_nesting.specs.Plan.{PlanFits}
+use Rattle.tce_fusion.specs.Row.{Row}
+use Rattle.tce_fusion.specs.Cover.{Covers, ArePruned}
+use Rattle.tce_fusion.specs.declared.plan.Plan.{Plan}
+use Rattle.tce_fusion.specs.Plan.{PlanFits}
 use Rattle.tce_search.specs.declared.plan.Answer.{Answer}
 use Rattle.tce_search.specs.declared.plan.Answer.TheVariants.{Least, AtLeast}
 

@@ -1,3 +1,11 @@
+pub mod Candidates
+pub mod Ends
+pub mod Groups
+pub mod Joins
+pub mod Laws
+pub mod Parts
+pub mod Reached
+pub mod Steps
 pub mod CandidateLists
 pub mod Root
 pub mod LeastPlan

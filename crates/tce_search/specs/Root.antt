@@ -3,10 +3,10 @@ use Rattle.std.specs.Prelude.{◌≡◌, ℕ, ◌+◌, ◌≤◌, Option, List}
 use Rattle.std.specs.List.{All, Contains}
 use Rattle.std.specs.declared.option.Option.TheVariants.{Some, None}
 use Rattle.tce_space.specs.IndexSet.{empty}
-use Rattle.tce_states.specs.Relation.{HasNoConflict}
-use Rattle.tce_states.specs.Row.{rows_joined}
-use Rattle.tce_states.specs.Reached.{sets_of_step}
-use Rattle.tce_candidates.specs.declared.candidate.Candidate.{Candidate}
+use Rattle.tce_fusion.specs.Relation.{HasNoConflict}
+use Rattle.tce_fusion.specs.Row.{rows_joined}
+use Rattle.tce_fusion.specs.Reached.{sets_of_step}
+use Rattle.tce_search.specs.declared.candidate.Candidate.{Candidate}
 use Rattle.tce_search.specs.declared.root.WholeFusion.{WholeFusion}
 
 -- the sets of both candidates, which have no conflict, and nothing fused at the root; the memory is the sum of their costs

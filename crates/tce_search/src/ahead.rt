@@ -3,9 +3,9 @@ ghost use Rattle.std.specs.Prelude.{◌<◌};
 ghost use Rattle.tce_tree.specs.ContractionTree.{operations};
 ghost use Rattle.tce_tree.specs.Measure.{IsMeasured};
 
+use crate::limits::Ahead;
 use std::alloc::{AllocError, Global};
-use tce_candidates::Ahead;
-use tce_nesting::{Choice, choices};
+use tce_fusion::{Choice, choices};
 use tce_space::{IndexSet, Space};
 use tce_tree::Tree;
 

@@ -3,7 +3,7 @@ ghost use Rattle.std.specs.Prelude.{◌≡◌, ◌<◌, ◌≤◌, true, false, 
 ghost use Rattle.tce_space.specs.Limits.{cost_limit};
 ghost use Rattle.tce_tree.specs.ContractionTree.{operations};
 
-use tce_candidates::Candidate;
+use crate::candidate::Candidate;
 use tce_space::MAX_NODES;
 use tce_tree::{Operand, Tree};
 

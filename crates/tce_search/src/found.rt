@@ -4,9 +4,9 @@ ghost use Rattle.tce_tree.specs.ContractionTree.{operations};
 ghost use Rattle.tce_tree.specs.FlatTree.{IsBefore};
 ghost use Rattle.tce_search.specs.CandidateLists as list;
 
+use crate::candidate::Candidate;
 use std::alloc::{AllocError, Global};
 use std::marker::Model;
-use tce_candidates::Candidate;
 use tce_tree::{Operand, Tree};
 
 /// The candidates of the first nodes of a tree, by the node's number: states, and what stands for others, which costs at least so much.

@@ -7,10 +7,12 @@ ghost use Rattle.tce_search.specs.CandidateLists.{AreCandidates, AreKept, AreFou
 
 use crate::ahead::Aheads;
 use crate::bounds::{Bounds, least_cost};
+use crate::candidate::Candidate;
 use crate::found::Found;
+use crate::limits::Limits;
+use crate::table::{NodeLoops, candidates_of};
 use std::alloc::{AllocError, Global};
-use tce_candidates::{Candidate, Limits, NodeLoops, candidates_of};
-use tce_nesting::choices;
+use tce_fusion::choices;
 use tce_space::{IndexSet, Space};
 use tce_tree::Tree;
 

@@ -7,11 +7,13 @@ ghost use Rattle.tce_search.specs.CandidateLists.{AreKept};
 
 use crate::ahead::Aheads;
 use crate::bounds::Bounds;
+use crate::candidate::Candidate;
+use crate::fewer::cheapest_few;
 use crate::found::Found;
+use crate::limits::Limits;
 use crate::node::{candidates_of_node, outer_loops};
 use crate::root::least_fusion;
 use std::alloc::{AllocError, Global};
-use tce_candidates::{Candidate, Limits, cheapest_few};
 use tce_space::Space;
 use tce_tree::Tree;
 

@@ -6,22 +6,21 @@ ghost use Rattle.tce_tree.specs.Fusion.{FusionFits};
 ghost use Rattle.tce_tree.specs.Measure.{IsMeasured};
 ghost use Rattle.tce_tree.specs.Memory.{size_at};
 ghost use Rattle.tce_fusion.specs.Scope.{IsLegal};
-ghost use Rattle.tce_states.specs.Row.{rows_at};
-ghost use Rattle.tce_candidates.specs.Laws.{rows_of};
+ghost use Rattle.tce_fusion.specs.Row.{rows_at};
+ghost use Rattle.tce_search.specs.Laws.{rows_of};
 ghost use Rattle.tce_search.specs.CandidateLists as list;
 ghost use Rattle.tce_search.specs.CandidateLists.{AreFound};
 ghost use Rattle.tce_search.specs.LeastPlan.{IsAnswer, IsPlainAnswer, IsLeastPlan, IsPlanOf, IsBelowFusions, IsExceeded};
 
 use crate::bounds::Bounds;
+use crate::candidate::Candidate;
 use crate::found::Found;
 use crate::node::find_candidates;
 use crate::pass::look_ahead;
 use crate::root::least_fusion;
 use arrayvec::ArrayVec;
 use std::alloc::{AllocError, Global};
-use tce_candidates::Candidate;
-use tce_fusion::{memory, size_of, standard_orders};
-use tce_nesting::{Plan, Tables};
+use tce_fusion::{Plan, Tables, memory, size_of, standard_orders};
 use tce_space::{MAX_NODES, Space};
 use tce_tree::{Fusion, Tree};
 

@@ -3,11 +3,12 @@ ghost use Rattle.std.specs.Prelude.{◌≡◌, ◌⊎◌, ◌↔◌, IsTrue, ℕ
 ghost use Rattle.tce_space.specs.Limits.{max_loops, max_nodes};
 ghost use Rattle.tce_space.specs.IndexSet.{count};
 ghost use Rattle.tce_tree.specs.ContractionTree.{operations};
-ghost use Rattle.tce_candidates.specs.Candidates.{IsLimited, AreOperands};
+ghost use Rattle.tce_search.specs.Candidates.{IsLimited, AreOperands};
 ghost use Rattle.tce_search.specs.Root.{IsMadeOf, IsMadeOfSome, IsAtMost, IsBound, IsBoundOfAll};
 
+use crate::candidate::{Candidate, joined_sets};
+use crate::steps::join_rows;
 use arrayvec::ArrayVec;
-use tce_candidates::{Candidate, join_rows, joined_sets};
 use tce_space::{IndexSet, MAX_NODES};
 use tce_tree::Tree;
 

@@ -5,7 +5,7 @@ use Rattle.std.specs.Option.{ForSome, option_map}
 use Rattle.std.proofs.lemmas.Option.{slice_get_within}
 use Rattle.tce_outside.specs.Files.{Files}
 use Rattle.tce_spec.specs.Specification.{Specification}
-use Rattle.tce_tensors.specs.Takings.{tile_take}
+use Rattle.tce_job.specs.Takings.{tile_take}
 use Rattle.tce_job.specs.declared.fault.JobFault.{JobFault}
 use Rattle.tce_job.specs.declared.fault.JobFault.TheVariants as faults
 use Rattle.tce_job.specs.Refusals.{NamesDeclared, IsFree as IsFreeFault}
@@ -16,7 +16,7 @@ use Rattle.tce_batch_job.specs.Left.{IsLeftAt, IsRoomLeftAt}
 use Rattle.tce_command.specs.Refusals.{IsFree}
 use Rattle.tce_command.specs.declared.refusal.Refusal.{Refusal}
 use Rattle.tce_command.specs.declared.refusal.Refusal.TheVariants.{Disk, Memory}
-use Rattle.tce_source.specs.BatchSource.{HasBatch}
+use Rattle.tce_command.specs.BatchSource.{HasBatch}
 use Rattle.tce_run.specs.Told.{IsOfFiles, IsToldAs}
 use Rattle.tce_sequence.specs.BatchDone.{IsBatchLeft, IsBatchRoomLeft, IsBatchRun, IsBatchTaking, OnlyBatchDiffers}
 use Rattle.tce_sequence.specs.BatchOfFormulas.{AreRun, IsFormulaFault}

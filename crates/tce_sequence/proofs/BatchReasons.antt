@@ -4,7 +4,7 @@ use Rattle.std.specs.Prelude.{slice_get}
 use Rattle.std.specs.Option.{ForSome}
 use Rattle.tce_outside.specs.Files.{Files, file}
 use Rattle.tce_spec.specs.Specification.{Specification}
-use Rattle.tce_tensors.specs.TensorFiles.{name_of}
+use Rattle.tce_job.specs.TensorFiles.{name_of}
 use Rattle.tce_job.specs.declared.fault.JobFault.{JobFault}
 use Rattle.tce_job.specs.declared.fault.JobFault.TheVariants as faults
 use Rattle.tce_job.specs.Refusals.{IsFree as IsFreeFault}
@@ -12,7 +12,7 @@ use Rattle.tce_batch_job.specs.Refusals.{IsAt, IsCauseAt, IsKnown, SourcesBelow}
 use Rattle.tce_batch_job.proofs.Causes.{one_cause, no_cause}
 use Rattle.tce_command.specs.Refusals.{IsFree, SameRefusal}
 use Rattle.tce_command.specs.declared.refusal.Refusal.{Refusal}
-use Rattle.tce_source.proofs.Outcomes.{one_batch, one_batch_refusal, not_both_batch}
+use Rattle.tce_command.proofs.Outcomes.{one_batch, one_batch_refusal, not_both_batch}
 use Rattle.tce_run.specs.Told.{IsToldAs}
 use Rattle.tce_run.proofs.Told.{told_free}
 use Rattle.tce_sequence.specs.BatchDone.{CanRunFormulas, IsBatchRun}

@@ -12,9 +12,9 @@ use Rattle.tce_array.specs.Faults.{DifferFirst, IsFault}
 use Rattle.tce_array.proofs.Contents.{length-head}
 use Rattle.tce_spec.specs.Specification.{Specification}
 use Rattle.tce_spec.specs.Operands.{shape_of}
-use Rattle.tce_tensors.specs.TensorFiles.{file_of}
-use Rattle.tce_tensors.specs.declared.opening.Refused.{Refused}
-use Rattle.tce_tensors.specs.Opened.{operand, operand_count, HasArray, HasOperands, IsRefused}
+use Rattle.tce_job.specs.TensorFiles.{file_of}
+use Rattle.tce_job.specs.declared.opening.Refused.{Refused}
+use Rattle.tce_job.specs.Opened.{operand, operand_count, HasArray, HasOperands, IsRefused}
 
 equal_or_not : (a b : ℕ) → (a ≡ b) ⊎ (a ≢ b)
 equal_or_not a b =

@@ -13,7 +13,7 @@ use Rattle.tce_spill_job.specs.Refusals.{IsSpillCause, WithCuts}
 use Rattle.tce_spill_job.specs.Left.{HasSpilled, IsLeft, IsRoomLeft, OnlyPiecesDiffer as OnlyFilesOfPiecesDiffer}
 use Rattle.tce_command.specs.declared.refusal.Refusal.{Refusal}
 use Rattle.tce_command.specs.declared.refusal.Refusal.TheVariants.{Disk, Memory}
-use Rattle.tce_source.specs.Source.{HasSpecification}
+use Rattle.tce_command.specs.Source.{HasSpecification}
 use Rattle.tce_run.specs.Told.{TellsArray}
 use Rattle.tce_run.proofs.Ran.{within}
 use Rattle.tce_run.proofs.Told.{refusal_in}

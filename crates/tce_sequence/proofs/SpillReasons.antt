@@ -5,14 +5,14 @@ use Rattle.std.proofs.lemmas.Bool.{cases_lt}
 use Rattle.tce_outside.specs.Files.{Files, file}
 use Rattle.tce_array.specs.declared.fault.ArrayFault.{ArrayFault}
 use Rattle.arrayvec.specs.ArrayString.{ArrayString}
-use Rattle.tce_declarations.specs.Declarations.{Tensor}
+use Rattle.tce_spec.specs.Declarations.{Tensor}
 use Rattle.tce_pieces.specs.Pieces.{Cuts}
 use Rattle.tce_spec.specs.Specification.{Specification, IsSpecification}
 use Rattle.tce_spec.specs.PieceSpecification.{source}
 use Rattle.tce_spec.proofs.PieceSources.{source_declared}
 use Rattle.tce_spec.proofs.Seen.{operand_declared}
-use Rattle.tce_tensors.specs.TensorFiles.{name_of}
-use Rattle.tce_tensors.specs.Opened.{HasOperands, IsRefused, operand_count}
+use Rattle.tce_job.specs.TensorFiles.{name_of}
+use Rattle.tce_job.specs.Opened.{HasOperands, IsRefused, operand_count}
 use Rattle.tce_spill.specs.Refusals.{IsFree as IsFreeFault}
 use Rattle.tce_spill.specs.declared.fault.SpillFault.{SpillFault}
 use Rattle.tce_spill.specs.declared.fault.SpillFault.TheVariants as faults
@@ -22,7 +22,7 @@ use Rattle.tce_spill_job.proofs.Causes.{cut_exact, no_cause, test_exact}
 use Rattle.tce_spill_job.proofs.Ready.{few_of}
 use Rattle.tce_command.specs.Refusals.{IsFree, SameRefusal}
 use Rattle.tce_command.specs.declared.refusal.Refusal.{Refusal}
-use Rattle.tce_source.proofs.Outcomes.{one, one_refusal, not_both}
+use Rattle.tce_command.proofs.Outcomes.{one, one_refusal, not_both}
 use Rattle.tce_run.specs.Told.{TellsArray}
 use Rattle.tce_sequence.specs.SpillDone.{IsSpillRun}
 use Rattle.tce_sequence.specs.SpillRefusals.{CanRunPieces, CanSpill, IsPieceRefusal, IsSpillRefusal, IsToldAs}

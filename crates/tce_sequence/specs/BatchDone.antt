@@ -3,9 +3,9 @@ use Rattle.std.specs.Prelude.{◌≡◌, ◌⊎◌, ℕ, ◌≤◌, List, length
 use Rattle.std.specs.Option.{ForSome, option_map}
 use Rattle.tce_outside.specs.Files.{Files, others}
 use Rattle.tce_spec.specs.Specification.{Specification}
-use Rattle.tce_tensors.specs.TensorFiles.{file_of}
-use Rattle.tce_tensors.specs.Laws.{LeavesNoHalfResult}
-use Rattle.tce_tensors.specs.Takings.{tile_take}
+use Rattle.tce_job.specs.TensorFiles.{file_of}
+use Rattle.tce_job.specs.Laws.{LeavesNoHalfResult}
+use Rattle.tce_job.specs.Takings.{tile_take}
 use Rattle.tce_job.specs.Several.{files_after, OnlyResultsDiffer, HasTakenEach}
 use Rattle.tce_batch_job.specs.Reports.{HasRun}
 use Rattle.tce_batch_job.specs.Refusals.{AffordableBelow, SourcesBelow}
@@ -13,7 +13,7 @@ use Rattle.tce_batch_job.specs.Left.{files_at}
 use Rattle.tce_command.specs.Refusals.{IsFree}
 use Rattle.tce_command.specs.declared.refusal.Refusal.{Refusal}
 use Rattle.tce_command.specs.declared.refusal.Refusal.TheVariants.{Disk, Memory}
-use Rattle.tce_source.specs.BatchSource.{HasBatch}
+use Rattle.tce_command.specs.BatchSource.{HasBatch}
 
 -- all that the formulas need is there: each can be afforded, and each operand that is no earlier result has its file
 pub record CanRunFormulas (files : Files) (formulas : List Specification) (budget : ℕ) : Type 0 where

@@ -9,7 +9,7 @@ use Rattle.tce_batch_job.specs.declared.fault.BatchFault.{BatchFault}
 use Rattle.tce_command.specs.Refusals.{IsFree}
 use Rattle.tce_command.specs.declared.refusal.Refusal.{Refusal}
 use Rattle.tce_command.specs.declared.refusal.Refusal.TheVariants.{Disk, Memory}
-use Rattle.tce_source.specs.BatchSource.{HasBatch, IsBatchSourceRefusal}
+use Rattle.tce_command.specs.BatchSource.{HasBatch, IsBatchSourceRefusal}
 use Rattle.tce_sequence.specs.BatchDone.{CanRunFormulas}
 use Rattle.tce_run.specs.Told.{IsToldAs}
 

@@ -3,7 +3,7 @@ use Rattle.std.specs.Prelude.{◌≡◌, ◌⊎◌, ℕ, ◌≤◌, List, All, O
 use Rattle.std.specs.Option.{ForSome}
 use Rattle.tce_outside.specs.Files.{Files}
 use Rattle.tce_spec.specs.Specification.{Specification}
-use Rattle.tce_tensors.specs.Takings.{tile_take}
+use Rattle.tce_job.specs.Takings.{tile_take}
 use Rattle.tce_job.specs.Several.{OnlyResultsDiffer}
 use Rattle.tce_spill_job.specs.Pieces.{pieces_of}
 use Rattle.tce_spill_job.specs.Refusals.{WithCuts}
@@ -12,7 +12,7 @@ use Rattle.tce_spill_job.specs.Left.{HasEndedAt, HasFailedAt, HasSpilled, HasTak
 use Rattle.tce_command.specs.Refusals.{IsFree}
 use Rattle.tce_command.specs.declared.refusal.Refusal.{Refusal}
 use Rattle.tce_command.specs.declared.refusal.Refusal.TheVariants.{Disk, Memory}
-use Rattle.tce_source.specs.Source.{HasSpecification}
+use Rattle.tce_command.specs.Source.{HasSpecification}
 use Rattle.tce_sequence.specs.SpillRefusals.{CanRunPieces}
 
 -- the file specifies what was run, and all that its pieces need was there; the files are those that the pieces of the cuts for the limit leave one after the other, so that the result is that of the whole and each cut node has the array of its values; for each piece in turn the room gave the memory of a least plan, which is within the limit, and the words for tiles, which are within the budget; and the report has the line of each piece

@@ -4,7 +4,7 @@ use Rattle.tce_outside.specs.Files.{Files, file}
 use Rattle.tce_array.specs.declared.fault.ArrayFault.TheVariants as array_fault
 use Rattle.tce_pieces.specs.Pieces.{Cuts}
 use Rattle.tce_spec.specs.Specification.{Specification}
-use Rattle.tce_tensors.specs.Opened.{HasOperands, operand_count}
+use Rattle.tce_job.specs.Opened.{HasOperands, operand_count}
 use Rattle.tce_spill.specs.declared.fault.SpillFault.{SpillFault}
 use Rattle.tce_spill.specs.declared.fault.SpillFault.TheVariants as faults
 use Rattle.tce_spill_job.specs.Pieces.{largest_of}
@@ -12,7 +12,7 @@ use Rattle.tce_spill_job.specs.Refusals.{AreCut, IsSpillCause}
 use Rattle.tce_command.specs.declared.refusal.Refusal.{Refusal}
 use Rattle.tce_command.specs.declared.refusal.Refusal.TheVariants.{Budget, Spill, Disk, Memory}
 use Rattle.tce_command.specs.declared.trouble.SpillTrouble.TheVariants as troubles
-use Rattle.tce_source.specs.Source.{HasSpecification, IsSourceRefusal}
+use Rattle.tce_command.specs.Source.{HasSpecification, IsSourceRefusal}
 use Rattle.tce_run.specs.Told.{TellsArray}
 
 -- all that the pieces need is there: there are cuts for the limit, the budget holds three of the largest tiles of the operands, the result and the arrays of the cut nodes, and each operand has its file

@@ -13,9 +13,8 @@ use crate::batch_refusals::refusal_at;
 use std::alloc::Global;
 use tce_batch::Batch;
 use tce_batch_job::run_batch;
-use tce_command::Refusal;
+use tce_command::{Refusal, read_batch_source};
 use tce_outside::Disk;
-use tce_source::read_batch_source;
 use tce_words::Room;
 
 /// Runs the formulas in a file in order, each as `run` runs one, and gives the report; a result may be an operand of a

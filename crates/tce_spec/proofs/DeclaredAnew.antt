@@ -7,7 +7,7 @@ use Rattle.std.proofs.lemmas.List.{map-append, take_more, take_all, length-map, 
 use Rattle.std.proofs.lemmas.List.Quantifiers.{position-Some}
 use Rattle.std.proofs.lemmas.Map.Keys.{apart_from_distinct}
 use Rattle.tce_space.specs.Space.{IndexSpace}
-use Rattle.tce_declarations.specs.Declarations.{Declarations, Tensor, tensor_number, no_tensor}
+use Rattle.tce_spec.specs.Declarations.{Declarations, Tensor, tensor_number, no_tensor}
 use Rattle.tce_spec.specs.Specification.{Specification}
 use Rattle.tce_spec.specs.PieceSpecification.{source}
 

@@ -7,14 +7,14 @@ use Rattle.tce_tree.specs.Faults.{fault_of}
 use Rattle.tce_grammar.specs.Formula as formula
 use Rattle.tce_grammar.specs.Formula.{Formula, operations}
 use Rattle.tce_grammar.proofs.Chains.{map_none}
-use Rattle.tce_declarations.specs.Declarations.{Declarations, IsDeclarations}
-use Rattle.tce_declarations.specs.Faults.{Fault, fault_if, too_many_nodes, tree}
-use Rattle.tce_formula.specs.FormulaFaults.{formula_fault}
-use Rattle.tce_formula.specs.Lengths.{IsShort}
-use Rattle.tce_formula.specs.Meaning.{meaning}
-use Rattle.tce_formula.specs.Rules.{places_fault, tree_fault}
-use Rattle.tce_formula.proofs.Nothing.{none_or}
-use Rattle.tce_formula.proofs.FormulaParts.{fault_parts, is_ready}
+use Rattle.tce_spec.specs.Declarations.{Declarations, IsDeclarations}
+use Rattle.tce_spec.specs.Faults.{Fault, fault_if, too_many_nodes, tree}
+use Rattle.tce_spec.specs.FormulaFaults.{formula_fault}
+use Rattle.tce_spec.specs.Lengths.{IsShort}
+use Rattle.tce_spec.specs.Meaning.{meaning}
+use Rattle.tce_spec.specs.Rules.{places_fault, tree_fault}
+use Rattle.tce_spec.proofs.Nothing.{none_or}
+use Rattle.tce_spec.proofs.FormulaParts.{fault_parts, is_ready}
 use Rattle.tce_spec.specs.Specification.{ConstantsAreWords}
 
 pub record LineKeeps (d : Declarations) (f : Formula) : Type 0 where

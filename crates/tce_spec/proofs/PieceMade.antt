@@ -1,8 +1,8 @@
 -- What the program makes of the parts of a piece is its specification.
 use Rattle.std.proofs.Common.{◌≡◌, ℕ, ◌<◌, ◌≤◌, List, length, sym, ap, subst, arith}
 use Rattle.tce_tree.specs.ContractionTree.{ContractionTree}
-use Rattle.tce_declarations.specs.Declarations.{Declarations}
-use Rattle.tce_formula.specs.Contraction.{IsContraction}
+use Rattle.tce_spec.specs.Declarations.{Declarations}
+use Rattle.tce_spec.specs.Contraction.{IsContraction}
 use Rattle.tce_spec.specs.Specification.{Specification}
 
 pub room_for_target : (xs us : List ℕ) → xs ≡ us → length us ≤ 31 → length xs < 64

@@ -20,7 +20,7 @@ use Rattle.tce_tree.specs.WellFormed.{indexes_below}
 use Rattle.tce_tree.proofs.Lists.{all-among}
 use Rattle.tce_tree.proofs.Members.{dims_lt}
 use Rattle.tce_tree.proofs.NamedIndexes.{dims_below, indexes_below-node, all_below}
-use Rattle.tce_declarations.specs.Declarations.{Declarations, Tensor, IsTensor, IsDeclarations, HaveNames, tensor_at, no_tensor}
+use Rattle.tce_spec.specs.Declarations.{Declarations, Tensor, IsTensor, IsDeclarations, HaveNames, tensor_at, no_tensor}
 use Rattle.tce_pieces.specs.Pieces.{stored}
 use Rattle.tce_pieces.specs.Storable.{ranges_of_node, shape_of_node, has_room, storable}
 use Rattle.tce_pieces.proofs.Places.{member_is}

@@ -16,8 +16,8 @@ use Rattle.tce_tree.proofs.Members.{dims_lt}
 use Rattle.tce_tree.proofs.Nodes.{node-root, size_bounds}
 use Rattle.tce_tree.proofs.Operands.{stands-node}
 use Rattle.tce_tree.proofs.Permutations.{distinct-members}
-use Rattle.tce_declarations.specs.Declarations.{Tensor, IsTensor, IsDeclarations, HaveNames, tensor_at, no_tensor}
-use Rattle.tce_formula.specs.Contraction.{LeavesFit, IsContraction}
+use Rattle.tce_spec.specs.Declarations.{Tensor, IsTensor, IsDeclarations, HaveNames, tensor_at, no_tensor}
+use Rattle.tce_spec.specs.Contraction.{LeavesFit, IsContraction}
 use Rattle.tce_pieces.specs.Pieces.{Cuts, stored, except, piece}
 use Rattle.tce_pieces.specs.Storable.{storable}
 use Rattle.tce_pieces.proofs.Rest.{dims_rest}

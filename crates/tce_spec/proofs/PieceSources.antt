@@ -11,8 +11,8 @@ use Rattle.tce_space.specs.Space.{index_at}
 use Rattle.tce_tree.specs.ContractionTree.{ContractionTree, leaf, constant, binary, sum, dims, operations, node, node_dims}
 use Rattle.tce_tree.proofs.Nodes.{node-left, node-right_at, node-operand, node-root}
 use Rattle.tce_tree.proofs.Operands.{Stands, stands-left, stands-right, stands-operand}
-use Rattle.tce_declarations.specs.Declarations.{Declarations, Tensor, tensor_at, no_tensor}
-use Rattle.tce_formula.specs.Contraction.{FitsTensor, LeavesFit, has_tensor}
+use Rattle.tce_spec.specs.Declarations.{Declarations, Tensor, tensor_at, no_tensor}
+use Rattle.tce_spec.specs.Contraction.{FitsTensor, LeavesFit, has_tensor}
 use Rattle.tce_pieces.specs.Pieces.{Cuts, stored, unless_cut, rest_of, except}
 use Rattle.tce_spec.specs.Specification.{Specification}
 use Rattle.tce_spec.specs.Operands.{references, with_new, each_once}

@@ -9,7 +9,7 @@ use Rattle.tce_tree.proofs.Lists.{all-among}
 use Rattle.tce_tree.proofs.Members.{dims_lt}
 use Rattle.tce_tree.proofs.NamedIndexes.{dims_below}
 use Rattle.tce_tree.proofs.Nodes.{node-left, node-right_at, node-operand, node-root}
-use Rattle.tce_formula.specs.Contraction.{sums_some}
+use Rattle.tce_spec.specs.Contraction.{sums_some}
 use Rattle.tce_pieces.specs.Pieces.{Cuts, unless_cut, rest_of}
 use Rattle.tce_pieces.proofs.Places.{member_is}
 use Rattle.tce_spec.specs.Specification.{ConstantsAreWords}

@@ -4,16 +4,16 @@ use Rattle.std.proofs.lemmas.List.{drop-map}
 use Rattle.tce_grammar.specs.Lines.{lines}
 use Rattle.tce_grammar.specs.Grammar.{Line}
 use Rattle.tce_grammar.specs.Reading.{line_of}
-use Rattle.tce_declarations.specs.Declarations.{nothing_declared}
-use Rattle.tce_declarations.specs.Faults.{Fault, too_long}
-use Rattle.tce_declarations.specs.FaultCode.{Shows}
-use Rattle.tce_declarations.specs.Text.{Head, head_of, closing_fault, unless}
-use Rattle.tce_declarations.specs.TextCode.{fault_in}
-use Rattle.tce_declarations.specs.declared.fault.SpecFault.{SpecFault}
-use Rattle.tce_declarations.specs.declared.fault.SpecFault.TheVariants.{Memory, Tree}
+use Rattle.tce_spec.specs.Declarations.{nothing_declared}
+use Rattle.tce_spec.specs.Faults.{Fault, too_long}
+use Rattle.tce_spec.specs.FaultCode.{Shows}
+use Rattle.tce_spec.specs.Text.{Head, head_of, closing_fault, unless}
+use Rattle.tce_spec.specs.TextCode.{fault_in}
+use Rattle.tce_spec.specs.declared.fault.SpecFault.{SpecFault}
+use Rattle.tce_spec.specs.declared.fault.SpecFault.TheVariants.{Memory, Tree}
 use Rattle.tce_tree.specs.declared.fault.TreeFault.TheVariants as tree_faults
-use Rattle.tce_declarations.proofs.Readings.{lines_of, lines_are, lines_only, computed_head}
-use Rattle.tce_formula.specs.FormulaFaults.{formula_fault}
+use Rattle.tce_spec.proofs.Readings.{lines_of, lines_are, lines_only, computed_head}
+use Rattle.tce_spec.specs.FormulaFaults.{formula_fault}
 use Rattle.tce_spec.specs.Specification.{Specification}
 use Rattle.tce_spec.specs.Outcome.{IsOutcome, outcome, outcome_in, behind, specified}
 

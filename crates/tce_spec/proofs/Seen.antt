@@ -8,9 +8,9 @@ use Rattle.std.specs.Cmp.{IsEquivalence}
 use Rattle.std.proofs.lemmas.List.{length_push}
 use Rattle.std.proofs.lemmas.List.Folds.{list_all-append}
 use Rattle.tce_tree.specs.ContractionTree.{ContractionTree, leaf, constant, binary, sum}
-use Rattle.tce_declarations.specs.Declarations.{Declarations}
-use Rattle.tce_formula.specs.Contraction.{LeavesFit}
-use Rattle.tce_formula.proofs.Faultless.{member_below}
+use Rattle.tce_spec.specs.Declarations.{Declarations}
+use Rattle.tce_spec.specs.Contraction.{LeavesFit}
+use Rattle.tce_spec.proofs.Faultless.{member_below}
 use Rattle.tce_tree.proofs.NamedIndexes.{all_below}
 use Rattle.tce_spec.specs.Specification.{Specification}
 use Rattle.tce_spec.specs.Operands.{AreSeen, with_new, references, operands}

@@ -1,6 +1,6 @@
 -- A law of what texts specify.
 use Rattle.std.specs.Prelude.{◌≡◌, ℕ, List, Result}
-use Rattle.tce_declarations.specs.Faults.{Fault}
+use Rattle.tce_spec.specs.Faults.{Fault}
 use Rattle.tce_spec.specs.Specification.{Specification}
 use Rattle.tce_spec.specs.Outcome.{IsOutcome}
 

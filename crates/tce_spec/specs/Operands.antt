@@ -4,7 +4,7 @@ use Rattle.std.specs.List.{fold, list_any, list_all, IsDistinct}
 use Rattle.tce_space.specs.Space.{tiling_of}
 use Rattle.tce_space.specs.Tiling.{Tiling, tile_words}
 use Rattle.tce_tree.specs.ContractionTree.{ContractionTree, leaf, constant, binary, sum}
-use Rattle.tce_declarations.specs.Declarations.{tensor_at}
+use Rattle.tce_spec.specs.Declarations.{tensor_at}
 use Rattle.tce_spec.specs.Specification.{Specification}
 
 -- the tensors that a tree refers to, from the left

@@ -3,11 +3,11 @@ use Rattle.std.specs.Prelude.{◌≡◌, ℕ, ◌+◌, ◌^◌, List, length, dr
 use Rattle.std.specs.declared.result.Result.TheVariants.{Ok, Err}
 use Rattle.tce_grammar.specs.Lines.{lines}
 use Rattle.tce_grammar.specs.Grammar.{Line, AreLines}
-use Rattle.tce_declarations.specs.Declarations.{nothing_declared}
-use Rattle.tce_declarations.specs.Faults.{Fault, too_long}
-use Rattle.tce_declarations.specs.Text.{Head, head_of, closing_fault, unless}
-use Rattle.tce_formula.specs.FormulaFaults.{formula_fault}
-use Rattle.tce_formula.specs.Meaning.{meaning, tensor_of, indexes_of}
+use Rattle.tce_spec.specs.Declarations.{nothing_declared}
+use Rattle.tce_spec.specs.Faults.{Fault, too_long}
+use Rattle.tce_spec.specs.Text.{Head, head_of, closing_fault, unless}
+use Rattle.tce_spec.specs.FormulaFaults.{formula_fault}
+use Rattle.tce_spec.specs.Meaning.{meaning, tensor_of, indexes_of}
 use Rattle.tce_spec.specs.Specification.{Specification}
 
 -- what a formula without a fault specifies

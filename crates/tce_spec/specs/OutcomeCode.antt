@@ -5,13 +5,13 @@ use Rattle.tce_space.specs.Name.{is_name}
 use Rattle.tce_grammar.specs.Lines.{lines}
 use Rattle.tce_grammar.specs.Grammar.{AreNames}
 use Rattle.tce_grammar.specs.Code.{names, formula}
-use Rattle.tce_declarations.specs.Faults.{Fault}
-use Rattle.tce_declarations.specs.FaultCode.{Shows}
-use Rattle.tce_declarations.specs.TextCode.{fault_in, AnswersHead}
-use Rattle.tce_declarations.specs.declared.text.Head.{Head}
-use Rattle.tce_declarations.specs.declared.fault.SpecFault.{SpecFault}
-use Rattle.tce_formula.specs.Places.{IsNamed}
-use Rattle.tce_formula.specs.declared.read.Contraction.{Contraction}
+use Rattle.tce_spec.specs.Faults.{Fault}
+use Rattle.tce_spec.specs.FaultCode.{Shows}
+use Rattle.tce_spec.specs.TextCode.{fault_in, AnswersHead}
+use Rattle.tce_spec.specs.declared.text.Head.{Head}
+use Rattle.tce_spec.specs.declared.fault.SpecFault.{SpecFault}
+use Rattle.tce_spec.specs.Places.{IsNamed}
+use Rattle.tce_spec.specs.declared.read.Contraction.{Contraction}
 use Rattle.tce_spec.specs.Specification.{Specification}
 use Rattle.tce_spec.specs.SpecCode.{specification_of}
 use Rattle.tce_spec.specs.Outcome.{IsOutcome}

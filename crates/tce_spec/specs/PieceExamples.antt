@@ -3,7 +3,7 @@ use Rattle.std.specs.Prelude.{◌≡◌, ℕ, List, [], ◌∷◌, codes}
 use Rattle.tce_tree.specs.ContractionTree.{leaf, binary, sum, multiply}
 use Rattle.tce_tree.specs.Examples.{two_sums}
 use Rattle.tce_space.specs.Space.{IndexSpace, Range, Index}
-use Rattle.tce_declarations.specs.Declarations.{Tensor}
+use Rattle.tce_spec.specs.Declarations.{Tensor}
 use Rattle.tce_spec.specs.Specification.{Specification}
 use Rattle.tce_pieces.specs.Examples.{cut_at}
 use Rattle.tce_spec.specs.PieceSpecification.{piece_of}

@@ -1,8 +1,8 @@
 -- What a `Spec` shows of its parts.
 use Rattle.std.specs.Prelude.{◌≡◌}
 use Rattle.tce_tree.specs.Expr.{tree_of}
-use Rattle.tce_declarations.specs.Declarations.{Declarations}
-use Rattle.tce_formula.specs.declared.read.Contraction.{Contraction}
+use Rattle.tce_spec.specs.Declarations.{Declarations}
+use Rattle.tce_spec.specs.declared.read.Contraction.{Contraction}
 use Rattle.tce_spec.specs.Specification.{Specification, IsSpecification}
 
 abbrev pub specification_of : Declarations → Contraction → Specification

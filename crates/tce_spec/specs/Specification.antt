@@ -5,8 +5,8 @@ use Rattle.tce_tree.specs.ContractionTree.{ContractionTree, leaf, constant, bina
 use Rattle.tce_tree.specs.WellFormed.{sums_distinct}
 use Rattle.tce_tree.specs.Faults.{fault_of}
 use Rattle.tce_tree.specs.Measure.{IsMeasured}
-use Rattle.tce_declarations.specs.Declarations.{Declarations, IsDeclarations}
-use Rattle.tce_formula.specs.Contraction.{IsContraction}
+use Rattle.tce_spec.specs.Declarations.{Declarations, IsDeclarations}
+use Rattle.tce_spec.specs.Contraction.{IsContraction}
 
 -- the result is a tensor with an index for each of its dimensions; its elements are the values of the tree
 pub record Specification : Type 0 where

@@ -4,16 +4,50 @@
 //! first line with a fault decides. A [`Spec`] is seen as a `Specification` (`specs/Specification.antt`), and each keeps
 //! the rules that stand there. [`piece`] gives the specification of a piece of a tree that is cut
 //! (`specs/PieceSpecification.antt`).
+//!
+//! [`read_head`] reads a text up to the line of its formula, and [`check_rest`] what stands behind that line. A
+//! [`Declarations`] is seen as an index space and a list of tensors, in order of declaration
+//! (`specs/Declarations.antt`). The faults of a line are the rows of `specs/DeclarationLines.antt`, in the order in
+//! which they are tried, and `specs/Text.antt` says what the lines of a text mean together.
+//!
+//! [`read_formula`] reads the line of the formula. It is faulty where a name is not declared, a list of indexes does not
+//! fit its tensor, an index stands twice in a list, the result is an operand, or the expression has no tree over the
+//! indexes of the result. The faults are tried in a fixed order, each over the whole line from the left:
+//! `specs/FormulaFaults.antt` is that order, and `specs/Meaning.antt` is what a formula without a fault means.
+//!
+//! The functions that do nothing carry laws of these definitions.
 #![tactic(auto)]
 
+mod constant;
 mod copies;
+mod declaration_laws;
+mod declarations;
+mod expression;
+mod fault;
+mod formula_laws;
+mod indexes;
 mod laws;
+mod names;
+mod numbers;
 mod operands;
 mod pieces;
+mod ranges;
+mod read;
+mod rule;
 mod sources;
 mod spec;
+mod tensors;
+mod text;
 
+pub use declaration_laws::{declaration_examples_have_their_faults, every_text_has_one_reading};
+pub use declarations::{Declarations, Tensor};
+pub use fault::{Limit, SpecFault};
+pub use formula_laws::{
+    examples_mean_their_trees, formula_examples_have_their_faults, formula_lines_have_names,
+};
 pub use laws::{every_text_has_one_outcome, piece_specification_has_value};
+pub use numbers::{leads_with_zero, value_of};
 pub use pieces::piece;
+pub use read::{Contraction, read_formula};
 pub use spec::{Spec, read_spec};
-pub use tce_declarations::{Limit, SpecFault, Tensor};
+pub use text::{Head, check_rest, read_head};

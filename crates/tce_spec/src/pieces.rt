@@ -5,21 +5,21 @@ ghost use Rattle.tce_space.specs.Limits.{max_nodes, max_rank, max_tensors};
 ghost use Rattle.tce_space.specs.IndexSet.{has, count};
 ghost use Rattle.tce_tree.specs.Expr.{tree_of};
 ghost use Rattle.tce_tree.specs.ContractionTree.{leaf, sum, operations, node, node_dims};
-ghost use Rattle.tce_declarations.specs.Declarations.{HaveNames};
+ghost use Rattle.tce_spec.specs.Declarations.{HaveNames};
 ghost use Rattle.tce_pieces.specs.Pieces as model;
 ghost use Rattle.tce_spec.specs.PieceSpecification.{CanCut, piece_of, renumbered, place_in, target_indexes};
 ghost use Rattle.tce_spec.specs.PieceCode.{StandsAt, HaveRank, target_number, cuts_below, IsRestOf, IsRenumbered, IsJoined, with_operands, specification_to};
 ghost use Rattle.tce_spec.specs.Specification.{ConstantsAreWords};
-ghost use Rattle.tce_formula.specs.Contraction.{IsContraction};
+ghost use Rattle.tce_spec.specs.Contraction.{IsContraction};
 ghost use Rattle.tce_tree.specs.WellFormed.{sums_distinct};
 
+use crate::declarations::Declarations;
+use crate::read::Contraction;
 use crate::sources::{FIRST_ARRAY, declared, dims_of, sources_of};
 use crate::spec::Spec;
 use arrayvec::ArrayVec;
 use std::alloc::{AllocError, Global};
 use std::boxed::Box;
-use tce_declarations::Declarations;
-use tce_formula::Contraction;
 use tce_space::{MAX_INDEXES, MAX_RANK};
 use tce_tree::{Expr, Leaf, Tree};
 

@@ -4,18 +4,20 @@ ghost use Rattle.std.specs.Prelude.{◌≡◌, ◌<◌, ◌≤◌, ◌+◌, leng
 ghost use Rattle.tce_space.specs.Limits.{max_spec_bytes};
 ghost use Rattle.tce_space.specs.Tiling.{tile_words};
 ghost use Rattle.tce_tree.specs.Expr.{tree_of};
-ghost use Rattle.tce_declarations.specs.Declarations.{HaveNames, tensor_number, tensor_at};
+ghost use Rattle.tce_spec.specs.Declarations.{HaveNames, tensor_number, tensor_at};
 ghost use Rattle.tce_spec.specs.Specification.{IsSpecification};
 ghost use Rattle.tce_spec.specs.Operands.{operands, largest_tile, shape_of};
 ghost use Rattle.tce_spec.specs.OutcomeCode.{FormulaHasNames, SpecifiesAs, HasFault, AnswersText};
 ghost use Rattle.tce_spec.specs.SpecCode.{specification_of, IsKept};
 
+use crate::declarations::{Declarations, Tensor};
+use crate::fault::SpecFault;
 use crate::operands::add_operands;
+use crate::read::{Contraction, read_formula};
+use crate::text::{Head, check_rest, read_head};
 use arrayvec::ArrayVec;
 use std::alloc::Global;
 use std::marker::Model;
-use tce_declarations::{Declarations, Head, SpecFault, Tensor, check_rest, read_head};
-use tce_formula::{Contraction, read_formula};
 use tce_space::{MAX_TENSORS, Space};
 use tce_tree::{Expr, Leaf, Tree};
 

@@ -11,14 +11,14 @@ use Rattle.tce_tree.specs.Fusion.{fused_at, FusionFits}
 use Rattle.tce_tree.proofs.Nodes.{node-root, operations-leaf}
 use Rattle.tce_fusion.specs.Scope.{IsLegal}
 use Rattle.tce_tree.proofs.Operands.{stands-whole}
-use Rattle.tce_states.specs.Relation.{Relation, joined, cut, HasNoConflict, Allows}
-use Rattle.tce_states.specs.State.{root_number, first_right, fused_at_root, state, operands_joined, HasState, size_left, cost, operands_cost}
-use Rattle.tce_states.specs.Reached.{sets_of_step}
-use Rattle.tce_states.proofs.Operands.{operations-node, left_operand_at, right_operand_at}
-use Rattle.tce_states.proofs.Tells.{state-leaf, state-node}
-use Rattle.tce_states.proofs.Legality.{state_from_leaf, state_from_parts, state_parts, legal_from_states}
-use Rattle.tce_states.proofs.Costs.{cost-leaf, cost-node, costs_add_up}
-use Rattle.tce_states.proofs.Reached.{SameSets, Alike, alike}
+use Rattle.tce_fusion.specs.Relation.{Relation, joined, cut, HasNoConflict, Allows}
+use Rattle.tce_fusion.specs.State.{root_number, first_right, fused_at_root, state, operands_joined, HasState, size_left, cost, operands_cost}
+use Rattle.tce_fusion.specs.Reached.{sets_of_step}
+use Rattle.tce_fusion.proofs.Operands.{operations-node, left_operand_at, right_operand_at}
+use Rattle.tce_fusion.proofs.Tells.{state-leaf, state-node}
+use Rattle.tce_fusion.proofs.LegalStates.{state_from_leaf, state_from_parts, state_parts, legal_from_states}
+use Rattle.tce_fusion.proofs.Costs.{cost-leaf, cost-node, costs_add_up}
+use Rattle.tce_fusion.proofs.Reached.{SameSets, Alike, alike}
 use Rattle.tce_spill.specs.Parts.{FitsMemory}
 
 -- each two indexes that are above in the first relation are above in the second

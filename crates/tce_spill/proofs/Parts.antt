@@ -6,10 +6,10 @@ use Rattle.tce_space.specs.IndexSet.{has, set_of, minus, union, IsWithin, empty}
 use Rattle.tce_space.specs.Space.{IndexSpace, volume_of}
 use Rattle.tce_tree.specs.ContractionTree.{ContractionTree, leaf, constant, binary, sum, left_tree, right_tree, dims, loops, operations, node, node_dims}
 use Rattle.tce_tree.specs.Fusion.{fused_at}
-use Rattle.tce_states.specs.Relation.{none, HasNoConflict, Allows}
-use Rattle.tce_states.specs.State.{first_right, fused_at_root, state, operands_joined, HasState, size_left, cost, operands_cost}
-use Rattle.tce_states.proofs.Legality.{states_from_legal}
-use Rattle.tce_states.proofs.Costs.{costs_add_up}
+use Rattle.tce_fusion.specs.Relation.{none, HasNoConflict, Allows}
+use Rattle.tce_fusion.specs.State.{first_right, fused_at_root, state, operands_joined, HasState, size_left, cost, operands_cost}
+use Rattle.tce_fusion.proofs.LegalStates.{states_from_legal}
+use Rattle.tce_fusion.proofs.Costs.{costs_add_up}
 use Rattle.tce_tree.proofs.Nodes.{node-left, node-right, node-operand, node-root}
 use Rattle.tce_spill.specs.Parts.{IsRest, IsPart, FitsMemory}
 use Rattle.tce_spill.proofs.Fused.{IsFused, fused_leaf, fused_step, fits_memory}

@@ -9,7 +9,7 @@ use Rattle.tce_array.specs.Forms.{form_bytes, IsForm, IsArray}
 use Rattle.tce_array.proofs.Contents.{form_bytes_is}
 use Rattle.tce_array.proofs.FormOf.{form_of_file}
 use Rattle.tce_tree.specs.ContractionTree.{operations}
-use Rattle.tce_formula.specs.Contraction.{has_tensor}
+use Rattle.tce_spec.specs.Contraction.{has_tensor}
 use Rattle.tce_pieces.specs.Pieces.{Cuts, stored, piece, is_root}
 use Rattle.tce_pieces.specs.Storable.{shape_of_node, storable}
 use Rattle.tce_spec.specs.Specification.{Specification, IsSpecification}
@@ -18,11 +18,11 @@ use Rattle.tce_spec.specs.PieceSpecification.{CanCut, source, sources, target, p
 use Rattle.tce_spec.proofs.PieceRules.{IsPiece, is_contraction}
 use Rattle.tce_spec.proofs.PieceSources.{own_count}
 use Rattle.tce_spec.proofs.Seen.{operand_declared}
-use Rattle.tce_tensors.specs.TensorFiles.{file_of}
-use Rattle.tce_tensors.specs.Opened.{operand, operand_count, HasArray, HasOperands}
-use Rattle.tce_tensors.specs.Laws.{IsOperand}
-use Rattle.tce_tensors.proofs.Operands.{in_tree, is_operand}
-use Rattle.tce_tensors.proofs.Tiles.{result_within, operand_within, all_within}
+use Rattle.tce_job.specs.TensorFiles.{file_of}
+use Rattle.tce_job.specs.Opened.{operand, operand_count, HasArray, HasOperands}
+use Rattle.tce_job.specs.Laws.{IsOperand}
+use Rattle.tce_job.proofs.Operands.{in_tree, is_operand}
+use Rattle.tce_job.proofs.Tiles.{result_within, operand_within, all_within}
 use Rattle.tce_job.specs.Refusals.{IsAffordable}
 use Rattle.tce_spill.proofs.Renumbered.{renumbered_is_alike}
 use Rattle.tce_spill_job.specs.Pieces.{source_file, largest_below, largest_of}

@@ -11,10 +11,10 @@ use Rattle.tce_pieces.specs.Pieces.{Cuts}
 use Rattle.tce_pieces.specs.Storable.{shape_of_node}
 use Rattle.tce_spec.specs.Specification.{Specification}
 use Rattle.tce_spec.specs.PieceSpecification.{source}
-use Rattle.tce_declarations.specs.Declarations.{Tensor}
+use Rattle.tce_spec.specs.Declarations.{Tensor}
 use Rattle.tce_spec.proofs.PieceSources.{source_declared}
-use Rattle.tce_tensors.specs.TensorFiles.{name_of}
-use Rattle.tce_tensors.specs.Opened.{operand, operand_count, HasOperands, IsRefused}
+use Rattle.tce_job.specs.TensorFiles.{name_of}
+use Rattle.tce_job.specs.Opened.{operand, operand_count, HasOperands, IsRefused}
 use Rattle.tce_job.proofs.Causes.{one_refused, none_refused}
 use Rattle.tce_spill.specs.Refusals.{IsCutFault, IsFree}
 use Rattle.tce_spill.specs.declared.fault.SpillFault.{SpillFault}

@@ -5,13 +5,13 @@ use Rattle.std.proofs.lemmas.Bool.{cases_lt, cases_eq, or_cases, false≢true}
 use Rattle.tce_outside.specs.Files.{Files, others}
 use Rattle.tce_array.specs.declared.fault.ArrayFault.{ArrayFault}
 use Rattle.tce_tree.specs.ContractionTree.{operations}
-use Rattle.tce_declarations.specs.Declarations.{Tensor}
+use Rattle.tce_spec.specs.Declarations.{Tensor}
 use Rattle.tce_pieces.specs.Pieces.{Cuts, stored, is_root}
 use Rattle.tce_spec.specs.Specification.{Specification, IsSpecification}
 use Rattle.tce_spec.specs.PieceSpecification.{source, sources, target, piece_of}
 use Rattle.tce_spec.proofs.PieceSources.{own_count, own_source, own_last, source_declared}
-use Rattle.tce_tensors.specs.TensorFiles.{file_of, name_of}
-use Rattle.tce_tensors.specs.Laws.{LeavesNoHalfResult}
+use Rattle.tce_job.specs.TensorFiles.{file_of, name_of}
+use Rattle.tce_job.specs.Laws.{LeavesNoHalfResult}
 use Rattle.tce_job.specs.Prepared.{HasTaken as HasTakenOne}
 use Rattle.tce_job.specs.Several.{files_after, HasTakenEach}
 use Rattle.tce_spill.specs.declared.fault.SpillFault.{SpillFault}

@@ -9,8 +9,8 @@ use Rattle.tce_tree.specs.ContractionTree.{operations}
 use Rattle.tce_pieces.specs.Pieces.{Cuts, is_root}
 use Rattle.tce_spec.specs.Specification.{Specification}
 use Rattle.tce_spec.specs.PieceSpecification.{piece_of}
-use Rattle.tce_tensors.specs.TensorFiles.{file_of}
-use Rattle.tce_tensors.specs.ResultBytes.{with_result}
+use Rattle.tce_job.specs.TensorFiles.{file_of}
+use Rattle.tce_job.specs.ResultBytes.{with_result}
 use Rattle.tce_job.specs.Several.{files_after, OnlyResultsDiffer}
 use Rattle.tce_job.proofs.Several.{found, IsApart, one_other}
 use Rattle.tce_spill.specs.declared.fault.SpillFault.{SpillFault}

@@ -5,7 +5,7 @@ use Rattle.std.proofs.lemmas.Bool.{cases_Bool, and_parts, or_left, or_right, fal
 use Rattle.tce_tree.specs.ContractionTree.{ContractionTree, leaf, constant, binary, sum, operations, node}
 use Rattle.tce_tree.specs.FlatTree.{first_number_of}
 use Rattle.tce_tree.proofs.Nodes.{size_bounds}
-use Rattle.tce_formula.specs.Contraction.{has_tensor}
+use Rattle.tce_spec.specs.Contraction.{has_tensor}
 use Rattle.tce_pieces.specs.Pieces.{Cuts, stored, unless_cut, rest_of, except, piece}
 use Rattle.tce_spec.specs.Specification.{Specification}
 use Rattle.tce_spec.specs.Operands.{references}

@@ -4,7 +4,7 @@ use Rattle.std.specs.Option.{ForSome}
 use Rattle.std.proofs.lemmas.Bool.{cases_lt, true≢false}
 use Rattle.tce_outside.specs.Files.{Files}
 use Rattle.tce_tree.specs.ContractionTree.{operations}
-use Rattle.tce_declarations.specs.Declarations.{HaveNames}
+use Rattle.tce_spec.specs.Declarations.{HaveNames}
 use Rattle.tce_pieces.specs.Pieces.{Cuts}
 use Rattle.tce_spec.specs.Specification.{Specification}
 use Rattle.tce_spill.specs.CutsFor.{AreCutsFor, MeetLimit}

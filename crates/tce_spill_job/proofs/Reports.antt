@@ -5,12 +5,12 @@ use Rattle.std.proofs.lemmas.Bool.{cases_Bool}
 use Rattle.std.proofs.lemmas.List.{append_assoc, append-nil}
 use Rattle.std.proofs.lemmas.List.Elements.{All-from_recursion}
 use Rattle.tce_tree.specs.ContractionTree.{operations}
-use Rattle.tce_nesting.specs.declared.plan.Plan.{Plan}
+use Rattle.tce_fusion.specs.declared.plan.Plan.{Plan}
 use Rattle.tce_pieces.specs.Pieces.{Cuts, piece, is_root}
 use Rattle.tce_spec.specs.Specification.{Specification}
 use Rattle.tce_spec.specs.PieceSpecification.{piece_of, sources, place_in}
 use Rattle.tce_spec.proofs.PieceSources.{each_append}
-use Rattle.tce_tensors.specs.Takings.{tile_take}
+use Rattle.tce_job.specs.Takings.{tile_take}
 use Rattle.tce_job.specs.declared.report.RunReport.{RunReport}
 use Rattle.tce_job.specs.Prepared.{taking_of, HasTaken as HasTakenOne}
 use Rattle.tce_job.specs.Run.{IsReported as IsRunReported}

@@ -7,7 +7,7 @@ use Rattle.tce_tree.specs.ContractionTree.{ContractionTree}
 use Rattle.tce_pieces.specs.Pieces.{Cuts, is_root}
 use Rattle.tce_spec.specs.Specification.{Specification}
 use Rattle.tce_spec.specs.PieceSpecification.{piece_of}
-use Rattle.tce_tensors.specs.ResultBytes.{with_result}
+use Rattle.tce_job.specs.ResultBytes.{with_result}
 use Rattle.tce_job.specs.Several.{files_after}
 use Rattle.tce_job.proofs.Several.{after_more}
 use Rattle.tce_spill_job.specs.Pieces.{roots_below, pieces_below}

@@ -5,8 +5,8 @@ use Rattle.std.proofs.lemmas.List.Elements.{All-from_recursion}
 use Rattle.tce_space.specs.Space.{tiling_of}
 use Rattle.tce_space.specs.Tiling.{Tiling}
 use Rattle.tce_tree.specs.ContractionTree.{operations}
-use Rattle.tce_declarations.specs.Declarations.{Tensor, HaveNames, tensor_at}
-use Rattle.tce_formula.specs.Contraction.{has_tensor}
+use Rattle.tce_spec.specs.Declarations.{Tensor, HaveNames, tensor_at}
+use Rattle.tce_spec.specs.Contraction.{has_tensor}
 use Rattle.tce_pieces.specs.Pieces.{Cuts, stored}
 use Rattle.tce_pieces.specs.Storable.{shape_of_node}
 use Rattle.tce_spec.specs.Specification.{Specification, IsSpecification}
@@ -15,9 +15,9 @@ use Rattle.tce_spec.specs.PieceSpecification.{CanCut, source, sources, target, a
 use Rattle.tce_spec.proofs.PieceSources.{source_declared, source_stored, own_source, own_last}
 use Rattle.tce_spec.proofs.PieceNames.{IsTensorOrArray, names_apart, storable_has}
 use Rattle.tce_spec.proofs.Seen.{operand_declared}
-use Rattle.tce_tensors.specs.TensorFiles.{file_of}
-use Rattle.tce_tensors.specs.Laws.{IsOperand}
-use Rattle.tce_tensors.proofs.Operands.{is_operand}
+use Rattle.tce_job.specs.TensorFiles.{file_of}
+use Rattle.tce_job.specs.Laws.{IsOperand}
+use Rattle.tce_job.proofs.Operands.{is_operand}
 use Rattle.tce_spill_job.specs.Pieces.{source_file}
 use Rattle.tce_spill_job.proofs.PieceReads.{IsReadOf, reads}
 

@@ -6,7 +6,7 @@ use Rattle.tce_tree.specs.ContractionTree.{operations}
 use Rattle.tce_pieces.specs.Pieces.{Cuts, is_root}
 use Rattle.tce_spec.specs.Specification.{Specification, IsSpecification}
 use Rattle.tce_spec.specs.PieceSpecification.{piece_of}
-use Rattle.tce_tensors.specs.Opened.{HasOperands, operand_count}
+use Rattle.tce_job.specs.Opened.{HasOperands, operand_count}
 use Rattle.tce_job.specs.Several.{files_after}
 use Rattle.tce_job.proofs.Several.{after_more}
 use Rattle.tce_spill_job.specs.Pieces.{pieces_below}

@@ -27,8 +27,8 @@ use Rattle.tce_tree.proofs.NamedIndexes.{indexes_below-le, has-set_of_list}
 use Rattle.tce_tree.proofs.Nodes.{node-root}
 use Rattle.tce_tree.proofs.Values.{value-lt}
 use Rattle.tce_tree.proofs.Assignments.{assignment_inside}
-use Rattle.tce_declarations.specs.Declarations.{Declarations, Tensor, IsTensor, HaveNames, tensor_at}
-use Rattle.tce_formula.specs.Contraction.{LeavesFit, has_tensor}
+use Rattle.tce_spec.specs.Declarations.{Declarations, Tensor, IsTensor, HaveNames, tensor_at}
+use Rattle.tce_spec.specs.Contraction.{LeavesFit, has_tensor}
 use Rattle.tce_pieces.specs.Pieces.{Cuts, stored, is_root, tensors_below}
 use Rattle.tce_pieces.specs.Storable.{shape_of_node, storable}
 use Rattle.tce_pieces.specs.Laws.{HoldNodes}
@@ -39,13 +39,13 @@ use Rattle.tce_spec.specs.PieceSpecification.{source, sources, target_indexes, a
 use Rattle.tce_spec.specs.PieceLaws.{HaveSources}
 use Rattle.tce_spec.proofs.PieceNames.{IsStored, storable_has, array_is_tensor}
 use Rattle.tce_spec.proofs.PieceValues.{piece_specification_has_value}
-use Rattle.tce_tensors.specs.TensorFiles.{file_of, bytes_in, elements}
-use Rattle.tce_tensors.specs.ResultBytes.{result_bytes, with_result}
-use Rattle.tce_tensors.proofs.Made.{file_bytes}
-use Rattle.tce_tensors.proofs.Names.{different_files}
-use Rattle.tce_tensors.proofs.Operands.{not_result}
-use Rattle.tce_tensors.proofs.Results.{result_tiling}
-use Rattle.tce_tensors.proofs.Shapes.{shapes_are_tilings}
+use Rattle.tce_job.specs.TensorFiles.{file_of, bytes_in, elements}
+use Rattle.tce_job.specs.ResultBytes.{result_bytes, with_result}
+use Rattle.tce_job.proofs.ResultMade.{file_bytes}
+use Rattle.tce_job.proofs.Names.{different_files}
+use Rattle.tce_job.proofs.Operands.{not_result}
+use Rattle.tce_job.proofs.Results.{result_tiling}
+use Rattle.tce_job.proofs.Shapes.{shapes_are_tilings}
 use Rattle.tce_job.proofs.Begun.{result_indexes}
 use Rattle.tce_spill_job.specs.Pieces.{source_file}
 use Rattle.tce_spill_job.specs.Values.{node_element, node_bytes, HasRunTo, IsSpilled}

@@ -6,8 +6,8 @@ use Rattle.tce_tree.specs.ContractionTree.{operations}
 use Rattle.tce_pieces.specs.Pieces.{Cuts, is_root}
 use Rattle.tce_spec.specs.Specification.{Specification}
 use Rattle.tce_spec.specs.PieceSpecification.{piece_of}
-use Rattle.tce_tensors.specs.TensorFiles.{file_of}
-use Rattle.tce_tensors.specs.Laws.{LeavesNoHalfResult}
+use Rattle.tce_job.specs.TensorFiles.{file_of}
+use Rattle.tce_job.specs.Laws.{LeavesNoHalfResult}
 use Rattle.tce_job.specs.Several.{files_after, OnlyResultsDiffer, HasTakenEach}
 use Rattle.tce_spill.specs.declared.fault.SpillFault.{SpillFault}
 use Rattle.tce_spill.specs.declared.fault.SpillFault.TheVariants.{TooManyTensors, LimitTooSmall, BudgetTooSmall, Disk, Memory}

@@ -7,12 +7,12 @@ use Rattle.tce_outside.specs.Files.{Files}
 use Rattle.tce_array.specs.declared.fault.ArrayFault.{ArrayFault}
 use Rattle.tce_array.specs.declared.fault.ArrayFault.TheVariants as array_fault
 use Rattle.tce_tree.specs.ContractionTree.{operations}
-use Rattle.tce_declarations.specs.Declarations.{HaveNames}
+use Rattle.tce_spec.specs.Declarations.{HaveNames}
 use Rattle.tce_pieces.specs.Pieces.{Cuts}
 use Rattle.tce_spec.specs.Specification.{Specification}
 use Rattle.tce_spec.specs.PieceSpecification.{source}
-use Rattle.tce_tensors.specs.TensorFiles.{name_of}
-use Rattle.tce_tensors.specs.Opened.{IsRefused}
+use Rattle.tce_job.specs.TensorFiles.{name_of}
+use Rattle.tce_job.specs.Opened.{IsRefused}
 use Rattle.tce_spill.specs.CutsFor.{AreCutsFor, AreStorable, MeetLimit}
 use Rattle.tce_spill.specs.Refusals.{IsCutFault, IsFree}
 use Rattle.tce_spill.specs.declared.fault.SpillFault.{SpillFault}

@@ -5,14 +5,14 @@ use Rattle.std.specs.Fmt.{decimal}
 use Rattle.tce_array.specs.declared.form.Form.TheVariants.{One}
 use Rattle.tce_array.specs.Forms.{form_len}
 use Rattle.tce_tree.specs.ContractionTree.{operations}
-use Rattle.tce_nesting.specs.declared.plan.Plan.{Plan}
+use Rattle.tce_fusion.specs.declared.plan.Plan.{Plan}
 use Rattle.tce_search.specs.LeastPlan.{IsLeastPlan}
 use Rattle.tce_pieces.specs.Pieces.{Cuts}
 use Rattle.tce_spec.specs.Specification.{Specification}
 use Rattle.tce_spec.specs.Operands.{shape_of}
 use Rattle.tce_spec.specs.PieceSpecification.{piece_of}
-use Rattle.tce_tensors.specs.TensorFiles.{file_of}
-use Rattle.tce_tensors.specs.Takings.{tile_take}
+use Rattle.tce_job.specs.TensorFiles.{file_of}
+use Rattle.tce_job.specs.Takings.{tile_take}
 use Rattle.tce_job.specs.Several.{takings_of}
 use Rattle.tce_spill.specs.CutsFor.{AreCutsFor}
 use Rattle.tce_spill_job.specs.Pieces.{roots_below, pieces_below}

@@ -5,12 +5,12 @@ use Rattle.tce_array.specs.Forms.{array_bytes}
 use Rattle.tce_space.specs.IndexSet.{members}
 use Rattle.tce_tree.specs.ContractionTree.{operations, node, node_dims}
 use Rattle.tce_tree.specs.Value.{value, assignment}
-use Rattle.tce_formula.specs.Contraction.{has_tensor}
+use Rattle.tce_spec.specs.Contraction.{has_tensor}
 use Rattle.tce_pieces.specs.Pieces.{Cuts, stored}
 use Rattle.tce_pieces.specs.Storable.{shape_of_node}
 use Rattle.tce_spec.specs.Specification.{Specification}
-use Rattle.tce_tensors.specs.TensorFiles.{file_of, bytes_in, elements}
-use Rattle.tce_tensors.specs.ResultBytes.{result_bytes}
+use Rattle.tce_job.specs.TensorFiles.{file_of, bytes_in, elements}
+use Rattle.tce_job.specs.ResultBytes.{result_bytes}
 use Rattle.tce_spill_job.specs.Pieces.{source_file}
 
 -- an element of the array of node `v`: the node's value where each of its dims in order has its coordinate

@@ -2,15 +2,14 @@
 ghost use Rattle.std.specs.Prelude.{◌≡◌, Err, IfOk, IfErr};
 ghost use Rattle.std.specs.Option.{ForSome};
 ghost use Rattle.tce_outside.specs.Fault.{HasCause, TellsFaults};
-ghost use Rattle.tce_tensors.specs.Opened.{AreOpened, operand_count};
+ghost use Rattle.tce_job.specs.Opened.{AreOpened, operand_count};
 ghost use Rattle.tce_spill.specs.declared.fault.SpillFault.{SpillFault as Fault};
 ghost use Rattle.tce_spill_job.specs.Refusals.{IsOpeningFault};
 
-use tce_job::{JobFault, opened_forms};
+use tce_job::{Forms, JobFault, opened_forms};
 use tce_outside::Disk;
 use tce_spec::Spec;
 use tce_spill::SpillFault;
-use tce_tensors::Forms;
 
 /// The forms of the files of a specification's operands.
 ///

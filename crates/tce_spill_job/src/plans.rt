@@ -1,7 +1,7 @@
 // The plans of the pieces, which were found with the cuts.
 ghost use Rattle.std.specs.Prelude.{◌≡◌, ◌<◌, Some, None, IsSome, length, slice_index_or, slice_set};
 
-use tce_nesting::Plan;
+use tce_fusion::Plan;
 
 /// A piece whose turn it is: its root, and the plan that it is run by.
 #[derive(Drop)]

@@ -6,10 +6,9 @@ ghost use Rattle.tce_spill_job.specs.Reports.{piece_line, wrote_line};
 
 use std::alloc::{AllocError, Global};
 use tce_array::{Form, form_len};
-use tce_job::{Bytes, RunReport};
+use tce_job::{Bytes, RunReport, file_of};
 use tce_space::FileName;
 use tce_spec::Spec;
-use tce_tensors::file_of;
 
 /// What the runs of the pieces report.
 #[derive(Drop)]

@@ -7,7 +7,7 @@ ghost use Rattle.tce_pieces.specs.Pieces.{is_root as is_root_of};
 ghost use Rattle.tce_pieces.specs.Storable.{shape_of_node, storable};
 ghost use Rattle.tce_spec.specs.Operands.{shape_of};
 ghost use Rattle.tce_spec.specs.PieceSpecification.{CanCut};
-ghost use Rattle.tce_declarations.specs.Declarations.{HaveNames};
+ghost use Rattle.tce_spec.specs.Declarations.{HaveNames};
 ghost use Rattle.tce_space.specs.Tiling.{tile_words};
 ghost use Rattle.tce_spill_job.specs.Pieces.{largest_of};
 

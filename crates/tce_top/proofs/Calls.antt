@@ -11,8 +11,8 @@ use Rattle.tce_command.specs.declared.refusal.Refusal.{Refusal}
 use Rattle.tce_command.specs.declared.refusal.Refusal.TheVariants.{Disk}
 use Rattle.tce_command.specs.declared.command_refusal.CommandRefusal.{CommandRefusal}
 use Rattle.tce_command.specs.declared.command_refusal.CommandRefusal.TheVariants.{Common, Certificate}
-use Rattle.tce_verify.specs.Refusals.{IsVerifyRefusalOn, IsWrittenFor}
-use Rattle.tce_verify.specs.Done.{IsVerified}
+use Rattle.tce_plan.specs.VerificationRefusals.{IsVerifyRefusalOn, IsWrittenFor}
+use Rattle.tce_plan.specs.VerificationDone.{IsVerified}
 use Rattle.tce_top.specs.Performed.{Carries, IsCommandRefusal, IsDone, KeepsRoom, LeavesInTurn, LeavesNoHalf, MayLeaveOther, MayTake, NamesItsIndexes, OthersStay, Seen}
 use Rattle.tce_top.proofs.Carried.{Performs, carried, cause_as, disk_or_same, of_err, of_ok, told_as}
 

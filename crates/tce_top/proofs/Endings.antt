@@ -2,7 +2,7 @@
 use Rattle.std.proofs.Common.{◌≡◌, refl, sym, ap, subst, ◌∙◌, inl, inr, ℕ, Bool, true, false, if◌then◌else◌, List, [], ◌++◌, append-nil, Option, Some, None}
 use Rattle.std.specs.Prelude.{⊤}
 use Rattle.std.specs.Option.{option_map}
-use Rattle.tce_declarations.specs.declared.fault.SpecFault.{SpecFault}
+use Rattle.tce_spec.specs.declared.fault.SpecFault.{SpecFault}
 use Rattle.tce_command.specs.Outcome.{HasErrorLine, HasLine, IsKept, IsRefusal, IsReported}
 use Rattle.tce_command.specs.Report.{LineNames, einsum_status, ending_of, wants_memory}
 use Rattle.tce_command.specs.declared.trouble.EinsumTrouble.{EinsumTrouble}

@@ -3,7 +3,7 @@ use Rattle.std.proofs.Common.{◌≡◌, refl, sym, ap, subst, ◌∙◌, ◌⊎
 use Rattle.std.proofs.Math.Seq.{take-length}
 use Rattle.std.specs.Option.{ForSome}
 use Rattle.tce_outside.specs.Files.{Files, file}
-use Rattle.tce_declarations.specs.declared.fault.SpecFault.{SpecFault}
+use Rattle.tce_spec.specs.declared.fault.SpecFault.{SpecFault}
 use Rattle.tce_command.specs.Command.{Command, run, batch, spill, plan, cert, check, pack, unpack, convert, expand, einsum, demo, KeepsRules}
 use Rattle.tce_command.specs.Report.{status_of, ending_of, code_of, line_over, wants_memory}
 use Rattle.tce_command.specs.Refusals.{IsFree, SameRefusal}
@@ -22,12 +22,12 @@ use Rattle.tce_batch_job.specs.Reports.{HasRun}
 use Rattle.tce_job.specs.Several.{HasTakenEach}
 use Rattle.tce_tree.specs.ContractionTree.{operations}
 use Rattle.tce_sequence.specs.SpillDone.{IsSpillRun, IsSpillTaking}
-use Rattle.tce_source.proofs.Outcomes.{not_both, one_refusal as one_source_refusal}
+use Rattle.tce_command.proofs.Outcomes.{not_both, one_refusal as one_source_refusal}
 use Rattle.tce_run.proofs.Reasons as runs
 use Rattle.tce_sequence.proofs.BatchReasons as batches
 use Rattle.tce_sequence.proofs.SpillReasons as spills
 use Rattle.tce_certify.proofs.OneEinsum as einsum_answers
-use Rattle.tce_verify.proofs.OneAnswer as verifications
+use Rattle.tce_plan.proofs.OneVerification as verifications
 use Rattle.tce_tools.specs.Answers.{HasFlat, HasArray, HasFitting}
 use Rattle.tce_flat.specs.Tensors.{array_file, sym_file}
 use Rattle.tce_flat.specs.Refusals.{HasPairs, IsFlatRefusal, IsArrayRefusal, IsFormRefusal, IsSymRefusal}

@@ -5,8 +5,8 @@ use Rattle.tce_outside.specs.Files.{Files, holding, with_file}
 use Rattle.tce_outside.specs.Fault.{Rose}
 use Rattle.tce_outside.proofs.Files.{file-with_file}
 use Rattle.tce_space.specs.Space.{IndexSpace}
-use Rattle.tce_round_trip.specs.Canonical.{canonical_of}
-use Rattle.tce_source.specs.Source.{Specifies}
+use Rattle.tce_canonical.specs.Canonical.{canonical_of}
+use Rattle.tce_command.specs.Source.{Specifies}
 use Rattle.tce_command.specs.Command.{Command, run, batch, spill, plan, cert, check, pack, unpack, convert, expand, einsum, demo, IsCommand}
 use Rattle.tce_command.specs.Report.{LineNames, NamesNoIndex, NamesNothing, cert_line, ending_of, line_over, trouble_of}
 use Rattle.tce_command.specs.CommandRefusals.{HasNames, MayReplace}

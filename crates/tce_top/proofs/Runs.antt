@@ -16,7 +16,7 @@ use Rattle.tce_sequence.specs.BatchDone.{IsBatchLeft, IsBatchRoomLeft, IsBatchRu
 use Rattle.tce_sequence.specs.BatchRefusals.{IsBatchRefusal}
 use Rattle.tce_sequence.specs.SpillDone.{IsSpillLeft, IsSpillRoomLeft, IsSpillRun, OnlyPiecesDiffer}
 use Rattle.tce_sequence.specs.SpillRefusals.{IsSpillRefusal}
-use Rattle.tce_example.specs.Files.{DemoOthersStay, found}
+use Rattle.tce_demo.specs.Files.{DemoOthersStay, found}
 use Rattle.tce_demo.specs.Done.{IsDemonstrated, IsDemoTaking, LeavesDemonstration, LeavesDemoRoom}
 use Rattle.tce_top.specs.Performed.{Carries, Seen}
 use Rattle.tce_top.proofs.Carried.{Performs, carried, cause_as, of_err, of_ok, told_as}

@@ -4,9 +4,9 @@ use Rattle.std.specs.Option.{IsSomeAnd}
 use Rattle.tce_outside.specs.Files.{with_file}
 use Rattle.tce_outside.proofs.Files.{file-with_file}
 use Rattle.tce_tools.proofs.Told.{file_beside}
-use Rattle.tce_source.specs.Source.{Specifies}
-use Rattle.tce_verify.specs.Done.{CanVerify}
-use Rattle.tce_verify.proofs.Names.{apart}
+use Rattle.tce_command.specs.Source.{Specifies}
+use Rattle.tce_plan.specs.VerificationDone.{CanVerify}
+use Rattle.tce_plan.proofs.Names.{apart}
 use Rattle.tce_top.specs.Laws.{WrittenIsVerified}
 
 pub written_is_verified : WrittenIsVerified

@@ -4,7 +4,7 @@ use Rattle.std.specs.Option.{IsSomeAnd}
 use Rattle.tce_outside.specs.Files.{Files}
 use Rattle.tce_command.specs.Command.{NamesSpec, NamesCertificate}
 use Rattle.tce_certify.specs.Done.{IsCertified}
-use Rattle.tce_verify.specs.Done.{CanVerify}
+use Rattle.tce_plan.specs.VerificationDone.{CanVerify}
 
 -- the certificate that is written for a specification can be verified for it, with the same memory
 abbrev pub WrittenIsVerified : Type 0

@@ -5,18 +5,18 @@ use Rattle.tce_outside.specs.Files.{Files, with_file}
 use Rattle.tce_space.specs.Space.{IndexSpace}
 use Rattle.tce_array.specs.declared.form.Form.TheVariants.{One}
 use Rattle.tce_array.specs.Forms.{form_len}
-use Rattle.tce_nesting.specs.declared.plan.Plan.{Plan}
+use Rattle.tce_fusion.specs.declared.plan.Plan.{Plan}
 use Rattle.tce_search.specs.LeastPlan.{IsLeastPlan}
-use Rattle.tce_report.specs.NodeLine.{stated}
-use Rattle.tce_report.specs.Report.{run_text}
+use Rattle.tce_cert.specs.NodeLine.{stated}
+use Rattle.tce_cert.specs.Report.{run_text}
 use Rattle.tce_spec.specs.Specification.{Specification}
 use Rattle.tce_spec.specs.Operands.{shape_of}
-use Rattle.tce_round_trip.specs.Canonical.{canonical_of}
+use Rattle.tce_canonical.specs.Canonical.{canonical_of}
 use Rattle.tce_einsum.specs.Answer.{Produces}
 use Rattle.tce_einsum.specs.HasValue.{HasValueOfEinsum}
-use Rattle.tce_tensors.specs.TensorFiles.{file_of}
-use Rattle.tce_tensors.specs.ResultBytes.{result_bytes}
-use Rattle.tce_tensors.specs.Takings.{tile_take}
+use Rattle.tce_job.specs.TensorFiles.{file_of}
+use Rattle.tce_job.specs.ResultBytes.{result_bytes}
+use Rattle.tce_job.specs.Takings.{tile_take}
 use Rattle.tce_job.specs.Several.{files_after}
 use Rattle.tce_batch_job.specs.Reports.{HasRun}
 use Rattle.tce_pieces.specs.Pieces.{Cuts}
@@ -24,8 +24,8 @@ use Rattle.tce_spill.specs.CutsFor.{AreCutsFor}
 use Rattle.tce_spill_job.specs.Pieces.{pieces_of}
 use Rattle.tce_spill_job.specs.Values.{IsSpilled}
 use Rattle.tce_spill_job.specs.Reports.{IsReportedFor}
-use Rattle.tce_source.specs.Source.{HasSpecification}
-use Rattle.tce_source.specs.BatchSource.{HasBatch}
+use Rattle.tce_command.specs.Source.{HasSpecification}
+use Rattle.tce_command.specs.BatchSource.{HasBatch}
 use Rattle.tce_sequence.specs.BatchDone.{AreFirstRun}
 use Rattle.tce_sequence.specs.SpillDone.{AreFirstPieces}
 use Rattle.tce_command.specs.Command.{Command, batch, demo, expand, spill, IsCommand}

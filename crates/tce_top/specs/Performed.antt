@@ -5,7 +5,7 @@ use Rattle.tce_outside.specs.Fault.{HasCause, TellsFaults}
 use Rattle.tce_outside.specs.Files.{Files, others}
 use Rattle.tce_space.specs.Space.{IndexSpace}
 use Rattle.tce_spec.specs.Specification.{Specification}
-use Rattle.tce_source.specs.Source.{HasSpecification}
+use Rattle.tce_command.specs.Source.{HasSpecification}
 use Rattle.tce_command.specs.Command.{Command, run, batch, spill, plan, cert, check, pack, unpack, convert, expand, einsum, demo}
 use Rattle.tce_command.specs.Report.{cert_line, trouble_of}
 use Rattle.tce_command.specs.Refusals.{IsFree}
@@ -25,13 +25,13 @@ use Rattle.tce_certify.specs.Done.{IsCertified}
 use Rattle.tce_certify.specs.Refusals.{CanCertify, IsCertifyRefusal}
 use Rattle.tce_certify.specs.EinsumDone.{IsEinsumWritten}
 use Rattle.tce_certify.specs.EinsumRefusals.{CanWriteEinsum, IsEinsumRefusal}
-use Rattle.tce_verify.specs.Done.{CanVerify, IsVerified}
-use Rattle.tce_verify.specs.Refusals.{IsVerifyRefusal}
+use Rattle.tce_plan.specs.VerificationDone.{CanVerify, IsVerified}
+use Rattle.tce_plan.specs.VerificationRefusals.{IsVerifyRefusal}
 use Rattle.tce_flat.specs.Tensors.{array_file, converted_file}
 use Rattle.tce_flat.specs.Refusals.{CanPack, CanUnpack, CanConvert, CanExpand, IsPackRefusal, IsUnpackRefusal, IsConvertRefusal, IsExpandRefusal}
 use Rattle.tce_flat.specs.Done.{IsPacked, IsUnpacked, IsConverted, IsExpanded}
 use Rattle.tce_flat.specs.NoHalf.{LeavesFor, LeavesPacking, LeavesUnpacking, LeavesConverting, LeavesExpanding}
-use Rattle.tce_example.specs.Files.{DemoOthersStay}
+use Rattle.tce_demo.specs.Files.{DemoOthersStay}
 use Rattle.tce_demo.specs.Done.{IsDemonstrated, IsDemoTaking, LeavesDemonstration}
 
 -- the disk has all that the command needs; an einsum needs its words alone, and a demonstration nothing

@@ -10,10 +10,9 @@ use tce_command::{Command, CommandRefusal, Refusal};
 use tce_demo::demo;
 use tce_flat::{convert, expand, pack, unpack};
 use tce_outside::Disk;
-use tce_plan::plan;
+use tce_plan::{plan, verify};
 use tce_run::run;
 use tce_sequence::{run_all, spill};
-use tce_verify::verify;
 use tce_words::Room;
 
 /// Does what a command says, and gives its report.

@@ -7,11 +7,11 @@ use Rattle.tce_space.specs.Tiling.{ArePositive}
 use Rattle.tce_tree.specs.Value.{assignment}
 use Rattle.tce_tree.proofs.Permutations.{among-permutation}
 use Rattle.tce_tree.proofs.Assignments.{all_positive}
-use Rattle.tce_strides.specs.Places.{word_place, AreWithin, AreApart}
-use Rattle.tce_strides.specs.Steps.{lens, out_steps, left_steps, right_steps, sum_lens, sum_out_steps, operand_steps}
-use Rattle.tce_strides.specs.Turns.{IsMade}
-use Rattle.tce_strides.specs.declared.loops.Loop.{Loop}
-use Rattle.tce_strides.specs.declared.loops.SumLoop.{SumLoop}
+use Rattle.tce_block.specs.Places.{word_place, AreWithin, AreApart}
+use Rattle.tce_block.specs.StrideSteps.{lens, out_steps, left_steps, right_steps, sum_lens, sum_out_steps, operand_steps}
+use Rattle.tce_block.specs.Turns.{IsMade}
+use Rattle.tce_block.specs.declared.loops.Loop.{Loop}
+use Rattle.tce_block.specs.declared.loops.SumLoop.{SumLoop}
 use Rattle.tce_windows.specs.Laws.{IsSequence}
 use Rattle.tce_windows.specs.Loops.{AreLoops, AreMade, numbers_along, place_along}
 use Rattle.tce_windows.specs.Nests.{IsNest, indexes_of, lens_of, sum_loop, pair_loop}

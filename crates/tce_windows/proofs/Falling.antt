@@ -21,8 +21,8 @@ use Rattle.tce_block.proofs.BoxSums.{assignment-absent}
 use Rattle.tce_walk.specs.Parts.{last_on_place, falls_on}
 use Rattle.tce_code.specs.Execution.{Setting, coordinates}
 use Rattle.tce_walk.specs.TailLaws.{dims_at}
-use Rattle.tce_strides.specs.Results.{assigned}
-use Rattle.tce_strides.proofs.Lasts.{assigned_out}
+use Rattle.tce_block.specs.Results.{assigned}
+use Rattle.tce_block.proofs.Lasts.{assigned_out}
 use Rattle.tce_windows.specs.Laws.{IsSequence, lens_along}
 use Rattle.tce_windows.specs.Turns.{IsTurn, turns_of, turn_at}
 use Rattle.tce_windows.proofs.Places.{among_inner, distinct_inner}

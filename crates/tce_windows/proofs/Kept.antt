@@ -10,10 +10,10 @@ use Rattle.std.proofs.lemmas.List.Sorted.{IsPermutation-filter_both, IsPermutati
 use Rattle.tce_space.specs.Box.{places}
 use Rattle.tce_space.specs.Tiling.{ArePositive}
 use Rattle.tce_tree.specs.Value.{assignment}
-use Rattle.tce_strides.specs.Places.{offset, word_place, AreWithin, AreApart}
-use Rattle.tce_strides.specs.Steps.{lens, out_steps, left_steps, right_steps}
-use Rattle.tce_strides.specs.Turns.{IsMade, computed}
-use Rattle.tce_strides.specs.declared.loops.Loop.{Loop}
+use Rattle.tce_block.specs.Places.{offset, word_place, AreWithin, AreApart}
+use Rattle.tce_block.specs.StrideSteps.{lens, out_steps, left_steps, right_steps}
+use Rattle.tce_block.specs.Turns.{IsMade, computed}
+use Rattle.tce_block.specs.declared.loops.Loop.{Loop}
 use Rattle.tce_space.specs.declared.arithmetic.Arithmetic.{Arithmetic}
 use Rattle.tce_windows.specs.Loops.{AreLoops, AreMade, numbers_along, place_along}
 use Rattle.tce_windows.specs.Nests.{IsNest, indexes_of, lens_of, pair_loop, moves, advanced}

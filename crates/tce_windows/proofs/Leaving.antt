@@ -6,7 +6,7 @@ use Rattle.tce_base.specs.Word.{wrapping_mul}
 use Rattle.tce_tree.specs.Value.{Assignment}
 use Rattle.tce_block.specs.Parts.{Part}
 use Rattle.tce_code.specs.Execution.{Setting, State}
-use Rattle.tce_strides.specs.Turns.{operate}
+use Rattle.tce_block.specs.Turns.{operate}
 use Rattle.tce_windows.specs.Laws.{ArePartTurns, AreWordsOf}
 use Rattle.tce_windows.specs.Leaving.{ShowsPart, PartsAreWithin, PartsAreApart, GrowLeaves, ProductsLeave, ComputeLeaves}
 use Rattle.tce_windows.specs.Loops.{AreLoops, place_along}

@@ -24,11 +24,11 @@ use Rattle.tce_block.proofs.BoxSums.{assignment-absent}
 use Rattle.tce_walk.specs.Parts.{part_growth, last_on_place, falls_on}
 use Rattle.tce_code.specs.Execution.{Setting, State, coordinates}
 use Rattle.tce_walk.specs.TailLaws.{dims_at}
-use Rattle.tce_strides.specs.Results.{assigned, HasNumbers}
-use Rattle.tce_strides.specs.Turns.{IsMade}
-use Rattle.tce_strides.proofs.Folds.{Each, each_inside, fold_idle}
-use Rattle.tce_strides.proofs.Growths.{growths_add_up}
-use Rattle.tce_strides.proofs.Lasts.{results_end_at_last}
+use Rattle.tce_block.specs.Results.{assigned, HasNumbers}
+use Rattle.tce_block.specs.Turns.{IsMade}
+use Rattle.tce_block.proofs.Folds.{Each, each_inside, fold_idle}
+use Rattle.tce_block.proofs.Growths.{growths_add_up}
+use Rattle.tce_block.proofs.Lasts.{results_end_at_last}
 use Rattle.tce_walk.specs.Laws.{HoldsWords}
 use Rattle.tce_windows.specs.Loops.{AreLoops, place_along}
 use Rattle.tce_windows.specs.Laws.{IsSequence, lens_along, OthersStay, ArePartTurns, AreWordsOf, TurnsGrow, TurnsSet}

@@ -12,8 +12,8 @@ use Rattle.tce_tree.proofs.Lists.{among_first, among_later, distinct_first, dist
 use Rattle.tce_tree.proofs.Permutations.{distinct-permutation, among-permutation}
 use Rattle.tce_tree.proofs.Assignments.{with-same, with-other, assignment-at, assignment_inside, numbers_inside}
 use Rattle.tce_block.proofs.BoxSums.{assignment-absent}
-use Rattle.tce_layout.specs.Places.{steps_to}
-use Rattle.tce_strides.specs.Places.{offset}
+use Rattle.tce_code.specs.Places.{steps_to}
+use Rattle.tce_block.specs.Places.{offset}
 use Rattle.tce_windows.specs.Loops.{place_along}
 use Rattle.tce_windows.specs.Laws.{IsSequence, lens_along, CoordinatesAreTurns, TurnsAreWithin, TurnsAreApart}
 use Rattle.tce_windows.specs.Turns.{Turns, IsTurn, turn_at}

@@ -1,8 +1,8 @@
 -- Loops that stand in their places already.
 use Rattle.std.proofs.Common.{◌≡◌, ℕ, List, slice_index_or, slice_set, sym, ap, ◌∙◌}
 use Rattle.std.proofs.lemmas.List.{set-get_or}
-use Rattle.tce_strides.specs.declared.loops.Loop.{Loop}
-use Rattle.tce_strides.specs.declared.loops.SumLoop.{SumLoop}
+use Rattle.tce_block.specs.declared.loops.Loop.{Loop}
+use Rattle.tce_block.specs.declared.loops.SumLoop.{SumLoop}
 
 same_pair : (x y : Loop) → x.len ≡ y.len → x.out ≡ y.out → x.left ≡ y.left → x.right ≡ y.right → x ≡ y
 same_pair x y len out left right =

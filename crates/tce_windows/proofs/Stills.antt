@@ -6,10 +6,10 @@ use Rattle.std.proofs.lemmas.List.Sums.{fold-append}
 use Rattle.tce_space.specs.Box.{places, IsInside}
 use Rattle.tce_space.specs.Tiling.{ArePositive}
 use Rattle.tce_space.proofs.Boxes.{length_inside, inside_joined}
-use Rattle.tce_strides.specs.Places.{offset, word_place, AreWithin, AreApart}
-use Rattle.tce_strides.specs.Turns.{IsMade, operate, computed}
+use Rattle.tce_block.specs.Places.{offset, word_place, AreWithin, AreApart}
+use Rattle.tce_block.specs.Turns.{IsMade, operate, computed}
 use Rattle.tce_space.specs.declared.arithmetic.Arithmetic.{Arithmetic}
-use Rattle.tce_strides.proofs.Folds.{each_inside, fold_same, fold_under, range_last}
+use Rattle.tce_block.proofs.Folds.{each_inside, fold_same, fold_under, range_last}
 
 -- a fold over lists one after the other
 fold_flat : (step : ℕ → List ℕ → ℕ) (g : ℕ → List (List ℕ)) (w a n : ℕ) → fold step w (flat_map g (range_with_len a n)) ≡ fold (λ v x. fold step v (g x)) w (range_with_len a n)

@@ -9,8 +9,8 @@ use Rattle.tce_tree.specs.WellFormed.{among, is_distinct}
 use Rattle.tce_block.specs.Parts.{Part}
 use Rattle.tce_walk.specs.Parts.{grown_by_part, set_by_part}
 use Rattle.tce_code.specs.Execution.{Setting, State}
-use Rattle.tce_strides.specs.Places.{AreWithin, AreApart}
-use Rattle.tce_strides.specs.Turns.{IsMade}
+use Rattle.tce_block.specs.Places.{AreWithin, AreApart}
+use Rattle.tce_block.specs.Turns.{IsMade}
 use Rattle.tce_walk.specs.Laws.{HoldsWords}
 use Rattle.tce_windows.specs.Loops.{AreLoops, place_along}
 use Rattle.tce_windows.specs.Turns.{Turns, IsTurn, turns_of, turn_at}

@@ -5,8 +5,8 @@ use Rattle.tce_tree.specs.Value.{Assignment}
 use Rattle.tce_block.specs.Parts.{Part}
 use Rattle.tce_walk.specs.Parts.{grown_by_part, set_by_part}
 use Rattle.tce_code.specs.Execution.{Setting, State}
-use Rattle.tce_strides.specs.Places.{AreWithin, AreApart}
-use Rattle.tce_strides.specs.Turns.{grown, grown_by_products, computed, operate}
+use Rattle.tce_block.specs.Places.{AreWithin, AreApart}
+use Rattle.tce_block.specs.Turns.{grown, grown_by_products, computed, operate}
 use Rattle.tce_space.specs.declared.arithmetic.Arithmetic.{Arithmetic}
 use Rattle.tce_walk.specs.Laws.{HoldsWords}
 use Rattle.tce_windows.specs.Loops.{AreLoops, AreMade, numbers_along, place_along}

@@ -8,8 +8,8 @@ use Rattle.tce_tree.specs.Value.{assignment}
 use Rattle.tce_tree.specs.WellFormed.{among, is_distinct}
 use Rattle.tce_space.specs.declared.arithmetic.Arithmetic.{Arithmetic}
 use Rattle.tce_space.specs.declared.arithmetic.Arithmetic.TheVariants.{Multiply}
-use Rattle.tce_strides.specs.Places.{word_place, AreWithin, AreApart}
-use Rattle.tce_strides.specs.Turns.{IsMade, grown, grown_by_products, computed}
+use Rattle.tce_block.specs.Places.{word_place, AreWithin, AreApart}
+use Rattle.tce_block.specs.Turns.{IsMade, grown, grown_by_products, computed}
 use Rattle.tce_windows.specs.Windows.{steps_along}
 use Rattle.tce_windows.specs.declared.window.Window.{Window}
 

@@ -4,8 +4,8 @@ use Rattle.std.specs.List.{All, filter}
 use Rattle.std.specs.List.Sorted.{IsPermutation}
 use Rattle.tce_space.specs.Limits.{max_indexes}
 use Rattle.tce_tree.specs.Value.{assignment}
-use Rattle.tce_strides.specs.declared.loops.Loop.{Loop}
-use Rattle.tce_strides.specs.declared.loops.SumLoop.{SumLoop}
+use Rattle.tce_block.specs.declared.loops.Loop.{Loop}
+use Rattle.tce_block.specs.declared.loops.SumLoop.{SumLoop}
 use Rattle.tce_windows.specs.declared.nest.Axis.{Axis}
 use Rattle.tce_windows.specs.declared.window.Window.{Window}
 

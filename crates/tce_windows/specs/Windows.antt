@@ -2,7 +2,7 @@
 use Rattle.std.specs.Prelude.{◌≡◌, ℕ, ◌+◌, ◌-◌, ◌<◌, ◌↔◌, List, map, length, slice_index}
 use Rattle.tce_tree.specs.Value.{Assignment}
 use Rattle.tce_code.specs.Execution.{Setting, State, coordinates}
-use Rattle.tce_layout.specs.Places.{steps_to}
+use Rattle.tce_code.specs.Places.{steps_to}
 use Rattle.tce_walk.specs.TailLaws.{dims_at}
 use Rattle.tce_windows.specs.Turns.{Turns, IsTurn}
 use Rattle.tce_windows.specs.declared.window.Window.{Window}

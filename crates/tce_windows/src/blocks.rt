@@ -50,7 +50,7 @@ pub fn grow(
     sequence.begin(loops.indexes, loops.lens);
     let count = sequence.axes.len();
     fill_sum_loops(sequence.axes.as_slice(), out, operand, &mut sequence.sums);
-    tce_strides::grow(words, &sequence.sums[..count], out.first, operand.first);
+    tce_block::grow(words, &sequence.sums[..count], out.first, operand.first);
 }
 
 /// Adds in each turn of the loops the product of the operands' words to the result's.
@@ -122,7 +122,7 @@ fn grow_filled(
         words.old words.new }
 {
     let count = sequence.axes.len();
-    tce_strides::grow_by_products(
+    tce_block::grow_by_products(
         words,
         &sequence.pairs[..count],
         out.first,
@@ -221,7 +221,7 @@ fn compute_filled(
     // The length's limit keeps the places within a word.
     let _count = words.len();
     let moving = sequence.moving;
-    tce_strides::compute(
+    tce_block::compute(
         words,
         operation,
         &sequence.puts[..moving.count],

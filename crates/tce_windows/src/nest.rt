@@ -7,8 +7,8 @@ ghost use Rattle.tce_windows.specs.Nests.{ArePlaced, IsPlaced, indexes_of, with_
 
 use crate::window::Window;
 use arrayvec::ArrayVec;
+use tce_block::{Loop, SumLoop};
 use tce_space::MAX_LOOPS;
-use tce_strides::{Loop, SumLoop};
 
 /// How far in a loop runs best. They are compared field by field, the first one first: the greater, the better the loop is as
 /// the innermost one.

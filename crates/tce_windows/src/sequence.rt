@@ -8,8 +8,8 @@ use crate::nest::{Axis, axes_of, set_lens};
 use crate::still::Moving;
 use crate::window::Window;
 use arrayvec::ArrayVec;
+use tce_block::{Loop, SumLoop};
 use tce_space::MAX_LOOPS;
-use tce_strides::{Loop, SumLoop};
 
 /// The sequence in which loops run best over windows with some steps, the last one innermost, for one block after another.
 ///

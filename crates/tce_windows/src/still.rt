@@ -7,8 +7,8 @@ ghost use Rattle.tce_windows.specs.Nests.{advanced, moving_loops};
 use crate::blocks::OperandWindows;
 use crate::nest::{Axis, put_pair_loop};
 use crate::window::Window;
+use tce_block::Loop;
 use tce_space::MAX_LOOPS;
-use tce_strides::Loop;
 
 /// How many loops there are along which the place of a result moves, and how far the operands' places are moved before they
 /// run: all other loops have their last numbers.

@@ -14,8 +14,8 @@ use Rattle.tce_cache.specs.declared.array.ArrayRef.{ArrayRef}
 use Rattle.tce_cache.specs.Cache.{State as CacheState, IsCache, layout, stored, word_of_tile, current_word}
 use Rattle.tce_cache.specs.Transfer.{contents, word_in_file}
 use Rattle.tce_tree.specs.ContractionTree.{operations}
-use Rattle.tce_layout.specs.Places.{word_at as slot_place, kept_extents}
-use Rattle.tce_operands.specs.NodeStates.{Places, root, state_of, node_word, root_word, result_coordinates, are_inside, current_cell}
+use Rattle.tce_code.specs.Places.{word_at as slot_place, kept_extents}
+use Rattle.tce_workspace.specs.NodeStates.{Places, root, state_of, node_word, root_word, result_coordinates, are_inside, current_cell}
 use Rattle.tce_walk.specs.Laws.{HoldsWords}
 use Rattle.tce_workspace.specs.Workspace.{Workspace, state_in, result_shape}
 use Rattle.tce_workspace.specs.Prepared.{IsPrepared}

@@ -1,3 +1,6 @@
+pub mod Slots
+pub mod Assignments
+pub mod States
 pub mod Touched
 pub mod Workspaces
 pub mod Reading

@@ -25,7 +25,7 @@ use Rattle.tce_tree.proofs.Assignments.{numbers_inside}
 use Rattle.tce_code.specs.Execution.{Setting, State, coordinates, with_word, operand_word, left_word, right_word, exec}
 use Rattle.tce_code.specs.Generation.{computing}
 use Rattle.tce_code.proofs.Emitted.{node-not_leaf}
-use Rattle.tce_operands.specs.NodeStates.{Places}
+use Rattle.tce_workspace.specs.NodeStates.{Places}
 use Rattle.tce_cache.specs.Cache.{IsCache}
 use Rattle.tce_walk.specs.Machine.{operation_of_node, IsNodeAt}
 use Rattle.tce_workspace.specs.Workspace.{Workspace, setting_in, state_in}

@@ -20,17 +20,17 @@ use Rattle.tce_tree.specs.Fusion.{kept_dims}
 use Rattle.tce_tree.specs.Memory.{memory}
 use Rattle.tce_tree.specs.Value.{Assignment}
 use Rattle.tce_code.specs.Execution.{State, coordinates, with_word, cleared}
-use Rattle.tce_layout.specs.Layout.{slot_at, IsLayout}
-use Rattle.tce_layout.specs.declared.slot.Slot.{Slot}
-use Rattle.tce_layout.proofs.Slots.{before_le}
+use Rattle.tce_code.specs.Layout.{slot_at, IsLayout}
+use Rattle.tce_code.specs.declared.slot.Slot.{Slot}
+use Rattle.tce_code.proofs.Slots.{before_le}
 use Rattle.tce_space.specs.Space.{IndexSpace}
 use Rattle.tce_words.specs.Run.{IsRun, with_part}
 use Rattle.tce_words.proofs.RunSteps.{run_of_part}
-use Rattle.tce_operands.specs.Slots.{slot_word, IsSlotAt}
-use Rattle.tce_operands.specs.NodeStates.{root, root_dims, state_of, current_cell}
-use Rattle.tce_operands.specs.Laws.{ChangesRootPlace}
-use Rattle.tce_operands.proofs.Slots.{slots_lead_to_places, slot_ends}
-use Rattle.tce_operands.proofs.States.{puts_change_one_place, cleared_slots_are_cleared, tile_puts_change_one_place}
+use Rattle.tce_workspace.specs.Slots.{slot_word, IsSlotAt}
+use Rattle.tce_workspace.specs.NodeStates.{root, root_dims, state_of, current_cell}
+use Rattle.tce_workspace.specs.OperandLaws.{ChangesRootPlace}
+use Rattle.tce_workspace.proofs.Slots.{slots_lead_to_places, slot_ends}
+use Rattle.tce_workspace.proofs.States.{puts_change_one_place, cleared_slots_are_cleared, tile_puts_change_one_place}
 use Rattle.tce_workspace.specs.Workspace.{Workspace, result_shape}
 use Rattle.tce_workspace.specs.Prepared.{IsStored, IsPrepared}
 use Rattle.tce_workspace.specs.Operands.{IsPlaceOf}

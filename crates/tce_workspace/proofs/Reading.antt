@@ -28,12 +28,12 @@ use Rattle.tce_tree.proofs.Lists.{among_first, among_later}
 use Rattle.tce_code.specs.Execution.{State}
 use Rattle.tce_tree.specs.Memory.{memory}
 use Rattle.tce_tree.proofs.Assignments.{numbers_inside}
-use Rattle.tce_layout.specs.Layout.{slot_at, IsLayout}
-use Rattle.tce_layout.specs.declared.slot.Slot.{Slot}
-use Rattle.tce_operands.specs.Slots.{slot_word, IsSlotAt}
-use Rattle.tce_operands.specs.NodeStates.{Places, root, root_dims, state_of, current_cell}
-use Rattle.tce_operands.proofs.Slots.{slots_lead_to_places}
-use Rattle.tce_operands.proofs.States.{places_have_their_words}
+use Rattle.tce_code.specs.Layout.{slot_at, IsLayout}
+use Rattle.tce_code.specs.declared.slot.Slot.{Slot}
+use Rattle.tce_workspace.specs.Slots.{slot_word, IsSlotAt}
+use Rattle.tce_workspace.specs.NodeStates.{Places, root, root_dims, state_of, current_cell}
+use Rattle.tce_workspace.proofs.Slots.{slots_lead_to_places}
+use Rattle.tce_workspace.proofs.States.{places_have_their_words}
 use Rattle.tce_workspace.specs.Workspace.{Workspace, filed_element, element_of, setting_in, state_in, result_shape, shape_over}
 use Rattle.tce_workspace.specs.Prepared.{IsStored, IsOperand, IsPrepared}
 use Rattle.tce_workspace.specs.Elements.{IsElementTouched}

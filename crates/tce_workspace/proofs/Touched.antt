@@ -9,7 +9,7 @@ use Rattle.tce_cache.specs.declared.array.ArrayRef.{ArrayRef}
 use Rattle.tce_cache.specs.Cache.{State, Exists, IsCache, IsArrayAt, HasRoom, IsSameOutsideFrames, layout}
 use Rattle.tce_cache.specs.Touch.{IsTouched, with_held}
 use Rattle.tce_cache.proofs.Tiles.{frame_room}
-use Rattle.tce_operands.specs.Laws.{HasShape}
+use Rattle.tce_workspace.specs.OperandLaws.{HasShape}
 use Rattle.tce_workspace.specs.Elements.{IsElementAt}
 
 -- a tile of the array's shape exists

@@ -15,8 +15,8 @@ use Rattle.tce_cache.specs.Touch.{KeepsArrays, front, with_held}
 use Rattle.tce_cache.proofs.Steps.{front_has}
 use Rattle.tce_code.specs.Execution.{Setting}
 use Rattle.tce_tree.specs.ContractionTree.{ContractionTree, leaf, constant, binary, sum}
-use Rattle.tce_operands.specs.NodeStates.{IsResult, state_of, current_cell}
-use Rattle.tce_operands.proofs.States.{touches_keep_states, words_are}
+use Rattle.tce_workspace.specs.NodeStates.{IsResult, state_of, current_cell}
+use Rattle.tce_workspace.proofs.States.{touches_keep_states, words_are}
 use Rattle.tce_workspace.specs.Workspace.{Workspace, filed_element, element_of, setting_in, state_in, result_shape}
 use Rattle.tce_workspace.specs.Prepared.{IsStored, HasOperands, IsPrepared}
 use Rattle.tce_workspace.specs.Steps.{IsKept, IsContinued, IsRead}

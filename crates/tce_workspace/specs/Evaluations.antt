@@ -2,9 +2,9 @@
 use Rattle.std.specs.Prelude.{ℕ, ◌≤◌, List, length}
 use Rattle.tce_tree.specs.Memory.{memory}
 use Rattle.tce_tree.specs.Value.{Assignment}
-use Rattle.tce_layout.specs.Layout.{IsLayout, slot_at}
-use Rattle.tce_layout.specs.declared.slot.Slot.{Slot}
-use Rattle.tce_operands.specs.Slots.{IsSlotAt}
+use Rattle.tce_code.specs.Layout.{IsLayout, slot_at}
+use Rattle.tce_code.specs.declared.slot.Slot.{Slot}
+use Rattle.tce_workspace.specs.Slots.{IsSlotAt}
 use Rattle.tce_workspace.specs.declared.evaluation.Evaluation.{Evaluation}
 
 -- they are those of a layout

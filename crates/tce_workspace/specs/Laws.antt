@@ -7,7 +7,7 @@ use Rattle.tce_cache.specs.declared.array.ArrayRef.{ArrayRef}
 use Rattle.tce_cache.specs.Cache.{State as CacheState, IsCache, IsReady, IsSameOutsideFrames, OnlyWritableDiffers}
 use Rattle.tce_cache.specs.Touch.{KeepsArrays, with_held}
 use Rattle.tce_code.specs.Execution.{State}
-use Rattle.tce_operands.specs.NodeStates.{current_cell}
+use Rattle.tce_workspace.specs.NodeStates.{current_cell}
 use Rattle.tce_walk.specs.Laws.{HoldsWords}
 use Rattle.tce_workspace.specs.Workspace.{Workspace, element_of, setting_in, state_in}
 use Rattle.tce_workspace.specs.Prepared.{IsPrepared}

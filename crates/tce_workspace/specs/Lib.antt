@@ -1,3 +1,6 @@
+pub mod Slots
+pub mod NodeStates
+pub mod OperandLaws
 pub mod Workspace
 pub mod Prepared
 pub mod Steps

@@ -10,9 +10,9 @@ use Rattle.tce_tree.specs.ContractionTree.{ContractionTree, leaf, constant, bina
 use Rattle.tce_tree.specs.Fusion.{FusionFits}
 use Rattle.tce_tree.specs.Measure.{IsMeasured}
 use Rattle.tce_tree.specs.WellFormed.{among}
-use Rattle.tce_layout.specs.Layout.{IsLayout}
-use Rattle.tce_operands.specs.NodeStates.{root_dims}
-use Rattle.tce_operands.specs.Laws.{HasShape, StandsBefore}
+use Rattle.tce_code.specs.Layout.{IsLayout}
+use Rattle.tce_workspace.specs.NodeStates.{root_dims}
+use Rattle.tce_workspace.specs.OperandLaws.{HasShape, StandsBefore}
 use Rattle.tce_workspace.specs.Workspace.{Workspace, shape_over, result_shape}
 
 -- the tensor has an array over the ranges of these indexes, whose file has its length

@@ -9,7 +9,7 @@ use Rattle.tce_cache.specs.declared.array.ArrayRef.{ArrayRef}
 use Rattle.tce_cache.specs.Cache.{State as CacheState}
 use Rattle.tce_cache.specs.Transfer.{word_in_file}
 use Rattle.tce_code.specs.Execution.{Setting, State}
-use Rattle.tce_operands.specs.NodeStates.{Places, state_of, current_cell}
+use Rattle.tce_workspace.specs.NodeStates.{Places, state_of, current_cell}
 use Rattle.tce_workspace.specs.declared.evaluation.Evaluation.{Evaluation}
 
 -- the places of the nodes, the number of the result's tensor, the words of the run, the cache of tiles among them, and the files where the disk tells them

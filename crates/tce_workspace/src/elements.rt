@@ -6,13 +6,13 @@ ghost use Rattle.tce_space.specs.Box.{IsInside};
 ghost use Rattle.tce_cache.specs.Cache.{IsCache, IsReady, IsWritable, HasRoom, IsSameOutsideFrames, OnlyWritableDiffers};
 ghost use Rattle.tce_cache.specs.Transfer.{HasFile};
 ghost use Rattle.tce_cache.specs.Touch.{KeepsArrays, with_held};
-ghost use Rattle.tce_operands.specs.NodeStates.{current_cell};
+ghost use Rattle.tce_workspace.specs.NodeStates.{current_cell};
 ghost use Rattle.tce_workspace.specs.Elements.{coordinates_at, InArray, IsElementAt, IsElementTouched};
 ghost use Rattle.tce_workspace.specs.Storages.{IsSame, FailsByDisk, TellsOfDisk};
 
+use crate::element::{ElementPlace, coordinates_of, place_of_element};
 use crate::storage::Storage;
 use tce_cache::Cache;
-use tce_operands::{ElementPlace, coordinates_of, place_of_element};
 use tce_outside::{Disk, Failed};
 use tce_space::Numbers;
 use tce_tree::Leaf;

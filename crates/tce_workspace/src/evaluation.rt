@@ -1,6 +1,6 @@
 // What is evaluated.
 
-use tce_layout::Layout;
+use tce_code::Layout;
 use tce_space::Space;
 use tce_tree::{Fusion, Leaf, Tree};
 

@@ -1,7 +1,7 @@
 // The words of nodes' places, and of operands.
 ghost use Rattle.std.specs.Prelude.{◌≡◌, ◌+◌, ◌-◌, ◌<◌, ◌≤◌, ◌^◌, length, slice_index, IfOk, OnOk, IsErr};
 ghost use Rattle.tce_tree.specs.ContractionTree.{operations};
-ghost use Rattle.tce_operands.specs.Slots.{slot_word};
+ghost use Rattle.tce_workspace.specs.Slots.{slot_word};
 ghost use Rattle.tce_workspace.specs.Evaluations.{IsLaid, slot_of, HasSlotAt, HasRoomIn};
 ghost use Rattle.tce_workspace.specs.Prepared.{IsPrepared};
 ghost use Rattle.tce_workspace.specs.Operands.{word_of_node, word_of_operand, IsPlaceOf, IsElementOf, IsReadable};
@@ -9,8 +9,8 @@ ghost use Rattle.tce_workspace.specs.Storages.{work_of, ForState, IsSame, Keeps,
 
 use crate::elements::touch_element;
 use crate::evaluation::Evaluation;
+use crate::slot::slot_place;
 use crate::storage::Storage;
-use tce_operands::slot_place;
 use tce_outside::{Disk, Failed};
 use tce_space::Numbers;
 use tce_tree::{Leaf, Operand};

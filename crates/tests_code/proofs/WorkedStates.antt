@@ -3,8 +3,8 @@ use Rattle.std.proofs.Common.{ℕ, Bool, false, not, ◌&&◌, ◌||◌, refl, [
 use Rattle.std.specs.Prelude.{IsTrue}
 use Rattle.std.proofs.lemmas.Bool.{false≢true, and_parts, both_ways, not-true}
 use Rattle.tce_space.specs.IndexSet.{has, union, minus, with_index, members, volume}
-use Rattle.tce_states.specs.Relation.{above}
-use Rattle.tce_states.specs.Examples.{WorkedStates, WorkedRelations}
+use Rattle.tce_fusion.specs.Relation.{above}
+use Rattle.tce_fusion.specs.StateExamples.{WorkedStates, WorkedRelations}
 
 pub worked_states : WorkedStates
 unfolding volume union minus with_index members has

@@ -5,8 +5,8 @@ use std::alloc::Global;
 use std::process::Abort;
 use tce_array::{ArrayFault, Form};
 use tce_cache::ArrayRef;
+use tce_job::{arrays_of, open_operands};
 use tce_outside::MemDisk;
-use tce_tensors::{arrays_of, open_operands};
 
 // The operands are tensor 2 and then tensor 0. Tensor 1 is not used, and its tiles have eight words; the largest has four.
 const TEXT: &[u8] =

@@ -1,12 +1,12 @@
 //! The candidates of `(sum{k}(A[i,k])) * (sum{l}(B[j,l]))` with i of extent 5, j of 7, k and l of 2, and of a product of six loops. The numbers of i, j, k and l are 0 to 3.
 ghost use Rattle.std.specs.Prelude.{◌↔◌, All, IsTrue};
-ghost use Rattle.tce_candidates.specs.Candidates.{HaveRoom, IsLimited, IsSmall, LeavesRoom};
+ghost use Rattle.tce_search.specs.Candidates.{HaveRoom, IsLimited, IsSmall, LeavesRoom};
 
 use arrayvec::ArrayVec;
 use std::alloc::Global;
 use std::process::Abort;
-use tce_candidates::{Ahead, Candidate, Limits, NodeLoops, candidates_of};
-use tce_nesting::{Choice, Nesting, Row, subsets};
+use tce_fusion::{Choice, Nesting, Row, subsets};
+use tce_search::{Ahead, Candidate, Limits, NodeLoops, candidates_of};
 use tce_space::IndexSet;
 
 fn set(rt: &impl Abort, bits: u32) -> IndexSet {

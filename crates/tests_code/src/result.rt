@@ -1,10 +1,10 @@
 // Worked results, and names of files.
-ghost use Rattle.tce_tensors.specs.Examples.{WorkedResults};
+ghost use Rattle.tce_job.specs.Examples.{WorkedResults};
 
 use crate::given::spec_of;
 use std::process::Abort;
+use tce_job::file_of;
 use tce_spec::Spec;
-use tce_tensors::file_of;
 
 // What the definitions give for the worked results.
 fn worked_results()

@@ -1,5 +1,5 @@
 //! The states of `(sum{k}(A[i,k])) * (sum{l}(B[j,l]))`, and small relations.
-ghost use Rattle.tce_states.specs.Examples.{WorkedStates, WorkedRelations, WorkedCovers};
+ghost use Rattle.tce_fusion.specs.StateExamples.{WorkedStates, WorkedRelations, WorkedCovers};
 
 // What the definitions give for the worked states.
 fn worked_states()

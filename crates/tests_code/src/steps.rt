@@ -1,8 +1,8 @@
 //! The steps of `(sum{k}(A[i,k])) * (sum{l}(B[j,l]))` with i of extent 5, j of 7, k and l of 2. The numbers of i, j, k and l are 0 to 3.
 
 use std::process::Abort;
-use tce_candidates::{is_stood_for, join_rows, stands_for, step};
-use tce_nesting::{Choice, Row};
+use tce_fusion::{Choice, Row};
+use tce_search::{is_stood_for, join_rows, stands_for, step};
 use tce_space::IndexSet;
 
 fn set(rt: &impl Abort, bits: u32) -> IndexSet {

@@ -3,8 +3,8 @@ ghost use Rattle.tce_space.specs.Limits.{max_indexes};
 
 use std::alloc::Global;
 use std::process::Abort;
+use tce_block::{Loop, SumLoop, compute, grow, grow_by_products};
 use tce_space::Arithmetic;
-use tce_strides::{Loop, SumLoop, compute, grow, grow_by_products};
 use tce_words::{HeapRoom, Room, Words};
 
 // The words at the front of a block of 24.

@@ -3,7 +3,7 @@
 use crate::given::spec_of;
 use std::alloc::Global;
 use std::process::Abort;
-use tce_tensors::{frame_count, least_budget, tile_count, tile_take};
+use tce_job::{frame_count, least_budget, tile_count, tile_take};
 
 // Tiles of one word: two operands of two tiles each, and a result of four.
 const OUTER: &[u8] =

@@ -3,7 +3,7 @@ use crate::given::{expect_text, part, put, told_fault, with_feeds};
 use std::alloc::Global;
 use std::process::Abort;
 use std::str;
-use tce_declarations::{Head, SpecFault, check_rest, read_head};
+use tce_spec::{Head, SpecFault, check_rest, read_head};
 
 /// The fault of a text up to its formula.
 fn fault_of(alloc: Global, text: &[u8]) -> Option<SpecFault> {

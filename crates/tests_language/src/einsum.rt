@@ -3,8 +3,8 @@
 use crate::given::{numbered, part, put, words_of_limit};
 use std::alloc::Global;
 use std::process::Abort;
+use tce_canonical::print_spec;
 use tce_einsum::{EinsumFault, from_einsum};
-use tce_round_trip::print_spec;
 use tce_spec::{Spec, SpecFault};
 
 // The fault of a produced text in words, with its line.

@@ -3,15 +3,14 @@
 ghost use Rattle.std.specs.Prelude.{IsTrue, map};
 ghost use Rattle.tce_grammar.specs.Code.{names, formula};
 ghost use Rattle.tce_grammar.specs.Grammar.{AreNames};
-ghost use Rattle.tce_formula.specs.Places.{IsNamed};
+ghost use Rattle.tce_spec.specs.Places.{IsNamed};
 
 use crate::given::{expect_text, joined, part, put, told_fault};
 use std::alloc::Global;
 use std::process::Abort;
-use tce_declarations::{Head, read_head};
-use tce_formula::{Contraction, read_formula};
 use tce_grammar::Formula;
 use tce_space::is_name;
+use tce_spec::{Contraction, Head, read_formula, read_head};
 use tce_tree::{Expr, Leaf};
 
 fn are_names(words: &[&[u8]]) -> bool

@@ -1,8 +1,8 @@
 //! What tests of texts share: rows of texts, and faults in words.
 use std::alloc::Global;
 use std::process::Abort;
-use tce_declarations::{Limit, SpecFault};
 use tce_space::Name;
+use tce_spec::{Limit, SpecFault};
 use tce_tree::TreeFault;
 
 // The part of a row with this number, where bars part it; nothing where there is none.

@@ -3,7 +3,7 @@
 use crate::given::{expect_text, joined, part, put, told_fault, with_feeds};
 use std::alloc::Global;
 use std::process::Abort;
-use tce_round_trip::print_spec;
+use tce_canonical::print_spec;
 use tce_spec::{Spec, read_spec};
 
 /// The outer product of two vectors: six lines.

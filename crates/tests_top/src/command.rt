@@ -6,10 +6,10 @@ use std::alloc::Global;
 use std::process::Abort;
 use std::test::Fail;
 use tce_command::{ArrayTrouble, CertFlaw, CommandRefusal, Refusal, finish, refuse, refuse_words};
-use tce_declarations::{Limit, SpecFault};
-use tce_nesting::Nesting;
+use tce_fusion::Nesting;
 use tce_outside::MemSink;
 use tce_space::{IndexSet, Name, Space};
+use tce_spec::{Limit, SpecFault};
 use tce_tree::TreeFault;
 
 fn name(rt: &impl Abort, text: &str) -> Name {

@@ -7,13 +7,11 @@ use crate::job::draws::Draws;
 use arrayvec::ArrayVec;
 use std::alloc::Global;
 use std::test::Fail;
-use tce_fusion::{is_legal, memory, standard_orders};
-use tce_job::{PlannedRun, begin, run_by, run_prepared};
-use tce_nesting::{Plan, Tables};
+use tce_fusion::{Plan, Tables, is_legal, memory, standard_orders};
+use tce_job::{PlannedRun, begin, least_budget, open_operands, run_by, run_prepared};
 use tce_outside::MemDisk;
 use tce_space::IndexSet;
 use tce_spec::Spec;
-use tce_tensors::{least_budget, open_operands};
 use tce_tree::{Fusion, Tree};
 use tce_words::HeapRoom;
 

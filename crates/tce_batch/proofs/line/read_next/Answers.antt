@@ -3,10 +3,10 @@ use Rattle.std.proofs.lemmas.Result.{err_from_is_err_and}
 use Rattle.tce_grammar.specs.Grammar.{IsLine, Line}
 use Rattle.tce_grammar.specs.Code.{names, formula, line as line_view}
 use Rattle.tce_grammar.specs.declared.line.Line.TheVariants.{Says}
-use Rattle.tce_formula.proofs.LineNames.{line_names}
-use Rattle.tce_declarations.specs.Faults.{Fault}
-use Rattle.tce_declarations.specs.FaultCode.{Shows}
-use Rattle.tce_declarations.specs.TextCode.{fault_in}
+use Rattle.tce_spec.proofs.LineNames.{line_names}
+use Rattle.tce_spec.specs.Faults.{Fault}
+use Rattle.tce_spec.specs.FaultCode.{Shows}
+use Rattle.tce_spec.specs.TextCode.{fault_in}
 use Rattle.tce_batch.specs.Outcome.{together}
 use Rattle.tce_batch.specs.Reading.{of_line, specified_by}
 use Rattle.tce_batch.proofs.Lines.{one_fault}

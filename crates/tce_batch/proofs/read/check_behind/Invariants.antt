@@ -1,7 +1,7 @@
 use Rattle.std.proofs.Common.{◌≡◌, ◌+◌, ◌<◌, ◌^◌, length, map}
 use Rattle.tce_grammar.specs.Lines.{lines}
 use Rattle.tce_grammar.specs.Reading.{line_of}
-use Rattle.tce_declarations.specs.Text.{closing_fault}
+use Rattle.tce_spec.specs.Text.{closing_fault}
 use Rattle.tce_batch.specs.Reading.{without_formulas}
 use Rattle.tce_batch.proofs.read.check_behind.Given as goal
 

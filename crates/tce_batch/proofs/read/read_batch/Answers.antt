@@ -1,6 +1,6 @@
 use Rattle.std.proofs.lemmas.Result.{err_from_is_err_and}
-use Rattle.tce_declarations.proofs.Readings.{computed_head, head_is}
-use Rattle.tce_formula.proofs.LineNames.{line_names}
+use Rattle.tce_spec.proofs.Readings.{computed_head, head_is}
+use Rattle.tce_spec.proofs.LineNames.{line_names}
 use Rattle.tce_batch.proofs.Answered.{head_shown}
 use Rattle.tce_batch.proofs.read.read_batch.Goals as goal
 

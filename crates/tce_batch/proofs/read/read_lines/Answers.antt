@@ -1,9 +1,9 @@
 use Rattle.std.proofs.Common.{ℕ, Bor, ◌≡◌, List, Ok, subst}
 use Rattle.std.proofs.lemmas.Result.{err_from_is_err_and, IfOk-weaker, IfErr-weaker}
 use Rattle.tce_grammar.specs.Code.{names, formula}
-use Rattle.tce_declarations.specs.FaultCode.{Shows}
-use Rattle.tce_declarations.specs.TextCode.{head, fault_in}
-use Rattle.tce_declarations.proofs.Readings.{computed_head, head_is}
+use Rattle.tce_spec.specs.FaultCode.{Shows}
+use Rattle.tce_spec.specs.TextCode.{head, fault_in}
+use Rattle.tce_spec.proofs.Readings.{computed_head, head_is}
 use Rattle.tce_spec.specs.SpecCode.{specification_of}
 use Rattle.tce_batch.specs.Reading.{specified_by}
 use Rattle.tce_batch.proofs.Lines.{some_found}

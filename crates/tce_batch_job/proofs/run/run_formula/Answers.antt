@@ -3,8 +3,8 @@ use Rattle.std.specs.Option.{option_map}
 use Rattle.std.proofs.lemmas.Result.{on_ok_weaker}
 use Rattle.tce_outside.proofs.Causes.{no_cause}
 use Rattle.tce_spec.specs.Specification.{Specification}
-use Rattle.tce_tensors.specs.ResultBytes.{with_result}
-use Rattle.tce_tensors.specs.Laws.{LeavesNoHalfResult}
+use Rattle.tce_job.specs.ResultBytes.{with_result}
+use Rattle.tce_job.specs.Laws.{LeavesNoHalfResult}
 use Rattle.tce_job.specs.Refusals.{IsCause, MayBeRefused}
 use Rattle.tce_job.specs.Run.{IsReported}
 use Rattle.tce_job.specs.Prepared.{IsRoomLeft}

@@ -2,9 +2,9 @@ use Rattle.std.proofs.Common.{Option, refl, sym, subst, inl, inr, ap, ◌∙◌}
 use Rattle.std.specs.Prelude.{OnOk}
 use Rattle.tce_outside.specs.Files.{Files, others}
 use Rattle.tce_outside.proofs.Causes.{cause_as, no_cause, answered_quiet, cause_since}
-use Rattle.tce_tensors.specs.Opened.{AreOpenedOn}
-use Rattle.tce_tensors.specs.TensorFiles.{file_of}
-use Rattle.tce_tensors.specs.Laws.{LeavesNoHalfResult}
+use Rattle.tce_job.specs.Opened.{AreOpenedOn}
+use Rattle.tce_job.specs.TensorFiles.{file_of}
+use Rattle.tce_job.specs.Laws.{LeavesNoHalfResult}
 use Rattle.tce_job.specs.Told.{FailsOrKeeps, ResultAlone, WritesResult}
 use Rattle.tce_job.proofs.Answered.{same_fault, refused_free}
 use Rattle.tce_job.proofs.Ended.{same_is_no_half}

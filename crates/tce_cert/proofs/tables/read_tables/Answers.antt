@@ -2,7 +2,7 @@ use Rattle.std.proofs.Common.{◌<◌, ◌-◌, ◌+◌, length, length-set, map
 use Rattle.std.specs.List.{range_with_len}
 use Rattle.std.proofs.lemmas.Result.{err_from_is_err_and}
 use Rattle.tce_tree.specs.ContractionTree.{operations}
-use Rattle.tce_states.specs.Row.{rows_at}
+use Rattle.tce_fusion.specs.Row.{rows_at}
 use Rattle.tce_cert.specs.Faults.{table}
 use Rattle.tce_cert.proofs.TableRuns.{opened, line_fault, rows_fault, keeps_table, one_table, empty_more}
 use Rattle.tce_cert.proofs.tables.read_tables.Goals as goal

@@ -2,7 +2,7 @@ use Rattle.std.proofs.Common.{sym, subst}
 use Rattle.std.specs.List.{All}
 use Rattle.std.proofs.lemmas.Result.{err_from_is_err_and}
 use Rattle.tce_space.specs.Space.{IsDeclared}
-use Rattle.tce_states.specs.Row.{Row}
+use Rattle.tce_fusion.specs.Row.{Row}
 use Rattle.tce_cert.specs.Laws.{IsNestingRow}
 use Rattle.tce_cert.proofs.RowTexts.{row_pushed, all_pushed, row_further, all_rows}
 use Rattle.tce_cert.proofs.write.push_rows.Goals as goal

@@ -1,5 +1,5 @@
 use Rattle.std.proofs.Common.{◌≡◌, ℕ, ◌<◌, ◌++◌, map, take, get_or}
-use Rattle.tce_states.specs.Row.{Row}
+use Rattle.tce_fusion.specs.Row.{Row}
 use Rattle.tce_cert.specs.Laws.{IsNestingRow}
 use Rattle.tce_cert.specs.Lines.{row_line}
 use Rattle.tce_cert.specs.Certificate.{text_of}

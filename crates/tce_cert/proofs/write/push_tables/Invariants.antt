@@ -1,5 +1,5 @@
 use Rattle.std.proofs.Common.{◌≡◌, ℕ, ◌<◌, ◌++◌}
-use Rattle.tce_states.specs.Row.{rows_at}
+use Rattle.tce_fusion.specs.Row.{rows_at}
 use Rattle.tce_cert.specs.Laws.{AreNestingRows}
 use Rattle.tce_cert.specs.Certificate.{text_of, tables_lines}
 use Rattle.tce_cert.proofs.write.push_tables.Given as goal

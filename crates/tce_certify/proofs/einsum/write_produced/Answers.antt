@@ -1,7 +1,7 @@
 use Rattle.std.proofs.Common.{◌≡◌, refl, ap, Err}
 use Rattle.std.proofs.lemmas.Result.{IfOk-from_err, err_from_is_err_and}
 use Rattle.tce_outside.proofs.Causes.{answered_quiet, cause_as, told_as}
-use Rattle.tce_source.proofs.Outcomes.{ok_no_disk}
+use Rattle.tce_command.proofs.Outcomes.{ok_no_disk}
 use Rattle.tce_command.specs.declared.refusal.Refusal.TheVariants.{Disk}
 use Rattle.tce_certify.proofs.einsum.write_produced.Goals as goal
 

@@ -1,5 +1,5 @@
 use Rattle.tce_outside.specs.Files.{file}
-use Rattle.tce_source.proofs.Outcomes.{one_refusal}
+use Rattle.tce_command.proofs.Outcomes.{one_refusal}
 use Rattle.tce_certify.proofs.OneAnswer.{granted}
 use Rattle.tce_certify.proofs.laws.certificates_have_one_answer.Goals as goal
 

@@ -1,6 +1,6 @@
 use Rattle.std.specs.List.{AllWithin}
-use Rattle.tce_states.specs.Relation.{above}
-use Rattle.tce_states.specs.Row.{Row, StandsFor}
+use Rattle.tce_fusion.specs.Relation.{above}
+use Rattle.tce_fusion.specs.Row.{Row, StandsFor}
 use Rattle.tce_check.proofs.groups.place_of.Given as goal
 
 abbrev pub invariant-loop-place : goal.invariant-loop-place

@@ -1,6 +1,6 @@
 use Rattle.std.proofs.Common.{ℕ, List}
 use Rattle.std.specs.List.{AllWithin}
-use Rattle.tce_states.specs.Row.{Row}
+use Rattle.tce_fusion.specs.Row.{Row}
 use Rattle.tce_check.specs.Reach.{AreFloors, ReachesChoice}
 use Rattle.tce_check.proofs.reach.reach_of.Given as goal
 

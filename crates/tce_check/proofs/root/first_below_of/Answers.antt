@@ -1,6 +1,6 @@
 use Rattle.std.proofs.Common.{◌+◌, ◌≤◌}
 use Rattle.std.specs.List.{All}
-use Rattle.tce_states.specs.Row.{Row}
+use Rattle.tce_fusion.specs.Row.{Row}
 use Rattle.tce_check.specs.First.{First}
 use Rattle.tce_check.specs.Verdict.{WhereJoined, IsBelow}
 use Rattle.tce_check.proofs.Firsts.{first_at, one_more}

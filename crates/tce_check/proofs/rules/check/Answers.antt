@@ -1,7 +1,7 @@
 use Rattle.std.proofs.Common.{◌≡◌, refl, ◌∙◌, subst, arith}
 use Rattle.tce_tree.specs.Memory.{memory}
-use Rattle.tce_states.proofs.Covers.{least_by_cover}
-use Rattle.tce_states.specs.Cover.{Covers}
+use Rattle.tce_fusion.proofs.Covers.{least_by_cover}
+use Rattle.tce_fusion.specs.Cover.{Covers}
 use Rattle.tce_check.specs.declared.verdict.Verdict.TheVariants.{Accepted, NotLegal, OrderWrong, SizeWrong, TotalWrong, NotCovered, BelowTotal}
 use Rattle.tce_check.proofs.Verdicts.{one_verdict}
 use Rattle.tce_check.proofs.rules.check.Goals as goal

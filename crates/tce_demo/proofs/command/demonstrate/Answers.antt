@@ -3,8 +3,8 @@ use Rattle.std.proofs.lemmas.Bool.{false≢true}
 use Rattle.std.proofs.lemmas.Result.{IfOk-from_err, err_from_is_err_and}
 use Rattle.tce_outside.proofs.Causes.{cause_as, cause_since}
 use Rattle.tce_command.specs.declared.refusal.Refusal.TheVariants.{Disk}
-use Rattle.tce_source.proofs.Outcomes.{ok_no_disk}
-use Rattle.tce_example.proofs.OtherFiles.{stay_twice}
+use Rattle.tce_command.proofs.Outcomes.{ok_no_disk}
+use Rattle.tce_demo.proofs.OtherFiles.{stay_twice}
 use Rattle.tce_demo.proofs.Operands.{operands_told, result_told}
 use Rattle.tce_demo.proofs.Ran.{result_stays, all_stay, all_written, sum_after, demonstrated}
 use Rattle.tce_demo.proofs.NoHalf.{input_left, run_left}

@@ -1,6 +1,6 @@
 use Rattle.std.proofs.Common.{◌∙◌, ap}
 use Rattle.tce_spec.specs.Operands.{shape_of}
-use Rattle.tce_tensors.specs.TensorFiles.{file_of}
+use Rattle.tce_job.specs.TensorFiles.{file_of}
 use Rattle.tce_demo.proofs.Ran.{summed}
 use Rattle.tce_demo.proofs.sum.result_sum.Goals as goal
 

@@ -1,10 +1,10 @@
 use Rattle.std.proofs.Common.{◌≡◌, ℕ, ◌∙◌, ◌+◌, ◌<◌, ◌≤◌, ◌^◌, length, slice_index, ap, sym, arith}
 use Rattle.tce_tree.specs.Memory.{memory}
-use Rattle.tce_layout.specs.Layout.{slot_at}
-use Rattle.tce_layout.specs.declared.slot.Slot.{Slot}
-use Rattle.tce_operands.specs.NodeStates.{Places}
-use Rattle.tce_operands.specs.Slots.{slot_word}
-use Rattle.tce_operands.proofs.Slots.{slots_lead_to_places}
+use Rattle.tce_code.specs.Layout.{slot_at}
+use Rattle.tce_code.specs.declared.slot.Slot.{Slot}
+use Rattle.tce_workspace.specs.NodeStates.{Places}
+use Rattle.tce_workspace.specs.Slots.{slot_word}
+use Rattle.tce_workspace.proofs.Slots.{slots_lead_to_places}
 use Rattle.tce_workspace.proofs.Reading.{slot_low}
 use Rattle.tce_exec.proofs.windows.place_in_slot.Goals as goal
 

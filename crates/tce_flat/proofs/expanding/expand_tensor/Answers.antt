@@ -12,7 +12,7 @@ use Rattle.tce_sym.specs.Told.{Expands, IsStoredIn}
 use Rattle.tce_flat.proofs.SymFiles.{files_apart, sym_cause, sym_told, sym_refused}
 use Rattle.tce_flat.proofs.Tools.{report_is}
 use Rattle.tce_outside.proofs.Causes.{answered_quiet, cause_as, cause_since}
-use Rattle.tce_source.proofs.Outcomes.{ok_no_disk}
+use Rattle.tce_command.proofs.Outcomes.{ok_no_disk}
 use Rattle.tce_sym.specs.Faults.{IsFault}
 use Rattle.tce_flat.proofs.expanding.expand_tensor.Goals as goal
 

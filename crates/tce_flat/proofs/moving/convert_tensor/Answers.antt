@@ -12,7 +12,7 @@ use Rattle.tce_flat.specs.Tools.{Stands}
 use Rattle.tce_flat.proofs.Tools.{report_is}
 use Rattle.tce_flat.proofs.ToolFaults.{tool_keeps, tool_cause, tool_told, form_refused}
 use Rattle.tce_outside.proofs.Causes.{answered_quiet}
-use Rattle.tce_source.proofs.Outcomes.{ok_no_disk}
+use Rattle.tce_command.proofs.Outcomes.{ok_no_disk}
 use Rattle.tce_flat.proofs.moving.convert_tensor.Goals as goal
 
 pub returns-in-Ok-convert-clause-no_half : goal.returns-in-Ok-convert-clause-no_half

@@ -10,7 +10,7 @@ use Rattle.tce_tools.proofs.NoHalf.{same_left}
 use Rattle.tce_flat.specs.Tensors.{array_file}
 use Rattle.tce_flat.proofs.ToolFaults.{tool_keeps, tool_cause, tool_told, flat_refused}
 use Rattle.tce_outside.proofs.Causes.{answered_quiet}
-use Rattle.tce_source.proofs.Outcomes.{ok_no_disk}
+use Rattle.tce_command.proofs.Outcomes.{ok_no_disk}
 use Rattle.tce_flat.proofs.moving.pack_tensor.Goals as goal
 
 pub returns-in-Ok-pack-clause-done : goal.returns-in-Ok-pack-clause-done

@@ -1,6 +1,6 @@
 use Rattle.std.proofs.Common.{◌≡◌, ◌∙◌, ap, List, ℕ, Result, Err, refl, subst, inl, inr}
 use Rattle.tce_outside.specs.Files.{others, IsKeptOrZeros}
-use Rattle.tce_tensors.specs.TensorFiles.{file_of}
+use Rattle.tce_job.specs.TensorFiles.{file_of}
 use Rattle.tce_outside.specs.declared.device.OutFault.{OutFault}
 use Rattle.tce_outside.specs.declared.device.OutFault.TheVariants as out
 use Rattle.tce_job.specs.declared.fault.JobFault.{JobFault}

@@ -3,8 +3,8 @@ use Rattle.std.proofs.lemmas.Result.{IfOk-from_err}
 use Rattle.tce_array.specs.declared.form.Form.TheVariants.{One}
 use Rattle.tce_array.specs.Forms.{form_len}
 use Rattle.tce_spec.specs.Operands.{shape_of}
-use Rattle.tce_tensors.specs.TensorFiles.{file_of}
-use Rattle.tce_tensors.specs.Takings.{tile_take}
+use Rattle.tce_job.specs.TensorFiles.{file_of}
+use Rattle.tce_job.specs.Takings.{tile_take}
 use Rattle.tce_job.proofs.preparing.report_of.Goals as goal
 
 pub tile_take-tiles-requires : goal.tile_take-tiles-requires

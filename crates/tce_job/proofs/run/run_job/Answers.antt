@@ -3,9 +3,9 @@ use Rattle.std.specs.Prelude.{OnOk}
 use Rattle.std.proofs.lemmas.Result.{IfOk-from_err, err_from_is_err_and}
 use Rattle.tce_outside.specs.Files.{Files, others}
 use Rattle.tce_outside.proofs.Causes.{cause_as, answered_quiet, cause_since}
-use Rattle.tce_tensors.specs.Opened.{AreOpenedOn}
-use Rattle.tce_tensors.specs.TensorFiles.{file_of}
-use Rattle.tce_tensors.specs.Laws.{LeavesNoHalfResult}
+use Rattle.tce_job.specs.Opened.{AreOpenedOn}
+use Rattle.tce_job.specs.TensorFiles.{file_of}
+use Rattle.tce_job.specs.Laws.{LeavesNoHalfResult}
 use Rattle.tce_job.specs.Told.{FailsOrKeeps, ResultAlone, WritesResult}
 use Rattle.tce_job.proofs.Causes.{one_reason, granted, can_run}
 use Rattle.tce_job.proofs.Answered.{exact, same_fault, granted_free, refused_free, able_to, reported, room_of}

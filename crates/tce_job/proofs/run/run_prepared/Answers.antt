@@ -13,7 +13,7 @@ use Rattle.tce_walk.specs.Touches.{touch_bound}
 use Rattle.tce_cache.specs.Cache.{State as CacheState}
 use Rattle.tce_workspace.specs.Prepared.{IsPrepared}
 use Rattle.tce_exec.specs.Run.{IsZero, IsRun}
-use Rattle.tce_tensors.specs.TensorFiles.{file_of}
+use Rattle.tce_job.specs.TensorFiles.{file_of}
 use Rattle.tce_job.proofs.Begun.{workspace_at, of_parts, is_workspace, is_zero, few_touches}
 use Rattle.tce_job.proofs.Ended.{ran_over, without_head, but_head, room_for_head, others_stay, others_kept, begins_after, written_result}
 use Rattle.tce_job.proofs.run.run_prepared.Goals as goal

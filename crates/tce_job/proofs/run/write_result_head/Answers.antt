@@ -5,7 +5,7 @@ use Rattle.tce_space.specs.Tiling.{Tiling}
 use Rattle.tce_array.specs.declared.form.Form.TheVariants.{One}
 use Rattle.tce_array.specs.OnDisk.{HasRoomForHead, HoldsHead, SameBehindHead}
 use Rattle.tce_spec.specs.Operands.{shape_of}
-use Rattle.tce_tensors.specs.TensorFiles.{file_of}
+use Rattle.tce_job.specs.TensorFiles.{file_of}
 use Rattle.tce_job.proofs.run.write_result_head.Goals as goal
 
 -- what holds of a name and a shape holds of those that are the same

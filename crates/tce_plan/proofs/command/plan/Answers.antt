@@ -1,6 +1,6 @@
 use Rattle.std.proofs.Common.{refl}
 use Rattle.std.proofs.lemmas.Result.{IfOk-weaker, IfErr-weaker}
-use Rattle.tce_source.proofs.Outcomes.{ok_no_disk}
+use Rattle.tce_command.proofs.Outcomes.{ok_no_disk}
 use Rattle.tce_plan.proofs.Planned.{memory_refused, no_failure}
 use Rattle.tce_plan.proofs.command.plan.Goals as goal
 

@@ -1,11 +1,11 @@
 use Rattle.std.proofs.Common.{◌≤◌, ◌^◌, ◌∙◌, sym, subst, arith}
 use Rattle.std.specs.List.{All}
 use Rattle.std.proofs.lemmas.List.Elements.{All-weaker}
-use Rattle.tce_nesting.specs.declared.choice.Choice.{Choice}
-use Rattle.tce_candidates.specs.Candidates.{IsSmall}
-use Rattle.tce_candidates.proofs.Quantifiers.{All-of_reversed}
+use Rattle.tce_fusion.specs.declared.choice.Choice.{Choice}
+use Rattle.tce_search.specs.Candidates.{IsSmall}
+use Rattle.tce_search.proofs.Quantifiers.{All-of_reversed}
 use Rattle.tce_search.proofs.Operands.{are_operands}
-use Rattle.tce_search.proofs.Steps.{refill_reversed, candidates_of_operands_are}
+use Rattle.tce_search.proofs.NodeSteps.{refill_reversed, candidates_of_operands_are}
 use Rattle.tce_search.proofs.node.candidates_of_node.Goals as goal
 
 pub candidates_of-requires-clause-known : goal.candidates_of-requires-clause-known

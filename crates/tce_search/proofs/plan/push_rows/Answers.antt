@@ -1,6 +1,6 @@
 use Rattle.std.proofs.Common.{◌≡◌, ℕ, ◌++◌, List, [], ◌∷◌, set, sym, ap, ap₂, ◌∙◌}
 use Rattle.std.proofs.lemmas.List.Elements.{same_from_all_zip}
-use Rattle.tce_states.specs.Row.{Row, rows_at}
+use Rattle.tce_fusion.specs.Row.{Row, rows_at}
 use Rattle.tce_search.proofs.RowLists.{rows_more}
 use Rattle.tce_search.proofs.plan.push_rows.Goals as goal
 

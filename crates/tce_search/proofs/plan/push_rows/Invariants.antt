@@ -1,6 +1,6 @@
 use Rattle.std.proofs.Common.{◌≡◌, ◌++◌, take, set}
-use Rattle.tce_states.specs.Row.{rows_at}
-use Rattle.tce_candidates.specs.Laws.{rows_of}
+use Rattle.tce_fusion.specs.Row.{rows_at}
+use Rattle.tce_search.specs.Laws.{rows_of}
 use Rattle.tce_search.proofs.plan.push_rows.Given as goal
 
 abbrev pub invariant-loop-candidate : goal.invariant-loop-candidate

@@ -1,9 +1,9 @@
 use Rattle.std.proofs.Common.{None}
 use Rattle.std.specs.List.{All}
 use Rattle.std.proofs.lemmas.List.Elements.{AllWithin-none}
-use Rattle.tce_candidates.specs.declared.candidate.Candidate.{Candidate}
-use Rattle.tce_candidates.specs.Candidates.{IsLimited}
-use Rattle.tce_candidates.proofs.Covers.{read_contains}
+use Rattle.tce_search.specs.declared.candidate.Candidate.{Candidate}
+use Rattle.tce_search.specs.Candidates.{IsLimited}
+use Rattle.tce_search.proofs.Covers.{read_contains}
 use Rattle.tce_search.specs.Root.{IsBound}
 use Rattle.tce_search.proofs.Leasts.{holds_read, room_read, within_kept, earlier_kept, made_further, all_passed, one_more_read}
 use Rattle.tce_search.proofs.root.least_fusion.Goals as goal

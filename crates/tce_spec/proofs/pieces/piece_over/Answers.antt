@@ -4,7 +4,7 @@ use Rattle.tce_space.specs.IndexSet.{has}
 use Rattle.tce_tree.specs.Expr.{tree_of}
 use Rattle.tce_tree.specs.ContractionTree.{ContractionTree, operations}
 use Rattle.tce_tree.specs.WellFormed.{sums_distinct}
-use Rattle.tce_declarations.specs.Declarations.{Tensor}
+use Rattle.tce_spec.specs.Declarations.{Tensor}
 use Rattle.tce_spec.specs.Specification.{Specification, ConstantsAreWords}
 use Rattle.tce_spec.specs.Operands.{references, each_once}
 use Rattle.tce_spec.specs.PieceSpecification.{source, sources, place_in, renumbered, piece_of}

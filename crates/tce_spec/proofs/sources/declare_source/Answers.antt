@@ -1,6 +1,6 @@
 use Rattle.std.proofs.Common.{ap, refl, ◌∙◌, ◌∷◌, ◌++◌, []}
 use Rattle.std.proofs.lemmas.Result.{IfOk-weaker}
-use Rattle.tce_declarations.specs.Declarations.{Tensor, tensor_number}
+use Rattle.tce_spec.specs.Declarations.{Tensor, tensor_number}
 use Rattle.tce_spec.specs.PieceSpecification.{source}
 use Rattle.tce_spec.proofs.PieceCalls.{tensor_is, tensor_fits}
 use Rattle.tce_spec.proofs.sources.declare_source.Goals as goal

@@ -1,6 +1,6 @@
 use Rattle.std.proofs.Common.{get_or, ap, refl, ◌∙◌, []}
 use Rattle.tce_space.specs.Space.{IndexSpace}
-use Rattle.tce_declarations.specs.Declarations.{Declarations, IsTensor, tensor_number}
+use Rattle.tce_spec.specs.Declarations.{Declarations, IsTensor, tensor_number}
 use Rattle.tce_spec.specs.PieceCode.{IsSource}
 use Rattle.tce_spec.specs.PieceSpecification.{source}
 use Rattle.tce_spec.proofs.PieceCalls.{tensor_fits}

@@ -4,12 +4,12 @@ use Rattle.tce_tree.specs.ContractionTree.{operations}
 use Rattle.tce_tree.specs.WellFormed.{sums_distinct}
 use Rattle.tce_tree.specs.Faults.{fault_of}
 use Rattle.tce_grammar.specs.Code.{names, formula}
-use Rattle.tce_declarations.specs.Faults.{Fault}
-use Rattle.tce_declarations.specs.FaultCode.{Shows}
-use Rattle.tce_declarations.specs.Text.{closing_fault}
-use Rattle.tce_declarations.specs.TextCode.{head}
-use Rattle.tce_declarations.proofs.Readings.{computed_head, head_is, closing_is, lines_of}
-use Rattle.tce_formula.specs.FormulaFaults.{formula_fault}
+use Rattle.tce_spec.specs.Faults.{Fault}
+use Rattle.tce_spec.specs.FaultCode.{Shows}
+use Rattle.tce_spec.specs.Text.{closing_fault}
+use Rattle.tce_spec.specs.TextCode.{head}
+use Rattle.tce_spec.proofs.Readings.{computed_head, head_is, closing_is, lines_of}
+use Rattle.tce_spec.specs.FormulaFaults.{formula_fault}
 use Rattle.tce_spec.specs.Specification.{ConstantsAreWords}
 use Rattle.tce_spec.proofs.Reading.{formula_shown, rest_shown, rest_lines, all_specified}
 use Rattle.tce_spec.proofs.Kept.{line_keeps}

@@ -1,6 +1,6 @@
 use Rattle.std.proofs.lemmas.Result.{err_from_is_err_and}
-use Rattle.tce_declarations.proofs.Readings.{computed_head, head_is}
-use Rattle.tce_formula.proofs.LineNames.{line_names}
+use Rattle.tce_spec.proofs.Readings.{computed_head, head_is}
+use Rattle.tce_spec.proofs.LineNames.{line_names}
 use Rattle.tce_spec.proofs.Reading.{head_fault}
 use Rattle.tce_spec.proofs.spec.read_spec.Goals as goal
 

@@ -4,8 +4,8 @@ use Rattle.tce_outside.specs.Files.{Files}
 use Rattle.tce_outside.proofs.Causes.{cause_as, answered_quiet}
 use Rattle.tce_array.specs.declared.fault.ArrayFault.{ArrayFault}
 use Rattle.tce_spec.specs.Specification.{Specification}
-use Rattle.tce_tensors.specs.TensorFiles.{name_of}
-use Rattle.tce_tensors.specs.Opened.{IsRefused}
+use Rattle.tce_job.specs.TensorFiles.{name_of}
+use Rattle.tce_job.specs.Opened.{IsRefused}
 use Rattle.tce_job.specs.declared.fault.JobFault.{JobFault}
 use Rattle.tce_job.specs.declared.fault.JobFault.TheVariants.{Array, Disk}
 use Rattle.tce_job.specs.Refusals.{IsOpeningFault as IsFaultByNumber}

@@ -2,9 +2,9 @@ use Rattle.std.proofs.Common.{Option, refl, subst, inl, inr, ap, ◌∙◌}
 use Rattle.std.specs.Option.{option_map}
 use Rattle.tce_outside.specs.Files.{Files, others}
 use Rattle.tce_outside.proofs.Causes.{cause_as, answered_quiet, cause_since}
-use Rattle.tce_tensors.specs.TensorFiles.{file_of}
-use Rattle.tce_tensors.specs.ResultBytes.{with_result}
-use Rattle.tce_tensors.specs.Laws.{LeavesNoHalfResult}
+use Rattle.tce_job.specs.TensorFiles.{file_of}
+use Rattle.tce_job.specs.ResultBytes.{with_result}
+use Rattle.tce_job.specs.Laws.{LeavesNoHalfResult}
 use Rattle.tce_job.proofs.Answered.{same_fault, answered}
 use Rattle.tce_job.proofs.Ended.{same_is_no_half}
 use Rattle.tce_spill_job.proofs.PlannedRuns.{can_run, is_small, is_reported, taken_left}

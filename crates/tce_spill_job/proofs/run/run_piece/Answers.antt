@@ -5,10 +5,10 @@ use Rattle.tce_outside.specs.Files.{others}
 use Rattle.std.specs.Option.{option_map}
 use Rattle.tce_space.specs.IndexSet.{has}
 use Rattle.tce_spec.specs.Specification.{Specification}
-use Rattle.tce_tensors.specs.Laws.{LeavesNoHalfResult}
-use Rattle.tce_tensors.specs.Opened.{HasOperands, operand_count}
-use Rattle.tce_tensors.specs.TensorFiles.{file_of}
-use Rattle.tce_tensors.specs.ResultBytes.{with_result}
+use Rattle.tce_job.specs.Laws.{LeavesNoHalfResult}
+use Rattle.tce_job.specs.Opened.{HasOperands, operand_count}
+use Rattle.tce_job.specs.TensorFiles.{file_of}
+use Rattle.tce_job.specs.ResultBytes.{with_result}
 use Rattle.tce_job.specs.Refusals.{IsAffordable}
 use Rattle.tce_job.specs.Prepared.{HasTaken}
 use Rattle.tce_job.specs.Run.{IsReported}

@@ -4,7 +4,7 @@ use Rattle.std.specs.Option.{ForSome}
 use Rattle.tce_outside.specs.Files.{Files}
 use Rattle.tce_outside.proofs.Causes.{cause_as, cause_since, answered_quiet, no_cause as no_fault}
 use Rattle.tce_space.specs.IndexSet.{has}
-use Rattle.tce_tensors.specs.Opened.{HasOperands, operand_count}
+use Rattle.tce_job.specs.Opened.{HasOperands, operand_count}
 use Rattle.tce_job.proofs.Answered.{answered, same_fault}
 use Rattle.tce_job.specs.Several.{OnlyResultsDiffer}
 use Rattle.tce_spill_job.specs.Pieces.{pieces_of}

@@ -1,5 +1,5 @@
 use Rattle.std.proofs.Common.{◌≤◌, ◌^◌, sym, subst}
-use Rattle.tce_tensors.proofs.Tiles.{largest_limit}
+use Rattle.tce_job.proofs.Tiles.{largest_limit}
 use Rattle.tce_spill_job.proofs.spilling.largest_tile.Goals as goal
 
 pub loop-v-init : goal.loop-v-init

@@ -1,7 +1,7 @@
 use Rattle.std.proofs.Common.{List, length, take}
-use Rattle.tce_strides.specs.Steps.{sum_lens, sum_out_steps, operand_steps}
-use Rattle.tce_strides.specs.Turns.{grown}
-use Rattle.tce_strides.specs.declared.loops.SumLoop.{SumLoop}
+use Rattle.tce_block.specs.StrideSteps.{sum_lens, sum_out_steps, operand_steps}
+use Rattle.tce_block.specs.Turns.{grown}
+use Rattle.tce_block.specs.declared.loops.SumLoop.{SumLoop}
 use Rattle.tce_windows.specs.Nests.{sum_loop}
 use Rattle.tce_windows.proofs.Calls.{AreSumLoops, sum_loops_are, positive_nest, within_nest, apart_nest, made_by_one}
 use Rattle.tce_windows.proofs.Nests.{loops_in_front}

@@ -1,7 +1,7 @@
 use Rattle.std.proofs.Common.{refl, List, length, take}
-use Rattle.tce_strides.specs.Steps.{lens, out_steps, left_steps, right_steps}
-use Rattle.tce_strides.specs.Turns.{grown_by_products}
-use Rattle.tce_strides.specs.declared.loops.Loop.{Loop}
+use Rattle.tce_block.specs.StrideSteps.{lens, out_steps, left_steps, right_steps}
+use Rattle.tce_block.specs.Turns.{grown_by_products}
+use Rattle.tce_block.specs.declared.loops.Loop.{Loop}
 use Rattle.tce_windows.specs.Nests.{pair_loop}
 use Rattle.tce_windows.proofs.Calls.{ArePairLoops, pair_loops_are, positive_nest, within_nest, apart_nest, made_by_two}
 use Rattle.tce_windows.proofs.Nests.{loops_in_front}

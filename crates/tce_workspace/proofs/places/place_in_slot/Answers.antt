@@ -1,6 +1,6 @@
 use Rattle.std.proofs.Common.{◌≤◌, ◌^◌, length, slice_index, arith}
 use Rattle.tce_tree.specs.Memory.{memory}
-use Rattle.tce_operands.specs.NodeStates.{Places}
+use Rattle.tce_workspace.specs.NodeStates.{Places}
 use Rattle.tce_workspace.proofs.Reading.{slot_low}
 use Rattle.tce_workspace.proofs.places.place_in_slot.Goals as goal
 

@@ -1,5 +1,5 @@
 use Rattle.std.proofs.Common.{◌<◌, ◌^◌, slice_index, map, false, arith}
-use Rattle.tce_operands.specs.NodeStates.{current_cell}
+use Rattle.tce_workspace.specs.NodeStates.{current_cell}
 use Rattle.tce_workspace.specs.Workspace.{Workspace}
 use Rattle.tce_workspace.specs.Storages.{work_of}
 use Rattle.tce_workspace.proofs.Workspaces.{touched_reads}

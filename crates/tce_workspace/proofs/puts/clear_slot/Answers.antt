@@ -1,5 +1,5 @@
 use Rattle.std.proofs.Common.{ap}
-use Rattle.tce_layout.specs.Layout.{slot_at}
+use Rattle.tce_code.specs.Layout.{slot_at}
 use Rattle.tce_workspace.specs.Workspace.{workspace}
 use Rattle.tce_workspace.proofs.Putting.{slot_room, slot_cleared}
 use Rattle.tce_workspace.proofs.puts.clear_slot.Goals as goal

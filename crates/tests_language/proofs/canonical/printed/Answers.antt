@@ -1,4 +1,4 @@
-use Rattle.tce_formula.proofs.LineNames.{line_names}
+use Rattle.tce_spec.proofs.LineNames.{line_names}
 use Rattle.tests_language.proofs.canonical.printed.Goals as goal
 
 pub read_formula-found-requires-clause-written : goal.read_formula-found-requires-clause-written

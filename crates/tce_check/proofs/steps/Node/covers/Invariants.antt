@@ -1,7 +1,7 @@
 use Rattle.std.proofs.Common.{◌<◌, ◌^◌, length}
 use Rattle.std.specs.List.{All}
-use Rattle.tce_states.specs.Row.{Row}
-use Rattle.tce_states.specs.Cover.{StepsCovered}
+use Rattle.tce_fusion.specs.Row.{Row}
+use Rattle.tce_fusion.specs.Cover.{StepsCovered}
 use Rattle.tce_check.specs.Verdict.{WhereJoined}
 use Rattle.tce_check.proofs.Covering.{OfEachPair}
 use Rattle.tce_check.proofs.steps.Node.covers.Given as goal

@@ -1,9 +1,9 @@
 use Rattle.std.proofs.Common.{◌<◌, ◌^◌, sym, subst}
 use Rattle.std.proofs.lemmas.List.Elements.{AllWithin-none}
-use Rattle.tce_nesting.specs.Ends.{AreRuns}
+use Rattle.tce_fusion.specs.Ends.{AreRuns}
 use Rattle.std.specs.List.{All}
-use Rattle.tce_states.specs.Row.{Row}
-use Rattle.tce_states.specs.Cover.{StepsCovered}
+use Rattle.tce_fusion.specs.Row.{Row}
+use Rattle.tce_fusion.specs.Cover.{StepsCovered}
 use Rattle.tce_check.specs.Verdict.{WhereJoined}
 use Rattle.tce_check.proofs.Firsts.{one_more, all_passed, untold}
 use Rattle.tce_check.proofs.steps.Node.covers_few.Goals as goal

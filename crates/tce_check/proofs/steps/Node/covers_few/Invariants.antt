@@ -1,5 +1,5 @@
 use Rattle.std.specs.List.{All, AllWithin}
-use Rattle.tce_states.specs.Cover.{StepsCovered}
+use Rattle.tce_fusion.specs.Cover.{StepsCovered}
 use Rattle.tce_check.specs.Verdict.{WhereJoined}
 use Rattle.tce_check.proofs.steps.Node.covers_few.Given as goal
 

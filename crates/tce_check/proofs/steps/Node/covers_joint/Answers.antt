@@ -1,6 +1,6 @@
 use Rattle.std.proofs.Common.{arith, ap, sym, subst}
 use Rattle.tce_tree.specs.ContractionTree.{node_loops}
-use Rattle.tce_states.specs.Row.{Row}
+use Rattle.tce_fusion.specs.Row.{Row}
 use Rattle.tce_check.specs.Tops.{AreTops}
 use Rattle.tce_check.proofs.Joints.{steps_of_choices}
 use Rattle.tce_check.proofs.Reaches.{tops_of_joint}

@@ -1,7 +1,7 @@
 use Rattle.std.proofs.Common.{◌+◌, arith, ap, ◌∙◌, subst}
 use Rattle.std.specs.List.{Any}
-use Rattle.tce_states.specs.Relation.{Relation}
-use Rattle.tce_states.specs.Row.{Row, StandsFor}
+use Rattle.tce_fusion.specs.Relation.{Relation}
+use Rattle.tce_fusion.specs.Row.{Row, StandsFor}
 use Rattle.tce_check.specs.Joint.{IsJointOf}
 use Rattle.tce_check.proofs.Joints.{steps_of_bound}
 use Rattle.tce_check.proofs.steps.Node.covers_pair.Goals as goal

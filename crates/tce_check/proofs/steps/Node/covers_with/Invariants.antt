@@ -1,6 +1,6 @@
 use Rattle.std.proofs.Common.{◌-◌, length}
 use Rattle.std.specs.List.{AllWithin}
-use Rattle.tce_states.specs.Cover.{StepsCovered}
+use Rattle.tce_fusion.specs.Cover.{StepsCovered}
 use Rattle.tce_check.specs.Verdict.{WhereJoined}
 use Rattle.tce_check.proofs.steps.Node.covers_with.Given as goal
 

@@ -1,8 +1,8 @@
 use Rattle.std.proofs.Common.{◌<◌, ◌^◌, sym, subst}
 use Rattle.std.proofs.lemmas.List.Elements.{AllWithin-none}
 use Rattle.std.specs.List.{All}
-use Rattle.tce_states.specs.Row.{Row}
-use Rattle.tce_states.specs.Cover.{StepsCovered}
+use Rattle.tce_fusion.specs.Row.{Row}
+use Rattle.tce_fusion.specs.Cover.{StepsCovered}
 use Rattle.tce_check.specs.First.{First}
 use Rattle.tce_check.specs.Verdict.{WhereJoined, IsLeastUncovered}
 use Rattle.tce_check.proofs.Firsts.{first_at, one_more, all_passed}

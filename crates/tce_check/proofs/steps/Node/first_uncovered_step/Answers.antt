@@ -1,7 +1,7 @@
 use Rattle.std.proofs.Common.{◌+◌, arith, refl, ap, ◌∙◌, subst}
 use Rattle.std.specs.List.{Any}
-use Rattle.tce_states.specs.Relation.{Relation, HasNoConflict}
-use Rattle.tce_states.specs.Row.{Row, StandsFor, rows_joined}
+use Rattle.tce_fusion.specs.Relation.{Relation, HasNoConflict}
+use Rattle.tce_fusion.specs.Row.{Row, StandsFor, rows_joined}
 use Rattle.tce_check.specs.Joint.{IsJointOf}
 use Rattle.tce_check.proofs.Joints.{steps_of_bound, steps_of_choices, least_of_choices}
 use Rattle.tce_check.proofs.steps.Node.first_uncovered_step.Goals as goal

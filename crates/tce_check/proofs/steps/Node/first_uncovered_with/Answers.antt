@@ -1,4 +1,4 @@
-use Rattle.tce_states.specs.Cover.{StepsCovered}
+use Rattle.tce_fusion.specs.Cover.{StepsCovered}
 use Rattle.tce_check.specs.Verdict.{WhereJoined, IsLeastUncovered}
 use Rattle.tce_check.proofs.Firsts.{first_at, one_more}
 use Rattle.tce_check.proofs.steps.Node.first_uncovered_with.Goals as goal

@@ -1,5 +1,5 @@
 use Rattle.std.proofs.Common.{arith, ap}
-use Rattle.tce_states.specs.Row.{Row}
+use Rattle.tce_fusion.specs.Row.{Row}
 use Rattle.tce_check.proofs.Joints.{steps_of_bound}
 use Rattle.tce_check.proofs.steps.Node.is_dear.Goals as goal
 

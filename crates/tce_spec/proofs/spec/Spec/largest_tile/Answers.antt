@@ -1,7 +1,7 @@
 use Rattle.std.proofs.Common.{◌≡◌, ◌<◌, ℕ, List, length, get_or, max, sym, subst, ap, ap₂, ◌∙◌}
 use Rattle.std.proofs.lemmas.List.Sums.{fold_more}
 use Rattle.tce_space.specs.Tiling.{tile_words}
-use Rattle.tce_formula.specs.Contraction.{LeavesFit}
+use Rattle.tce_spec.specs.Contraction.{LeavesFit}
 use Rattle.tce_spec.specs.Specification.{Specification}
 use Rattle.tce_spec.specs.Operands.{operands, shape_of}
 use Rattle.tce_spec.proofs.Seen.{operand_declared}

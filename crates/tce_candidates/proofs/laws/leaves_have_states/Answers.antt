@@ -1,5 +1,0 @@
-use Rattle.tce_candidates.proofs.ReachedStates as law
-use Rattle.tce_candidates.proofs.laws.leaves_have_states.Goals as goal
-
-pub returns : goal.returns
-returns c = law.leaves_have_states

@@ -1,5 +1,0 @@
-use Rattle.tce_candidates.proofs.ReachedStates as law
-use Rattle.tce_candidates.proofs.laws.steps_are_states.Goals as goal
-
-pub returns : goal.returns
-returns c = law.steps_are_states

@@ -1,5 +1,0 @@
-pub mod Values
-pub mod Names
-pub mod Kept
-pub mod Keeping
-pub mod Readings

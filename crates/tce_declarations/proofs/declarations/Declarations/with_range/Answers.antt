@@ -1,9 +1,0 @@
-use Rattle.std.proofs.Common.{ap}
-use Rattle.tce_space.specs.Space.{IndexSpace}
-use Rattle.tce_declarations.proofs.Keeping.{kept_in_space}
-use Rattle.tce_declarations.proofs.declarations.Declarations.with_range.Goals as goal
-
-pub invariant_of-result : goal.invariant_of-result
-invariant_of-result c =
-    kept_in_space c.self.inside.space c.declare_range.new.space _ c.self.inside.tensors.entries (ap (λ (s : IndexSpace). s.ranges) c.in-Ok.ensures.declared)
-    c.in-Ok.ensures.limits c.self.invariant

@@ -1,6 +1,0 @@
-use Rattle.std.proofs.Common.{◌≡◌, take}
-use Rattle.tce_declarations.specs.Numbers.{value_of}
-use Rattle.tce_declarations.proofs.numbers.value_of.Given as goal
-
-abbrev pub invariant-loop-digit : goal.invariant-loop-digit
-invariant-loop-digit l = l.number ≡ value_of (take l.digit-index l.digits)

@@ -1,0 +1,5 @@
+use Rattle.tce_fusion.proofs.Reached.{leaf_row_is_reached as law}
+use Rattle.tce_fusion.proofs.state_laws.leaf_row_is_reached.Goals as goal
+
+pub returns : goal.returns
+returns c = law

@@ -1,3 +1,0 @@
-pub mod Layout
-pub mod Places
-pub mod Examples

@@ -1,3 +1,0 @@
-pub mod Slots
-pub mod Assignments
-pub mod States

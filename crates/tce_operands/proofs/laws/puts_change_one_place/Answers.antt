@@ -1,5 +1,0 @@
-use Rattle.tce_operands.proofs.States as states
-use Rattle.tce_operands.proofs.laws.puts_change_one_place.Goals as goal
-
-pub returns : goal.returns
-returns c = states.puts_change_one_place

@@ -1,8 +1,0 @@
-pub mod NodeLines
-pub mod Declared
-pub mod Forms
-pub mod Joined
-pub mod Numbers
-pub mod Reading
-pub mod Written
-pub mod Lists

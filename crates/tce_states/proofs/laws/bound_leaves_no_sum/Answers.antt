@@ -1,5 +1,0 @@
-use Rattle.tce_states.proofs.Choices.{bound_leaves_no_sum as law}
-use Rattle.tce_states.proofs.laws.bound_leaves_no_sum.Goals as goal
-
-pub returns : goal.returns
-returns c = law

@@ -1,5 +1,0 @@
-use Rattle.tce_states.proofs.Choices.{first_choice_is_first_step as law}
-use Rattle.tce_states.proofs.laws.first_choice_is_first_step.Goals as goal
-
-pub returns : goal.returns
-returns c = law

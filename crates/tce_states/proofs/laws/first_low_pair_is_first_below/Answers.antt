@@ -1,5 +1,0 @@
-use Rattle.tce_states.proofs.Choices.{first_low_pair_is_first_below as law}
-use Rattle.tce_states.proofs.laws.first_low_pair_is_first_below.Goals as goal
-
-pub returns : goal.returns
-returns c = law

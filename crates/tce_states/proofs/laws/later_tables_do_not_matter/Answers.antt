@@ -1,5 +1,0 @@
-use Rattle.tce_states.proofs.Choices.{later_tables_do_not_matter as law}
-use Rattle.tce_states.proofs.laws.later_tables_do_not_matter.Goals as goal
-
-pub returns : goal.returns
-returns c = law

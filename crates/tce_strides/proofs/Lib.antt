@@ -1,9 +1,0 @@
-pub mod Folds
-pub mod Fours
-pub mod FourWords
-pub mod Innermost
-pub mod Moves
-pub mod Outer
-pub mod Regions
-pub mod Growths
-pub mod Lasts

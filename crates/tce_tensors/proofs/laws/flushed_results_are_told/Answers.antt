@@ -1,5 +1,0 @@
-use Rattle.tce_tensors.proofs.Flushed.{flushed, whole}
-use Rattle.tce_tensors.proofs.laws.flushed_results_are_told.Goals as goal
-
-pub returns : goal.returns
-returns c = record { told = flushed; whole = whole }

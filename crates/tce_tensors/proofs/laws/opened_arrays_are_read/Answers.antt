@@ -1,5 +1,0 @@
-use Rattle.tce_tensors.proofs.Reading.{hold, made, read}
-use Rattle.tce_tensors.proofs.laws.opened_arrays_are_read.Goals as goal
-
-pub returns : goal.returns
-returns c = record { hold = hold; made = made; read = read }

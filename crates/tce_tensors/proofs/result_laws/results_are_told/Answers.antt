@@ -1,5 +1,0 @@
-use Rattle.tce_tensors.proofs.Results.{result_holds, result_padded, result_told, result_before}
-use Rattle.tce_tensors.proofs.result_laws.results_are_told.Goals as goal
-
-pub returns : goal.returns
-returns c = record { holds = result_holds; padded = result_padded; told = result_told; before = result_before }

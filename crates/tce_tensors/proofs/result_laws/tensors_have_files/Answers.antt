@@ -1,6 +1,0 @@
-use Rattle.tce_tensors.proofs.Shapes.{shapes_are_tilings}
-use Rattle.tce_tensors.proofs.Names.{different_files}
-use Rattle.tce_tensors.proofs.result_laws.tensors_have_files.Goals as goal
-
-pub returns : goal.returns
-returns c = record { shapes = shapes_are_tilings; different = different_files }

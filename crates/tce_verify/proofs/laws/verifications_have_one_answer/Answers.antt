@@ -1,5 +1,0 @@
-use Rattle.tce_verify.proofs.OneAnswer as answers
-use Rattle.tce_verify.proofs.laws.verifications_have_one_answer.Goals as goal
-
-pub returns : goal.returns
-returns c = record { granted = answers.granted; alone = answers.alone; possible = λ files spec cert report a. a.can; one_report = answers.one_report }
