@@ -16,7 +16,7 @@ use Rattle.tce_tree.specs.ContractionTree.{ContractionTree, operations, node_dim
 use Rattle.tce_tree.specs.FlatTree.{IsTree}
 use Rattle.tce_tree.specs.WellFormed.{IsDeclaredTree}
 use Rattle.tce_tree.proofs.Members.{node_dims_lt}
-use Rattle.tce_fusion.proofs.Choices.{parts_are_index_sets}
+use Rattle.tce_fusion.proofs.StateChoices.{parts_are_index_sets}
 use Rattle.tce_cert.specs.NodeForm.{ArrayForm}
 use Rattle.tce_cert.specs.NodeLine.{Said, MaySay, line_saying, set_text}
 use Rattle.tce_cert.specs.ReadLine.{form_saying}

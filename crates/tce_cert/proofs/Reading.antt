@@ -17,7 +17,7 @@ use Rattle.tce_fields.specs.Reading.{texts}
 use Rattle.tce_space.specs.IndexSet.{IsWithin, empty, has, members, count}
 use Rattle.tce_space.specs.Name.{is_name}
 use Rattle.tce_space.specs.Space.{IndexSpace, IsSpace, index_at, no_index}
-use Rattle.tce_fusion.proofs.Choices.{parts_are_index_sets}
+use Rattle.tce_fusion.proofs.StateChoices.{parts_are_index_sets}
 use Rattle.tce_tree.specs.ContractionTree.{ContractionTree, operations, node, node_dims, node_loops}
 use Rattle.tce_tree.specs.FlatTree.{kind_of, IsTree}
 use Rattle.tce_tree.specs.WellFormed.{IsDeclaredTree}

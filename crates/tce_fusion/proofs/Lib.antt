@@ -19,7 +19,7 @@ pub mod Costs
 pub mod Covers
 pub mod Reached
 pub mod Unfused
-pub mod Choices
+pub mod StateChoices
 pub mod ClassLists
 pub mod StateClasses
 pub mod Leads

@@ -16,7 +16,7 @@ use Rattle.tce_fusion.specs.State.{root_number, first_right, fused_at_root, stat
 use Rattle.tce_fusion.proofs.Operands.{by_operands, fused_within_loops}
 use Rattle.tce_fusion.proofs.Tells.{state-leaf, state-node, range_end}
 use Rattle.tce_fusion.proofs.LegalStates.{state_parts}
-use Rattle.tce_fusion.proofs.Choices.{parts_are_index_sets}
+use Rattle.tce_fusion.proofs.StateChoices.{parts_are_index_sets}
 use Rattle.tce_fusion.proofs.ClassLists.{tally, tally-bound, tally-le, tally-lt, AreLevels, levels}
 
 -- what is above an index is above each other one, or that one is above the index

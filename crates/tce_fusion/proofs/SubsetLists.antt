@@ -15,7 +15,7 @@ use Rattle.tce_space.proofs.IndexSetLaws.{has-empty, has-minus, has-beyond, has-
 use Rattle.tce_tree.specs.ContractionTree.{ContractionTree, operations, node, node_dims, node_loops}
 use Rattle.tce_tree.proofs.Nodes.{size_bounds}
 use Rattle.tce_tree.proofs.Parents.{dims_within_loops}
-use Rattle.tce_fusion.proofs.Choices.{parts_are_index_sets}
+use Rattle.tce_fusion.proofs.StateChoices.{parts_are_index_sets}
 use Rattle.tce_fusion.specs.Subsets.{AreSubsets, widened}
 
 -- the subsets of the members below `i`, least first

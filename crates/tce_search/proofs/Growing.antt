@@ -7,7 +7,7 @@ use Rattle.std.proofs.lemmas.List.Elements.{All-contains, All-weaker}
 use Rattle.tce_space.specs.Space.{IndexSpace}
 use Rattle.tce_tree.specs.ContractionTree.{ContractionTree, operations, node, node_loops}
 use Rattle.tce_fusion.specs.Row.{rows_at}
-use Rattle.tce_fusion.proofs.Choices.{later_tables_do_not_matter}
+use Rattle.tce_fusion.proofs.StateChoices.{later_tables_do_not_matter}
 use Rattle.tce_search.specs.declared.candidate.Candidate.{Candidate}
 use Rattle.tce_search.specs.Laws.{rows_of}
 use Rattle.tce_search.specs.CandidateLists.{candidates_at, tables_of, Searched, with_next, IsKept, AreCandidates, AreKept, AreFound}

@@ -15,7 +15,7 @@ use Rattle.tce_fusion.specs.Examples.{short_space}
 use Rattle.tce_fusion.specs.Relation.{above, joined, HasNoConflict, IsCoarser}
 use Rattle.tce_fusion.specs.Row.{Row, leaf_row, rows_at, rows_joined, step_relation, StandsForStep}
 use Rattle.tce_fusion.specs.Cover.{left_rows, right_rows, StepsCovered, NodeCovered, NodesCovered, RootBelow, Covers}
-use Rattle.tce_fusion.proofs.Choices.{same_members}
+use Rattle.tce_fusion.proofs.StateChoices.{same_members}
 use Rattle.tce_fusion.specs.StateExamples.{two_tables, short_tables, WorkedCovers}
 
 has_other : (k i : ℕ) → (i ≡ k → ⊥) → has (2 ^ k) i ≡ false

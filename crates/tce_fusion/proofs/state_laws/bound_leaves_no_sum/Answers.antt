@@ -1,4 +1,4 @@
-use Rattle.tce_fusion.proofs.Choices.{bound_leaves_no_sum as law}
+use Rattle.tce_fusion.proofs.StateChoices.{bound_leaves_no_sum as law}
 use Rattle.tce_fusion.proofs.state_laws.bound_leaves_no_sum.Goals as goal
 
 pub returns : goal.returns
