@@ -3,12 +3,12 @@
 # products. To be run by hand, at the top of the repository: sh bench/strides.sh
 #
 # Each time is the least of many rounds. Where the processor has wide lanes, Rattle's own compiler builds for them as well.
-# Work that earlier checks kept in out/ is used, so `rt check` in crates/tce_strides makes this quick.
+# Work that earlier checks kept in out/ is used, so `rt check` in crates/tce_block makes this quick.
 set -eu
 . "$(dirname "$0")/build.sh"
-copy_crates tce_base tce_kernel tce_words tce_space tce_tree tce_block tce_strides
+copy_crates tce_base tce_kernel tce_words tce_space tce_tree tce_block
 mkdir -p crates/strides_bench/src
-echo 'strides_bench: tce_strides tce_words' >> crates.txt
+echo 'strides_bench: tce_block tce_words' >> crates.txt
 
 cat > crates/strides_bench/src/main.rt <<'RATTLE'
 //! Times of a product of two tiles of 64 by 64.
@@ -17,7 +17,7 @@ ghost use Rattle.std.specs.Prelude.{◌≡◌, length};
 
 use std::io;
 use std::time::Instant;
-use tce_strides::{Loop, grow_by_products};
+use tce_block::{Loop, grow_by_products};
 use tce_words::{HeapRoom, Room, Words};
 
 fn multiply(words: &mut Words)
