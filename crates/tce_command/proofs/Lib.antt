@@ -1,3 +1,4 @@
+pub mod Refused
 pub mod Faults
 pub mod Outcomes
 pub mod Read

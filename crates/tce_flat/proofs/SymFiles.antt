@@ -22,7 +22,7 @@ use Rattle.tce_flat.specs.Tensors.{HasTensor, array_file, sym_file}
 use Rattle.tce_flat.specs.Tools.{KeepsTrouble, SymStands}
 use Rattle.tce_flat.specs.Done.{IsExpanding, IsExpanded}
 use Rattle.tce_flat.proofs.Tools.{if_ok}
-use Rattle.tce_flat.proofs.ToolFaults.{refused, same_refused}
+use Rattle.tce_command.proofs.Refused.{refused, same_refused}
 
 -- the two files of a tensor differ
 pub files_apart : (tensor : List ℕ) → sym_file tensor ≢ array_file tensor

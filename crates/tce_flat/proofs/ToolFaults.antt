@@ -14,6 +14,7 @@ use Rattle.tce_command.specs.Report.{fault_of}
 use Rattle.tce_command.specs.Refusals.{NamesFile, IsFree}
 use Rattle.tce_command.specs.declared.refusal.Refusal.{Refusal}
 use Rattle.tce_command.specs.declared.refusal.Refusal.TheVariants.{Missing, Array, Disk}
+use Rattle.tce_command.proofs.Refused.{refused, same_refused}
 use Rattle.tce_flat.specs.Refusals.{IsFlatRefusal, IsArrayRefusal, IsFormRefusal}
 use Rattle.tce_flat.specs.Tensors.{array_file}
 use Rattle.tce_flat.specs.Tools.{KeepsFault, Stands}
@@ -33,23 +34,8 @@ disk_alone tensor input tool.Memory refusal stands e = absurd (cc)
 disk_told : (tensor input : List ℕ) (fault : ToolFault) (refusal : Refusal) → Stands tensor input fault refusal → fault ≡ tool.Disk → refusal ≡ Disk
 disk_told tensor input fault refusal stands e = subst (λ f. Stands tensor input f refusal) e stands
 
-abbrev pub refused : {A : Type 0} → Refusal → Result A Refusal
-refused refusal = Err refusal
-
 abbrev tool_refused : ToolFault → Result (Unit {0}) ToolFault
 tool_refused fault = Err fault
-
-pub same_refused : {A : Type 0} (a b : Refusal) → refused {A = A} a ≡ refused {A = A} b → a ≡ b
-same_refused a b e = cc
-
--- the same refusal in the place of another value
-pub cause_for : {A B : Type 0} (before after : ℕ) (refusal : Refusal) → HasCause before after (refused {A = A} refusal ≡ refused {A = A} Disk)
-    → HasCause before after (refused {A = B} refusal ≡ refused {A = B} Disk)
-cause_for {A} {B} before after refusal cause = cause_as before after (λ e. ap (refused {A = A}) (same_refused {A = B} refusal Disk e)) cause
-
-pub told_for : {A B : Type 0} (before after : ℕ) (refusal : Refusal) → TellsFaults before after (refused {A = A} refusal ≡ refused {A = A} Disk)
-    → TellsFaults before after (refused {A = B} refusal ≡ refused {A = B} Disk)
-told_for {A} {B} before after refusal told = told_as before after (λ e. ap (refused {A = B}) (same_refused {A = A} refusal Disk e)) told
 
 same_fault : (a b : ToolFault) → tool_refused a ≡ tool_refused b → a ≡ b
 same_fault a b e = cc

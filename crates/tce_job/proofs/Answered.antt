@@ -60,3 +60,7 @@ answered x given is failed = absurd (cc)
 
 pub same_fault : {A B E : Type 0} {f : E} (x : E) (given : Result A E) (told : Result B E) → given ≡ Err x → told ≡ Err x → told ≡ Err f → given ≡ Err f
 same_fault x given told is was failed = cc
+
+-- want of memory is no failure
+pub wanting : {A Q : Type 0} (given : Result A JobFault) → given ≡ Err Memory → given ≡ Err Disk → Q
+wanting given is failed = absurd (cc)

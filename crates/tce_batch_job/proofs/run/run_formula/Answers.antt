@@ -9,6 +9,7 @@ use Rattle.tce_job.specs.Refusals.{IsCause, MayBeRefused}
 use Rattle.tce_job.specs.Run.{IsReported}
 use Rattle.tce_job.specs.Prepared.{IsRoomLeft}
 use Rattle.tce_job.specs.Told.{ResultAlone}
+use Rattle.tce_job.proofs.Answered.{wanting}
 use Rattle.tce_job.proofs.Ended.{same_is_no_half}
 use Rattle.tce_batch_job.proofs.Afforded.{if_ok, if_err, at_place}
 use Rattle.tce_batch_job.proofs.run.run_formula.Goals as goal
@@ -52,7 +53,7 @@ pub returns-in_default-clause-others : goal.returns-in_default-clause-others
 returns-in_default-clause-others g c = λ s at. refl
 
 pub returns-in_default-clause-cause : goal.returns-in_default-clause-cause
-returns-in_default-clause-cause g c = no_cause _ _ refl (λ failed. absurd (cc))
+returns-in_default-clause-cause g c = no_cause _ _ refl (wanting _ refl)
 
 pub returns-in_default-clause-quiet : goal.returns-in_default-clause-quiet
 returns-in_default-clause-quiet g c = λ none. refl

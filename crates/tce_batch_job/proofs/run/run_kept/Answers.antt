@@ -6,7 +6,7 @@ use Rattle.tce_job.specs.Opened.{AreOpenedOn}
 use Rattle.tce_job.specs.TensorFiles.{file_of}
 use Rattle.tce_job.specs.Laws.{LeavesNoHalfResult}
 use Rattle.tce_job.specs.Told.{FailsOrKeeps, ResultAlone, WritesResult}
-use Rattle.tce_job.proofs.Answered.{same_fault, refused_free}
+use Rattle.tce_job.proofs.Answered.{same_fault, refused_free, wanting}
 use Rattle.tce_job.proofs.Ended.{same_is_no_half}
 use Rattle.tce_job.proofs.Plans.{opening_cause}
 use Rattle.tce_batch_job.proofs.Planned.{is_carried, is_small, answer_reported, answer_room_left}
@@ -85,7 +85,7 @@ pub returns-in_default-clause-others : goal.returns-in_default-clause-others
 returns-in_default-clause-others g c = refl
 
 pub returns-in_default-clause-cause : goal.returns-in_default-clause-cause
-returns-in_default-clause-cause g c = no_cause _ _ refl (λ failed. absurd (cc))
+returns-in_default-clause-cause g c = no_cause _ _ refl (wanting _ refl)
 
 pub returns-in_default-clause-quiet : goal.returns-in_default-clause-quiet
 returns-in_default-clause-quiet g c = λ none. refl

@@ -1,7 +1,8 @@
-use Rattle.std.proofs.Common.{◌≡◌, ◌∙◌, ap, Err, rules}
+use Rattle.std.proofs.Common.{◌∙◌, ap, rules}
 use Rattle.std.proofs.lemmas.Result.{IfOk-weaker, IfErr-weaker, IfOk-from_err, err_from_is_err_and}
 use Rattle.tce_outside.specs.Files.{others}
-use Rattle.tce_outside.proofs.Causes.{cause_as, told_as, cause_since}
+use Rattle.tce_outside.proofs.Causes.{cause_since}
+use Rattle.tce_command.proofs.Refused.{cause_for, told_for}
 use Rattle.tce_command.specs.declared.refusal.Refusal.TheVariants.{Disk}
 use Rattle.tce_certify.proofs.Free.{free_of_source}
 use Rattle.tce_certify.proofs.Certified.{certified_source}
@@ -37,12 +38,12 @@ returns-in_err-source-clause-others g c = ap (others c.args.cert.now) c.in_err-s
 pub returns-in_err-source-clause-cause : goal.returns-in_err-source-clause-cause
 returns-in_err-source-clause-cause g c =
     let p = err_from_is_err_and c.from_residual.result c.from_residual.ensures.1 in
-    rw (p.1, p.2) (cause_as _ _ (λ failed. let same : c.in_err-source.field-0.0 ≡ Disk = cc in ap Err same) c.in_err-source.ensures.cause)
+    rw (p.1, p.2) (cause_for _ _ c.in_err-source.field-0.0 c.in_err-source.ensures.cause)
 
 pub returns-in_err-source-clause-told : goal.returns-in_err-source-clause-told
 returns-in_err-source-clause-told g c =
     let p = err_from_is_err_and c.from_residual.result c.from_residual.ensures.1 in
-    rw (p.1, p.2) (told_as _ _ (λ failed. let same : c.in_err-source.field-0.0 ≡ Disk = cc in ap Err same) c.in_err-source.ensures.told)
+    rw (p.1, p.2) (told_for _ _ c.in_err-source.field-0.0 c.in_err-source.ensures.told)
 
 pub returns-clause-unchanged : goal.returns-clause-unchanged
 returns-clause-unchanged g c = IfErr-weaker c.certify_source-done.result _ _ (λ refusal keeps real. keeps real ∙ c.in_ok-source.ensures.same) c.certify_source-done.ensures.unchanged

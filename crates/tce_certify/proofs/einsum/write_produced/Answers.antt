@@ -1,8 +1,8 @@
-use Rattle.std.proofs.Common.{◌≡◌, refl, ap, Err}
+use Rattle.std.proofs.Common.{refl}
 use Rattle.std.proofs.lemmas.Result.{IfOk-from_err, err_from_is_err_and}
-use Rattle.tce_outside.proofs.Causes.{answered_quiet, cause_as, told_as}
+use Rattle.tce_outside.proofs.Causes.{answered_quiet}
+use Rattle.tce_command.proofs.Refused.{cause_for, told_for}
 use Rattle.tce_command.proofs.Outcomes.{ok_no_disk}
-use Rattle.tce_command.specs.declared.refusal.Refusal.TheVariants.{Disk}
 use Rattle.tce_certify.proofs.einsum.write_produced.Goals as goal
 
 pub returns-in_err-save-clause-done : goal.returns-in_err-save-clause-done
@@ -24,12 +24,12 @@ returns-in_err-save-clause-others g c = c.save.ensures.others
 pub returns-in_err-save-clause-cause : goal.returns-in_err-save-clause-cause
 returns-in_err-save-clause-cause g c =
     let p = err_from_is_err_and c.from_residual.result c.from_residual.ensures.1 in
-    rw (p.1, p.2) (cause_as _ _ (λ failed. let same : c.in_err-save.field-0.0 ≡ Disk = cc in ap Err same) c.in_err-save.ensures.cause)
+    rw (p.1, p.2) (cause_for _ _ c.in_err-save.field-0.0 c.in_err-save.ensures.cause)
 
 pub returns-in_err-save-clause-told : goal.returns-in_err-save-clause-told
 returns-in_err-save-clause-told g c =
     let p = err_from_is_err_and c.from_residual.result c.from_residual.ensures.1 in
-    rw (p.1, p.2) (told_as _ _ (λ failed. let same : c.in_err-save.field-0.0 ≡ Disk = cc in ap Err same) c.in_err-save.ensures.told)
+    rw (p.1, p.2) (told_for _ _ c.in_err-save.field-0.0 c.in_err-save.ensures.told)
 
 pub returns-clause-others : goal.returns-clause-others
 returns-clause-others g c = c.save.ensures.others

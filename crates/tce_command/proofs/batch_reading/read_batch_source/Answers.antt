@@ -1,8 +1,7 @@
-use Rattle.std.proofs.Common.{◌≡◌, refl, ap, sym, subst, Err}
+use Rattle.std.proofs.Common.{refl, sym, subst}
 use Rattle.std.proofs.lemmas.Result.{IfOk-from_err, err_from_is_err_and}
-use Rattle.tce_outside.proofs.Causes.{cause_as, told_as}
-use Rattle.tce_command.specs.declared.refusal.Refusal.TheVariants.{Disk}
 use Rattle.tce_outside.specs.Files.{file}
+use Rattle.tce_command.proofs.Refused.{cause_for, told_for}
 use Rattle.tce_batch.specs.Outcome.{IsBatchOutcome}
 use Rattle.tce_command.proofs.Outcomes.{ok_no_disk}
 use Rattle.tce_command.proofs.Read.{memory_no_disk, text_no_disk, formulas_specified, formulas_faulty, not_true, unread_batch}
@@ -33,12 +32,12 @@ returns-in_err-text-clause-same g c = c.in_err-text.ensures.same
 pub returns-in_err-text-clause-cause : goal.returns-in_err-text-clause-cause
 returns-in_err-text-clause-cause g c =
     let p = err_from_is_err_and c.from_residual.result c.from_residual.ensures.1 in
-    rw (p.1, p.2) (cause_as _ _ (λ failed. let same : c.in_err-text.field-0.0 ≡ Disk = cc in ap Err same) c.in_err-text.ensures.cause)
+    rw (p.1, p.2) (cause_for _ _ c.in_err-text.field-0.0 c.in_err-text.ensures.cause)
 
 pub returns-in_err-text-clause-told : goal.returns-in_err-text-clause-told
 returns-in_err-text-clause-told g c =
     let p = err_from_is_err_and c.from_residual.result c.from_residual.ensures.1 in
-    rw (p.1, p.2) (told_as _ _ (λ failed. let same : c.in_err-text.field-0.0 ≡ Disk = cc in ap Err same) c.in_err-text.ensures.told)
+    rw (p.1, p.2) (told_for _ _ c.in_err-text.field-0.0 c.in_err-text.ensures.told)
 
 pub returns-in-Ok-clause-same : goal.returns-in-Ok-clause-same
 returns-in-Ok-clause-same g c = c.in_ok-text.ensures.same

@@ -1,7 +1,8 @@
-use Rattle.std.proofs.Common.{◌≡◌, ◌∙◌, refl, ap, inr, Err, arith}
+use Rattle.std.proofs.Common.{◌∙◌, refl, inr, arith}
 use Rattle.std.proofs.lemmas.Bool.{false≢true}
 use Rattle.std.proofs.lemmas.Result.{IfOk-from_err, err_from_is_err_and}
-use Rattle.tce_outside.proofs.Causes.{cause_as, cause_since}
+use Rattle.tce_outside.proofs.Causes.{cause_since}
+use Rattle.tce_command.proofs.Refused.{cause_for, told_for}
 use Rattle.tce_command.specs.declared.refusal.Refusal.TheVariants.{Disk}
 use Rattle.tce_command.proofs.Outcomes.{ok_no_disk}
 use Rattle.tce_demo.proofs.OtherFiles.{stay_twice}
@@ -89,12 +90,12 @@ returns-in_err-put_input-clause-others g c = c.put_input.ensures.others
 pub returns-in_err-put_input-clause-cause : goal.returns-in_err-put_input-clause-cause
 returns-in_err-put_input-clause-cause g c =
     let p = err_from_is_err_and c.from_residual.result c.from_residual.ensures.1 in
-    rw (p.1, p.2) (cause_as _ _ (λ failed. let same : c.in_err-put_input.field-0.0 ≡ Disk = cc in ap Err same) c.in_err-put_input.ensures.cause)
+    rw (p.1, p.2) (cause_for _ _ c.in_err-put_input.field-0.0 c.in_err-put_input.ensures.cause)
 
 pub returns-in_err-put_input-clause-told : goal.returns-in_err-put_input-clause-told
 returns-in_err-put_input-clause-told g c =
     let p = err_from_is_err_and c.from_residual.result c.from_residual.ensures.1 in
-    rw (p.1, p.2) (λ none. c.in_err-put_input.ensures.told (λ failed. let same : c.in_err-put_input.field-0.0 ≡ Disk = cc in none (ap Err same)))
+    rw (p.1, p.2) (told_for _ _ c.in_err-put_input.field-0.0 c.in_err-put_input.ensures.told)
 
 pub returns-in_err-run-clause-done : goal.returns-in_err-run-clause-done
 returns-in_err-run-clause-done g c = IfOk-from_err c.from_residual-in_err-run.result _ c.from_residual-in_err-run.ensures.0
@@ -112,12 +113,12 @@ returns-in_err-run-clause-takings g c =
 pub returns-in_err-run-clause-cause : goal.returns-in_err-run-clause-cause
 returns-in_err-run-clause-cause g c =
     let p = err_from_is_err_and c.from_residual-in_err-run.result c.from_residual-in_err-run.ensures.1 in
-    rw (p.1, p.2) (cause_since _ _ _ c.put_input.ensures.cause.later (cause_as _ _ (λ failed. let same : c.in_err-run.field-0.0 ≡ Disk = cc in ap Err same) c.in_err-run.ensures.cause))
+    rw (p.1, p.2) (cause_since _ _ _ c.put_input.ensures.cause.later (cause_for _ _ c.in_err-run.field-0.0 c.in_err-run.ensures.cause))
 
 pub returns-in_err-run-clause-told : goal.returns-in_err-run-clause-told
 returns-in_err-run-clause-told g c =
     let p = err_from_is_err_and c.from_residual-in_err-run.result c.from_residual-in_err-run.ensures.1 in
-    rw (p.1, p.2) (λ none. c.in_err-run.ensures.quiet (λ failed. let same : c.in_err-run.field-0.0 ≡ Disk = cc in none (ap Err same)) ∙ c.in_ok-put_input.ensures.told (ok_no_disk _ _ refl))
+    rw (p.1, p.2) (λ none. told_for _ _ c.in_err-run.field-0.0 c.in_err-run.ensures.quiet none ∙ c.in_ok-put_input.ensures.told (ok_no_disk _ _ refl))
 
 pub returns-in_default-clause-told : goal.returns-in_default-clause-told
 returns-in_default-clause-told g c = λ none. absurd (none refl)

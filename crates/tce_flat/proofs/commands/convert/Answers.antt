@@ -6,7 +6,7 @@ use Rattle.tce_flat.specs.Tensors.{converted_file}
 use Rattle.tce_flat.specs.Refusals.{IsFormRefusal}
 use Rattle.tce_flat.proofs.Names.{short_tensor, short_spec}
 use Rattle.tce_flat.proofs.Tools.{converted_from, refused_for, unchanged_from}
-use Rattle.tce_flat.proofs.ToolFaults.{cause_for, told_for}
+use Rattle.tce_command.proofs.Refused.{cause_for, told_for}
 use Rattle.tce_flat.specs.NoHalf.{LeavesConverting}
 use Rattle.tce_flat.proofs.NoHalf.{left_for}
 use Rattle.tce_flat.proofs.commands.convert.Goals as goal

@@ -7,7 +7,7 @@ use Rattle.tce_flat.specs.Refusals.{IsSymRefusal}
 use Rattle.tce_flat.proofs.Names.{short_tensor, short_spec}
 use Rattle.tce_flat.proofs.Tools.{refused_for, unchanged_from}
 use Rattle.tce_flat.proofs.SymFiles.{expanded_from}
-use Rattle.tce_flat.proofs.ToolFaults.{cause_for, told_for}
+use Rattle.tce_command.proofs.Refused.{cause_for, told_for}
 use Rattle.tce_flat.specs.NoHalf.{LeavesExpanding}
 use Rattle.tce_flat.proofs.NoHalf.{left_for}
 use Rattle.tce_flat.proofs.commands.expand.Goals as goal

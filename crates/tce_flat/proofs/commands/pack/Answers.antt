@@ -6,7 +6,7 @@ use Rattle.tce_flat.specs.Tensors.{array_file}
 use Rattle.tce_flat.specs.Refusals.{IsFlatRefusal}
 use Rattle.tce_flat.proofs.Names.{short_tensor, short_spec, short_flat, flat_apart}
 use Rattle.tce_flat.proofs.Tools.{packed_from, refused_for, unchanged_from}
-use Rattle.tce_flat.proofs.ToolFaults.{cause_for, told_for}
+use Rattle.tce_command.proofs.Refused.{cause_for, told_for}
 use Rattle.tce_flat.specs.NoHalf.{LeavesPacking}
 use Rattle.tce_flat.proofs.NoHalf.{left_for}
 use Rattle.tce_flat.proofs.commands.pack.Goals as goal

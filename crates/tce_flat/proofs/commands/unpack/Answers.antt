@@ -5,7 +5,7 @@ use Rattle.tce_outside.proofs.Causes.{cause_since}
 use Rattle.tce_flat.specs.Refusals.{IsArrayRefusal}
 use Rattle.tce_flat.proofs.Names.{short_tensor, short_spec, flat_apart}
 use Rattle.tce_flat.proofs.Tools.{unpacked_from, refused_for, unchanged_from}
-use Rattle.tce_flat.proofs.ToolFaults.{cause_for, told_for}
+use Rattle.tce_command.proofs.Refused.{cause_for, told_for}
 use Rattle.tce_flat.specs.NoHalf.{LeavesUnpacking}
 use Rattle.tce_flat.proofs.NoHalf.{left_for}
 use Rattle.tce_flat.proofs.commands.unpack.Goals as goal

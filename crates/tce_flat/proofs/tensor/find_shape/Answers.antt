@@ -2,7 +2,7 @@ use Rattle.std.proofs.Common.{rules, inl}
 use Rattle.std.proofs.lemmas.Result.{IfOk-weaker, IfErr-weaker, IfErr-at_err, IfOk-from_err, err_from_is_err_and}
 use Rattle.tce_flat.specs.Refusals.{IsUndeclared}
 use Rattle.tce_flat.proofs.Tools.{found_in, undeclared_in}
-use Rattle.tce_flat.proofs.ToolFaults.{cause_for, told_for}
+use Rattle.tce_command.proofs.Refused.{cause_for, told_for}
 use Rattle.tce_flat.proofs.tensor.find_shape.Goals as goal
 
 pub returns-clause-found : goal.returns-clause-found

@@ -1,6 +1,6 @@
 use Rattle.std.proofs.Common.{inr, refl}
 use Rattle.tce_outside.proofs.Causes.{cause_as, no_cause, answered_quiet}
-use Rattle.tce_job.proofs.Answered.{answered, same_fault}
+use Rattle.tce_job.proofs.Answered.{answered, same_fault, wanting}
 use Rattle.tce_job.proofs.Made.{begun}
 use Rattle.tce_job.proofs.Ended.{same_is_no_half}
 use Rattle.tce_job.proofs.preparing.begin.Goals as goal
@@ -77,7 +77,7 @@ pub returns-in_default-clause-others : goal.returns-in_default-clause-others
 returns-in_default-clause-others g c = refl
 
 pub returns-in_default-clause-cause : goal.returns-in_default-clause-cause
-returns-in_default-clause-cause g c = no_cause _ _ refl (λ failed. absurd (cc))
+returns-in_default-clause-cause g c = no_cause _ _ refl (wanting _ refl)
 
 pub returns-in_default-clause-quiet : goal.returns-in_default-clause-quiet
 returns-in_default-clause-quiet g c = λ none. refl

@@ -3,16 +3,10 @@ use Rattle.tce_outside.specs.Files.{others, IsKeptOrZeros}
 use Rattle.tce_job.specs.TensorFiles.{file_of}
 use Rattle.tce_outside.specs.declared.device.OutFault.{OutFault}
 use Rattle.tce_outside.specs.declared.device.OutFault.TheVariants as out
-use Rattle.tce_job.specs.declared.fault.JobFault.{JobFault}
-use Rattle.tce_job.specs.declared.fault.JobFault.TheVariants.{Disk, Memory}
-use Rattle.tce_job.proofs.Answered.{answered}
+use Rattle.tce_job.proofs.Answered.{answered, wanting}
 use Rattle.tce_job.proofs.Ended.{failed_is_no_half}
 use Rattle.tce_outside.proofs.Causes.{cause_as}
 use Rattle.tce_job.proofs.preparing.make_result.Goals as goal
-
--- want of memory is no failure
-wanting : {A Q : Type 0} (given : Result A JobFault) → given ≡ Err Memory → given ≡ Err Disk → Q
-wanting given is failed = absurd (cc)
 
 no_failure : {A Q : Type 0} (f : OutFault) (given : Result A OutFault) → f ≡ out.Memory → given ≡ Err f → given ≡ Err out.Failed → Q
 no_failure f given is told failed = absurd (cc)
