@@ -3,9 +3,9 @@
 //! Texts are bytes of ASCII. Indexes stand as their names with commas between them, `-` where there are none. Reports are
 //! the lines of a plan's nodes, and what `plan` and `run` say.
 //!
-//! A certificate has the lines of a plan's nodes, its memory, and the table of each node but the root. The lines but
-//! those of nodes (the opening line, the memory, tables, rows and the end) are read here: a value is given exactly where
-//! its line is this line, and their readers take no memory.
+//! A certificate has the lines of a plan's nodes, its memory, and the table of each node but the root. Each line is read
+//! here: a value is given exactly where its line is this line. The readers of the opening line, the memory, tables, rows and
+//! the end take no memory.
 #![tactic(auto)]
 
 mod classes;
