@@ -1,4 +1,5 @@
 use Rattle.std.proofs.Common.{refl, sym, subst, inl, inr, ◌∙◌}
+use Rattle.std.proofs.lemmas.Bool.{false≢true}
 use Rattle.tce_outside.proofs.Causes.{cause_as, answered_quiet, cause_since}
 use Rattle.tce_fusion.specs.declared.plan.Plan.{Plan}
 use Rattle.tce_job.specs.Laws.{made_result}
@@ -41,7 +42,7 @@ pub returns-in-Err-clause-cause : goal.returns-in-Err-clause-cause
 returns-in-Err-clause-cause g c = cause_since _ _ _ c.in_ok-prepared.ensures.cause.later (cause_as _ _ (λ failed. refl) c.in-Err.ensures.cause)
 
 pub returns-in-Ok-clause-quiet : goal.returns-in-Ok-clause-quiet
-returns-in-Ok-clause-quiet g c = λ none. c.in-Ok.ensures.quiet (answered _ _ refl) ∙ answered_quiet _ _ c.in_ok-prepared.prepared _ refl c.in_ok-prepared.ensures.quiet
+returns-in-Ok-clause-quiet g c = λ none. c.in-Ok.ensures.quiet false≢true ∙ answered_quiet _ _ c.in_ok-prepared.prepared _ refl c.in_ok-prepared.ensures.quiet
 
 pub returns-in-Err-clause-quiet : goal.returns-in-Err-clause-quiet
 returns-in-Err-clause-quiet g c = λ none. absurd (none refl)
