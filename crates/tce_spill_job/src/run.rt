@@ -112,34 +112,8 @@ fn run_piece<D: Disk, R: Room>(
     ran
 }
 
-// Runs all pieces in turn, each by its plan.
+// Runs all pieces in turn. Each takes its plan out of the list, which stays with the caller.
 fn run_all<D: Disk, R: Room>(
-    alloc: Global,
-    spec: &Spec,
-    spilling: Spilling,
-    mut plans: Vec<Option<Plan>>,
-    disk: &mut D,
-    room: &mut R,
-) -> Result<Vec<u8>, SpillFault>
-    requires can { CanSpill spec.now (has spilling.cuts) spilling.budget }
-    requires plans { HavePlans spec.now (has spilling.cuts) plans.items }
-    requires operands { ForSome (D.files disk.old) (λ files. HasOperands files spec.now (operand_count spec.now)) }
-    ensures told { OnOk result (D.files disk.new ≡ files_at (D.files disk.old) spec.now (has spilling.cuts) (operations spec.now.tree)) }
-    ensures spilled { OnOk result (ForSome (D.files disk.old) (λ start. ForSome (D.files disk.new) (λ after. IsSpilled start after spec.now (has spilling.cuts)))) }
-    ensures reported { IfOk result (λ text. HasRunAll spec.now (has spilling.cuts) spilling.budget (R.takings room.old) (R.takings room.new) text.items) }
-    ensures refused { IfErr result (IsLateFault (D.files disk.old) spec.now (has spilling.cuts)) }
-    ensures left { IfErr result (IsLeftBy (D.files disk.old) (D.files disk.new) spec.now (has spilling.cuts)) }
-    ensures takings { IfErr result (λ _. HasTakenTo spec.now (has spilling.cuts) spilling.budget (R.takings room.old) (R.takings room.new)) }
-    ensures cause { HasCause (D.faults disk.old) (D.faults disk.new) (result ≡ Err Fault.Disk) }
-    ensures quiet { TellsFaults (D.faults disk.old) (D.faults disk.new) (result ≡ Err Fault.Disk) }
-{
-    let ran = run_turns(alloc, spec, spilling, &mut plans, disk, room);
-    drop(plans);
-    ran
-}
-
-// The same by plans that stay with the caller, out of which each piece takes its own.
-fn run_turns<D: Disk, R: Room>(
     alloc: Global,
     spec: &Spec,
     spilling: Spilling,
@@ -248,7 +222,10 @@ pub fn run_spill<D: Disk, R: Room>(
         budget,
     };
     test_budget(alloc, spec, spilling, disk)?;
-    let text = run_all(alloc, spec, spilling, planned.plans, disk, room)?;
+    let mut plans = planned.plans;
+    let ran = run_all(alloc, spec, spilling, &mut plans, disk, room);
+    drop(plans);
+    let text = ran?;
     Ok(SpillReport {
         text: Bytes::of(text),
     })

@@ -34,8 +34,8 @@ returns-in_err-test_budget-clause-exactly g c due free cause known =
     rw (p.1, p.2) (test_exact (g.D.Disk.files c.args.disk.now) c.args.spec.now c.args.budget c.args.limit cut (few_of c.args.spec.now c.args.limit c.in_ok-planned.ensures.exactly) are
     c.in_err-test_budget.field-0.0 due c.in_err-test_budget.ensures.refused free cause known)
 
-pub run_all-requires-clause-can : goal.run_all-requires-clause-can
-run_all-requires-clause-can g c =
+pub run_all-ran-requires-clause-can : goal.run_all-ran-requires-clause-can
+run_all-ran-requires-clause-can g c =
     can_spill c.args.spec.now (has c.in_ok-planned.planned.nodes) c.args.budget c.args.limit c.requires.names c.requires.budget c.requires.limit c.in_ok-planned.ensures.exactly c.in_ok-planned.ensures.cuts c.in_ok-planned.ensures.meet
     c.in_ok-planned.ensures.nodes c.in_ok-test_budget.ensures.enough
 
@@ -71,19 +71,19 @@ returns-in_err-text-clause-others g c =
       cut = cut;
       are_cut = are_cut c.args.spec.now c.args.limit cut c.in_ok-planned.ensures.exactly c.in_ok-planned.ensures.cuts;
       here =
-          subst (λ (told : Option Files). OnlyResultsDiffer (pieces_of c.args.spec.now cut) told (g.D.Disk.files c.run_all.new.disk)) c.in_ok-test_budget.ensures.same
-          (left_others (g.D.Disk.files c.test_budget.new.disk) (g.D.Disk.files c.run_all.new.disk) c.args.spec.now cut c.in_err-text.field-0.0 c.in_err-text.ensures.left);
+          subst (λ (told : Option Files). OnlyResultsDiffer (pieces_of c.args.spec.now cut) told (g.D.Disk.files c.run_all-ran.new.disk)) c.in_ok-test_budget.ensures.same
+          (left_others (g.D.Disk.files c.test_budget.new.disk) (g.D.Disk.files c.run_all-ran.new.disk) c.args.spec.now cut c.in_err-text.field-0.0 c.in_err-text.ensures.left);
     })
 
 pub returns-clause-told : goal.returns-clause-told
 returns-clause-told g c =
     let cut = has c.in_ok-planned.planned.nodes in
-    has_spilled (g.D.Disk.files c.args.disk.now) (g.D.Disk.files c.test_budget.new.disk) (g.D.Disk.files c.run_all.new.disk) c.args.spec.now c.args.limit cut
+    has_spilled (g.D.Disk.files c.args.disk.now) (g.D.Disk.files c.test_budget.new.disk) (g.D.Disk.files c.run_all-ran.new.disk) c.args.spec.now c.args.limit cut
     (are_cut c.args.spec.now c.args.limit cut c.in_ok-planned.ensures.exactly c.in_ok-planned.ensures.cuts) c.in_ok-test_budget.ensures.same c.in_ok-text.ensures.told c.in_ok-text.ensures.spilled
 
 pub returns-clause-reported : goal.returns-clause-reported
 returns-clause-reported g c =
-    reported_for c.args.spec.now (has c.in_ok-planned.planned.nodes) c.args.budget c.args.limit (g.R.Room.takings c.args.room.now) (g.R.Room.takings c.run_all.new.room) c.in_ok-text.text.items _
+    reported_for c.args.spec.now (has c.in_ok-planned.planned.nodes) c.args.budget c.args.limit (g.R.Room.takings c.args.room.now) (g.R.Room.takings c.run_all-ran.new.room) c.in_ok-text.text.items _
     c.in_ok-planned.ensures.cuts c.in_ok-planned.ensures.meet c.in_ok-text.ensures.reported c.of.ensures
 
 pub returns-clause-exactly : goal.returns-clause-exactly
@@ -95,7 +95,7 @@ returns-clause-exactly g c due free cause known =
 pub returns-clause-others : goal.returns-clause-others
 returns-clause-others g c =
     let cut = has c.in_ok-planned.planned.nodes in
-    only_pieces (g.D.Disk.files c.args.disk.now) (g.D.Disk.files c.test_budget.new.disk) (g.D.Disk.files c.run_all.new.disk) c.args.spec.now c.args.limit cut
+    only_pieces (g.D.Disk.files c.args.disk.now) (g.D.Disk.files c.test_budget.new.disk) (g.D.Disk.files c.run_all-ran.new.disk) c.args.spec.now c.args.limit cut
     (are_cut c.args.spec.now c.args.limit cut c.in_ok-planned.ensures.exactly c.in_ok-planned.ensures.cuts) c.in_ok-test_budget.ensures.same c.in_ok-text.ensures.told
 
 pub returns-in_err-planned-clause-left : goal.returns-in_err-planned-clause-left
@@ -139,7 +139,7 @@ returns-in_err-text-clause-left g c =
     let cut = has c.in_ok-planned.planned.nodes in
     let are = are_cut c.args.spec.now c.args.limit cut c.in_ok-planned.ensures.exactly c.in_ok-planned.ensures.cuts in
     let p = err_from_is_err_and c.from_residual-in_err-text.result c.from_residual-in_err-text.ensures.1 in
-    rw (p.1, p.2) (late_left (g.D.Disk.files c.args.disk.now) (g.D.Disk.files c.test_budget.new.disk) (g.D.Disk.files c.run_all.new.disk) c.args.spec.now cut c.args.limit c.in_err-text.field-0.0 are
+    rw (p.1, p.2) (late_left (g.D.Disk.files c.args.disk.now) (g.D.Disk.files c.test_budget.new.disk) (g.D.Disk.files c.run_all-ran.new.disk) c.args.spec.now cut c.args.limit c.in_err-text.field-0.0 are
     c.in_ok-test_budget.ensures.same c.in_err-text.ensures.left)
 
 pub returns-in_err-text-clause-takings : goal.returns-in_err-text-clause-takings
@@ -147,7 +147,7 @@ returns-in_err-text-clause-takings g c =
     let cut = has c.in_ok-planned.planned.nodes in
     let are = are_cut c.args.spec.now c.args.limit cut c.in_ok-planned.ensures.exactly c.in_ok-planned.ensures.cuts in
     let p = err_from_is_err_and c.from_residual-in_err-text.result c.from_residual-in_err-text.ensures.1 in
-    rw (p.1, p.2) (late_room (g.D.Disk.files c.test_budget.new.disk) c.args.spec.now cut c.args.budget c.args.limit c.in_err-text.field-0.0 (g.R.Room.takings c.args.room.now) (g.R.Room.takings c.run_all.new.room) are
+    rw (p.1, p.2) (late_room (g.D.Disk.files c.test_budget.new.disk) c.args.spec.now cut c.args.budget c.args.limit c.in_err-text.field-0.0 (g.R.Room.takings c.args.room.now) (g.R.Room.takings c.run_all-ran.new.room) are
     c.in_err-text.ensures.refused c.in_err-text.ensures.takings)
 
 pub returns-in_err-planned-clause-told : goal.returns-in_err-planned-clause-told
@@ -214,9 +214,9 @@ pub returns-clause-quiet : goal.returns-clause-quiet
 returns-clause-quiet g c = λ none.
     answered_quiet _ _ c.in_ok-text.text _ refl c.in_ok-text.ensures.quiet ∙ answered_quiet _ _ tt _ refl c.in_ok-test_budget.ensures.quiet
 
-pub run_all-requires-clause-plans : goal.run_all-requires-clause-plans
-run_all-requires-clause-plans g c = c.in_ok-planned.ensures.plans
+pub run_all-ran-requires-clause-plans : goal.run_all-ran-requires-clause-plans
+run_all-ran-requires-clause-plans g c = c.in_ok-planned.ensures.plans
 
-pub run_all-requires-clause-operands : goal.run_all-requires-clause-operands
-run_all-requires-clause-operands g c =
+pub run_all-ran-requires-clause-operands : goal.run_all-ran-requires-clause-operands
+run_all-ran-requires-clause-operands g c =
     subst (λ (told : Option Files). ForSome told (λ files. HasOperands files c.args.spec.now (operand_count c.args.spec.now))) (sym c.in_ok-test_budget.ensures.same) c.in_ok-test_budget.ensures.opened

@@ -4,7 +4,7 @@ use Rattle.tce_spill.specs.Planned.{HavePlansFrom}
 use Rattle.tce_spill_job.specs.Left.{files_at}
 use Rattle.tce_spill_job.specs.Reports.{HasRun}
 use Rattle.tce_spill_job.proofs.Turns.{AreHeld}
-use Rattle.tce_spill_job.proofs.run.run_turns.Given as goal
+use Rattle.tce_spill_job.proofs.run.run_all.Given as goal
 
 abbrev pub invariant-loop-root : goal.invariant-loop-root
 invariant-loop-root g l = record {
