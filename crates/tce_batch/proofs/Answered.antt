@@ -11,7 +11,7 @@ use Rattle.tce_spec.specs.Text.{Head, head_of, closing_fault}
 use Rattle.tce_spec.specs.TextCode.{fault_in}
 use Rattle.tce_spec.specs.declared.fault.SpecFault.{SpecFault}
 use Rattle.tce_spec.proofs.Readings.{computed_head, lines_of}
-use Rattle.tce_spec.specs.declared.read.Contraction.{Contraction}
+use Rattle.tce_spec.specs.declared.formula.Contraction.{Contraction}
 use Rattle.tce_spec.specs.Specification.{Specification}
 use Rattle.tce_spec.specs.SpecCode.{specification_of}
 use Rattle.tce_spec.proofs.Reading.{shows_none}

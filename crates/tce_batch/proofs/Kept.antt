@@ -12,7 +12,7 @@ use Rattle.tce_spec.specs.declared.fault.SpecFault.{SpecFault}
 use Rattle.tce_spec.specs.Contraction.{IsContraction}
 use Rattle.tce_spec.specs.FormulaFaults.{formula_fault}
 use Rattle.tce_spec.specs.Meaning.{meaning}
-use Rattle.tce_spec.specs.declared.read.Contraction.{Contraction}
+use Rattle.tce_spec.specs.declared.formula.Contraction.{Contraction}
 use Rattle.tce_spec.specs.Specification.{ConstantsAreWords}
 use Rattle.tce_spec.specs.SpecCode.{IsKept}
 use Rattle.tce_spec.proofs.Kept.{line_keeps}

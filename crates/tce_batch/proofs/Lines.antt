@@ -11,7 +11,7 @@ use Rattle.tce_spec.specs.FaultCode.{Shows}
 use Rattle.tce_spec.specs.TextCode.{fault_in}
 use Rattle.tce_spec.specs.declared.fault.SpecFault.{SpecFault}
 use Rattle.tce_tree.specs.declared.fault.TreeFault.TheVariants as tree_faults
-use Rattle.tce_spec.specs.declared.read.Contraction.{Contraction}
+use Rattle.tce_spec.specs.declared.formula.Contraction.{Contraction}
 use Rattle.tce_spec.specs.Specification.{Specification, IsSpecification}
 use Rattle.tce_batch.specs.BatchCode.{AreKept, IsBatch, specifications_of, results_before}
 use Rattle.tce_batch.specs.Outcome.{together, with_first}

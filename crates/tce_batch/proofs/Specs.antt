@@ -8,7 +8,7 @@ use Rattle.tce_tree.specs.ContractionTree.{ContractionTree}
 use Rattle.tce_canonical.specs.Statements.{canonical}
 use Rattle.tce_spec.specs.Declarations.{Declarations}
 use Rattle.tce_spec.specs.Faults.{Fault}
-use Rattle.tce_spec.specs.declared.read.Contraction.{Contraction}
+use Rattle.tce_spec.specs.declared.formula.Contraction.{Contraction}
 use Rattle.tce_spec.specs.Specification.{Specification}
 use Rattle.tce_spec.specs.SpecCode.{specification_of, IsKept}
 use Rattle.tce_canonical.specs.Canonical.{canonical_of}

@@ -9,7 +9,7 @@ use Rattle.tce_spec.specs.TextCode.{fault_in}
 use Rattle.tce_spec.specs.declared.text.Head.{Head}
 use Rattle.tce_spec.specs.declared.fault.SpecFault.{SpecFault}
 use Rattle.tce_spec.specs.Text.{closing_fault}
-use Rattle.tce_spec.specs.declared.read.Contraction.{Contraction}
+use Rattle.tce_spec.specs.declared.formula.Contraction.{Contraction}
 use Rattle.tce_spec.specs.Specification.{Specification, IsSpecification}
 use Rattle.tce_spec.specs.SpecCode.{specification_of, IsKept}
 use Rattle.tce_spec.specs.OutcomeCode.{HasHead}

@@ -8,7 +8,7 @@ use Rattle.tce_spec.specs.Declarations.{Declarations}
 use Rattle.tce_spec.specs.Faults.{Fault}
 use Rattle.tce_spec.specs.Text.{unless}
 use Rattle.tce_spec.specs.FormulaFaults.{formula_fault}
-use Rattle.tce_spec.specs.declared.read.Contraction.{Contraction}
+use Rattle.tce_spec.specs.declared.formula.Contraction.{Contraction}
 use Rattle.tce_spec.specs.Specification.{Specification}
 use Rattle.tce_spec.specs.SpecCode.{specification_of}
 use Rattle.tce_spec.specs.Outcome.{specified}

@@ -12,7 +12,7 @@ use Rattle.tce_tree.specs.Fusion.{fused_at, order_at, FusionFits, OrdersFit}
 use Rattle.tce_tree.specs.Orders.{lists_of}
 use Rattle.tce_space.specs.declared.loop_order.LoopOrder.{LoopOrder}
 use Rattle.tce_cert.specs.ReadLine.{said}
-use Rattle.tce_cert.specs.declared.reader.NodeLine.{NodeLine}
+use Rattle.tce_cert.specs.declared.node_reader.NodeLine.{NodeLine}
 use Rattle.tce_cert.specs.declared.fault.CertFault.{CertFault}
 use Rattle.tce_cert.specs.Faults.{Due, node, IsFaultIn}
 use Rattle.tce_cert.specs.NodeLine.{Stated, Said, MaySay, Says, said_of, node_line, line_saying}

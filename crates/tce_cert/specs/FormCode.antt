@@ -3,8 +3,8 @@ use Rattle.std.specs.Prelude.{Option}
 use Rattle.std.specs.declared.option.Option.TheVariants.{Some, None}
 use Rattle.tce_fields.specs.Reading.{texts}
 use Rattle.tce_cert.specs.NodeForm.{Form, ArrayForm}
-use Rattle.tce_cert.specs.declared.form.WrittenLine.{WrittenLine}
-use Rattle.tce_cert.specs.declared.form.WrittenArray.{WrittenArray}
+use Rattle.tce_cert.specs.declared.node_form.WrittenLine.{WrittenLine}
+use Rattle.tce_cert.specs.declared.node_form.WrittenArray.{WrittenArray}
 
 abbrev pub array_form : Option WrittenArray → Option ArrayForm
 array_form None = None

@@ -9,11 +9,11 @@ use Rattle.tce_tree.specs.FlatTree.{kind_of}
 use Rattle.tce_cert.specs.Names.{names_of}
 use Rattle.tce_cert.specs.NodeForm.{Form, HasForm}
 use Rattle.tce_cert.specs.NodeLine.{Said, MaySay, Says}
-use Rattle.tce_cert.specs.declared.reader.NodeLine.{NodeLine}
-use Rattle.tce_cert.specs.declared.reader.LineFault.{LineFault}
+use Rattle.tce_cert.specs.declared.node_reader.NodeLine.{NodeLine}
+use Rattle.tce_cert.specs.declared.node_reader.LineFault.{LineFault}
 use Rattle.tce_cert.specs.FormCode.{form}
-use Rattle.tce_cert.specs.declared.form.WrittenLine.{WrittenLine}
-use Rattle.tce_cert.specs.declared.reader.LineFault.TheVariants.{WrongTree}
+use Rattle.tce_cert.specs.declared.node_form.WrittenLine.{WrittenLine}
+use Rattle.tce_cert.specs.declared.node_reader.LineFault.TheVariants.{WrongTree}
 use Rattle.tce_fields.specs.Names.{AreNamed, IsSetNamed}
 
 abbrev pub said : NodeLine → Said

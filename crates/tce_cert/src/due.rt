@@ -9,7 +9,7 @@ ghost use Rattle.tce_cert.specs.Cursors.{ReadsOpening, ReadsNode, ReadsMemory, R
 
 use crate::cursor::Cursor;
 use crate::fault::CertFault;
-use crate::reader::{LineFault, NodeLine, read_node_line};
+use crate::node_reader::{LineFault, NodeLine, read_node_line};
 use crate::{
     has_form, is_end_line, is_opening_line, read_memory_line, read_row_line, read_table_line,
 };

@@ -3,7 +3,7 @@ ghost use Rattle.std.specs.Prelude.{◌≡◌, ◌<◌, ◌≤◌, ◌+◌, ◌*
 ghost use Rattle.tce_space.specs.Space.{index_at};
 ghost use Rattle.tce_cert.specs.Names.{index_list};
 
-use crate::line::Line;
+use crate::node_lines::Line;
 use arrayvec::ArrayString;
 use tce_space::Space;
 

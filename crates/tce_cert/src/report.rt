@@ -4,7 +4,7 @@ ghost use Rattle.tce_tree.specs.WellFormed.{IsDeclaredTree};
 ghost use Rattle.tce_fusion.specs.Plan.{PlanFits};
 ghost use Rattle.tce_cert.specs.Report as reports;
 
-use crate::line::node_line;
+use crate::node_lines::node_line;
 use std::alloc::{AllocError, Global};
 use tce_fusion::Plan;
 use tce_space::{FileName, Space};

@@ -8,8 +8,8 @@ ghost use Rattle.tce_cert.specs.Lines.{classes_text};
 ghost use Rattle.tce_cert.specs.Laws.{IsNestingRow, RowsAreNestings};
 ghost use Rattle.tce_cert.specs.Certificate.{certificate, with_nodes, with_tables, with_rows, with_row, AreDeclaredRows, AreDeclaredTables};
 
-use crate::line::node_line;
 use crate::names::push_set;
+use crate::node_lines::node_line;
 use std::alloc::{AllocError, Global};
 use tce_fusion::{Plan, Row, Tables};
 use tce_space::{IndexSet, Space};

@@ -16,7 +16,7 @@ use Rattle.tce_spec.specs.Rules.{places_fault, tree_fault}
 use Rattle.tce_spec.specs.FormulaFaults.{formula_fault}
 use Rattle.tce_spec.specs.Meaning.{meaning, indexes_of}
 use Rattle.tce_spec.specs.Contraction.{IsContraction}
-use Rattle.tce_spec.specs.declared.read.Contraction.{Contraction}
+use Rattle.tce_spec.specs.declared.formula.Contraction.{Contraction}
 
 -- names, their places and constants
 abbrev pub GoodPlaces : ℕ → Declarations → List ℕ → List (Bor (List ℕ)) → Formula → Type 0

@@ -11,7 +11,7 @@ use Rattle.tce_spec.specs.TextCode.{fault_in, AnswersHead}
 use Rattle.tce_spec.specs.declared.text.Head.{Head}
 use Rattle.tce_spec.specs.declared.fault.SpecFault.{SpecFault}
 use Rattle.tce_spec.specs.Places.{IsNamed}
-use Rattle.tce_spec.specs.declared.read.Contraction.{Contraction}
+use Rattle.tce_spec.specs.declared.formula.Contraction.{Contraction}
 use Rattle.tce_spec.specs.Specification.{Specification}
 use Rattle.tce_spec.specs.SpecCode.{specification_of}
 use Rattle.tce_spec.specs.Outcome.{IsOutcome}

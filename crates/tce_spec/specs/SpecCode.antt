@@ -2,7 +2,7 @@
 use Rattle.std.specs.Prelude.{◌≡◌}
 use Rattle.tce_tree.specs.Expr.{tree_of}
 use Rattle.tce_spec.specs.Declarations.{Declarations}
-use Rattle.tce_spec.specs.declared.read.Contraction.{Contraction}
+use Rattle.tce_spec.specs.declared.formula.Contraction.{Contraction}
 use Rattle.tce_spec.specs.Specification.{Specification, IsSpecification}
 
 abbrev pub specification_of : Declarations → Contraction → Specification

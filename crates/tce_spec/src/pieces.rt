@@ -14,7 +14,7 @@ ghost use Rattle.tce_spec.specs.Contraction.{IsContraction};
 ghost use Rattle.tce_tree.specs.WellFormed.{sums_distinct};
 
 use crate::declarations::Declarations;
-use crate::read::Contraction;
+use crate::formula::Contraction;
 use crate::sources::{FIRST_ARRAY, declared, dims_of, sources_of};
 use crate::spec::Spec;
 use arrayvec::ArrayVec;

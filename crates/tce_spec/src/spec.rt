@@ -12,8 +12,8 @@ ghost use Rattle.tce_spec.specs.SpecCode.{specification_of, IsKept};
 
 use crate::declarations::{Declarations, Tensor};
 use crate::fault::SpecFault;
+use crate::formula::{Contraction, read_formula};
 use crate::operands::add_operands;
-use crate::read::{Contraction, read_formula};
 use crate::text::{Head, check_rest, read_head};
 use arrayvec::ArrayVec;
 use std::alloc::Global;

@@ -1,7 +1,7 @@
 use Rattle.std.proofs.Common.{List, take, ap, ◌∙◌}
 use Rattle.std.specs.List.{list_any}
 use Rattle.std.specs.Prelude.{eqb, ◌==◌}
-use Rattle.tce_spec.specs.declared.read.Contraction.{Contraction}
+use Rattle.tce_spec.specs.declared.formula.Contraction.{Contraction}
 use Rattle.tce_spec.specs.Specification.{Specification}
 use Rattle.tce_batch.specs.BatchCode.{results_before}
 use Rattle.tce_batch.proofs.Lines.{computed_before}
