@@ -5,6 +5,7 @@ usage: cut.py cut SPEC PIECES    makes a folder piece-K for each piece, with its
 
 Tiles stand in row-major order of their numbers, so the rows of tiles of a first dimension are one part of the file: a
 piece's file is a head of its own and that part. Operands that begin with the index are cut so, the others are linked.
+Files that are cut or joined are of the first version, eight bytes an element, and must be as SPEC declares them.
 """
 import os
 import re
@@ -34,6 +35,8 @@ class Specification:
         self.cut = {name for name, of in uses if self.first in of}
         if any(of.count(self.first) != 1 or of[0] != self.first for name, of in uses if name in self.cut):
             sys.exit(f"cut.py: {self.first} stands elsewhere than in front, or not in each use of a tensor")
+        if any(self.first in re.findall(r"\w+", of) for of in re.findall(r"sum\s*\{([^}]*)\}", self.formula)):
+            sys.exit(f"cut.py: a sum adds up over {self.first} too: give its index another name")
 
     def operands(self):
         used = set(re.findall(r"(\w+)\s*\[", self.formula)) - {self.result}
@@ -77,6 +80,15 @@ def head(extents, edges):
     return b"TCARRAY1" + numpy.array([len(extents), *extents, *edges], dtype="<u8").tobytes()
 
 
+def opened(path, extents, edges):
+    """A file of the first version with these extents and edges, at its first word."""
+    due, file = head(extents, edges), open(path, "rb") if os.path.isfile(path) else None
+    words = numpy.prod([-(-n // e) * e for n, e in zip(extents, edges)], dtype=int)
+    if not file or file.read(len(due)) != due or os.path.getsize(path) != len(due) + 8 * words:
+        sys.exit(f"cut.py: {path} is no finished array file of the first version with extents {extents} and edges {edges}")
+    return file
+
+
 def copy_words(source, at, target, to, count):
     source.seek(at)
     target.seek(to)
@@ -87,6 +99,7 @@ def copy_words(source, at, target, to, count):
 
 
 def cut(spec, pieces):
+    whole = {it: opened(f"{it}.tca", *spec.shape(it)) for it in spec.operands() if it in spec.cut}
     for number, (first, rows) in enumerate(spec.parts(pieces)):
         folder = f"piece-{number}"
         shutil.rmtree(folder, ignore_errors=True)
@@ -99,20 +112,20 @@ def cut(spec, pieces):
                 continue
             extents, edges = spec.shape(tensor, rows)
             begin, count = head(extents, edges), -(-rows // edges[0]) * edges[0] * spec.row(tensor)
-            with open(f"{tensor}.tca", "rb") as whole, open(f"{folder}/{tensor}.tca", "wb") as piece:
+            with open(f"{folder}/{tensor}.tca", "wb") as piece:
                 piece.write(begin)
-                copy_words(whole, len(begin) + 8 * first * spec.row(tensor), piece, len(begin), count)
+                copy_words(whole[tensor], len(begin) + 8 * first * spec.row(tensor), piece, len(begin), count)
 
 
 def join(spec, pieces):
-    begin = head(*spec.shape(spec.result))
+    begin, parts = head(*spec.shape(spec.result)), spec.parts(pieces)
+    done = [opened(f"piece-{number}/{spec.result}.tca", *spec.shape(spec.result, rows)) for number, (_, rows) in enumerate(parts)]
     with open(f"{spec.result}.tca", "wb") as whole:
         whole.write(begin)
-        for number, (first, rows) in enumerate(spec.parts(pieces)):
+        for piece, (first, rows) in zip(done, parts):
             edge = spec.shape(spec.result)[1][0]
             count = -(-rows // edge) * edge * spec.row(spec.result)
-            with open(f"piece-{number}/{spec.result}.tca", "rb") as piece:
-                copy_words(piece, len(begin), whole, len(begin) + 8 * first * spec.row(spec.result), count)
+            copy_words(piece, len(begin), whole, len(begin) + 8 * first * spec.row(spec.result), count)
 
 
 if __name__ == "__main__":
