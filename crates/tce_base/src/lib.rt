@@ -1,6 +1,6 @@
 //! What a word is: sums, differences and products modulo 2^64, and the bytes in which a word is stored.
 //!
-//! The definitions stand in `specs/Word.antt`; every other crate cites them. The functions here do nothing:
+//! The definitions stand in `specs/Word.antt`; all crates that compute with words cite them. The functions here do nothing:
 //! their contracts are laws of these definitions.
 #![tactic(auto)]
 

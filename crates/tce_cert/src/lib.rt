@@ -4,8 +4,8 @@
 //! the lines of a plan's nodes, and what `plan` and `run` say.
 //!
 //! A certificate has the lines of a plan's nodes, its memory, and the table of each node but the root. Each line is read
-//! here: a value is given exactly where its line is this line. The readers of the opening line, the memory, tables, rows and
-//! the end take no memory.
+//! here: a value is given exactly where its line is this line. The readers of single lines, of the opening, the memory, the head
+//! of a table, a row and the end, take no memory.
 #![tactic(auto)]
 
 mod classes;

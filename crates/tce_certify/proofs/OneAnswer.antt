@@ -1,4 +1,4 @@
--- The command has one answer.
+-- `cert` has one answer.
 use Rattle.std.proofs.Common.{ℕ, List}
 use Rattle.tce_outside.specs.Files.{Files}
 use Rattle.tce_command.proofs.Outcomes.{not_both}

@@ -1,4 +1,4 @@
--- The command on einsums has one answer.
+-- `einsum` has one answer.
 use Rattle.std.proofs.Common.{◌≡◌, refl, sym, ap, subst, ◌∙◌, ◌⊎◌, inl, inr, ℕ, List, ◌++◌, length, Some, Ok, Err, Result, codes}
 use Rattle.std.specs.Fmt.{decimal}
 use Rattle.tce_spec.specs.Faults.{Fault}

@@ -1,4 +1,4 @@
--- What the command leaves and reports.
+-- What `cert` leaves and reports.
 use Rattle.std.specs.Prelude.{◌≡◌, ℕ, List, ◌++◌, length, Option, codes}
 use Rattle.std.specs.Option.{ForSome}
 use Rattle.std.specs.Fmt.{decimal}

@@ -1,4 +1,4 @@
--- What the command on einsums leaves and reports.
+-- What `einsum` leaves and reports.
 use Rattle.std.specs.Prelude.{◌≡◌, ℕ, List, ◌++◌, length, Option, codes}
 use Rattle.std.specs.declared.result.Result.TheVariants.{Ok}
 use Rattle.std.specs.Fmt.{decimal}

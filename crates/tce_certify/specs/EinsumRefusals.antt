@@ -1,4 +1,4 @@
--- Why the command on einsums is refused. No file has a part in it.
+-- Why `einsum` is refused. No file has a part in it.
 use Rattle.std.specs.Prelude.{◌≢◌, ⊤, ℕ, List}
 use Rattle.std.specs.declared.result.Result.TheVariants.{Ok, Err}
 use Rattle.tce_spec.specs.declared.fault.SpecFault.TheVariants as spec_faults

@@ -1,4 +1,4 @@
-// The command on einsums.
+// The command `einsum`.
 ghost use Rattle.std.specs.Prelude.{◌≡◌, ◌≢◌, length, Err, IfOk, IfErr};
 ghost use Rattle.std.specs.String.{string_bytes};
 ghost use Rattle.tce_outside.specs.Files.{others};

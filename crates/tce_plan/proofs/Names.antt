@@ -1,4 +1,4 @@
--- The names of the command's files are short, and differ.
+-- The names of the files of `check` are short, and differ.
 use Rattle.std.proofs.Common.{◌≡◌, ◌≢◌, ◌∙◌, ℕ, ◌+◌, ◌-◌, ◌≤◌, List, length, drop, get_or, sym, ap, subst, arith, codes, IsTrue}
 use borrow.Author.Tests.{leb-true}
 use Rattle.std.proofs.lemmas.Bool.{and_parts}

@@ -1,4 +1,4 @@
--- The command has one answer.
+-- `plan` has one answer.
 use Rattle.std.proofs.Common.{◌≡◌, subst, ℕ, List, arith}
 use Rattle.tce_outside.specs.Files.{Files}
 use Rattle.tce_space.specs.Space.{IndexSpace}

@@ -1,4 +1,4 @@
--- The command has one answer.
+-- `check` has one answer.
 use Rattle.std.proofs.Common.{◌≡◌, ◌∙◌, refl, sym, ap, subst, ◌⊎◌, inl, inr, ℕ, List, ◌++◌, Option, Some, None, codes}
 use Rattle.tce_outside.specs.Files.{Files, file}
 use Rattle.tce_fusion.specs.declared.plan.Plan.{Plan}

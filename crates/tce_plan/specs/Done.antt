@@ -1,4 +1,4 @@
--- What the command reports.
+-- What `plan` reports.
 use Rattle.std.specs.Prelude.{◌≡◌, ℕ, List, Option}
 use Rattle.tce_outside.specs.Files.{Files}
 use Rattle.tce_fusion.specs.declared.plan.Plan.{Plan}

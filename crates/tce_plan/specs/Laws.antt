@@ -1,4 +1,4 @@
--- The command has one answer.
+-- `plan` has one answer.
 use Rattle.std.specs.Prelude.{◌≡◌, ◌⊎◌, ℕ, List}
 use Rattle.tce_outside.specs.Files.{Files}
 use Rattle.tce_command.specs.Refusals.{IsFree, SameRefusal}

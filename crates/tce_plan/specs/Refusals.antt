@@ -1,4 +1,4 @@
--- Why the command is refused.
+-- Why `plan` is refused.
 use Rattle.std.specs.Prelude.{ℕ, List, Option}
 use Rattle.tce_outside.specs.Files.{Files, file}
 use Rattle.tce_spec.specs.Specification.{Specification}

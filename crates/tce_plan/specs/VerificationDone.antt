@@ -1,4 +1,4 @@
--- What the command accepts and reports.
+-- What `check` accepts and reports.
 use Rattle.std.specs.Prelude.{◌≡◌, ℕ, List, ◌++◌, codes, Some, Option}
 use Rattle.std.specs.Fmt.{decimal}
 use Rattle.tce_outside.specs.Files.{Files, file}

@@ -1,4 +1,4 @@
--- The command has one answer, and accepts what is least.
+-- `check` has one answer, and accepts what is least.
 use Rattle.std.specs.Prelude.{◌≡◌, ◌⊎◌, ℕ, List}
 use Rattle.tce_outside.specs.Files.{Files}
 use Rattle.tce_fusion.specs.Least.{IsLeast}

@@ -1,4 +1,4 @@
-//! Laws of the definitions. These functions do nothing: their contracts are the laws.
+//! Laws of the definitions of `plan`. These functions do nothing: their contracts are the laws.
 
 ghost use Rattle.tce_plan.specs.Laws.{PlansHaveOneAnswer};
 

@@ -1,4 +1,4 @@
-// Candidates: states with the fusions that reach them.
+// Candidates: states with the fusions that reach them, and rows without one, which bound states.
 ghost use Rattle.std.specs.Prelude.{◌≡◌, ◌+◌, ◌<◌, [], ◌∷◌, ◌++◌, length};
 ghost use Rattle.tce_space.specs.Limits.{max_nodes};
 ghost use Rattle.tce_search.specs.Candidates.{limit_candidate};
@@ -7,7 +7,7 @@ use arrayvec::ArrayVec;
 use tce_fusion::{Nesting, Row};
 use tce_space::{IndexSet, MAX_NODES};
 
-/// A state of a subtree, with the sets that are fused above its nodes, in their order.
+/// A state of a subtree, with the sets that are fused above its nodes, in their order; or a row without sets, which bounds states.
 #[derive(Default, Drop, PartialEq, Eq)]
 pub struct Candidate {
     pub row: Row,

@@ -1,8 +1,9 @@
 //! The search for a fusion of least memory: the candidates of each node from those of its operands, and at the root the
 //! two that together cost least (after Lam et al. 1999).
 //!
-//! Candidates of a node are the states that its subtree may have under some fusion, each with that fusion, and no more of
-//! them than the search for a least one needs. `steps.rt` says what states of the operands of a node become there.
+//! Candidates of a node are states that its subtree may have under some fusion, each with that fusion, and no more of them
+//! than the search for a least one needs. Beside them stand rows without a fusion, which bound states that are of no use ahead
+//! (`limits.rt`). `steps.rt` says what states of the operands of a node become there.
 #![tactic(auto)]
 
 mod ahead;

@@ -24,8 +24,8 @@ use tce_words::Room;
 /// formula in turn `Budget` and `Intermediates` come, and after those of all formulas, for each in turn, `Missing` or
 /// `Array` of the first operand by first use that is no earlier result and is refused. After every refusal but `Disk` and
 /// `Memory` all files are as they were. After `Memory` the results of the first formulas are complete and all other files
-/// as they were; after `Disk` the same holds but for the result of the formula at which the disk failed, which may hold
-/// anything or be absent.
+/// as they were; after `Disk` the same holds but for the result of the formula at which the disk failed, in whose place is no
+/// half of a result.
 pub fn run_all<D: Disk, R: Room>(
     alloc: Global,
     spec: &str,

@@ -1,4 +1,5 @@
-//! Index spaces: sets of indexes, loop orders, boxes of coordinates and the shapes of tiled arrays. The arithmetic of two numbers.
+//! Index spaces: names, sets of indexes, loop orders, boxes of coordinates and the shapes of tiled arrays, with their limits.
+//! The arithmetic of two numbers.
 #![tactic(auto)]
 
 mod arithmetic;

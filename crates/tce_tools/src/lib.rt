@@ -4,8 +4,8 @@
 //! A flat file has the elements of an array alone, in row-major order, eight bytes each, the lowest first. An array
 //! file has them tile by tile behind a head, as `tce_array` says. Elements move between files in bands: at most 32,768
 //! that follow each other in row-major order, and that stand in an array file in pieces of one length at equal distances.
-//! The buffers are of fixed length, so a call needs no memory of its own, however large the files are. Other crates write
-//! an array file in this way by [`band_at`] and [`write_band`].
+//! The buffers are of fixed length, so a call needs no memory of its own, however large the files are. Other crates read and
+//! write runs of words by [`read_words`], [`write_words`] and [`write_start`].
 #![tactic(auto)]
 
 mod band;

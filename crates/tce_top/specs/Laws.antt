@@ -6,7 +6,7 @@ use Rattle.tce_command.specs.Command.{NamesSpec, NamesCertificate}
 use Rattle.tce_certify.specs.Done.{IsCertified}
 use Rattle.tce_plan.specs.VerificationDone.{CanVerify}
 
--- the certificate that is written for a specification can be verified for it, with the same memory
+-- the certificate that is written for a specification can be verified for it, and has the same plan
 abbrev pub WrittenIsVerified : Type 0
 WrittenIsVerified =
     (files : Files) (after : Option Files) (spec cert report : List ℕ) → NamesSpec spec → NamesCertificate cert → (written : IsCertified (Some files) after spec cert report)

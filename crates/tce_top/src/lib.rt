@@ -1,8 +1,9 @@
 //! The commands of the program.
 //!
-//! [`tce`] does all that the program does, over any disk, sink and room, and [`answer`] over the files of the system. Its contract says when each [`Status`] comes and what it leaves on the disk,
-//! on the sink and in the room. What a command needs, why it is refused and what it leaves stands for each command in
-//! `specs/Performed.antt`. All that a status holds is exported beside it.
+//! [`tce`] does all that the program does, over any disk, sink and room. Its contract says when each [`Status`] comes and what
+//! it leaves on the disk, on the sink and in the room. What a command needs, why it is refused and what it leaves stands for each
+//! command in `specs/Performed.antt`. All that a status holds is exported beside it. [`answer`] calls `tce` over the files of
+//! the system.
 #![tactic(auto)]
 
 mod laws;

@@ -1,4 +1,5 @@
-//! Tests of trees, their fusions, states, nestings, steps and candidates, of codes, of runs of a block, and of what a run takes.
+//! Tests of trees, their fusions, states, nestings, steps and candidates, of codes, layouts, boxes and blocks, of walks through
+//! code, of windows, and of the arrays and takings of a run.
 #![tactic(auto)]
 
 #[cfg(test)]

@@ -1,4 +1,4 @@
-//! Tests of whole runs: rows that were worked by hand, refusals, and formulas that are drawn and evaluated apart.
+//! Tests of whole runs: formulas that are drawn and evaluated apart, trees that are drawn and run in pieces, and touches of tiles.
 #![tactic(auto)]
 
 #[cfg(test)]

@@ -1,4 +1,4 @@
-//! Words that are read, and lines that were written by hand.
+//! Lines of refusals that were written by hand.
 ghost use Rattle.tce_command.specs.Report.{NamesDeclared, trouble_of};
 
 use crate::top::given::{check, must};
