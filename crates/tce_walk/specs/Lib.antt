@@ -11,3 +11,5 @@ pub mod Parts
 pub mod PartLaws
 pub mod PartExamples
 pub mod Opened
+pub mod PartRuns
+pub mod Bodies
