@@ -13,7 +13,7 @@
 set -eu
 rounds=${ROUNDS:-3}
 . "$(dirname "$0")/build.sh"
-copy_crates tce_base tce_kernel tce_space tce_words tce_outside tce_system tce_frames tce_array tce_cache
+copy_crates tce_base tce_kernel tce_space tce_words tce_outside tce_system tce_array tce_cache
 begin_program arrayvec tce_space tce_outside tce_system tce_array tce_words tce_cache
 
 cat > crates/tce/src/main.rt <<'RATTLE'

@@ -5,3 +5,13 @@ pub mod Parts
 pub mod Computed
 pub mod Answered
 pub mod Specs
+pub mod Afforded
+pub mod KeptPlans
+pub mod Planned
+pub mod Openings
+pub mod Files
+pub mod Reports
+pub mod Ended
+pub mod Causes
+pub mod Others
+pub mod Counted

@@ -5,15 +5,15 @@ use Rattle.std.proofs.lemmas.Option.{slice_get-map, slice_get_read}
 use Rattle.std.specs.Option.{option_map}
 use Rattle.tce_tree.specs.Expr.{tree_of}
 use Rattle.tce_tree.specs.ContractionTree.{ContractionTree}
-use Rattle.tce_canonical.specs.Statements.{canonical}
+use Rattle.tce_spec.specs.Statements.{canonical}
 use Rattle.tce_spec.specs.Declarations.{Declarations}
 use Rattle.tce_spec.specs.Faults.{Fault}
 use Rattle.tce_spec.specs.declared.formula.Contraction.{Contraction}
 use Rattle.tce_spec.specs.Specification.{Specification}
 use Rattle.tce_spec.specs.SpecCode.{specification_of, IsKept}
-use Rattle.tce_canonical.specs.Canonical.{canonical_of}
+use Rattle.tce_spec.specs.Canonical.{canonical_of}
 use Rattle.tce_spec.specs.Outcome.{IsOutcome}
-use Rattle.tce_canonical.proofs.Outcomes.{canonical_outcome}
+use Rattle.tce_spec.proofs.Outcomes.{canonical_outcome}
 use Rattle.tce_batch.specs.BatchCode.{specifications_of, AreKept}
 
 pub spec_read : (d : Declarations) (cs : List Contraction) (number : ℕ) (e : Contraction) (spec : Specification) (batch : List Specification) (text : List ℕ)

@@ -3,3 +3,8 @@ pub mod Outcome
 pub mod Reading
 pub mod BatchCode
 pub mod Laws
+pub mod Reports
+pub mod Plans
+pub mod Refusals
+pub mod Left
+pub mod Told

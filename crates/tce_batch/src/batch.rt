@@ -6,8 +6,7 @@ ghost use Rattle.tce_batch.specs.BatchCode.{IsBatch, results_before};
 
 use std::alloc::{AllocError, Global};
 use std::marker::Model;
-use tce_canonical::print_lines;
-use tce_spec::{Contraction, Declarations, Spec, read_spec};
+use tce_spec::{Contraction, Declarations, Spec, print_lines, read_spec};
 
 /// One formula or more, in order, over the same ranges, indexes and tensors. Contracts see the list of specifications.
 #[derive(Drop)]

@@ -2,7 +2,7 @@
 use Rattle.std.proofs.Common.{◌≡◌, ◌∙◌, ℕ, ◌+◌, ◌*◌, ◌<◌, ◌≤◌, ◌^◌, List, Option, None, Some, unwrap_or, refl, sym, ap, subst, arith}
 use Rattle.std.specs.Option.{IsSome}
 use Rattle.tce_outside.specs.Files.{Files, file}
-use Rattle.tce_frames.specs.Held.{Held}
+use Rattle.tce_cache.specs.Held.{Held}
 use Rattle.tce_cache.specs.Cache.{State, IsCache, IsSameOutsideFrames, OnlyWritableDiffers}
 use Rattle.tce_cache.specs.Touch.{with_held}
 

@@ -5,3 +5,12 @@ pub mod Tiles
 pub mod Lists
 pub mod Steps
 pub mod Runs
+pub mod Current
+pub mod Kept
+pub mod Paths
+pub mod Holdings
+pub mod Finding
+pub mod Holding
+pub mod Replacing
+pub mod Touching
+pub mod Found

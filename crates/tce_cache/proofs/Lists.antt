@@ -2,10 +2,10 @@
 use Rattle.std.proofs.Common.{◌≡◌, ◌∙◌, ◌⊎◌, ℕ, suc, ◌+◌, ◌<◌, Bool, true, false, if◌then◌else◌, List, [], ◌∷◌, ◌++◌, length, map, Option, Some, None, sym, refl, ap, subst, inl, inr, arith}
 use Rattle.std.proofs.lemmas.Bool.{cases_eq, false_from_ne_true}
 use Rattle.tce_cache.specs.Touch.{unmarked}
-use Rattle.tce_frames.specs.Held.{Held, is_tile, look_up, without, cleaned, touched, IsFree, AreApart}
-use Rattle.tce_frames.proofs.Current.{tile_cases, tests, tests_not, same_tile, frames_differ, look_up_without, look_up_taken, below_found, look_up_at, free_taken, apart_without}
-use Rattle.tce_frames.proofs.Kept.{look_up-cleaned, look_up-push, look_up-push_none, last_found, last_free, none_in_front}
-use Rattle.tce_frames.proofs.Touching.{touches_change}
+use Rattle.tce_cache.specs.Held.{Held, is_tile, look_up, without, cleaned, touched, IsFree, AreApart}
+use Rattle.tce_cache.proofs.Current.{tile_cases, tests, tests_not, same_tile, frames_differ, look_up_without, look_up_taken, below_found, look_up_at, free_taken, apart_without}
+use Rattle.tce_cache.proofs.Kept.{look_up-cleaned, look_up-push, look_up-push_none, last_found, last_free, none_in_front}
+use Rattle.tce_cache.proofs.Touching.{touches_change}
 
 -- a list of which each tile is in another, and is marked only where it is marked there
 abbrev pub IsPartOf : List Held → List Held → Type 0

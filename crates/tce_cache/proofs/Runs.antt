@@ -5,11 +5,11 @@ use Rattle.std.proofs.Math.Nat.{mul-le-mul_left, mul-le-mul_right}
 use Rattle.tce_space.proofs.Products.{product_positive}
 use Rattle.tce_space.specs.Tiling.{Tiling, IsTiling, tile_words, tiles, padded_words}
 use Rattle.tce_outside.specs.Files.{Files}
-use Rattle.tce_frames.specs.Held.{Held, look_up, cleaned, AreApart}
-use Rattle.tce_frames.specs.Frames.{held_at, AreLow}
-use Rattle.tce_frames.specs.Current.{place, word_of, current, AreClean}
-use Rattle.tce_frames.proofs.Current.{below_found, look_up_at}
-use Rattle.tce_frames.proofs.Kept.{look_up-cleaned_other, apart-cleaned}
+use Rattle.tce_cache.specs.Held.{Held, look_up, cleaned, AreApart}
+use Rattle.tce_cache.specs.Frames.{held_at, AreLow}
+use Rattle.tce_cache.specs.Current.{place, word_of, current, AreClean}
+use Rattle.tce_cache.proofs.Current.{below_found, look_up_at}
+use Rattle.tce_cache.proofs.Kept.{look_up-cleaned_other, apart-cleaned}
 use Rattle.tce_cache.specs.declared.array.ArrayRef.{ArrayRef}
 use Rattle.tce_cache.specs.declared.cache.writing.Run.{Run}
 use Rattle.tce_cache.specs.Transfer.{HasFile}

@@ -3,11 +3,11 @@ use Rattle.std.proofs.Common.{◌≡◌, ◌∙◌, ℕ, ◌+◌, ◌<◌, ◌�
 use Rattle.std.specs.Option.{IsSomeAnd, option_map}
 use Rattle.tce_outside.specs.Files.{Files, file}
 use Rattle.tce_array.specs.Forms.{form_len}
-use Rattle.tce_frames.specs.Held.{Held, look_up, without, cleaned, IsFree, AreApart}
-use Rattle.tce_frames.specs.Current.{place, word_of, current, TilesFit, IsSameOutside}
-use Rattle.tce_frames.specs.Table.{Holding}
-use Rattle.tce_frames.proofs.Current.{tile_cases, tests, tests_not, current_held}
-use Rattle.tce_frames.proofs.Kept.{touch_kept, load_kept, drop_kept, write_kept, apart-cleaned, apart-front}
+use Rattle.tce_cache.specs.Held.{Held, look_up, without, cleaned, IsFree, AreApart}
+use Rattle.tce_cache.specs.Current.{place, word_of, current, TilesFit, IsSameOutside}
+use Rattle.tce_cache.specs.Table.{Holding}
+use Rattle.tce_cache.proofs.Current.{tile_cases, tests, tests_not, current_held}
+use Rattle.tce_cache.proofs.Kept.{touch_kept, load_kept, drop_kept, write_kept, apart-cleaned, apart-front}
 use Rattle.tce_cache.specs.declared.array.ArrayRef.{ArrayRef}
 use Rattle.tce_cache.specs.Transfer.{HasFile}
 use Rattle.tce_cache.specs.Cache.{State, IsArrayAt, Exists, IsWritable, IsCache, IsReady, words_of_tile, layout, stored, current_word, OnlyWritableDiffers}

@@ -12,7 +12,7 @@ use Rattle.tce_outside.proofs.Told.{other_files, disks_tell}
 use Rattle.std.proofs.lemmas.List.{take-take}
 use Rattle.tce_array.specs.Files.{AreBytes}
 use Rattle.tce_array.specs.Forms.{head_len, word_at}
-use Rattle.tce_frames.specs.Current.{place, IsSameOutside}
+use Rattle.tce_cache.specs.Current.{place, IsSameOutside}
 use Rattle.tce_cache.specs.declared.array.ArrayRef.{ArrayRef}
 use Rattle.tce_cache.specs.Transfer.{contents, HasFile, word_in_file, AreWordsOf, IsSameBut, IsWritten}
 use Rattle.tce_cache.specs.Cache.{State, IsArrayAt, AreArrays, words_of_tile, layout, word_of_tile, stored, HasRoom, OnlyWritableDiffers, IsSameOutsideFrames}

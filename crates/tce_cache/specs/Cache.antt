@@ -5,8 +5,8 @@ use Rattle.tce_space.specs.Limits.{max_tensors}
 use Rattle.tce_outside.specs.Files.{Files, file, bytes_before}
 use Rattle.tce_space.specs.Tiling.{tile_words, tiles}
 use Rattle.tce_array.specs.declared.form.Form.TheVariants.{One}
-use Rattle.tce_frames.specs.Held.{Held, look_up, AreApart}
-use Rattle.tce_frames.specs.Current.{Layout, current, AreClean}
+use Rattle.tce_cache.specs.Held.{Held, look_up, AreApart}
+use Rattle.tce_cache.specs.Current.{Layout, current, AreClean}
 use Rattle.tce_cache.specs.declared.array.ArrayRef.{ArrayRef}
 use Rattle.tce_cache.specs.Transfer.{HasFile, word_in_file}
 

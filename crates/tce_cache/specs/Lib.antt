@@ -3,3 +3,9 @@ pub mod Cache
 pub mod Touch
 pub mod Runs
 pub mod Parts
+pub mod Held
+pub mod Frames
+pub mod Current
+pub mod FrameLaws
+pub mod Ring
+pub mod Table

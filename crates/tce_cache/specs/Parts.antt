@@ -1,6 +1,6 @@
 -- What holds of the parts of a cache.
 use Rattle.std.specs.Prelude.{◌≡◌, ℕ, List, length}
-use Rattle.tce_frames.specs.Table.{Holding}
+use Rattle.tce_cache.specs.Table.{Holding}
 use Rattle.tce_cache.specs.declared.array.ArrayRef.{ArrayRef}
 use Rattle.tce_cache.specs.Cache.{IsCache}
 

@@ -3,9 +3,9 @@ use Rattle.std.specs.Prelude.{◌≡◌, ℕ, zero, suc, ◌+◌, ◌*◌, ◌<�
 use Rattle.std.specs.Option.{ForSome, option_map}
 use Rattle.tce_outside.specs.Files.{Files, file}
 use Rattle.tce_array.specs.Files.{AreBytes}
-use Rattle.tce_frames.specs.Held.{Held, look_up, cleaned}
-use Rattle.tce_frames.specs.Frames.{held_at}
-use Rattle.tce_frames.specs.Current.{place, AreOther}
+use Rattle.tce_cache.specs.Held.{Held, look_up, cleaned}
+use Rattle.tce_cache.specs.Frames.{held_at}
+use Rattle.tce_cache.specs.Current.{place, AreOther}
 use Rattle.tce_cache.specs.declared.array.ArrayRef.{ArrayRef}
 use Rattle.tce_cache.specs.declared.cache.writing.Run.{Run}
 use Rattle.tce_cache.specs.Transfer.{contents}

@@ -4,8 +4,8 @@ use Rattle.std.specs.Option.{ForSome, option_map}
 use Rattle.tce_outside.specs.Files.{Files, file}
 use Rattle.tce_array.specs.Files.{AreBytes}
 use Rattle.tce_array.specs.Forms.{head_len}
-use Rattle.tce_frames.specs.Held.{Held, look_up, touched, IsFree}
-use Rattle.tce_frames.specs.Current.{place, IsKept}
+use Rattle.tce_cache.specs.Held.{Held, look_up, touched, IsFree}
+use Rattle.tce_cache.specs.Current.{place, IsKept}
 use Rattle.tce_cache.specs.declared.array.ArrayRef.{ArrayRef}
 use Rattle.tce_cache.specs.Transfer.{contents}
 use Rattle.tce_cache.specs.Cache.{State, layout, stored, current_word, IsReady, words_of_tile}

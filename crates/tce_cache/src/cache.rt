@@ -2,17 +2,17 @@
 ghost use Rattle.std.specs.Prelude.{◌≡◌, ◌+◌, ◌*◌, ◌^◌, ◌<◌, ◌≤◌, ◌↔◌, length, slice_get, IfOk, OnOk, IsOk, IsErr, IsSome, IsTrue, Some, None};
 ghost use Rattle.std.specs.Option.{ForSome};
 ghost use Rattle.tce_outside.specs.Fault.{HasCause, TellsFaults};
-ghost use Rattle.tce_frames.specs.Held.{look_up};
-ghost use Rattle.tce_frames.specs.Frames.{held_at};
-ghost use Rattle.tce_frames.specs.Current.{place, IsSameOutside};
+ghost use Rattle.tce_cache.specs.Held.{look_up};
+ghost use Rattle.tce_cache.specs.Frames.{held_at};
+ghost use Rattle.tce_cache.specs.Current.{place, IsSameOutside};
 
 mod writing;
 
 use crate::array::ArrayRef;
+use crate::table::Table;
 use crate::transfer::{Span, read_words};
 use std::alloc::{AllocError, Global};
 use std::marker::Model;
-use tce_frames::Table;
 use tce_outside::{Disk, Failed};
 use tce_space::MAX_MEMORY;
 use tce_words::Words;

@@ -9,11 +9,26 @@
 //! are taken when a cache is made. A flush writes marked tiles that follow one another, in their file and in the frames,
 //! as one span. `specs/Cache.antt` has the model, `specs/Touch.antt` says what a touch and a flush do, `specs/Runs.antt`
 //! what is done with such tiles, and `specs/Transfer.antt` what is read and written.
+//!
+//! Which tiles are held is kept by a [`Table`], which knows of no files or devices: what the files have is a function of
+//! array, tile and place. `specs/Held.antt` has the list of held tiles, and `specs/Current.antt` says what the current word
+//! of a tile is. A tile is found by its bucket, and comes to the front, in a time that does not depend on the number of
+//! frames. The order of use and the buckets are linked [`Rings`]. The functions of `frame_laws.rt` do nothing: their
+//! contracts are laws of these definitions.
 #![tactic(auto)]
 
 mod array;
 mod cache;
+mod frame_laws;
+mod ring;
+mod table;
 mod transfer;
 
 pub use array::ArrayRef;
 pub use cache::Cache;
+pub use frame_laws::{
+    drops_keep, latest_tiles_stay, loads_keep, puts_are_current, touches_change_the_list,
+    touches_keep, write_backs_keep, writes_leave_clean_tiles, writes_stay_in_their_tile,
+};
+pub use ring::Rings;
+pub use table::{Frame, Table};

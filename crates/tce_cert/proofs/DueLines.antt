@@ -6,10 +6,10 @@ use Rattle.tce_tree.specs.ContractionTree.{ContractionTree, operations, node_dim
 use Rattle.tce_tree.specs.FlatTree.{IsTree}
 use Rattle.tce_tree.specs.WellFormed.{IsDeclaredTree}
 use Rattle.tce_fields.specs.Reading.{GivesExactly}
-use Rattle.tce_cert.specs.NodeForm as nodes
-use Rattle.tce_cert.specs.NodeLine.{Said, Says}
-use Rattle.tce_cert.specs.ReadLine.{form_saying}
-use Rattle.tce_cert.proofs.Reading.{saying_form, saying_text}
+use Rattle.tce_report.specs.NodeForm as nodes
+use Rattle.tce_report.specs.NodeLine.{Said, Says}
+use Rattle.tce_report.specs.ReadLine.{form_saying}
+use Rattle.tce_report.proofs.Reading.{saying_form, saying_text}
 use Rattle.tce_cert.specs.Forms.{StatesMemory, StatesTable, StatesRow}
 use Rattle.tce_cert.specs.Lines.{opening_line, end_line}
 use Rattle.tce_cert.specs.Faults.{Due, opening, node, memory, table, row, ending, IsDue}

@@ -1,11 +1,3 @@
-pub mod NodeLines
-pub mod Declared
-pub mod NodeLineForms
-pub mod Joined
-pub mod Numbers
-pub mod Reading
-pub mod Written
-pub mod Lists
 pub mod Sets
 pub mod Texts
 pub mod Faulty

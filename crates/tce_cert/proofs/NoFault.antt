@@ -22,12 +22,12 @@ use Rattle.tce_tree.specs.declared.node.Kind.{Kind}
 use Rattle.tce_tree.specs.declared.node.Kind.TheVariants.{Product, Sum, Add, Sub}
 use Rattle.tce_tree.proofs.NamedIndexes.{node_dims_declared}
 use Rattle.tce_fusion.specs.Row.{Row, rows_at}
-use Rattle.tce_fusion.specs.Plan.{PlanFits, RowFits, LiesWithin}
-use Rattle.tce_fusion.specs.declared.plan.Plan.{Plan}
-use Rattle.tce_cert.specs.NodeForm.{Form, IsForm, IsArrayForm, ArrayForm, form_text, array_text}
-use Rattle.tce_cert.specs.NodeLine.{MaySay, Said, said_of, stated, node_line, line_saying, set_text, loops_written, kind_word}
-use Rattle.tce_cert.specs.ReadLine.{form_saying}
-use Rattle.tce_cert.proofs.Reading.{saying_form, saying_text, names_named}
+use Rattle.tce_nesting.specs.Plan.{PlanFits, RowFits, LiesWithin}
+use Rattle.tce_nesting.specs.declared.plan.Plan.{Plan}
+use Rattle.tce_report.specs.NodeForm.{Form, IsForm, IsArrayForm, ArrayForm, form_text, array_text}
+use Rattle.tce_report.specs.NodeLine.{MaySay, Said, said_of, stated, node_line, line_saying, set_text, loops_written, kind_word}
+use Rattle.tce_report.specs.ReadLine.{form_saying}
+use Rattle.tce_report.proofs.Reading.{saying_form, saying_text, names_named}
 use Rattle.tce_cert.specs.Cut.{Lacks}
 use Rattle.tce_cert.specs.Lines.{opening_line, memory_line, table_line, row_line, classes_text, end_line}
 use Rattle.tce_cert.proofs.Stated.{decimal_lacks}

@@ -11,11 +11,11 @@ use Rattle.tce_tree.specs.ContractionTree.{ContractionTree, operations}
 use Rattle.tce_tree.specs.Fusion.{fused_at, order_at, FusionFits, OrdersFit}
 use Rattle.tce_tree.specs.Orders.{lists_of}
 use Rattle.tce_space.specs.declared.loop_order.LoopOrder.{LoopOrder}
-use Rattle.tce_cert.specs.ReadLine.{said}
-use Rattle.tce_cert.specs.declared.node_reader.NodeLine.{NodeLine}
+use Rattle.tce_report.specs.ReadLine.{said}
+use Rattle.tce_report.specs.declared.node_reader.NodeLine.{NodeLine}
 use Rattle.tce_cert.specs.declared.fault.CertFault.{CertFault}
 use Rattle.tce_cert.specs.Faults.{Due, node, IsFaultIn}
-use Rattle.tce_cert.specs.NodeLine.{Stated, Said, MaySay, Says, said_of, node_line, line_saying}
+use Rattle.tce_report.specs.NodeLine.{Stated, Said, MaySay, Says, said_of, node_line, line_saying}
 use Rattle.tce_cert.specs.Certificate.{text_of}
 use Rattle.tce_cert.specs.Reading.{ReadsThat, ReadsNodes, saying, KeepsFaults}
 use Rattle.tce_cert.proofs.Texts.{range_lines_more}

@@ -14,9 +14,9 @@ use Rattle.tce_tree.specs.Orders.{lists_of}
 use Rattle.tce_tree.proofs.NamedIndexes.{node_dims_declared}
 use Rattle.tce_fusion.specs.StateClasses.{IsNesting}
 use Rattle.tce_fusion.specs.Row.{Row, rows_at}
-use Rattle.tce_fusion.specs.Plan.{RowFits, LiesWithin}
-use Rattle.tce_fusion.specs.declared.plan.Plan.{Plan}
-use Rattle.tce_cert.specs.NodeLine.{Said, stated, said_of, node_line, line_saying, set_text}
+use Rattle.tce_nesting.specs.Plan.{RowFits, LiesWithin}
+use Rattle.tce_nesting.specs.declared.plan.Plan.{Plan}
+use Rattle.tce_report.specs.NodeLine.{Said, stated, said_of, node_line, line_saying, set_text}
 use Rattle.tce_cert.specs.Forms.{StatesClasses}
 use Rattle.tce_cert.specs.Lines.{opening_line, memory_line, table_line, row_line, classes_text, end_line}
 use Rattle.tce_cert.proofs.Cuts.{cut_once}

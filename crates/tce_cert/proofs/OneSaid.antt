@@ -17,12 +17,12 @@ use Rattle.tce_tree.specs.FlatTree.{IsTree}
 use Rattle.tce_tree.specs.WellFormed.{IsDeclaredTree}
 use Rattle.tce_tree.proofs.Members.{node_dims_lt}
 use Rattle.tce_fusion.proofs.StateChoices.{parts_are_index_sets}
-use Rattle.tce_cert.specs.NodeForm.{ArrayForm}
-use Rattle.tce_cert.specs.NodeLine.{Said, MaySay, line_saying, set_text}
-use Rattle.tce_cert.specs.ReadLine.{form_saying}
-use Rattle.tce_cert.specs.Fields.{form_fields, array_fields}
-use Rattle.tce_cert.proofs.NodeLineForms.{form_parts}
-use Rattle.tce_cert.proofs.Reading.{order_is_declared, fused_is_declared, saying_form, saying_text, names_named}
+use Rattle.tce_report.specs.NodeForm.{ArrayForm}
+use Rattle.tce_report.specs.NodeLine.{Said, MaySay, line_saying, set_text}
+use Rattle.tce_report.specs.ReadLine.{form_saying}
+use Rattle.tce_report.specs.Fields.{form_fields, array_fields}
+use Rattle.tce_report.proofs.NodeLineForms.{form_parts}
+use Rattle.tce_report.proofs.Reading.{order_is_declared, fused_is_declared, saying_form, saying_text, names_named}
 use Rattle.tce_cert.proofs.StatedRows.{decimal_once}
 use Rattle.tce_cert.proofs.Sets.{members_declared}
 

@@ -5,13 +5,13 @@ use Rattle.std.proofs.lemmas.List.{map_more}
 use Rattle.std.proofs.lemmas.List.Elements.{filter_passes}
 use Rattle.tce_space.specs.IndexSet.{has, members}
 use Rattle.tce_space.specs.Space.{IndexSpace, IsDeclared}
-use Rattle.tce_cert.specs.NodeLine.{set_text}
-use Rattle.tce_cert.proofs.Lists.{join_push}
+use Rattle.tce_report.specs.NodeLine.{set_text}
+use Rattle.tce_report.proofs.Lists.{join_push}
 use Rattle.tce_tree.specs.ContractionTree.{ContractionTree, operations}
 use Rattle.tce_tree.specs.WellFormed.{IsDeclaredTree}
 use Rattle.tce_tree.proofs.NamedIndexes.{node_dims_declared}
 use Rattle.tce_fusion.specs.Row.{Row, rows_at}
-use Rattle.tce_fusion.specs.Plan.{RowsFit}
+use Rattle.tce_nesting.specs.Plan.{RowsFit}
 use Rattle.tce_cert.specs.Lines.{classes_text}
 
 pub members_declared : (space : IndexSpace) (set : ℕ) → IsDeclared space set → All (λ i. i < length space.indexes) (members set)

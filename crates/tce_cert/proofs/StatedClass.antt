@@ -8,8 +8,8 @@ use Rattle.tce_space.specs.Space.{IndexSpace, IsSpace, IsDeclared, index_at}
 use Rattle.tce_fields.specs.Fields.{AreListed, listed}
 use Rattle.tce_fields.specs.Names.{IsSetNamed, names_of}
 use Rattle.tce_fields.specs.Reading.{GivesExactly, texts}
-use Rattle.tce_cert.specs.NodeLine.{set_text}
-use Rattle.tce_cert.proofs.Reading.{members_few, names_named}
+use Rattle.tce_report.specs.NodeLine.{set_text}
+use Rattle.tce_report.proofs.Reading.{members_few, names_named}
 use Rattle.tce_cert.specs.Forms.{IsPart, StatesClass}
 use Rattle.tce_cert.proofs.Sets.{members_declared}
 

@@ -21,9 +21,9 @@ use Rattle.tce_fusion.specs.Row.{Row}
 use Rattle.tce_fields.proofs.Listing.{names_lack, joined_lacks, only_none}
 use Rattle.tce_fields.proofs.Splitting.{split_joined, parts_at}
 use Rattle.tce_fusion.specs.StateClasses.{IsNesting, IsInhabited, in_class}
-use Rattle.tce_fusion.specs.Plan.{LiesWithin}
-use Rattle.tce_cert.specs.NodeLine.{set_text}
-use Rattle.tce_cert.proofs.Reading.{names_named}
+use Rattle.tce_nesting.specs.Plan.{LiesWithin}
+use Rattle.tce_report.specs.NodeLine.{set_text}
+use Rattle.tce_report.proofs.Reading.{names_named}
 use Rattle.tce_cert.specs.Lines.{classes_text, cost_line}
 use Rattle.tce_cert.specs.Forms.{StatesCost, StatesClass, AreClasses, StatesClasses, StatesRow}
 use Rattle.tce_cert.proofs.Stated.{cost_once}

@@ -7,7 +7,7 @@ use Rattle.std.proofs.lemmas.List.Elements.{All-append}
 use Rattle.tce_space.specs.Space.{IndexSpace}
 use Rattle.tce_tree.specs.ContractionTree.{ContractionTree, node_dims}
 use Rattle.tce_fusion.specs.Row.{Row, rows_at}
-use Rattle.tce_fusion.specs.Plan.{RowFits}
+use Rattle.tce_nesting.specs.Plan.{RowFits}
 use Rattle.tce_cert.specs.Forms.{StatesRow}
 use Rattle.tce_cert.specs.Lines.{row_line}
 use Rattle.tce_cert.specs.declared.fault.CertFault.{CertFault}

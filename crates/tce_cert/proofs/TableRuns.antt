@@ -8,7 +8,7 @@ use Rattle.tce_space.specs.Space.{IndexSpace}
 use Rattle.tce_space.proofs.Ranges.{range_next}
 use Rattle.tce_tree.specs.ContractionTree.{ContractionTree, node_dims}
 use Rattle.tce_fusion.specs.Row.{Row, rows_at}
-use Rattle.tce_fusion.specs.Plan.{RowFits}
+use Rattle.tce_nesting.specs.Plan.{RowFits}
 use Rattle.tce_cert.specs.Forms.{StatesTable}
 use Rattle.tce_cert.specs.Lines.{row_line, table_line}
 use Rattle.tce_cert.specs.declared.fault.CertFault.{CertFault}

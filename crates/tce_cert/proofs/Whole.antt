@@ -4,9 +4,9 @@ use Rattle.std.specs.List.{range_with_len}
 use Rattle.tce_space.specs.Space.{IndexSpace}
 use Rattle.tce_tree.specs.ContractionTree.{ContractionTree, operations}
 use Rattle.tce_tree.specs.Orders.{lists_of}
-use Rattle.tce_fusion.specs.declared.plan.Plan.{Plan}
-use Rattle.tce_fusion.specs.Plan.{PlanFits}
-use Rattle.tce_cert.specs.NodeLine.{Stated, node_line}
+use Rattle.tce_nesting.specs.declared.plan.Plan.{Plan}
+use Rattle.tce_nesting.specs.Plan.{PlanFits}
+use Rattle.tce_report.specs.NodeLine.{Stated, node_line}
 use Rattle.tce_cert.specs.Forms.{StatesMemory}
 use Rattle.tce_cert.specs.Lines.{opening_line, memory_line, end_line}
 use Rattle.tce_cert.specs.declared.fault.CertFault.{CertFault}

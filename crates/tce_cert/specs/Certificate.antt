@@ -4,8 +4,8 @@ use Rattle.std.specs.List.{flat_map, range_with_len, All}
 use Rattle.tce_space.specs.Space.{IndexSpace, IsDeclared}
 use Rattle.tce_tree.specs.ContractionTree.{ContractionTree, operations}
 use Rattle.tce_fusion.specs.Row.{Row, rows_at}
-use Rattle.tce_fusion.specs.declared.plan.Plan.{Plan}
-use Rattle.tce_cert.specs.NodeLine.{node_line, stated}
+use Rattle.tce_nesting.specs.declared.plan.Plan.{Plan}
+use Rattle.tce_report.specs.NodeLine.{node_line, stated}
 use Rattle.tce_cert.specs.Lines.{opening_line, memory_line, table_line, row_line, end_line}
 
 -- the table of node `v`, and its rows

@@ -4,9 +4,9 @@ use Rattle.std.specs.List.{range_with_len}
 use Rattle.tce_space.specs.Space.{IndexSpace}
 use Rattle.tce_tree.specs.ContractionTree.{ContractionTree, operations, node_dims}
 use Rattle.tce_fusion.specs.Row.{Row}
-use Rattle.tce_cert.specs.NodeLine.{Says}
-use Rattle.tce_cert.specs.ReadLine.{said}
-use Rattle.tce_cert.specs.declared.node_reader.NodeLine.{NodeLine}
+use Rattle.tce_report.specs.NodeLine.{Says}
+use Rattle.tce_report.specs.ReadLine.{said}
+use Rattle.tce_report.specs.declared.node_reader.NodeLine.{NodeLine}
 use Rattle.tce_cert.specs.Lines.{opening_line}
 use Rattle.tce_cert.specs.Forms.{StatesMemory, StatesTable, StatesRow}
 use Rattle.tce_cert.specs.Faults.{Due, node, table, row, IsFaultIn}

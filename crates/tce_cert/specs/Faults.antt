@@ -4,8 +4,8 @@ use Rattle.std.specs.List.{range_with_len, slice_split}
 use Rattle.tce_space.specs.Space.{IndexSpace}
 use Rattle.tce_tree.specs.ContractionTree.{ContractionTree, operations, node_dims}
 use Rattle.tce_fusion.specs.Row.{Row}
-use Rattle.tce_cert.specs.NodeForm as nodes
-use Rattle.tce_cert.specs.NodeLine.{Said, Says}
+use Rattle.tce_report.specs.NodeForm as nodes
+use Rattle.tce_report.specs.NodeLine.{Said, Says}
 use Rattle.tce_cert.specs.Forms as others
 use Rattle.tce_cert.specs.Forms.{StatesMemory, StatesTable, StatesRow}
 use Rattle.tce_cert.specs.Lines.{opening_line, end_line}

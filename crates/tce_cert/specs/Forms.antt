@@ -8,8 +8,8 @@ use Rattle.tce_space.specs.Space.{IndexSpace}
 use Rattle.tce_fields.specs.Fields.{AreParts, AreListed}
 use Rattle.tce_fusion.specs.StateClasses.{IsNesting, IsInhabited}
 use Rattle.tce_fusion.specs.Row.{Row}
-use Rattle.tce_fusion.specs.Plan.{LiesWithin, RowFits}
-use Rattle.tce_cert.specs.NodeLine.{set_text}
+use Rattle.tce_nesting.specs.Plan.{LiesWithin, RowFits}
+use Rattle.tce_report.specs.NodeLine.{set_text}
 use Rattle.tce_cert.specs.Lines.{opening_line, memory_line, table_line, cost_line, classes_text, row_line, end_line}
 
 -- the numbers of certificates are below this

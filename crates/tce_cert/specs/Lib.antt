@@ -1,11 +1,3 @@
-pub mod Fields
-pub mod FormCode
-pub mod ReportLaws
-pub mod Names
-pub mod NodeForm
-pub mod NodeLine
-pub mod ReadLine
-pub mod Report
 pub mod Certificate
 pub mod Faults
 pub mod Reading

@@ -4,7 +4,7 @@ use Rattle.std.specs.Fmt.{decimal}
 use Rattle.std.specs.List.{join_with_byte}
 use Rattle.tce_space.specs.Space.{IndexSpace}
 use Rattle.tce_fusion.specs.Row.{Row}
-use Rattle.tce_cert.specs.NodeLine.{set_text}
+use Rattle.tce_report.specs.NodeLine.{set_text}
 
 -- classes outermost first with `/` between each two, `-` where there are none
 abbrev pub classes_text : IndexSpace → List ℕ → List ℕ

@@ -4,8 +4,8 @@ use Rattle.std.specs.List.{All, range_with_len}
 use Rattle.tce_space.specs.Space.{IndexSpace}
 use Rattle.tce_tree.specs.ContractionTree.{ContractionTree, node_dims}
 use Rattle.tce_fusion.specs.Row.{Row, rows_at}
-use Rattle.tce_fusion.specs.Plan.{RowFits}
-use Rattle.tce_cert.specs.NodeLine.{Stated, MaySay, said_of, node_line}
+use Rattle.tce_nesting.specs.Plan.{RowFits}
+use Rattle.tce_report.specs.NodeLine.{Stated, MaySay, said_of, node_line}
 use Rattle.tce_cert.specs.Lines.{row_line}
 use Rattle.tce_cert.specs.declared.fault.CertFault.{CertFault}
 use Rattle.tce_cert.specs.Certificate.{text_of, tables_lines}

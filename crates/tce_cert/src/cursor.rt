@@ -3,7 +3,7 @@ ghost use Rattle.std.specs.Prelude.{◌≡◌, ◌+◌, ◌<◌, ◌^◌, length
 ghost use Rattle.tce_cert.specs.Cut.{Lacks};
 ghost use Rattle.tce_cert.specs.Reading.{ReadsLine};
 
-use crate::cut_at;
+use crate::cut::cut_at;
 use crate::fault::CertFault;
 
 // What is left of a text, and the number of its first line.

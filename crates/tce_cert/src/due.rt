@@ -2,18 +2,17 @@
 ghost use Rattle.std.specs.Prelude.{◌≡◌, ◌↔◌, ◌<◌, ◌++◌, [], ◌∷◌, IsTrue, IfErr, IfOk, OnOk};
 ghost use Rattle.tce_tree.specs.ContractionTree.{operations};
 ghost use Rattle.tce_tree.specs.WellFormed.{IsDeclaredTree};
-ghost use Rattle.tce_cert.specs.NodeForm as nodes;
+ghost use Rattle.tce_report.specs.NodeForm as nodes;
 ghost use Rattle.tce_cert.specs.Lines.{end_line};
 ghost use Rattle.tce_cert.specs.Faults.{opening, node, memory, table, row, ending, IsFaultOf};
 ghost use Rattle.tce_cert.specs.Cursors.{ReadsOpening, ReadsNode, ReadsMemory, ReadsTable, ReadsRow, IsFaultAt, IsFaultOfRest};
 
 use crate::cursor::Cursor;
 use crate::fault::CertFault;
-use crate::node_reader::{LineFault, NodeLine, read_node_line};
-use crate::{
-    has_form, is_end_line, is_opening_line, read_memory_line, read_row_line, read_table_line,
-};
-use tce_fusion::Row;
+use crate::forms::{has_form, is_end_line, is_opening_line, read_memory_line, read_table_line};
+use crate::rows::read_row_line;
+use tce_nesting::Row;
+use tce_report::{LineFault, NodeLine, read_node_line};
 use tce_space::Space;
 use tce_tree::Tree;
 

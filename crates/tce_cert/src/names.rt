@@ -1,8 +1,8 @@
 // Sets of indexes as their names.
 ghost use Rattle.std.specs.Prelude.{◌≡◌, ◌<◌, ◌++◌, length, All, OnOk};
 ghost use Rattle.tce_space.specs.Space.{index_at, IsDeclared};
-ghost use Rattle.tce_cert.specs.Names.{index_list};
-ghost use Rattle.tce_cert.specs.NodeLine.{set_text};
+ghost use Rattle.tce_report.specs.Names.{index_list};
+ghost use Rattle.tce_report.specs.NodeLine.{set_text};
 
 use std::alloc::AllocError;
 use tce_fields::members_of;

@@ -11,8 +11,8 @@ ghost use Rattle.tce_cert.specs.Cursors.{KeepsNodeFaults};
 use crate::cursor::Cursor;
 use crate::due::read_node;
 use crate::fault::CertFault;
-use crate::node_reader::NodeLine;
 use arrayvec::ArrayVec;
+use tce_report::NodeLine;
 use tce_space::{MAX_NODES, Space};
 use tce_tree::{Fusion, Orders, Tree};
 

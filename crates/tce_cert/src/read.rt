@@ -9,7 +9,7 @@ use crate::fault::CertFault;
 use crate::nodes::read_nodes;
 use crate::tables::read_tables;
 use std::alloc::Global;
-use tce_fusion::Plan;
+use tce_nesting::Plan;
 use tce_space::Space;
 use tce_tree::Tree;
 

@@ -9,7 +9,7 @@ ghost use Rattle.tce_cert.specs.Forms.{IsPart, StatesClass, AreClasses, StatesCl
 use crate::classes::is_none;
 use crate::forms::read_cost_line;
 use tce_fields::{read_names, set_named, split_parts};
-use tce_fusion::{Nesting, Row};
+use tce_nesting::{Nesting, Row};
 use tce_space::{IndexSet, MAX_INDEXES, Space};
 
 /// The row of a node with these dims that a line states. `None` where the line is no row, or has an index that is not declared or not among the dims, indexes out of the order of declaration, or an index in two classes.

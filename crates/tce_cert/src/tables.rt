@@ -10,7 +10,7 @@ use crate::cursor::Cursor;
 use crate::due::{read_row, read_table};
 use crate::fault::CertFault;
 use std::alloc::Global;
-use tce_fusion::Tables;
+use tce_nesting::Tables;
 use tce_space::Space;
 use tce_tree::Tree;
 

@@ -3,15 +3,15 @@ ghost use Rattle.std.specs.Prelude.{◌≡◌, ◌<◌, ◌≤◌, ◌++◌, All
 ghost use Rattle.std.specs.List.{flat_map};
 ghost use Rattle.tce_space.specs.Space.{IsDeclared};
 ghost use Rattle.tce_tree.specs.WellFormed.{IsDeclaredTree};
-ghost use Rattle.tce_fusion.specs.Plan.{PlanFits};
+ghost use Rattle.tce_nesting.specs.Plan.{PlanFits};
 ghost use Rattle.tce_cert.specs.Lines.{classes_text};
 ghost use Rattle.tce_cert.specs.Laws.{IsNestingRow, RowsAreNestings};
 ghost use Rattle.tce_cert.specs.Certificate.{certificate, with_nodes, with_tables, with_rows, with_row, AreDeclaredRows, AreDeclaredTables};
 
 use crate::names::push_set;
-use crate::node_lines::node_line;
 use std::alloc::{AllocError, Global};
-use tce_fusion::{Plan, Row, Tables};
+use tce_nesting::{Plan, Row, Tables};
+use tce_report::node_line;
 use tce_space::{IndexSet, Space};
 use tce_tree::Tree;
 

@@ -14,12 +14,12 @@ use Rattle.tce_fusion.specs.Relation.{Relation, above, none, IsCoarser, HasNoCon
 use Rattle.tce_fusion.specs.Row.{Row, StandsFor, step_relation, step_cost, rows_joined}
 use Rattle.tce_fusion.specs.Cover.{StepsCovered}
 use Rattle.tce_fusion.specs.StateClasses.{IsNesting}
-use Rattle.tce_fusion.specs.NestingClasses.{restricted}
-use Rattle.tce_fusion.specs.NestingLaws.{TellsStep}
-use Rattle.tce_fusion.proofs.NestingLaws.{joins_tell_steps}
-use Rattle.tce_fusion.specs.declared.choice.Choice.{Choice}
-use Rattle.tce_fusion.specs.Choices.{AreChoices, LeavesSize}
-use Rattle.tce_fusion.proofs.SubsetLists.{dims_within}
+use Rattle.tce_nesting.specs.Classes.{restricted}
+use Rattle.tce_nesting.specs.Laws.{TellsStep}
+use Rattle.tce_nesting.proofs.NestingLaws.{joins_tell_steps}
+use Rattle.tce_nesting.specs.declared.choice.Choice.{Choice}
+use Rattle.tce_nesting.specs.Choices.{AreChoices, LeavesSize}
+use Rattle.tce_nesting.proofs.SubsetLists.{dims_within}
 use Rattle.tce_check.specs.Joint.{IsJointOf, ChoiceCovered, IsFirstUncovered, IsBound}
 use Rattle.tce_check.specs.Verdict.{StepCovered, IsLeastUncovered}
 

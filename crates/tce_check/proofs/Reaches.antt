@@ -9,10 +9,10 @@ use Rattle.tce_space.specs.Space.{IndexSpace}
 use Rattle.tce_tree.specs.ContractionTree.{ContractionTree, operations, node_loops}
 use Rattle.tce_fusion.specs.Relation.{Relation, above, none, cut, Allows}
 use Rattle.tce_fusion.specs.Row.{Row, StandsFor, rows_joined}
-use Rattle.tce_fusion.specs.Ends.{IsTopOf, DoCross}
-use Rattle.tce_fusion.specs.Choices.{AreChoices, LeavesSize}
-use Rattle.tce_fusion.specs.declared.choice.Choice.{Choice}
-use Rattle.tce_fusion.proofs.SubsetLists.{dims_within}
+use Rattle.tce_nesting.specs.Ends.{IsTopOf, DoCross}
+use Rattle.tce_nesting.specs.Choices.{AreChoices, LeavesSize}
+use Rattle.tce_nesting.specs.declared.choice.Choice.{Choice}
+use Rattle.tce_nesting.proofs.SubsetLists.{dims_within}
 use Rattle.tce_check.specs.declared.parts.PartCost.{PartCost}
 use Rattle.tce_check.specs.Joint.{IsJointOf}
 use Rattle.tce_check.specs.Tops.{AreTops}

@@ -5,9 +5,9 @@ use Rattle.std.proofs.lemmas.Bool.{cases_lt, cases_eq}
 use Rattle.std.proofs.lemmas.List.{get_or-set_same, get_or-set_other}
 use Rattle.tce_tree.specs.ContractionTree.{ContractionTree, node_loops}
 use Rattle.tce_fusion.specs.Row.{Row}
-use Rattle.tce_fusion.specs.declared.ends.Ends.{Ends}
-use Rattle.tce_fusion.specs.declared.runs.Run.{Run}
-use Rattle.tce_fusion.specs.Ends.{AreEnds, IsRun, HaveConflict}
+use Rattle.tce_nesting.specs.declared.ends.Ends.{Ends}
+use Rattle.tce_nesting.specs.declared.runs.Run.{Run}
+use Rattle.tce_nesting.specs.Ends.{AreEnds, IsRun, HaveConflict}
 use Rattle.tce_check.specs.Verdict.{WhereJoined}
 
 -- a run each of whose rows has a conflict with a row

@@ -9,8 +9,8 @@ use Rattle.tce_tree.specs.Memory.{size_at}
 use Rattle.tce_fusion.proofs.Illegal.{none_from_legal}
 use Rattle.tce_fusion.specs.Row.{Row, rows_at, step_relation, step_cost}
 use Rattle.tce_fusion.specs.Cover.{left_rows, right_rows, StepsCovered}
-use Rattle.tce_fusion.specs.declared.plan.Plan.{Plan}
-use Rattle.tce_fusion.proofs.NestingLaws.{nestings_are_their_relations}
+use Rattle.tce_nesting.specs.declared.plan.Plan.{Plan}
+use Rattle.tce_nesting.proofs.NestingLaws.{nestings_are_their_relations}
 use Rattle.tce_check.specs.First.{FirstPair}
 use Rattle.tce_check.specs.Verdict.{HasSize, IsLegalPlan, IsOrdered, IsSized, IsTotalled, IsCovered, IsAccepted, WhereJoined, IsLeastUncovered, CoversAt, FailsAt, IsBelow, IsVerdict}
 use Rattle.tce_check.specs.declared.verdict.Verdict.{Verdict}

@@ -3,8 +3,8 @@ use Rattle.std.specs.Prelude.{◌≡◌, ℕ, ◌+◌, ◌<◌, List, length, sl
 use Rattle.std.specs.List.{AllWithin, Any}
 use Rattle.tce_fusion.specs.Relation.{above, none}
 use Rattle.tce_fusion.specs.Row.{Row, StandsFor}
-use Rattle.tce_fusion.specs.NestingClasses.{restricted, IsJoinOf, AllowsSet}
-use Rattle.tce_fusion.specs.declared.choice.Choice.{Choice}
+use Rattle.tce_nesting.specs.Classes.{restricted, IsJoinOf, AllowsSet}
+use Rattle.tce_nesting.specs.declared.choice.Choice.{Choice}
 
 -- the row has all loops as both rows put them above each other, and costs as much as both
 pub record IsJointOf (loops : ℕ) (left right joint : Row) : Type 0 where

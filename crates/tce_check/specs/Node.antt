@@ -5,10 +5,10 @@ use Rattle.tce_space.specs.Limits.{cost_limit, max_volume}
 use Rattle.tce_tree.specs.ContractionTree.{operations, node_loops}
 use Rattle.tce_fusion.specs.Row.{Row, rows_joined}
 use Rattle.tce_fusion.specs.Cover.{StepsCovered}
-use Rattle.tce_fusion.specs.Choices.{AreChoices}
-use Rattle.tce_fusion.specs.Ends.{IsTopOf}
-use Rattle.tce_fusion.specs.Stretches.{AreStretches}
-use Rattle.tce_fusion.specs.declared.runs.Run.{Run}
+use Rattle.tce_nesting.specs.Choices.{AreChoices}
+use Rattle.tce_nesting.specs.Ends.{IsTopOf}
+use Rattle.tce_nesting.specs.Stretches.{AreStretches}
+use Rattle.tce_nesting.specs.declared.runs.Run.{Run}
 use Rattle.tce_check.specs.Joint.{IsBound, IsJointOf}
 use Rattle.tce_check.specs.Reach.{IsReach}
 use Rattle.tce_check.specs.Verdict.{WhereJoined, IsLeastUncovered}

@@ -8,8 +8,8 @@ use Rattle.tce_tree.specs.ContractionTree.{ContractionTree, node_loops}
 use Rattle.tce_fusion.specs.Relation.{above, IsCoarser}
 use Rattle.tce_fusion.specs.Row.{Row, StandsFor, rows_joined}
 use Rattle.tce_fusion.specs.Cover.{StepsCovered}
-use Rattle.tce_fusion.specs.Ends.{IsTopOf, DoCross}
-use Rattle.tce_fusion.specs.declared.choice.Choice.{Choice}
+use Rattle.tce_nesting.specs.Ends.{IsTopOf, DoCross}
+use Rattle.tce_nesting.specs.declared.choice.Choice.{Choice}
 use Rattle.tce_check.specs.Joint.{IsBound}
 use Rattle.tce_check.specs.declared.parts.PartCost.{PartCost}
 

@@ -3,7 +3,7 @@ use Rattle.std.specs.Prelude.{ℕ, List}
 use Rattle.std.specs.List.{All}
 use Rattle.tce_fusion.specs.Relation.{above, HasNoConflict}
 use Rattle.tce_fusion.specs.Row.{Row, rows_joined}
-use Rattle.tce_fusion.specs.Ends.{IsTopOf}
+use Rattle.tce_nesting.specs.Ends.{IsTopOf}
 
 -- each of these is such a part
 abbrev pub AreTops : ℕ → Row → List ℕ → Type 0

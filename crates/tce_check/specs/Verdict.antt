@@ -13,7 +13,7 @@ use Rattle.tce_fusion.specs.Relation.{HasNoConflict, Allows}
 use Rattle.tce_fusion.specs.Row.{Row, rows_at, rows_joined, StandsForStep, IsStepRow}
 use Rattle.tce_fusion.specs.Cover.{left_rows, right_rows, StepsCovered, NodeCovered, NodesCovered, RootBelow}
 use Rattle.tce_fusion.specs.StateClasses.{IsNesting}
-use Rattle.tce_fusion.specs.declared.plan.Plan.{Plan}
+use Rattle.tce_nesting.specs.declared.plan.Plan.{Plan}
 use Rattle.tce_check.specs.First.{IsFirst, FirstPair}
 use Rattle.tce_check.specs.declared.verdict.Verdict.{Verdict}
 use Rattle.tce_check.specs.declared.verdict.Verdict.TheVariants.{Accepted, NotLegal, OrderWrong, SizeWrong, TotalWrong, NotCovered, BelowTotal}

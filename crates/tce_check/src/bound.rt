@@ -4,7 +4,7 @@ ghost use Rattle.std.specs.declared.option.Option.TheVariants.{Some};
 ghost use Rattle.tce_fusion.specs.Relation.{above, none, IsCoarser};
 ghost use Rattle.tce_check.specs.Joint.{IsBound};
 
-use tce_fusion::{Nesting, Row};
+use tce_nesting::{Nesting, Row};
 use tce_space::IndexSet;
 
 // The least cost of a row that puts no outer loop above another, and so is coarser than every state; none where no row does so.

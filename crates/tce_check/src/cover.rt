@@ -2,7 +2,7 @@
 ghost use Rattle.std.specs.Prelude.{◌≡◌, ◌<◌, ◌≤◌, ◌^◌, length, IsTrue, All};
 ghost use Rattle.tce_space.specs.Limits.{cost_limit, max_volume};
 ghost use Rattle.tce_tree.specs.ContractionTree.{node_loops};
-ghost use Rattle.tce_fusion.specs.Ends.{AreRuns};
+ghost use Rattle.tce_nesting.specs.Ends.{AreRuns};
 ghost use Rattle.tce_check.specs.Joint.{ChoiceCovered};
 ghost use Rattle.tce_check.specs.Node.{IsReady, PairCovered, JointCovered, AreBelowLimit};
 ghost use Rattle.tce_check.specs.Tops.{AreTops};
@@ -11,7 +11,7 @@ use crate::joint::joint;
 use crate::runs::{BLOCK, runs_of};
 use crate::steps::{Node, state_of};
 use crate::tops::{are_crossed, tops_of};
-use tce_fusion::{Choice, Row, Run, allows_none, ends_of, have_conflict};
+use tce_nesting::{Choice, Row, Run, allows_none, ends_of, have_conflict};
 use tce_space::IndexSet;
 
 impl<'a> Node<'a> {

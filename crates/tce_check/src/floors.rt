@@ -6,7 +6,7 @@ ghost use Rattle.tce_check.specs.Joint.{IsBound};
 ghost use Rattle.tce_check.specs.Reach.{AreFloors, AreBoundFloors, IsLowered};
 
 use crate::parts::{PARTS, PartCost, place_among};
-use tce_fusion::{Nesting, Row, subsets};
+use tce_nesting::{Nesting, Row, subsets};
 use tce_space::IndexSet;
 
 // For each part of the loops the least such cost that is seen of the bound and of the rows with one class.

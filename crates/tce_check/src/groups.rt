@@ -4,7 +4,7 @@ ghost use Rattle.tce_fusion.specs.Relation.{above};
 ghost use Rattle.tce_fusion.specs.Row.{StandsFor};
 
 use crate::uppers::{Parts, group_of, hint_of, marks_of, parts_of, single_of, uppers_of};
-use tce_fusion::Row;
+use tce_nesting::Row;
 use tce_space::IndexSet;
 
 // How many rows have an entry. Those behind them are asked one by one.

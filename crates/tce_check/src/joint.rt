@@ -6,7 +6,7 @@ ghost use Rattle.tce_fusion.specs.Relation.{HasNoConflict};
 ghost use Rattle.tce_fusion.specs.Row.{rows_joined};
 ghost use Rattle.tce_check.specs.Joint.{IsJointOf};
 
-use tce_fusion::{Nesting, Row};
+use tce_nesting::{Nesting, Row};
 use tce_space::IndexSet;
 
 // All loops of the node as both rows put them above each other, with the sum of the costs; none where the rows have a conflict.

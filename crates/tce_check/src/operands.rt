@@ -3,11 +3,11 @@ ghost use Rattle.std.specs.Prelude.{◌≡◌, ◌+◌, ◌<◌, [], ◌∷◌, 
 ghost use Rattle.tce_space.specs.Limits.{cost_limit};
 ghost use Rattle.tce_tree.specs.ContractionTree.{operations};
 ghost use Rattle.tce_tree.specs.FlatTree.{IsBefore};
-ghost use Rattle.tce_fusion.specs.Plan.{RowsFit};
+ghost use Rattle.tce_nesting.specs.Plan.{RowsFit};
 ghost use Rattle.tce_fusion.specs.Row as states;
 ghost use Rattle.tce_fusion.specs.Cover as cover;
 
-use tce_fusion::{Nesting, Row, Tables};
+use tce_nesting::{Nesting, Row, Tables};
 use tce_tree::{Operand, Tree};
 
 // The one state of a tensor or a constant, and of what a sum lacks on the right.

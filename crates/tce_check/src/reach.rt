@@ -9,7 +9,7 @@ ghost use Rattle.tce_check.specs.Reach.{IsNoCost, IsCostOf, IsReached, ReachesAl
 use crate::floors::floors_of;
 use crate::parts::{PartCost, cost_at, place_among};
 use crate::steps::{Kept, Node};
-use tce_fusion::{Choice, Row, Run, subsets};
+use tce_nesting::{Choice, Row, Run, subsets};
 use tce_space::IndexSet;
 
 // A node with fewer rows has no reaches, since they would save less than they cost.

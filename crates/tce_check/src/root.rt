@@ -3,13 +3,13 @@ ghost use Rattle.std.specs.Prelude.{◌≡◌, ℕ, ◌+◌, ◌-◌, ◌<◌, �
 ghost use Rattle.tce_space.specs.Limits.{cost_limit};
 ghost use Rattle.tce_tree.specs.ContractionTree.{operations};
 ghost use Rattle.tce_fusion.specs.Cover.{RootBelow};
-ghost use Rattle.tce_fusion.specs.Plan.{RowsFit};
+ghost use Rattle.tce_nesting.specs.Plan.{RowsFit};
 ghost use Rattle.tce_check.specs.First.{First, FirstPair};
 ghost use Rattle.tce_check.specs.Verdict.{WhereJoined, IsBelow, FirstBelow};
 
 use crate::joint::joint;
 use crate::operands::{leaf_row, left_rows, right_rows};
-use tce_fusion::{Row, Tables};
+use tce_nesting::{Row, Tables};
 use tce_tree::Tree;
 
 // The first sum at the root, by the left row and then by the right one, of rows without conflict that is below the total.

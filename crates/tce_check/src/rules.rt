@@ -4,14 +4,15 @@ ghost use Rattle.tce_tree.specs.ContractionTree.{operations};
 ghost use Rattle.tce_tree.specs.Measure.{IsMeasured};
 ghost use Rattle.tce_tree.specs.Memory.{size_at};
 ghost use Rattle.tce_fusion.specs.Least.{IsLeast};
-ghost use Rattle.tce_fusion.specs.Plan.{PlanFits};
+ghost use Rattle.tce_nesting.specs.Plan.{PlanFits};
 ghost use Rattle.tce_check.specs.First.{IsFirst};
 ghost use Rattle.tce_check.specs.Verdict.{HasSize, IsVerdict};
 
 use crate::root::first_below;
 use crate::tables::first_uncovered_node;
 use crate::verdict::Verdict;
-use tce_fusion::{Plan, first_illegal, first_not_carried, memory, size_of};
+use tce_fusion::{first_illegal, first_not_carried, memory, size_of};
+use tce_nesting::Plan;
 use tce_space::Space;
 use tce_tree::Tree;
 

@@ -1,9 +1,9 @@
 // Runs of neighbours with the same ends, block by block.
 ghost use Rattle.std.specs.Prelude.{◌≤◌, ◌<◌, ◌+◌, ℕ, length, slice_index_or};
-ghost use Rattle.tce_fusion.specs.Ends.{AreRuns, IsRun};
-ghost use Rattle.tce_fusion.specs.declared.runs.Run as own;
+ghost use Rattle.tce_nesting.specs.Ends.{AreRuns, IsRun};
+ghost use Rattle.tce_nesting.specs.declared.runs.Run as own;
 
-use tce_fusion::{Row, Run};
+use tce_nesting::{Row, Run};
 use tce_space::IndexSet;
 
 // The runs of so many rows are kept at once.

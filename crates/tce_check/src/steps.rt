@@ -4,7 +4,7 @@ ghost use Rattle.tce_space.specs.Limits.{cost_limit, max_volume};
 ghost use Rattle.tce_fusion.specs.Relation.{Relation};
 ghost use Rattle.tce_fusion.specs.Row.{StandsFor};
 ghost use Rattle.tce_fusion.specs.StateClasses.{IsNesting};
-ghost use Rattle.tce_fusion.specs.NestingClasses.{restricted};
+ghost use Rattle.tce_nesting.specs.Classes.{restricted};
 ghost use Rattle.tce_check.specs.First.{First, FirstPair};
 ghost use Rattle.tce_check.specs.Joint.{ChoiceCovered, ChoiceUncovered, IsFirstUncovered};
 ghost use Rattle.tce_check.specs.Node.{IsReady, PairCovered, IsFailing, AreBelowLimit};
@@ -13,7 +13,7 @@ use crate::groups::Groups;
 use crate::joint::joint;
 use crate::parts::PartCost;
 use crate::verdict::Verdict;
-use tce_fusion::{Choice, Row, Stretch};
+use tce_nesting::{Choice, Row, Stretch};
 use tce_space::{IndexSet, Space};
 use tce_tree::Tree;
 

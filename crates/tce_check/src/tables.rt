@@ -3,7 +3,7 @@ ghost use Rattle.std.specs.Prelude.{◌≡◌, ◌+◌, ◌-◌, ◌<◌, MatchO
 ghost use Rattle.tce_tree.specs.ContractionTree.{operations};
 ghost use Rattle.tce_tree.specs.Measure.{IsMeasured};
 ghost use Rattle.tce_fusion.specs.Cover.{NodesCovered};
-ghost use Rattle.tce_fusion.specs.Plan.{RowsFit};
+ghost use Rattle.tce_nesting.specs.Plan.{RowsFit};
 ghost use Rattle.tce_check.specs.First.{IsFirst};
 ghost use Rattle.tce_check.specs.Verdict.{CoversAt, FailsAt};
 
@@ -14,7 +14,7 @@ use crate::parts::{PARTS, PartCost};
 use crate::reach::fill_reaches;
 use crate::steps::{Kept, Node, Step};
 use crate::uppers::{GROUPS, HINTS, SINGLES};
-use tce_fusion::{Tables, choices, stretches_of};
+use tce_nesting::{Tables, choices, stretches_of};
 use tce_space::Space;
 use tce_tree::Tree;
 

@@ -3,7 +3,7 @@ ghost use Rattle.std.specs.Prelude.{IsTrue};
 ghost use Rattle.tce_check.specs.Tops.{AreTops, HasConflict};
 
 use arrayvec::ArrayVec;
-use tce_fusion::Row;
+use tce_nesting::Row;
 use tce_space::{IndexSet, MAX_LOOPS};
 
 // The parts that a row puts above the others, the least first.

@@ -1,7 +1,7 @@
 // The upper parts of rows and states, and the numbers under which rows are kept and noted by their classes.
 
 use arrayvec::ArrayVec;
-use tce_fusion::Nesting;
+use tce_nesting::Nesting;
 use tce_space::{IndexSet, MAX_LOOPS};
 
 // A prime, so that parts which differ in few loops mostly have different groups.

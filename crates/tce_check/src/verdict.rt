@@ -1,5 +1,5 @@
 // Verdicts on plans.
-use tce_fusion::Nesting;
+use tce_nesting::Nesting;
 use tce_space::IndexSet;
 
 /// What the check of a plan says: that it is accepted, or the first rule that it breaks.

@@ -1,6 +1,3 @@
-pub mod Steps
-pub mod Slots
-pub mod Filling
 pub mod Frames
 pub mod Settled
 pub mod Lists

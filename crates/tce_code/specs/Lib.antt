@@ -1,6 +1,3 @@
-pub mod Layout
-pub mod Places
-pub mod LayoutExamples
 pub mod Program
 pub mod Execution
 pub mod Plan

@@ -9,10 +9,7 @@ use Rattle.tce_spec.specs.declared.fault.SpecFault.{SpecFault}
 use Rattle.tce_command.specs.Refusals.{IsFree, SameRefusal}
 use Rattle.tce_command.specs.declared.refusal.Refusal.{Refusal}
 use Rattle.tce_command.specs.declared.refusal.Refusal.TheVariants.{Specification, Missing, Disk, Memory}
-use Rattle.tce_batch.specs.Outcome.{IsBatchOutcome}
-use Rattle.tce_batch.proofs.Computed.{batch_only}
 use Rattle.tce_command.specs.Source.{Specifies, HasFault, HasSpecification, IsSourceRefusal, IsTextRefusal}
-use Rattle.tce_command.specs.BatchSource.{HasBatch, HasBatchFault, IsBatchSourceRefusal}
 use Rattle.tce_command.proofs.Faults.{told, told_alike}
 
 one_of : (found : Option (List ℕ)) (s t : Specified) → IsSomeAnd found (λ text. Specifies text s) → IsSomeAnd found (λ text. Specifies text t) → s ≡ t
@@ -29,12 +26,6 @@ same_fault text f g p q =
     let same : Some p.found ≡ Some q.found = cc in
     told_alike (Some q.found) f g (told (Some q.found) f (subst (λ o. Shows o f) same p.shown) p.no_memory) (told (Some q.found) g q.shown q.no_memory)
 
-same_batch_fault : (text : List ℕ) (f g : SpecFault) → HasBatchFault text f → HasBatchFault text g → SameRefusal (Specification f) (Specification g)
-same_batch_fault text f g p q =
-    let e : Err p.found ≡ Err q.found = batch_only text (Err p.found) p.outcome ∙ sym (batch_only text (Err q.found) q.outcome) in
-    let same : Some p.found ≡ Some q.found = cc in
-    told_alike (Some q.found) f g (told (Some q.found) f (subst (λ o. Shows o f) same p.shown) p.no_memory) (told (Some q.found) g q.shown q.no_memory)
-
 same_of : (Has : List ℕ → SpecFault → Type 0) (found : Option (List ℕ)) (f g : SpecFault) → ((text : List ℕ) → Has text f → Has text g → SameRefusal (Specification f) (Specification g))
     → IsSomeAnd found (λ text. Has text f) → IsSomeAnd found (λ text. Has text g) → SameRefusal (Specification f) (Specification g)
 same_of Has None f g alike p q = absurd p
@@ -44,10 +35,10 @@ pub not_absent : (P : List ℕ → Type 0) (found : Option (List ℕ)) → IsSom
 not_absent P found p e = subst (λ x. IsSomeAnd x P) e p
 
 -- where the faults of each text are told alike, a file is refused for one reason
-abbrev AreToldAlike : (List ℕ → SpecFault → Type 0) → Type 0
+abbrev pub AreToldAlike : (List ℕ → SpecFault → Type 0) → Type 0
 AreToldAlike Has = (text : List ℕ) (f g : SpecFault) → Has text f → Has text g → SameRefusal (Specification f) (Specification g)
 
-text_refusal : (Has : List ℕ → SpecFault → Type 0) (name : List ℕ) (found : Option (List ℕ)) (a b : Refusal) → AreToldAlike Has → IsTextRefusal Has name found a → IsTextRefusal Has name found b → (IsFree b → ⊥)
+pub text_refusal : (Has : List ℕ → SpecFault → Type 0) (name : List ℕ) (found : Option (List ℕ)) (a b : Refusal) → AreToldAlike Has → IsTextRefusal Has name found a → IsTextRefusal Has name found b → (IsFree b → ⊥)
     → IsFree a ⊎ SameRefusal a b
 text_refusal Has name found Disk b alike p q free = inl tt
 text_refusal Has name found Memory b alike p q free = inl tt
@@ -66,21 +57,15 @@ text_refusal Has name found a b alike p q free = absurd p
 pub one_refusal : (name : List ℕ) (found : Option (List ℕ)) (a b : Refusal) → IsSourceRefusal name found a → IsSourceRefusal name found b → (IsFree b → ⊥) → IsFree a ⊎ SameRefusal a b
 one_refusal name found a b p q free = text_refusal HasFault name found a b same_fault p q free
 
-pub one_batch_refusal : (name : List ℕ) (found : Option (List ℕ)) (a b : Refusal) → IsBatchSourceRefusal name found a → IsBatchSourceRefusal name found b → (IsFree b → ⊥) → IsFree a ⊎ SameRefusal a b
-one_batch_refusal name found a b p q free = text_refusal HasBatchFault name found a b same_batch_fault p q free
-
 -- what is specified has no fault
 specified_not_faulty : (text : List ℕ) (s : Specified) (f : SpecFault) → Specifies text s → HasFault text f → ⊥
 specified_not_faulty text s f p q = let e : Ok s ≡ Err q.found = computed_only text (Ok s) p ∙ sym (computed_only text (Err q.found) q.outcome) in absurd (cc)
-
-batch_not_faulty : (text : List ℕ) (batch : List Specified) (f : SpecFault) → IsBatchOutcome text (Ok batch) → HasBatchFault text f → ⊥
-batch_not_faulty text batch f p q = let e : Ok batch ≡ Err q.found = batch_only text (Ok batch) p ∙ sym (batch_only text (Err q.found) q.outcome) in absurd (cc)
 
 not_faulty : (Has : List ℕ → SpecFault → Type 0) (Is : List ℕ → Type 0) (found : Option (List ℕ)) (f : SpecFault) → ((text : List ℕ) → Is text → Has text f → ⊥) → IsSomeAnd found Is → IsSomeAnd found (λ text. Has text f) → ⊥
 not_faulty Has Is None f apart p q = p
 not_faulty Has Is (Some text) f apart p q = apart text p q
 
-not_refused : (Has : List ℕ → SpecFault → Type 0) (Is : List ℕ → Type 0) (name : List ℕ) (found : Option (List ℕ)) (a : Refusal) → ((text : List ℕ) (f : SpecFault) → Is text → Has text f → ⊥)
+pub not_refused : (Has : List ℕ → SpecFault → Type 0) (Is : List ℕ → Type 0) (name : List ℕ) (found : Option (List ℕ)) (a : Refusal) → ((text : List ℕ) (f : SpecFault) → Is text → Has text f → ⊥)
     → IsSomeAnd found Is → IsTextRefusal Has name found a → IsFree a
 not_refused Has Is name found (Missing x) apart p q = absurd (not_absent Is found p q.1)
 not_refused Has Is name found (Specification f) apart p q = absurd (not_faulty Has Is found f (λ text. apart text f) p q)
@@ -90,17 +75,6 @@ not_refused Has Is name found a apart p q = absurd q
 
 pub not_both : (files : Files) (spec : List ℕ) (s : Specified) (a : Refusal) → HasSpecification files spec s → IsSourceRefusal spec (file files spec) a → IsFree a
 not_both files spec s a p q = not_refused HasFault (λ text. Specifies text s) spec (file files spec) a (λ text. specified_not_faulty text s) p q
-
-pub not_both_batch : (files : Files) (spec : List ℕ) (batch : List Specified) (a : Refusal) → HasBatch files spec batch → IsBatchSourceRefusal spec (file files spec) a → IsFree a
-not_both_batch files spec batch a p q = not_refused HasBatchFault (λ text. IsBatchOutcome text (Ok batch)) spec (file files spec) a (λ text. batch_not_faulty text batch) p q
-
--- a file specifies one list of formulas
-one_batch_of : (found : Option (List ℕ)) (batch other : List Specified) → IsSomeAnd found (λ text. IsBatchOutcome text (Ok batch)) → IsSomeAnd found (λ text. IsBatchOutcome text (Ok other)) → batch ≡ other
-one_batch_of None batch other p q = absurd p
-one_batch_of (Some text) batch other p q = let e = batch_only text (Ok batch) p ∙ sym (batch_only text (Ok other) q) in cc
-
-pub one_batch : (files : Files) (spec : List ℕ) (batch other : List Specified) → HasBatch files spec batch → HasBatch files spec other → batch ≡ other
-one_batch files spec batch other p q = one_batch_of (file files spec) batch other p q
 
 pub ok_no_disk : {U : Type 0} (x : U) (given : Result U Refusal) → given ≡ Ok x → given ≡ Err Disk → ⊥
 ok_no_disk x given p q = let same : Ok x ≡ Err Disk = sym p ∙ q in absurd (cc)

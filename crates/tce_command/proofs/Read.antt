@@ -13,14 +13,10 @@ use Rattle.tce_spec.specs.Specification.{Specification}
 use Rattle.tce_spec.specs.Outcome.{IsOutcome, outcome}
 use Rattle.tce_spec.specs.OutcomeCode.{Answers}
 use Rattle.tce_spec.proofs.Reading.{computed, computed_is}
-use Rattle.tce_batch.specs.Outcome.{IsBatchOutcome, together}
-use Rattle.tce_batch.specs.BatchCode as batches
-use Rattle.tce_batch.proofs.Computed.{batch_computed, batch_is}
 use Rattle.tce_command.specs.declared.refusal.Refusal.{Refusal}
 use Rattle.tce_command.specs.declared.refusal.Refusal.TheVariants as refusals
 use Rattle.tce_command.specs.declared.refusal.Refusal.TheVariants.{Missing, Specification as OfText, Disk}
 use Rattle.tce_command.specs.Source.{Specifies, HasFault, IsTooLong, IsTextRefusal, IsSourceRefusal}
-use Rattle.tce_command.specs.BatchSource.{HasBatchFault, IsBatchSourceRefusal}
 
 -- a text that is too long has this fault, unread
 too_long_text : (text : List ℕ) → 2 ^ 16 < length text → HasFault text TooLong
@@ -41,26 +37,6 @@ too_long_text text h =
 long_text : (text : List ℕ) (f : SpecFault) → IsTooLong text f → HasFault text f
 long_text text f (is, h) = subst (HasFault text) (sym is) (too_long_text text h)
 
-long_batch_text : (text : List ℕ) → 2 ^ 16 < length text → HasBatchFault text TooLong
-long_batch_text text h =
-    let some = batch_is text in
-    let long : nat_lt (2 ^ 16) (length text) ≡ true = grind (arith, nat_tests) in
-    record {
-      found = too_long;
-      outcome = record {
-        of_lines = some.of_lines;
-        are_lines = some.are_lines;
-        found = some.found;
-        each = some.each;
-        same = sym (ap (λ b. if b then Err too_long else together some.found) long);
-      };
-      shown = refl;
-      no_memory = λ e. absurd (cc);
-    }
-
-long_batch : (text : List ℕ) (f : SpecFault) → IsTooLong text f → HasBatchFault text f
-long_batch text f (is, h) = subst (HasBatchFault text) (sym is) (long_batch_text text h)
-
 pub long_file : (found : Option (List ℕ)) (len : ℕ) → Some len ≡ option_map length found → 2 ^ 16 < len → IsSomeAnd found (λ text. IsTooLong text TooLong)
 long_file None len e h = absurd (cc)
 long_file (Some text) len e h = let same : len ≡ length text = cc in (refl, omega (arith, h, same))
@@ -70,7 +46,7 @@ found_more : (P Q : List ℕ → SpecFault → Type 0) (found : Option (List ℕ
 found_more P Q None f more p = absurd p
 found_more P Q (Some text) f more p = more text p
 
-refused_more : (P Q : List ℕ → SpecFault → Type 0) (name : List ℕ) (found : Option (List ℕ)) (a : Refusal) → ((text : List ℕ) (f : SpecFault) → P text f → Q text f) → IsTextRefusal P name found a → IsTextRefusal Q name found a
+pub refused_more : (P Q : List ℕ → SpecFault → Type 0) (name : List ℕ) (found : Option (List ℕ)) (a : Refusal) → ((text : List ℕ) (f : SpecFault) → P text f → Q text f) → IsTextRefusal P name found a → IsTextRefusal Q name found a
 refused_more P Q name found (Missing x) more p = p
 refused_more P Q name found (OfText f) more p = found_more P Q found f (λ text. more text f) p
 refused_more P Q name found Disk more p = tt
@@ -80,9 +56,6 @@ refused_more P Q name found a more p = absurd p
 pub unread : (name : List ℕ) (found : Option (List ℕ)) (a : Refusal) → IsTextRefusal IsTooLong name found a → IsSourceRefusal name found a
 unread name found a p = refused_more IsTooLong HasFault name found a long_text p
 
-pub unread_batch : (name : List ℕ) (found : Option (List ℕ)) (a : Refusal) → IsTextRefusal IsTooLong name found a → IsBatchSourceRefusal name found a
-unread_batch name found a p = refused_more IsTooLong HasBatchFault name found a long_batch p
-
 -- the reader's answers tell what a text specifies
 pub specified : (found : Option (List ℕ)) (text : List ℕ) (s : Specification) → found ≡ Some text
     → ((outcome : Result Specification Fault) → IsOutcome text outcome → Answers outcome (Ok s)) → IsSomeAnd found (λ t. Specifies t s)
@@ -90,7 +63,7 @@ specified found text s e answers =
     subst (λ o. IsSomeAnd o (λ t. Specifies t s)) (sym e) (subst (IsOutcome text) (answers (computed text) (computed_is text)) (computed_is text))
 
 -- a fault that is shown, but for want of memory, is there
-shown_is : (o : Option Fault) (f : SpecFault) → Shows o f → f ≢ Memory → (found : Fault) × (o ≡ Some found)
+pub shown_is : (o : Option Fault) (f : SpecFault) → Shows o f → f ≢ Memory → (found : Fault) × (o ≡ Some found)
 shown_is o TooLong s n = (_, s)
 shown_is o (BadText line) s n = (_, s)
 shown_is o (TooManyNodes line) s n = (_, s)
@@ -129,19 +102,3 @@ memory_no_disk given is failed = absurd (cc)
 
 pub text_no_disk : {A : Type 0} (fault : SpecFault) (given : Result A Refusal) → given ≡ Err (OfText fault) → given ≡ Err Disk → ⊥
 text_no_disk fault given is failed = absurd (cc)
-
--- Several formulas.
-
-pub formulas_specified : (found : Option (List ℕ)) (text : List ℕ) (batch : List Specification) → found ≡ Some text
-    → ((outcome : Result (List Specification) Fault) → IsBatchOutcome text outcome → batches.Answers outcome (Ok batch)) → IsSomeAnd found (λ t. IsBatchOutcome t (Ok batch))
-formulas_specified found text batch e answers =
-    subst (λ o. IsSomeAnd o (λ t. IsBatchOutcome t (Ok batch))) (sym e) (subst (IsBatchOutcome text) (answers (batch_computed text) (batch_is text)) (batch_is text))
-
-has_batch_fault : (text : List ℕ) (outcome : Result (List Specification) Fault) (f : SpecFault) → IsBatchOutcome text outcome → Shows (fault_in outcome) f → f ≢ Memory → HasBatchFault text f
-has_batch_fault text (Ok batch) f is shows n = absurd (none-some _ (shown_is None f shows n).1)
-has_batch_fault text (Err found) f is shows n = record { found = found; outcome = is; shown = shows; no_memory = n }
-
-pub formulas_faulty : (found : Option (List ℕ)) (text : List ℕ) (f : SpecFault) → found ≡ Some text → f ≢ Memory
-    → ((outcome : Result (List Specification) Fault) → IsBatchOutcome text outcome → batches.Answers outcome (Err f)) → IsSomeAnd found (λ t. HasBatchFault t f)
-formulas_faulty found text f e n answers =
-    subst (λ o. IsSomeAnd o (λ t. HasBatchFault t f)) (sym e) (has_batch_fault text (batch_computed text) f (batch_is text) (answers (batch_computed text) (batch_is text)) n)

@@ -1,5 +1,4 @@
 pub mod Source
-pub mod BatchSource
 pub mod SourceLaws
 pub mod Command
 pub mod CommandCode

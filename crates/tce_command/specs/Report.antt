@@ -3,7 +3,7 @@ use Rattle.std.specs.Prelude.{⊤, ℕ, Bool, true, false, if◌then◌else◌, 
 use Rattle.std.specs.Fmt.{decimal}
 use Rattle.std.specs.List.{All}
 use Rattle.tce_space.specs.Space.{IndexSpace, IsDeclared}
-use Rattle.tce_cert.specs.NodeLine.{set_text}
+use Rattle.tce_report.specs.NodeLine.{set_text}
 use Rattle.tce_cert.specs.Lines.{classes_text}
 use Rattle.tce_cert.specs.declared.fault.CertFault.{CertFault}
 use Rattle.tce_cert.specs.declared.fault.CertFault.TheVariants as certs

@@ -5,16 +5,9 @@ use Rattle.tce_spec.specs.Specification.{Specification}
 use Rattle.tce_command.specs.Refusals.{IsFree, SameRefusal}
 use Rattle.tce_command.specs.declared.refusal.Refusal.{Refusal}
 use Rattle.tce_command.specs.Source.{HasSpecification, IsSourceRefusal}
-use Rattle.tce_command.specs.BatchSource.{HasBatch, IsBatchSourceRefusal}
 
 -- it specifies one thing; it is refused for one reason, but for want of memory or a failing disk; and not both
 pub record SourcesHaveOneOutcome : Type 0 where
   pub one : (files : Files) (spec : List ℕ) (s t : Specification) → HasSpecification files spec s → HasSpecification files spec t → s ≡ t
   pub one_refusal : (name : List ℕ) (found : Option (List ℕ)) (a b : Refusal) → IsSourceRefusal name found a → IsSourceRefusal name found b → (IsFree b → ⊥) → IsFree a ⊎ SameRefusal a b
   pub not_both : (files : Files) (spec : List ℕ) (s : Specification) (a : Refusal) → HasSpecification files spec s → IsSourceRefusal spec (file files spec) a → IsFree a
-
--- and so has the file of several formulas
-pub record BatchSourcesHaveOneOutcome : Type 0 where
-  pub one : (files : Files) (spec : List ℕ) (batch other : List Specification) → HasBatch files spec batch → HasBatch files spec other → batch ≡ other
-  pub one_refusal : (name : List ℕ) (found : Option (List ℕ)) (a b : Refusal) → IsBatchSourceRefusal name found a → IsBatchSourceRefusal name found b → (IsFree b → ⊥) → IsFree a ⊎ SameRefusal a b
-  pub not_both : (files : Files) (spec : List ℕ) (batch : List Specification) (a : Refusal) → HasBatch files spec batch → IsBatchSourceRefusal spec (file files spec) a → IsFree a

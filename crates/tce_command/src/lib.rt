@@ -1,12 +1,11 @@
 //! The commands of the program as words, the files of specifications that they name, and how commands end: refusals,
 //! statuses and what stands on the sink.
 //!
-//! [`read_command`] reads words. [`read_source`] reads the file of a specification whole, and then as what it is, and
-//! [`read_batch_source`] that of several formulas. A command is refused with a [`Refusal`], whose [`Status`] has an exit
-//! status and a line; [`refuse`] puts that line on a sink, and [`finish`] puts the report of a command that is done.
+//! [`read_command`] reads words. [`read_source`] reads the file of a specification whole, and then as what it is. A command is
+//! refused with a [`Refusal`], whose [`Status`] has an exit status and a line; [`refuse`] puts that line on a sink, and
+//! [`finish`] puts the report of a command that is done.
 #![tactic(auto)]
 
-mod batch_reading;
 mod command;
 mod command_refusal;
 mod laws;
@@ -21,7 +20,6 @@ mod status;
 mod trouble;
 mod trouble_line;
 
-pub use batch_reading::read_batch_source;
 pub use command::Command;
 pub use command_refusal::CommandRefusal;
 pub use laws::words_are_one_command;
@@ -29,8 +27,8 @@ pub use number::read_number;
 pub use reading::read_command;
 pub use refusal::Refusal;
 pub use report::{finish, refuse, refuse_words};
-pub use source_laws::{batch_sources_have_one_outcome, sources_have_one_outcome};
-pub use source_reading::read_source;
+pub use source_laws::sources_have_one_outcome;
+pub use source_reading::{is_memory, read_source, read_text};
 pub use status::Status;
 pub use trouble::{ArrayTrouble, CertFlaw, CertTrouble, EinsumTrouble, SpillTrouble, SymTrouble};
 pub use trouble_line::TroubleLine;

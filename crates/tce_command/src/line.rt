@@ -3,8 +3,9 @@ ghost use Rattle.std.specs.Prelude.{◌≡◌, ◌+◌, ◌≤◌, ◌++◌, len
 ghost use Rattle.std.specs.Fmt.{decimal};
 ghost use Rattle.tce_command.specs.Report as reports;
 
-use crate::refusal::wants_memory;
-use crate::{ArrayTrouble, EinsumTrouble, Refusal, SpillTrouble, Status, SymTrouble};
+use crate::refusal::{Refusal, wants_memory};
+use crate::status::Status;
+use crate::trouble::{ArrayTrouble, EinsumTrouble, SpillTrouble, SymTrouble};
 use arrayvec::ArrayString;
 use tce_fields::decimal_text;
 use tce_space::Name;

@@ -3,7 +3,7 @@ ghost use Rattle.std.specs.Prelude.{◌≡◌, ◌≤◌, length};
 ghost use Rattle.tce_command.specs.Refusals.{NamesFile};
 ghost use Rattle.tce_command.specs.Report.{IsWellFormed, einsum_status, status_of, wants_memory};
 
-use crate::Status;
+use crate::status::Status;
 use crate::trouble::{ArrayTrouble, EinsumTrouble, SpillTrouble, SymTrouble};
 use tce_space::{FileName, Name};
 use tce_spec::SpecFault;

@@ -5,8 +5,9 @@ ghost use Rattle.tce_command.specs.Outcome.{Grew, GrewWithin, HasLine, IsKept, I
 ghost use Rattle.tce_command.specs.CommandRefusals.{PutsRefusal};
 ghost use Rattle.tce_command.specs.Report.{IsWellFormed, ending_of};
 
+use crate::command_refusal::CommandRefusal;
 use crate::line::{refusal_line, words_line};
-use crate::{CommandRefusal, Status};
+use crate::status::Status;
 use tce_outside::{OutFault, Sink};
 
 /// Puts the line of a refusal, and gives the status that the command ends with: `WantOfMemory` in the place of that of

@@ -1,13 +1,8 @@
 //! Laws of the definitions. These functions do nothing: their contracts are the laws.
 
-ghost use Rattle.tce_command.specs.SourceLaws.{BatchSourcesHaveOneOutcome, SourcesHaveOneOutcome};
+ghost use Rattle.tce_command.specs.SourceLaws.{SourcesHaveOneOutcome};
 
 /// A file specifies one thing, or is refused for one reason.
 pub fn sources_have_one_outcome()
     ensures { SourcesHaveOneOutcome }
-{}
-
-/// A file specifies one list of formulas, or is refused for one reason.
-pub fn batch_sources_have_one_outcome()
-    ensures { BatchSourcesHaveOneOutcome }
 {}

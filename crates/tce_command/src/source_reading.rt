@@ -30,19 +30,15 @@ pub fn read_source<D: Disk>(alloc: Global, disk: &mut D, name: &str) -> Result<S
     }
 }
 
-// Whether a fault is want of memory.
-pub(crate) fn is_memory(fault: &SpecFault) -> bool
+/// Whether a fault is want of memory.
+pub fn is_memory(fault: &SpecFault) -> bool
     ensures { IsTrue result ↔ (fault.now ≡ SpecFault.Memory) }
 {
     matches!(fault, SpecFault::Memory)
 }
 
-// Reads a text that is not too long.
-pub(crate) fn read_text<D: Disk>(
-    alloc: Global,
-    disk: &mut D,
-    name: &str,
-) -> Result<Vec<u8>, Refusal>
+/// Reads a text that is not too long.
+pub fn read_text<D: Disk>(alloc: Global, disk: &mut D, name: &str) -> Result<Vec<u8>, Refusal>
     requires { length name.now ≤ 200 }
     ensures bytes { IfOk result (λ bytes. HoldsOn (D.files disk.old) name.now bytes.items) }
     ensures refused { IfErr result (IsTextRefusalOn (D.files disk.old) IsTooLong name.now) }

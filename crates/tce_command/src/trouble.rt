@@ -5,7 +5,7 @@ ghost use Rattle.tce_command.specs.Report.{fault_of, trouble_of, IsFlawOfPlan, I
 use tce_array::ArrayFault;
 use tce_cert::CertFault;
 use tce_check::Verdict;
-use tce_fusion::Nesting;
+use tce_nesting::Nesting;
 use tce_space::IndexSet;
 use tce_spec::SpecFault;
 

@@ -3,16 +3,16 @@ ghost use Rattle.std.specs.Prelude.{◌≡◌, ◌+◌, ◌*◌, ◌≤◌, ◌+
 ghost use Rattle.std.specs.Fmt.{decimal};
 ghost use Rattle.tce_space.specs.Limits.{max_loops};
 ghost use Rattle.tce_space.specs.Space.{IsDeclared};
-ghost use Rattle.tce_cert.specs.NodeLine.{set_text};
+ghost use Rattle.tce_report.specs.NodeLine.{set_text};
 ghost use Rattle.tce_cert.specs.Lines.{classes_text};
 ghost use Rattle.tce_command.specs.Report as reports;
 
 use crate::line::numbered;
 use crate::trouble::CertFlaw;
 use arrayvec::ArrayString;
-use tce_cert::push_names;
 use tce_fields::{decimal_text, members_of};
-use tce_fusion::Nesting;
+use tce_nesting::Nesting;
+use tce_report::push_names;
 use tce_space::{IndexSet, Space};
 
 /// The line of a refused certificate: a set and at most ten classes of at most 24 names each, and less than 100 bytes beside them.

@@ -8,10 +8,10 @@ use Rattle.tce_grammar.specs.Canonical.{AreStatements}
 use Rattle.tce_spec.specs.Declarations.{Declarations, IsDeclarations, Tensor}
 use Rattle.tce_spec.specs.DeclarationLines.{statement_fault, with_statement, number_of_range, numbers_of_ranges}
 use Rattle.tce_spec.specs.Text.{Head, head_of}
-use Rattle.tce_canonical.specs.Statements.{Group}
-use Rattle.tce_canonical.proofs.Heads.{only_ranges, without_tensors, with_tensors, of_group, all_of}
-use Rattle.tce_canonical.proofs.KeptDeclarations.{statement_keeps}
-use Rattle.tce_canonical.proofs.Written.{no_fault}
+use Rattle.tce_spec.specs.Statements.{Group}
+use Rattle.tce_spec.proofs.Heads.{only_ranges, without_tensors, with_tensors, of_group, all_of}
+use Rattle.tce_spec.proofs.PrintedDeclarations.{statement_keeps}
+use Rattle.tce_spec.proofs.Written.{no_fault}
 use Rattle.tce_einsum.specs.Text.{Size, Einsum}
 use Rattle.tce_einsum.specs.Entries.{numbered}
 use Rattle.tce_einsum.specs.Produced.{Tiled, range_name, operand_name, result_name, range_names, range_statement, index_statement, operand_statement, result_statement}

@@ -16,14 +16,14 @@ use Rattle.tce_spec.specs.Text.{Head, head_of, unless, closing_fault}
 use Rattle.tce_spec.proofs.Readings.{lines_of}
 use Rattle.tce_spec.specs.FormulaFaults.{formula_fault}
 use Rattle.tce_spec.specs.Meaning.{indexes_of}
-use Rattle.tce_canonical.specs.Statements.{Group, groups}
+use Rattle.tce_spec.specs.Statements.{Group, groups}
 use Rattle.tce_spec.specs.Specification.{Specification}
 use Rattle.tce_spec.specs.Outcome.{IsOutcome, outcome_in, specified}
 use Rattle.tce_spec.proofs.Reading.{computed_only}
-use Rattle.tce_canonical.proofs.Heads.{only_ranges, without_tensors, with_tensors, groups_of}
-use Rattle.tce_canonical.proofs.KeptDeclarations.{nothing_is}
-use Rattle.tce_canonical.proofs.NumbersBack.{range_back}
-use Rattle.tce_canonical.proofs.WrittenStatements.{IsGroup}
+use Rattle.tce_spec.proofs.Heads.{only_ranges, without_tensors, with_tensors, groups_of}
+use Rattle.tce_spec.proofs.PrintedDeclarations.{nothing_is}
+use Rattle.tce_spec.proofs.NumbersBack.{range_back}
+use Rattle.tce_spec.proofs.WrittenStatements.{IsGroup}
 use Rattle.tce_einsum.specs.Text.{Size, Einsum}
 use Rattle.tce_einsum.specs.Path.{Item, Leave}
 use Rattle.tce_einsum.specs.Input.{IsInput}

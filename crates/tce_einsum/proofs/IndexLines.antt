@@ -4,9 +4,9 @@ use Rattle.std.specs.List.{position_or_len}
 use Rattle.std.proofs.lemmas.List.{get_or-map, length-map}
 use Rattle.tce_space.specs.Space.{Index, no_index}
 use Rattle.tce_grammar.specs.Printed.{Printing}
-use Rattle.tce_canonical.specs.Statements.{Group, groups}
-use Rattle.tce_canonical.specs.Lines.{with_line, with_lines}
-use Rattle.tce_canonical.proofs.Groups.{group_at}
+use Rattle.tce_spec.specs.Statements.{Group, groups}
+use Rattle.tce_spec.specs.Lines.{with_line, with_lines}
+use Rattle.tce_spec.proofs.Groups.{group_at}
 use Rattle.tce_einsum.specs.Text as text
 use Rattle.tce_einsum.specs.Code as code
 use Rattle.tce_einsum.specs.declared.size.Size.{Size}

@@ -7,7 +7,7 @@ use Rattle.std.proofs.lemmas.Bool.{and_parts, and_from, le-leb}
 use Rattle.tce_space.specs.Name.{is_name, is_word_byte, is_letter, is_keyword}
 use Rattle.tce_grammar.specs.Grammar.{AreNames}
 use Rattle.tce_grammar.proofs.TokenTexts.{digits_word}
-use Rattle.tce_canonical.proofs.Numbers.{decimal_says}
+use Rattle.tce_spec.proofs.PrintedNumbers.{decimal_says}
 use Rattle.tce_einsum.specs.Text.{is_label, are_labels}
 use Rattle.tce_einsum.specs.Produced.{range_name, operand_name, result_name, letter_names}
 

@@ -4,8 +4,8 @@ use Rattle.std.proofs.lemmas.List.Sums.{fold-append}
 use Rattle.tce_grammar.specs.Grammar.{Statement}
 use Rattle.tce_grammar.specs.Canonical.{canonical_text}
 use Rattle.tce_grammar.specs.Printed.{Printing, line_start}
-use Rattle.tce_canonical.specs.Lines.{with_line, with_lines}
-use Rattle.tce_canonical.proofs.Printing.{lines_text}
+use Rattle.tce_spec.specs.Lines.{with_line, with_lines}
+use Rattle.tce_spec.proofs.Printing.{lines_text}
 
 -- three runs of lines, and a line
 pub declared_lines : (p0 p1 p2 p3 p4 : Printing) (rs is ts : List Statement) (f : Statement)

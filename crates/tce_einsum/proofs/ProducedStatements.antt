@@ -13,9 +13,9 @@ use Rattle.tce_grammar.specs.Grammar.{AreNames, AreSome, Statement}
 use Rattle.tce_grammar.specs.Canonical.{IsFormula, IsStatement, AreStatements}
 use Rattle.tce_grammar.proofs.CanonicalLines.{all_joined}
 use Rattle.tce_spec.specs.Numbers.{value_of, edge_of}
-use Rattle.tce_canonical.specs.Statements.{Group, groups}
-use Rattle.tce_canonical.proofs.NumbersBack.{number_is}
-use Rattle.tce_canonical.proofs.WrittenStatements.{IsGroup, groups_are}
+use Rattle.tce_spec.specs.Statements.{Group, groups}
+use Rattle.tce_spec.proofs.NumbersBack.{number_is}
+use Rattle.tce_spec.proofs.WrittenStatements.{IsGroup, groups_are}
 use Rattle.tce_einsum.specs.Text.{Size, Einsum, is_size, is_label, is_number, is_number_if_some, are_labels}
 use Rattle.tce_einsum.specs.Entries.{numbered}
 use Rattle.tce_einsum.specs.Numbered.{number_of}

@@ -9,9 +9,9 @@ use Rattle.tce_tree.proofs.Flat.{last_one}
 use Rattle.tce_spec.specs.Declarations.{Declarations, IsDeclarations, Tensor, tensor_at, no_tensor}
 use Rattle.tce_spec.specs.Numbers.{value_of, edge_of}
 use Rattle.tce_spec.specs.Meaning.{meaning, indexes_of, tensor_of}
-use Rattle.tce_canonical.proofs.SpaceNames.{index_found}
-use Rattle.tce_canonical.proofs.NumbersBack.{tensor_back, value_back}
-use Rattle.tce_canonical.proofs.Heads.{with_tensors}
+use Rattle.tce_spec.proofs.SpaceNames.{index_found}
+use Rattle.tce_spec.proofs.NumbersBack.{tensor_back, value_back}
+use Rattle.tce_spec.proofs.Heads.{with_tensors}
 use Rattle.tce_einsum.specs.Text.{Size, Einsum}
 use Rattle.tce_einsum.specs.Entries.{numbered}
 use Rattle.tce_einsum.specs.Produced.{Tiled, ranges, index_of, label_at, label_names, operand_name, result_name, formula_of, written_edge}

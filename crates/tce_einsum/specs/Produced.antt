@@ -10,7 +10,7 @@ use Rattle.tce_grammar.specs.Formula as formulas
 use Rattle.tce_grammar.specs.Formula.{Formula}
 use Rattle.tce_grammar.specs.Grammar.{Statement, range, index, declaration, formula}
 use Rattle.tce_grammar.specs.Canonical.{canonical_text}
-use Rattle.tce_canonical.specs.Statements.{Group, groups}
+use Rattle.tce_spec.specs.Statements.{Group, groups}
 use Rattle.tce_einsum.specs.Text.{Size, Einsum}
 use Rattle.tce_einsum.specs.Path.{Item}
 use Rattle.tce_einsum.specs.Entries.{numbered}

@@ -6,7 +6,7 @@ ghost use Rattle.tce_fields.specs.Reading.{texts};
 ghost use Rattle.tce_grammar.specs.Grammar.{declaration};
 ghost use Rattle.tce_grammar.specs.Canonical.{edge_tokens};
 ghost use Rattle.tce_grammar.specs.Printed.{with_tokens};
-ghost use Rattle.tce_canonical.specs.Lines.{with_line, with_lines};
+ghost use Rattle.tce_spec.specs.Lines.{with_line, with_lines};
 ghost use Rattle.tce_einsum.specs.Code as code;
 ghost use Rattle.tce_einsum.specs.Entries.{numbered};
 ghost use Rattle.tce_einsum.specs.Produced as produced;

@@ -4,7 +4,7 @@ ghost use Rattle.std.specs.Prelude.{◌≡◌, ◌≤◌, ◌∷◌, ◌++◌, [
 ghost use Rattle.tce_grammar.specs.Tokens.{symbol};
 ghost use Rattle.tce_grammar.specs.Grammar.{bracketed};
 ghost use Rattle.tce_grammar.specs.Printed.{with_tokens};
-ghost use Rattle.tce_canonical.specs.Lines.{with_line, with_lines};
+ghost use Rattle.tce_spec.specs.Lines.{with_line, with_lines};
 ghost use Rattle.tce_einsum.specs.Code as code;
 ghost use Rattle.tce_einsum.specs.Entries.{entry_at};
 ghost use Rattle.tce_einsum.specs.EntriesCode.{AreEntries, trees_in};

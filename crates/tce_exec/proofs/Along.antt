@@ -23,14 +23,14 @@ use Rattle.tce_walk.specs.TailLaws.{AreLoops}
 use Rattle.tce_walk.specs.Touches.{block_count}
 use Rattle.tce_walk.specs.Machine.{tail_program, touches_of_tail, IsTailAt}
 use Rattle.tce_walk.specs.declared.machine.Tail.{Tail}
-use Rattle.tce_windows.specs.Loops.{AreLoops as AreLoopsWith}
-use Rattle.tce_workspace.specs.Workspace.{Workspace, setting_in, state_in}
-use Rattle.tce_workspace.specs.Prepared.{IsPrepared}
-use Rattle.tce_workspace.specs.Steps.{IsKept, IsChanged}
-use Rattle.tce_workspace.proofs.Following.{kept_on, changed_as, changed_twice}
-use Rattle.tce_workspace.proofs.Holding.{places_hold_words}
-use Rattle.tce_workspace.proofs.Reading.{kept_own, continued_own, each_of}
-use Rattle.tce_workspace.proofs.Workspaces.{kept_setting}
+use Rattle.tce_exec.specs.Loops.{AreLoops as AreLoopsWith}
+use Rattle.tce_exec.specs.Workspace.{Workspace, setting_in, state_in}
+use Rattle.tce_exec.specs.Prepared.{IsPrepared}
+use Rattle.tce_exec.specs.Steps.{IsKept, IsChanged}
+use Rattle.tce_exec.proofs.Following.{kept_on, changed_as, changed_twice}
+use Rattle.tce_exec.proofs.Holding.{places_hold_words}
+use Rattle.tce_exec.proofs.Reading.{kept_own, continued_own, each_of}
+use Rattle.tce_exec.proofs.Workspaces.{kept_setting}
 use Rattle.tce_exec.specs.Blocks.{loops_of, blocks_of, IsBlockOf}
 use Rattle.tce_exec.specs.Along.{after_parts, IsAlong}
 

@@ -21,16 +21,16 @@ use Rattle.tce_walk.specs.Machine.{IsNodeAt, IsJoined}
 use Rattle.tce_walk.specs.declared.machine.Tail.{Tail}
 use Rattle.tce_tree.specs.WellFormed.{among}
 use Rattle.tce_tree.proofs.Assignments.{all_positive}
-use Rattle.tce_windows.specs.Turns.{IsTurn, turns_of}
-use Rattle.tce_windows.specs.declared.window.Window.{Window}
-use Rattle.tce_windows.proofs.Leaving.{parts_are_within, parts_are_apart}
+use Rattle.tce_exec.specs.Turns.{IsTurn, turns_of}
+use Rattle.tce_exec.specs.declared.window.Window.{Window}
+use Rattle.tce_exec.proofs.LoopLeaving.{parts_are_within, parts_are_apart}
 use Rattle.tce_exec.specs.WindowLaws.{StandApart}
 use Rattle.tce_exec.specs.OperandWindows.{IsSlotWindow}
-use Rattle.tce_code.specs.Layout.{slot_at}
-use Rattle.tce_workspace.specs.Slots.{IsSlotAt}
-use Rattle.tce_workspace.specs.Workspace.{Workspace, setting_in}
-use Rattle.tce_workspace.specs.Operands.{IsPlaceOf}
-use Rattle.tce_workspace.proofs.Operating.{own_place}
+use Rattle.tce_layout.specs.Layout.{slot_at}
+use Rattle.tce_exec.specs.Slots.{IsSlotAt}
+use Rattle.tce_exec.specs.Workspace.{Workspace, setting_in}
+use Rattle.tce_exec.specs.Operands.{IsPlaceOf}
+use Rattle.tce_exec.proofs.Operating.{own_place}
 use Rattle.tce_exec.specs.Blocks.{loops_of, AreOutside, IsWithin, HaveNone}
 use Rattle.tce_exec.specs.Windows.{IsOperandWindow, IsPlaceWindow}
 use Rattle.tce_exec.proofs.Operands.{left_place, right_place, sum_place}

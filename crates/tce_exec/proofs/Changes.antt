@@ -4,9 +4,9 @@ use Rattle.std.proofs.lemmas.Bool.{true≢false}
 use Rattle.tce_outside.specs.Files.{Files}
 use Rattle.tce_space.specs.Tiling.{Tiling, tile_number, place_in_tile}
 use Rattle.tce_space.proofs.Tilings.{place_in_tile-lt}
-use Rattle.tce_frames.specs.Held.{Held}
-use Rattle.tce_frames.specs.Current.{place, IsSameOutside}
-use Rattle.tce_frames.proofs.Current.{clean_stay}
+use Rattle.tce_cache.specs.Held.{Held}
+use Rattle.tce_cache.specs.Current.{place, IsSameOutside}
+use Rattle.tce_cache.proofs.Current.{clean_stay}
 use Rattle.tce_cache.specs.Cache.{State as CacheState, IsCache, layout, stored, current_word}
 use Rattle.tce_cache.proofs.Tiles.{outside_frames}
 use Rattle.tce_cache.proofs.Steps.{tiles_fit}
@@ -14,15 +14,15 @@ use Rattle.tce_tree.specs.Fusion.{kept_dims}
 use Rattle.tce_tree.specs.Memory.{memory}
 use Rattle.tce_tree.specs.Value.{Assignment}
 use Rattle.tce_code.specs.Execution.{coordinates}
-use Rattle.tce_code.specs.Layout.{IsLayout}
-use Rattle.tce_code.proofs.Filling.{places_fill}
-use Rattle.tce_workspace.specs.NodeStates.{Places}
-use Rattle.tce_workspace.specs.OperandLaws.{StandsBefore}
-use Rattle.tce_windows.specs.Turns.{Turns, IsTurn}
-use Rattle.tce_windows.specs.Windows.{DifferOnlyAt}
-use Rattle.tce_windows.specs.declared.window.Window.{Window}
-use Rattle.tce_workspace.proofs.Putting.{current_stays}
-use Rattle.tce_workspace.proofs.Touched.{tile_fits}
+use Rattle.tce_layout.specs.Layout.{IsLayout}
+use Rattle.tce_layout.proofs.Filling.{places_fill}
+use Rattle.tce_exec.specs.NodeStates.{Places}
+use Rattle.tce_exec.specs.OperandLaws.{StandsBefore}
+use Rattle.tce_exec.specs.Turns.{Turns, IsTurn}
+use Rattle.tce_exec.specs.LoopWindows.{DifferOnlyAt}
+use Rattle.tce_exec.specs.declared.window.Window.{Window}
+use Rattle.tce_exec.proofs.Putting.{current_stays}
+use Rattle.tce_exec.proofs.Touched.{tile_fits}
 use Rattle.tce_exec.specs.WindowLaws.{IsSlotOf, IsTileOf, WindowsAreApart, SlotsChangeAlone, TilesChangeAlone, ChangesKeepCells}
 use Rattle.tce_exec.proofs.Shown.{slot_turn}
 use Rattle.tce_exec.proofs.Frames.{is_framed, tile_turn, in_different_frames, word_stays}

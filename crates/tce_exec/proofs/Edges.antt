@@ -10,7 +10,7 @@ use Rattle.tce_block.specs.Parts.{Part, beginnings}
 use Rattle.tce_block.specs.Laws.{AreParts}
 use Rattle.tce_block.proofs.Cover.{block_numbers}
 use Rattle.tce_block.proofs.Fitting.{fit_the_box}
-use Rattle.tce_windows.specs.Turns.{turns_of}
+use Rattle.tce_exec.specs.Turns.{turns_of}
 use Rattle.tce_exec.specs.TilesOfBlocks.{BlocksStayInTiles}
 
 -- one loop of a part

@@ -11,9 +11,9 @@ use Rattle.tce_space.specs.Space.{extent_at}
 use Rattle.tce_space.specs.Tiling.{Tiling, IsTiling, ArePositive, remainders, tile_words, tile_number, place_in_tile}
 use Rattle.tce_space.proofs.Boxes.{place-lt, length_inside}
 use Rattle.tce_space.proofs.Tilings.{word_number_injective}
-use Rattle.tce_frames.specs.Held.{Held, look_up}
-use Rattle.tce_frames.specs.Current.{place, AreOther, word_of}
-use Rattle.tce_frames.proofs.Current.{current_held, frames_differ, places_differ, same_tile, below_found}
+use Rattle.tce_cache.specs.Held.{Held, look_up}
+use Rattle.tce_cache.specs.Current.{place, AreOther, word_of}
+use Rattle.tce_cache.proofs.Current.{current_held, frames_differ, places_differ, same_tile, below_found}
 use Rattle.tce_cache.specs.Cache.{State as CacheState, IsCache, layout, stored, current_word}
 use Rattle.tce_tree.specs.ContractionTree.{operations}
 use Rattle.tce_tree.specs.Value.{Assignment, Elements, assignment}
@@ -23,15 +23,15 @@ use Rattle.tce_tree.proofs.Values.{map-same}
 use Rattle.tce_tree.proofs.Assignments.{assignment_inside, same_at, numbers_inside}
 use Rattle.tce_space.specs.IndexSet.{IsIndexSet}
 use Rattle.tce_code.specs.Execution.{coordinates}
-use Rattle.tce_code.specs.Places.{kept_extents, word_at, PlacesFill}
-use Rattle.tce_code.proofs.Filling.{places_fill}
-use Rattle.tce_workspace.specs.NodeStates.{Places, root, root_dims, current_cell, IsResult}
-use Rattle.tce_workspace.proofs.Assignments.{map-assignment}
-use Rattle.tce_workspace.proofs.States.{places_have_their_words, listed}
-use Rattle.tce_windows.specs.Turns.{Turns, IsTurn}
-use Rattle.tce_windows.specs.Windows.{stands_at, ShowsNode, DifferOnlyAt}
-use Rattle.tce_windows.specs.declared.window.Window.{Window}
-use Rattle.tce_workspace.proofs.Touched.{tile_fits}
+use Rattle.tce_layout.specs.Places.{kept_extents, word_at, PlacesFill}
+use Rattle.tce_layout.proofs.Filling.{places_fill}
+use Rattle.tce_exec.specs.NodeStates.{Places, root, root_dims, current_cell, IsResult}
+use Rattle.tce_exec.proofs.Assignments.{map-assignment}
+use Rattle.tce_exec.proofs.States.{places_have_their_words, listed}
+use Rattle.tce_exec.specs.Turns.{Turns, IsTurn}
+use Rattle.tce_exec.specs.LoopWindows.{stands_at, ShowsNode, DifferOnlyAt}
+use Rattle.tce_exec.specs.declared.window.Window.{Window}
+use Rattle.tce_exec.proofs.Touched.{tile_fits}
 use Rattle.tce_exec.specs.TilesOfBlocks.{StayInExtents, HasIndexes}
 use Rattle.tce_exec.specs.WindowLaws.{view_of, IsLaidOut, IsTileOf, TilesShowWords, TilesShowNodes}
 use Rattle.tce_exec.proofs.TileTurns.{turns_stay_in_one_tile}

@@ -17,22 +17,22 @@ use Rattle.tce_walk.specs.TailLaws.{computed_word}
 use Rattle.tce_walk.specs.Laws.{HoldsWords}
 use Rattle.tce_walk.specs.Machine.{IsJoinedTo, IsJoined}
 use Rattle.tce_walk.specs.declared.machine.Tail.{Tail}
-use Rattle.tce_windows.specs.Loops.{AreLoops, AreMade, place_along}
-use Rattle.tce_windows.specs.Turns.{Turns, turns_of}
-use Rattle.tce_windows.specs.Windows.{stands_at, ShowsWords, DifferOnlyAt}
-use Rattle.tce_windows.specs.declared.window.Window.{Window}
-use Rattle.tce_windows.proofs.Leaving.{grow_leaves, products_leave, compute_leaves}
-use Rattle.tce_windows.proofs.Making.{sequence_of, others_stay}
+use Rattle.tce_exec.specs.Loops.{AreLoops, AreMade, place_along}
+use Rattle.tce_exec.specs.Turns.{Turns, turns_of}
+use Rattle.tce_exec.specs.LoopWindows.{stands_at, ShowsWords, DifferOnlyAt}
+use Rattle.tce_exec.specs.declared.window.Window.{Window}
+use Rattle.tce_exec.proofs.LoopLeaving.{grow_leaves, products_leave, compute_leaves}
+use Rattle.tce_exec.proofs.Making.{sequence_of, others_stay}
 use Rattle.tce_exec.specs.WindowLaws.{StandApart, view_of}
-use Rattle.tce_workspace.specs.Workspace.{Workspace, setting_in, result_shape}
-use Rattle.tce_workspace.specs.Prepared.{IsPrepared}
-use Rattle.tce_workspace.specs.Operands.{second_word}
-use Rattle.tce_workspace.specs.Steps.{IsKept, IsRead, IsChanged}
-use Rattle.tce_workspace.proofs.Following.{kept_on, continued_on, change_on}
-use Rattle.tce_workspace.proofs.Holding.{places_hold_words}
-use Rattle.tce_workspace.proofs.Operating.{left_word_is, right_word_is}
-use Rattle.tce_workspace.proofs.Putting.{with_words}
-use Rattle.tce_workspace.proofs.Workspaces.{kept_setting}
+use Rattle.tce_exec.specs.Workspace.{Workspace, setting_in, result_shape}
+use Rattle.tce_exec.specs.Prepared.{IsPrepared}
+use Rattle.tce_exec.specs.Operands.{second_word}
+use Rattle.tce_exec.specs.Steps.{IsKept, IsRead, IsChanged}
+use Rattle.tce_exec.proofs.Following.{kept_on, continued_on, change_on}
+use Rattle.tce_exec.proofs.Holding.{places_hold_words}
+use Rattle.tce_exec.proofs.Operating.{left_word_is, right_word_is}
+use Rattle.tce_exec.proofs.Putting.{with_words}
+use Rattle.tce_exec.proofs.Workspaces.{kept_setting}
 use Rattle.tce_exec.specs.Blocks.{loops_of}
 use Rattle.tce_exec.specs.TailBlocks.{IsAtBlock}
 use Rattle.tce_exec.proofs.Turning.{Reads, block_loops, view, operand_within, operand_words}

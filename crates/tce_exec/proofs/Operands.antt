@@ -14,15 +14,15 @@ use Rattle.tce_tree.proofs.Parents.{dims_within_loops}
 use Rattle.tce_code.specs.Generation.{computing}
 use Rattle.tce_code.specs.Shape.{IsSum}
 use Rattle.tce_code.proofs.Emitted.{node-not_leaf}
-use Rattle.tce_workspace.specs.NodeStates.{root}
+use Rattle.tce_exec.specs.NodeStates.{root}
 use Rattle.tce_walk.specs.Tails.{is_constant, reads_constant}
 use Rattle.tce_walk.specs.Machine.{operation_of_node, IsNodeAt}
 use Rattle.tce_walk.proofs.Searching.{sum-node}
 use Rattle.tce_walk.proofs.KnownTails.{child-is}
-use Rattle.tce_workspace.specs.Workspace.{Workspace, setting_in}
-use Rattle.tce_workspace.specs.Prepared.{IsPrepared}
-use Rattle.tce_workspace.specs.Operands.{IsPlaceOf, IsReadable}
-use Rattle.tce_workspace.proofs.Operating.{readable_left, readable_right, kept_in_dims}
+use Rattle.tce_exec.specs.Workspace.{Workspace, setting_in}
+use Rattle.tce_exec.specs.Prepared.{IsPrepared}
+use Rattle.tce_exec.specs.Operands.{IsPlaceOf, IsReadable}
+use Rattle.tce_exec.proofs.Operating.{readable_left, readable_right, kept_in_dims}
 use Rattle.tce_exec.specs.Windows.{HasPlace}
 
 -- ---- operands but constants

@@ -9,23 +9,23 @@ use Rattle.tce_tree.specs.ContractionTree.{operations}
 use Rattle.tce_tree.specs.Value.{Assignment}
 use Rattle.tce_tree.specs.declared.node.Operand.{Operand}
 use Rattle.tce_tree.specs.declared.node.Operand.TheVariants.{Leaf, Constant, Node}
-use Rattle.tce_workspace.specs.NodeStates.{root}
-use Rattle.tce_windows.specs.Turns.{Turns, IsTurn}
-use Rattle.tce_windows.specs.Windows.{stands_at, ShowsNode, DifferOnlyAt}
-use Rattle.tce_windows.specs.declared.window.Window.{Window}
+use Rattle.tce_exec.specs.NodeStates.{root}
+use Rattle.tce_exec.specs.Turns.{Turns, IsTurn}
+use Rattle.tce_exec.specs.LoopWindows.{stands_at, ShowsNode, DifferOnlyAt}
+use Rattle.tce_exec.specs.declared.window.Window.{Window}
 use Rattle.tce_exec.specs.TilesOfBlocks.{StayBetweenEdges}
 use Rattle.tce_exec.specs.WindowLaws.{IsSlotOf, StandApart, SlotsChangeAlone, TilesChangeAlone, view_of}
 use Rattle.tce_exec.proofs.Shown.{slots_show_nodes}
 use Rattle.tce_exec.proofs.Frames.{tiles_show_nodes}
 use Rattle.tce_exec.proofs.Changes.{windows_are_apart, changes_keep_cells}
-use Rattle.tce_workspace.specs.Workspace.{Workspace, setting_in, result_shape}
-use Rattle.tce_workspace.specs.Prepared.{IsPrepared}
-use Rattle.tce_workspace.specs.Operands.{IsPlaceOf}
-use Rattle.tce_workspace.specs.Steps.{IsKept, IsContinued}
-use Rattle.tce_workspace.proofs.Putting.{with_words, prepared_with, fronts_stay, slots_keep}
-use Rattle.tce_workspace.proofs.Reading.{root_inside}
-use Rattle.tce_workspace.proofs.Touched.{tile_fits}
-use Rattle.tce_workspace.proofs.Workspaces.{is_result}
+use Rattle.tce_exec.specs.Workspace.{Workspace, setting_in, result_shape}
+use Rattle.tce_exec.specs.Prepared.{IsPrepared}
+use Rattle.tce_exec.specs.Operands.{IsPlaceOf}
+use Rattle.tce_exec.specs.Steps.{IsKept, IsContinued}
+use Rattle.tce_exec.proofs.Putting.{with_words, prepared_with, fronts_stay, slots_keep}
+use Rattle.tce_exec.proofs.Reading.{root_inside}
+use Rattle.tce_exec.proofs.Touched.{tile_fits}
+use Rattle.tce_exec.proofs.Workspaces.{is_result}
 use Rattle.tce_exec.specs.Windows.{IsPlaceWindow}
 use Rattle.tce_exec.proofs.Operands.{place_at_root}
 use Rattle.tce_exec.proofs.Turning.{Reads, StandsInFrame, leaf_stands, node_stands, tile_stands, laid_out}

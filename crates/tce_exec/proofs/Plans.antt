@@ -3,7 +3,7 @@ use Rattle.std.proofs.Common.{◌≡◌, false, IsTrue, List, [], ◌∷◌, sym
 use Rattle.std.specs.List.{All, AllByRecursion}
 use Rattle.std.proofs.lemmas.Bool.{true≢false}
 use Rattle.std.proofs.lemmas.List.Elements.{All-cons, All-nil}
-use Rattle.tce_workspace.specs.NodeStates.{Places}
+use Rattle.tce_exec.specs.NodeStates.{Places}
 use Rattle.tce_exec.specs.Plans.{IsPlan}
 use Rattle.tce_exec.specs.declared.plan.Plan.{Plan}
 

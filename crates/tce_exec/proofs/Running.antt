@@ -8,16 +8,16 @@ use Rattle.tce_tree.specs.declared.node.Kind.{Kind}
 use Rattle.tce_block.specs.Parts.{Part}
 use Rattle.tce_walk.specs.Parts.{after_part}
 use Rattle.tce_block.specs.Turns.{grown, computed, operate}
-use Rattle.tce_code.specs.Layout.{slot_at}
+use Rattle.tce_layout.specs.Layout.{slot_at}
 use Rattle.tce_walk.specs.declared.machine.Tail.{Tail}
-use Rattle.tce_windows.specs.Loops.{AreMade, AreProductsJoined, place_along}
-use Rattle.tce_windows.specs.declared.window.Window.{Window}
+use Rattle.tce_exec.specs.Loops.{AreMade, AreProductsJoined, place_along}
+use Rattle.tce_exec.specs.declared.window.Window.{Window}
 use Rattle.tce_exec.specs.OperandWindows.{IsSlotWindow}
-use Rattle.tce_workspace.specs.Workspace.{Workspace, setting_in}
-use Rattle.tce_workspace.specs.Prepared.{IsPrepared}
-use Rattle.tce_workspace.specs.Operands.{combined}
-use Rattle.tce_workspace.specs.Steps.{IsKept, IsRead}
-use Rattle.tce_workspace.proofs.Putting.{with_words}
+use Rattle.tce_exec.specs.Workspace.{Workspace, setting_in}
+use Rattle.tce_exec.specs.Prepared.{IsPrepared}
+use Rattle.tce_exec.specs.Operands.{combined}
+use Rattle.tce_exec.specs.Steps.{IsKept, IsRead}
+use Rattle.tce_exec.proofs.Putting.{with_words}
 use Rattle.tce_exec.specs.Blocks.{loops_of, IsWithin, HaveNone}
 use Rattle.tce_exec.specs.Windows.{AreSumWindows, ArePairWindows}
 use Rattle.tce_exec.specs.declared.steps.Windows.{Windows}

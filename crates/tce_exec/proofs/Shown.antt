@@ -4,25 +4,25 @@ use Rattle.std.proofs.lemmas.Bool.{eqb-true}
 use Rattle.tce_outside.specs.Files.{Files}
 use Rattle.tce_space.specs.Box.{IsInside}
 use Rattle.tce_space.specs.Tiling.{Tiling}
-use Rattle.tce_frames.specs.Current.{place}
+use Rattle.tce_cache.specs.Current.{place}
 use Rattle.tce_cache.specs.Cache.{State as CacheState}
 use Rattle.tce_tree.specs.ContractionTree.{operations}
 use Rattle.tce_tree.specs.Fusion.{kept_dims}
 use Rattle.tce_tree.specs.Memory.{memory}
 use Rattle.tce_tree.specs.Value.{Assignment, Elements}
 use Rattle.tce_code.specs.Execution.{Setting, coordinates}
-use Rattle.tce_code.specs.Layout.{slot_at, IsLayout}
-use Rattle.tce_code.specs.Places.{kept_extents, word_at, IsPlace, PlacesFill}
-use Rattle.tce_code.proofs.Filling.{places_fill}
-use Rattle.tce_workspace.specs.Slots.{slot_word, IsSlotAt}
-use Rattle.tce_workspace.specs.NodeStates.{Places, are_inside, root, result_coordinates, state_of, current_cell}
-use Rattle.tce_workspace.proofs.Assignments.{are_inside-holds}
-use Rattle.tce_workspace.proofs.Slots.{is_place}
-use Rattle.tce_workspace.proofs.States.{places_have_their_words}
-use Rattle.tce_windows.specs.Turns.{Turns, IsTurn}
-use Rattle.tce_windows.specs.Windows.{stands_at, ShowsNode}
-use Rattle.tce_windows.specs.declared.window.Window.{Window}
-use Rattle.tce_workspace.proofs.Putting.{current_stays}
+use Rattle.tce_layout.specs.Layout.{slot_at, IsLayout}
+use Rattle.tce_layout.specs.Places.{kept_extents, word_at, IsPlace, PlacesFill}
+use Rattle.tce_layout.proofs.Filling.{places_fill}
+use Rattle.tce_exec.specs.Slots.{slot_word, IsSlotAt}
+use Rattle.tce_exec.specs.NodeStates.{Places, are_inside, root, result_coordinates, state_of, current_cell}
+use Rattle.tce_exec.proofs.Assignments.{are_inside-holds}
+use Rattle.tce_exec.proofs.Slots.{is_place}
+use Rattle.tce_exec.proofs.States.{places_have_their_words}
+use Rattle.tce_exec.specs.Turns.{Turns, IsTurn}
+use Rattle.tce_exec.specs.LoopWindows.{stands_at, ShowsNode}
+use Rattle.tce_exec.specs.declared.window.Window.{Window}
+use Rattle.tce_exec.proofs.Putting.{current_stays}
 use Rattle.tce_exec.specs.WindowLaws.{view_of, IsSettingOf, IsLaidOut, IsSlotOf, SlotsShowNodes, SlotsShowWords}
 use Rattle.tce_exec.proofs.TileTurns.{slot_stands}
 

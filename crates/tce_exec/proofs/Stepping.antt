@@ -8,16 +8,16 @@ use Rattle.tce_tree.specs.WellFormed.{among}
 use Rattle.tce_tree.specs.declared.node.Operand.{Operand}
 use Rattle.tce_tree.specs.declared.node.Operand.TheVariants.{Leaf, Constant, Node}
 use Rattle.tce_tree.proofs.Parents.{parent_is}
-use Rattle.tce_code.specs.Layout.{slot_at}
-use Rattle.tce_workspace.specs.NodeStates.{Places}
+use Rattle.tce_layout.specs.Layout.{slot_at}
+use Rattle.tce_exec.specs.NodeStates.{Places}
 use Rattle.tce_walk.specs.Machine.{IsNodeAt, IsTailAt}
 use Rattle.tce_walk.specs.declared.machine.Tail.{Tail}
-use Rattle.tce_windows.specs.Sequences.{AreFilled}
-use Rattle.tce_windows.specs.declared.sequence.LoopSequence.{LoopSequence}
-use Rattle.tce_windows.specs.declared.window.Window.{Window}
-use Rattle.tce_workspace.specs.Workspace.{Workspace, setting_in}
-use Rattle.tce_workspace.specs.Prepared.{IsPrepared}
-use Rattle.tce_workspace.proofs.Reading.{result_known}
+use Rattle.tce_exec.specs.Sequences.{AreFilled}
+use Rattle.tce_exec.specs.declared.sequence.LoopSequence.{LoopSequence}
+use Rattle.tce_exec.specs.declared.window.Window.{Window}
+use Rattle.tce_exec.specs.Workspace.{Workspace, setting_in}
+use Rattle.tce_exec.specs.Prepared.{IsPrepared}
+use Rattle.tce_exec.proofs.Reading.{result_known}
 use Rattle.tce_exec.specs.Blocks.{loops_of}
 use Rattle.tce_exec.specs.Windows.{HasPlace, IsOperandWindow, IsPlaceWindow, AreOperandSteps, ArePlaceSteps, AreSteps, HasSteps, CanStep, AreSumWindows, ArePairWindows, HaveSameSteps, FitSequence}
 use Rattle.tce_exec.specs.declared.steps.Windows.{Windows}

@@ -6,13 +6,13 @@ use Rattle.tce_space.specs.Box.{product, place}
 use Rattle.tce_space.specs.Tiling.{ArePositive, divided, remainders, tile_counts, place_in_tile}
 use Rattle.tce_tree.specs.Value.{Assignment}
 use Rattle.tce_tree.specs.WellFormed.{among}
-use Rattle.tce_code.specs.Places.{steps_to}
-use Rattle.tce_workspace.specs.Slots.{slot_word}
-use Rattle.tce_workspace.proofs.States.{length-mapped}
-use Rattle.tce_code.specs.declared.slot.Slot.{Slot}
-use Rattle.tce_windows.specs.Turns.{Turns, IsTurn}
-use Rattle.tce_windows.specs.Windows.{stands_at}
-use Rattle.tce_windows.specs.declared.window.Window.{Window}
+use Rattle.tce_layout.specs.Places.{steps_to}
+use Rattle.tce_exec.specs.Slots.{slot_word}
+use Rattle.tce_exec.proofs.States.{length-mapped}
+use Rattle.tce_layout.specs.declared.slot.Slot.{Slot}
+use Rattle.tce_exec.specs.Turns.{Turns, IsTurn}
+use Rattle.tce_exec.specs.LoopWindows.{stands_at}
+use Rattle.tce_exec.specs.declared.window.Window.{Window}
 use Rattle.tce_exec.specs.OperandWindows.{IsSlotWindow}
 use Rattle.tce_exec.specs.TilesOfBlocks.{StayBetweenEdges, TurnsStayInOneTile}
 use Rattle.tce_exec.proofs.WindowSteps.{steps_further, tile_steps_place, steps_of_tile}

@@ -1,9 +1,9 @@
 -- The two tiles that were touched last stay where they are.
 use Rattle.std.proofs.Common.{◌≡◌, ◌∙◌, ℕ, zero, suc, ◌+◌, ◌<◌, ◌≤◌, Bool, true, false, ◌||◌, if◌then◌else◌, List, [], ◌∷◌, take, slice_get, Option, Some, None, refl, sym, ap, ap₂, inl, inr, arith}
 use Rattle.std.specs.Prelude.{IsTrue}
-use Rattle.tce_frames.specs.Held.{Held, look_up, without, touched, AreApart}
-use Rattle.tce_frames.specs.Current.{place}
-use Rattle.tce_frames.proofs.Current.{tile_cases, same_tile, tests, tests_not}
+use Rattle.tce_cache.specs.Held.{Held, look_up, without, touched, AreApart}
+use Rattle.tce_cache.specs.Current.{place}
+use Rattle.tce_cache.proofs.Current.{tile_cases, same_tile, tests, tests_not}
 use Rattle.tce_cache.specs.Cache.{State as CacheState, IsCache, layout}
 use Rattle.tce_cache.specs.Touch.{IsTouched}
 use Rattle.tce_exec.specs.Touches.{IsAmongLast, TouchedTilesStay}

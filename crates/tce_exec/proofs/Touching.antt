@@ -3,25 +3,25 @@ use Rattle.std.proofs.Common.{◌≡◌, ℕ, ◌+◌, ◌*◌, ◌^◌, ◌<◌
 use Rattle.std.specs.List.{All}
 use Rattle.std.specs.Option.{IsSomeAnd}
 use Rattle.tce_space.specs.Tiling.{Tiling, IsTiling, tile_words, tile_number}
-use Rattle.tce_frames.specs.Held.{Held}
-use Rattle.tce_frames.specs.Current.{place}
-use Rattle.tce_frames.proofs.Current.{below_found}
+use Rattle.tce_cache.specs.Held.{Held}
+use Rattle.tce_cache.specs.Current.{place}
+use Rattle.tce_cache.proofs.Current.{below_found}
 use Rattle.tce_cache.specs.declared.array.ArrayRef.{ArrayRef}
 use Rattle.tce_cache.specs.Cache.{State as CacheState, IsCache, IsArrayAt}
 use Rattle.tce_cache.specs.Touch.{IsTouched, with_held}
 use Rattle.tce_tree.specs.Value.{Assignment}
 use Rattle.tce_tree.specs.declared.node.Operand.{Operand}
 use Rattle.tce_tree.specs.declared.node.Operand.TheVariants.{Leaf, Constant, Node}
-use Rattle.tce_workspace.specs.OperandLaws.{HasShape}
-use Rattle.tce_workspace.specs.NodeStates.{Places}
-use Rattle.tce_windows.specs.declared.window.Window.{Window}
+use Rattle.tce_exec.specs.OperandLaws.{HasShape}
+use Rattle.tce_exec.specs.NodeStates.{Places}
+use Rattle.tce_exec.specs.declared.window.Window.{Window}
 use Rattle.tce_exec.specs.OperandWindows.{IsTileWindow}
 use Rattle.tce_exec.specs.Touches.{IsHeldAt, IsAmongLast}
 use Rattle.tce_exec.proofs.Touches.{touched_tiles_stay}
-use Rattle.tce_workspace.specs.Elements.{IsElementAt}
-use Rattle.tce_workspace.specs.Workspace.{Workspace}
-use Rattle.tce_workspace.specs.Steps.{IsKept}
-use Rattle.tce_workspace.proofs.Touched.{tile_fits, frame_inside}
+use Rattle.tce_exec.specs.Elements.{IsElementAt}
+use Rattle.tce_exec.specs.Workspace.{Workspace}
+use Rattle.tce_exec.specs.Steps.{IsKept}
+use Rattle.tce_exec.proofs.Touched.{tile_fits, frame_inside}
 use Rattle.tce_exec.specs.Windows.{IsTouchedTile, IsOperandWindow, KeepsLast}
 
 -- the shape of an array, by its number

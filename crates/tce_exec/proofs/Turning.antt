@@ -7,7 +7,7 @@ use Rattle.tce_space.specs.IndexSet.{has}
 use Rattle.tce_space.specs.Space.{IsSpace, extent_at, edge_at}
 use Rattle.tce_space.specs.Tiling.{Tiling, tile_number, tile_words, place_in_tile}
 use Rattle.tce_space.proofs.Spaces.{index_limits}
-use Rattle.tce_frames.specs.Held.{Held}
+use Rattle.tce_cache.specs.Held.{Held}
 use Rattle.tce_cache.specs.declared.array.ArrayRef.{ArrayRef}
 use Rattle.tce_cache.specs.Cache.{IsCache}
 use Rattle.tce_tree.specs.ContractionTree.{node_loops}
@@ -21,14 +21,14 @@ use Rattle.tce_tree.proofs.NamedIndexes.{node_loops_declared}
 use Rattle.tce_tree.proofs.Assignments.{all_positive}
 use Rattle.tce_block.specs.Parts.{Part}
 use Rattle.tce_code.specs.Execution.{State}
-use Rattle.tce_workspace.specs.NodeStates.{Places, current_cell}
-use Rattle.tce_workspace.specs.OperandLaws.{HasShape}
+use Rattle.tce_exec.specs.NodeStates.{Places, current_cell}
+use Rattle.tce_exec.specs.OperandLaws.{HasShape}
 use Rattle.tce_walk.specs.Machine.{IsTailAt, IsNodeAt}
 use Rattle.tce_walk.specs.declared.machine.Tail.{Tail}
-use Rattle.tce_windows.specs.Loops.{AreLoops}
-use Rattle.tce_windows.specs.Turns.{Turns, IsTurn, turns_of}
-use Rattle.tce_windows.specs.Windows.{stands_at}
-use Rattle.tce_windows.specs.declared.window.Window.{Window}
+use Rattle.tce_exec.specs.Loops.{AreLoops}
+use Rattle.tce_exec.specs.Turns.{Turns, IsTurn, turns_of}
+use Rattle.tce_exec.specs.LoopWindows.{stands_at}
+use Rattle.tce_exec.specs.declared.window.Window.{Window}
 use Rattle.tce_exec.specs.OperandWindows.{IsTileWindow}
 use Rattle.tce_exec.specs.TilesOfBlocks.{AreTurnsOfBlock, StayBetweenEdges}
 use Rattle.tce_exec.specs.WindowLaws.{IsLaidOut, IsSlotOf, IsTileOf, view_of}
@@ -37,12 +37,12 @@ use Rattle.tce_exec.proofs.Edges.{blocks_stay_in_tiles}
 use Rattle.tce_exec.proofs.Shown.{slots_show_words}
 use Rattle.tce_exec.proofs.Frames.{tiles_show_words, within_tile}
 use Rattle.tce_exec.proofs.Touches.{touched_tiles_stay}
-use Rattle.tce_workspace.specs.Workspace.{Workspace, setting_in, shape_over, result_shape}
-use Rattle.tce_workspace.specs.Prepared.{IsPrepared}
-use Rattle.tce_workspace.specs.Operands.{IsElementOf, word_of_operand}
-use Rattle.tce_workspace.specs.Steps.{IsKept}
-use Rattle.tce_workspace.proofs.Reading.{leaf_word_is}
-use Rattle.tce_workspace.proofs.Workspaces.{kept_setting}
+use Rattle.tce_exec.specs.Workspace.{Workspace, setting_in, shape_over, result_shape}
+use Rattle.tce_exec.specs.Prepared.{IsPrepared}
+use Rattle.tce_exec.specs.Operands.{IsElementOf, word_of_operand}
+use Rattle.tce_exec.specs.Steps.{IsKept}
+use Rattle.tce_exec.proofs.Reading.{leaf_word_is}
+use Rattle.tce_exec.proofs.Workspaces.{kept_setting}
 use Rattle.tce_exec.specs.Blocks.{IsBlockOf, loops_of}
 use Rattle.tce_exec.specs.TailBlocks.{IsAtBlock}
 use Rattle.tce_exec.specs.Windows.{HasPlace, IsTouchedTile, IsOperandWindow}

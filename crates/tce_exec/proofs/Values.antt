@@ -11,7 +11,7 @@ use Rattle.tce_space.specs.Tiling.{tile_words, tile_number, place_in_tile}
 use Rattle.tce_space.proofs.Boxes.{length_inside}
 use Rattle.tce_space.proofs.IndexSetLaws.{has-minus, has-empty}
 use Rattle.tce_space.proofs.Tilings.{tile_number-lt, place_in_tile-lt}
-use Rattle.tce_frames.specs.Held.{Held}
+use Rattle.tce_cache.specs.Held.{Held}
 use Rattle.tce_cache.specs.Cache.{State as CacheState}
 use Rattle.tce_cache.specs.Touch.{with_held}
 use Rattle.tce_tree.specs.ContractionTree.{dims, operations, node, node_dims}
@@ -24,19 +24,19 @@ use Rattle.tce_tree.proofs.Assignments.{assignment_inside}
 use Rattle.tce_code.specs.Execution.{State, coordinates, exec}
 use Rattle.tce_code.specs.Program.{program_of}
 use Rattle.tce_code.specs.declared.op.Op.{Op}
-use Rattle.tce_workspace.specs.NodeStates.{root, root_dims, state_of, current_cell}
-use Rattle.tce_workspace.specs.OperandLaws.{IsRootAt}
-use Rattle.tce_workspace.proofs.Assignments.{map-assignment}
-use Rattle.tce_workspace.proofs.States.{places_have_their_words}
+use Rattle.tce_exec.specs.NodeStates.{root, root_dims, state_of, current_cell}
+use Rattle.tce_exec.specs.OperandLaws.{IsRootAt}
+use Rattle.tce_exec.proofs.Assignments.{map-assignment}
+use Rattle.tce_exec.proofs.States.{places_have_their_words}
 use Rattle.tce_walk.specs.Touches.{touch_bound}
 use Rattle.tce_walk.specs.Machine.{after}
 use Rattle.tce_walk.specs.Run.{zeros, IsCodeOf}
-use Rattle.tce_workspace.specs.declared.evaluation.Evaluation.{Evaluation}
-use Rattle.tce_workspace.specs.Workspace.{Workspace, workspace, setting_in, state_in, result_shape}
-use Rattle.tce_workspace.specs.Prepared.{IsPrepared}
-use Rattle.tce_workspace.specs.Steps.{IsKept, IsContinued}
-use Rattle.tce_workspace.proofs.Following.{told_between, named}
-use Rattle.tce_workspace.proofs.Workspaces.{touched_to, is_result}
+use Rattle.tce_exec.specs.declared.evaluation.Evaluation.{Evaluation}
+use Rattle.tce_exec.specs.Workspace.{Workspace, workspace, setting_in, state_in, result_shape}
+use Rattle.tce_exec.specs.Prepared.{IsPrepared}
+use Rattle.tce_exec.specs.Steps.{IsKept, IsContinued}
+use Rattle.tce_exec.proofs.Following.{told_between, named}
+use Rattle.tce_exec.proofs.Workspaces.{touched_to, is_result}
 use Rattle.tce_exec.specs.Keeping.{IsLater}
 use Rattle.tce_exec.specs.Run.{IsZero, HasValues, IsRun}
 

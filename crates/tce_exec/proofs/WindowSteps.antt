@@ -5,7 +5,7 @@ use Rattle.std.proofs.lemmas.Bool.{cases_eq, eq-eqb, ne_eqb}
 use Rattle.std.proofs.lemmas.List.Elements.{All-head, All-tail}
 use Rattle.std.proofs.lemmas.List.Sums.{sum_by-cons}
 use Rattle.tce_space.specs.Box.{product, place}
-use Rattle.tce_code.specs.Places.{steps_to}
+use Rattle.tce_layout.specs.Places.{steps_to}
 use Rattle.tce_exec.specs.OperandWindows.{tile_step, AreTileSteps}
 
 -- ---- sums over the indexes

@@ -6,8 +6,8 @@ use Rattle.tce_block.specs.Parts.{Part}
 use Rattle.tce_walk.specs.Parts.{after_part}
 use Rattle.tce_code.specs.Execution.{Setting, State}
 use Rattle.tce_walk.specs.declared.machine.Tail.{Tail}
-use Rattle.tce_workspace.specs.Workspace.{Workspace, setting_in}
-use Rattle.tce_workspace.specs.Steps.{IsKept, IsChanged}
+use Rattle.tce_exec.specs.Workspace.{Workspace, setting_in}
+use Rattle.tce_exec.specs.Steps.{IsKept, IsChanged}
 use Rattle.tce_exec.specs.Blocks.{blocks_of}
 
 -- what some parts leave, one after the other

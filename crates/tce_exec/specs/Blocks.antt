@@ -6,8 +6,8 @@ use Rattle.tce_tree.specs.Value.{Assignment}
 use Rattle.tce_tree.specs.WellFormed.{among}
 use Rattle.tce_block.specs.Places.{AreWithin, AreApart}
 use Rattle.tce_walk.specs.declared.machine.Tail.{Tail}
-use Rattle.tce_windows.specs.Loops.{numbers_along, place_along}
-use Rattle.tce_windows.specs.declared.window.Window.{Window}
+use Rattle.tce_exec.specs.Loops.{numbers_along, place_along}
+use Rattle.tce_exec.specs.declared.window.Window.{Window}
 
 abbrev pub loops_of : Tail → List ℕ
 loops_of tail = tail.loops.0.items

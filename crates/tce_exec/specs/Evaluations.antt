@@ -1,12 +1,12 @@
 -- The places of an evaluation.
 use Rattle.std.specs.Prelude.{◌≡◌, ℕ, false}
 use Rattle.tce_space.specs.Tiling.{Tiling}
-use Rattle.tce_workspace.specs.NodeStates.{Places}
+use Rattle.tce_exec.specs.NodeStates.{Places}
 use Rattle.tce_tree.specs.declared.expr.Leaf.{Leaf}
 use Rattle.tce_walk.specs.Machine.{operation_of_node}
 use Rattle.tce_walk.specs.Tails.{reads_constant}
-use Rattle.tce_workspace.specs.Workspace.{shape_over}
-use Rattle.tce_workspace.specs.declared.evaluation.Evaluation.{Evaluation}
+use Rattle.tce_exec.specs.Workspace.{shape_over}
+use Rattle.tce_exec.specs.declared.evaluation.Evaluation.{Evaluation}
 
 abbrev pub places_of : Evaluation → Places
 places_of e = record {

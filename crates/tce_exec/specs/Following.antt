@@ -1,9 +1,9 @@
 -- Runners keep their own, and what is kept twice is kept.
 use Rattle.std.proofs.Common.{◌≡◌, Bool, true, false, refl, sym, ◌∙◌}
 use Rattle.std.proofs.lemmas.Bool.{true≢false}
-use Rattle.tce_workspace.specs.Workspace.{Workspace}
-use Rattle.tce_workspace.proofs.Following.{kept_on, continued_on}
-use Rattle.tce_workspace.proofs.Reading.{kept_own, continued_own}
+use Rattle.tce_exec.specs.Workspace.{Workspace}
+use Rattle.tce_exec.proofs.Following.{kept_on, continued_on}
+use Rattle.tce_exec.proofs.Reading.{kept_own, continued_own}
 use Rattle.tce_exec.specs.Keeping.{IsLater}
 
 pub later_own : (x : Workspace) (failed : Bool) → IsLater x x failed failed

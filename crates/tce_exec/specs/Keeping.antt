@@ -1,7 +1,7 @@
 -- What stays from one runner to a later one.
 use Rattle.std.specs.Prelude.{◌≡◌, Bool, true, false}
-use Rattle.tce_workspace.specs.Workspace.{Workspace}
-use Rattle.tce_workspace.specs.Steps.{IsKept, IsContinued}
+use Rattle.tce_exec.specs.Workspace.{Workspace}
+use Rattle.tce_exec.specs.Steps.{IsKept, IsContinued}
 
 -- what is kept in every outcome, and what is kept besides as long as no call has failed
 pub record IsLater (before now : Workspace) (failed_before failed_now : Bool) : Type 0 where

@@ -4,9 +4,9 @@ use Rattle.tce_space.specs.Limits.{max_indexes}
 use Rattle.tce_space.specs.Box.{product}
 use Rattle.tce_space.specs.Tiling.{Tiling, place_in_tile}
 use Rattle.tce_tree.specs.Value.{Assignment}
-use Rattle.tce_code.specs.declared.slot.Slot.{Slot}
-use Rattle.tce_workspace.specs.Slots.{slot_word}
-use Rattle.tce_windows.specs.declared.window.Window.{Window}
+use Rattle.tce_layout.specs.declared.slot.Slot.{Slot}
+use Rattle.tce_exec.specs.Slots.{slot_word}
+use Rattle.tce_exec.specs.declared.window.Window.{Window}
 
 -- the window of a slot, where `first` are the numbers of the first turn
 pub record IsSlotWindow (slot : Slot) (first : Assignment) (w : Window) : Type 0 where

@@ -3,11 +3,11 @@ use Rattle.std.specs.Prelude.{◌≡◌, ℕ, IsTrue, map, Some}
 use Rattle.std.specs.List.{All}
 use Rattle.tce_space.specs.Space.{extent_at, edge_at}
 use Rattle.tce_block.specs.Cuts.{IsCut, extents_of, edges_of}
-use Rattle.tce_workspace.specs.NodeStates.{Places}
+use Rattle.tce_exec.specs.NodeStates.{Places}
 use Rattle.tce_tree.specs.FlatTree.{right_of}
 use Rattle.tce_tree.specs.declared.node.Operand.{Operand}
 use Rattle.tce_walk.specs.declared.machine.Tail.{Tail}
-use Rattle.tce_windows.specs.Sequences.{IsLoopSequence}
+use Rattle.tce_exec.specs.Sequences.{IsLoopSequence}
 use Rattle.tce_exec.specs.Blocks.{loops_of}
 use Rattle.tce_exec.specs.Positions.{IsPosition}
 use Rattle.tce_exec.specs.Windows.{AreSteps, FitSequence}

@@ -13,13 +13,13 @@ use Rattle.tce_tree.specs.declared.expr.Leaf.{Leaf}
 use Rattle.tce_code.specs.Execution.{exec}
 use Rattle.tce_code.specs.Program.{program_of}
 use Rattle.tce_code.specs.declared.op.Op.{Op}
-use Rattle.tce_code.specs.declared.slot.Slot.{Slot}
-use Rattle.tce_workspace.specs.NodeStates.{current_cell}
+use Rattle.tce_layout.specs.declared.slot.Slot.{Slot}
+use Rattle.tce_exec.specs.NodeStates.{current_cell}
 use Rattle.tce_walk.specs.Touches.{touch_bound}
 use Rattle.tce_walk.specs.Run.{zeros}
-use Rattle.tce_workspace.specs.Workspace.{Workspace, setting_in, state_in, result_shape}
-use Rattle.tce_workspace.specs.Prepared.{IsPrepared}
-use Rattle.tce_workspace.specs.Steps.{IsContinued}
+use Rattle.tce_exec.specs.Workspace.{Workspace, setting_in, state_in, result_shape}
+use Rattle.tce_exec.specs.Prepared.{IsPrepared}
+use Rattle.tce_exec.specs.Steps.{IsContinued}
 
 -- what a run works on, by its parts
 abbrev pub workspace_of : IndexSpace → ContractionTree → List ℕ → List Slot → Leaf → List ℕ → CacheState → Option Files → Workspace

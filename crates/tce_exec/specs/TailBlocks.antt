@@ -10,12 +10,12 @@ use Rattle.tce_code.specs.Execution.{State, exec}
 use Rattle.tce_walk.specs.Machine.{assignment_of, tail_program, IsTailAt}
 use Rattle.tce_walk.specs.declared.machine.Tail.{Tail}
 use Rattle.tce_walk.specs.Parts.{after_part}
-use Rattle.tce_windows.specs.Turns.{turns_of}
-use Rattle.tce_workspace.specs.Workspace.{Workspace, setting_in}
-use Rattle.tce_workspace.specs.Prepared.{IsPrepared}
-use Rattle.tce_workspace.specs.Storages.{setting_of, work_of}
-use Rattle.tce_workspace.specs.declared.evaluation.Evaluation.{Evaluation}
-use Rattle.tce_workspace.specs.declared.storage.Storage.{Storage}
+use Rattle.tce_exec.specs.Turns.{turns_of}
+use Rattle.tce_exec.specs.Workspace.{Workspace, setting_in}
+use Rattle.tce_exec.specs.Prepared.{IsPrepared}
+use Rattle.tce_exec.specs.Storages.{setting_of, work_of}
+use Rattle.tce_exec.specs.declared.evaluation.Evaluation.{Evaluation}
+use Rattle.tce_exec.specs.declared.storage.Storage.{Storage}
 use Rattle.tce_exec.specs.Blocks.{loops_of, AreOutside, IsBlockOf}
 use Rattle.tce_exec.specs.declared.turns.TailBlock.{TailBlock}
 

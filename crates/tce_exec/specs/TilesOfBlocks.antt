@@ -6,9 +6,9 @@ use Rattle.tce_space.specs.Tiling.{Tiling, ArePositive, tile_number, place_in_ti
 use Rattle.tce_tree.specs.Value.{Assignment}
 use Rattle.tce_tree.specs.WellFormed.{among}
 use Rattle.tce_block.specs.Parts.{Part, blocks}
-use Rattle.tce_windows.specs.Turns.{Turns, IsTurn, turns_of}
-use Rattle.tce_windows.specs.Windows.{stands_at}
-use Rattle.tce_windows.specs.declared.window.Window.{Window}
+use Rattle.tce_exec.specs.Turns.{Turns, IsTurn, turns_of}
+use Rattle.tce_exec.specs.LoopWindows.{stands_at}
+use Rattle.tce_exec.specs.declared.window.Window.{Window}
 use Rattle.tce_exec.specs.OperandWindows.{IsTileWindow}
 
 -- no loop crosses a multiple of the edge of its index

@@ -1,7 +1,7 @@
 -- The tiles that were touched last.
 use Rattle.std.specs.Prelude.{◌≡◌, ℕ, ◌+◌, ◌<◌, ◌≤◌, Bool, true, IsTrue, slice_get, Some}
-use Rattle.tce_frames.specs.Held.{Held, look_up}
-use Rattle.tce_frames.specs.Current.{place}
+use Rattle.tce_cache.specs.Held.{Held, look_up}
+use Rattle.tce_cache.specs.Current.{place}
 use Rattle.tce_cache.specs.Cache.{State as CacheState, IsCache, layout}
 use Rattle.tce_cache.specs.Touch.{IsTouched}
 

@@ -4,21 +4,21 @@ use Rattle.tce_outside.specs.Files.{Files}
 use Rattle.tce_space.specs.Box.{IsInside}
 use Rattle.tce_space.specs.Space.{extent_at}
 use Rattle.tce_space.specs.Tiling.{Tiling, IsTiling, tile_number, place_in_tile}
-use Rattle.tce_frames.specs.Held.{Held, look_up}
-use Rattle.tce_frames.specs.Current.{place, AreOther}
+use Rattle.tce_cache.specs.Held.{Held, look_up}
+use Rattle.tce_cache.specs.Current.{place, AreOther}
 use Rattle.tce_cache.specs.Cache.{State as CacheState, IsCache, IsReady, HasRoom, IsSameOutsideFrames, layout, current_word}
 use Rattle.tce_tree.specs.ContractionTree.{operations}
 use Rattle.tce_tree.specs.Fusion.{kept_dims}
 use Rattle.tce_tree.specs.Memory.{memory}
 use Rattle.tce_tree.specs.Value.{Assignment}
 use Rattle.tce_code.specs.Execution.{Setting, State, coordinates}
-use Rattle.tce_code.specs.Layout.{slot_at, IsLayout}
+use Rattle.tce_layout.specs.Layout.{slot_at, IsLayout}
 use Rattle.tce_walk.specs.TailLaws.{dims_at}
-use Rattle.tce_workspace.specs.NodeStates.{Places, root, root_dims, state_of, current_cell, IsResult}
-use Rattle.tce_workspace.specs.OperandLaws.{HasShape, StandsBefore}
-use Rattle.tce_windows.specs.Turns.{Turns, IsTurn}
-use Rattle.tce_windows.specs.Windows.{stands_at, ShowsWords, ShowsNode, DifferOnlyAt}
-use Rattle.tce_windows.specs.declared.window.Window.{Window}
+use Rattle.tce_exec.specs.NodeStates.{Places, root, root_dims, state_of, current_cell, IsResult}
+use Rattle.tce_exec.specs.OperandLaws.{HasShape, StandsBefore}
+use Rattle.tce_exec.specs.Turns.{Turns, IsTurn}
+use Rattle.tce_exec.specs.LoopWindows.{stands_at, ShowsWords, ShowsNode, DifferOnlyAt}
+use Rattle.tce_exec.specs.declared.window.Window.{Window}
 use Rattle.tce_exec.specs.OperandWindows.{IsSlotWindow, IsTileWindow}
 use Rattle.tce_exec.specs.TilesOfBlocks.{StayBetweenEdges, StayInExtents, HasIndexes}
 

@@ -9,18 +9,18 @@ use Rattle.tce_tree.specs.FlatTree.{left_of, right_of}
 use Rattle.tce_tree.specs.Value.{Assignment}
 use Rattle.tce_tree.specs.declared.node.Operand.{Operand}
 use Rattle.tce_tree.specs.declared.node.Operand.TheVariants.{Leaf, Constant, Node}
-use Rattle.tce_code.specs.Layout.{slot_at, IsLayout}
-use Rattle.tce_workspace.specs.OperandLaws.{HasShape}
-use Rattle.tce_workspace.specs.NodeStates.{Places}
-use Rattle.tce_workspace.specs.Slots.{IsSlotAt}
+use Rattle.tce_layout.specs.Layout.{slot_at, IsLayout}
+use Rattle.tce_exec.specs.OperandLaws.{HasShape}
+use Rattle.tce_exec.specs.NodeStates.{Places}
+use Rattle.tce_exec.specs.Slots.{IsSlotAt}
 use Rattle.tce_walk.specs.declared.machine.Tail.{Tail}
-use Rattle.tce_windows.specs.Sequences.{FitWindows}
-use Rattle.tce_windows.specs.declared.sequence.LoopSequence.{LoopSequence}
-use Rattle.tce_windows.specs.declared.window.Window.{Window}
+use Rattle.tce_exec.specs.Sequences.{FitWindows}
+use Rattle.tce_exec.specs.declared.sequence.LoopSequence.{LoopSequence}
+use Rattle.tce_exec.specs.declared.window.Window.{Window}
 use Rattle.tce_exec.specs.OperandWindows.{AreTileSteps, IsSlotWindow, IsTileWindow}
 use Rattle.tce_exec.specs.Touches.{IsAmongLast}
-use Rattle.tce_workspace.specs.Workspace.{Workspace, shape_over, result_shape}
-use Rattle.tce_workspace.specs.Operands.{IsElementOf}
+use Rattle.tce_exec.specs.Workspace.{Workspace, shape_over, result_shape}
+use Rattle.tce_exec.specs.Operands.{IsElementOf}
 use Rattle.tce_exec.specs.declared.steps.Windows.{Windows}
 
 -- an operand but a constant has a word at these numbers: that of an element, or of the slot of an inner node

@@ -2,23 +2,24 @@
 ghost use Rattle.std.specs.Prelude.{◌≡◌, ◌≢◌, ◌+◌, ◌≤◌, ◌^◌, ℕ, OnOk, IsErr, Some, None};
 ghost use Rattle.tce_tree.specs.FlatTree.{right_of};
 ghost use Rattle.tce_block.specs.Turns.{operate};
-ghost use Rattle.tce_workspace.specs.Prepared.{IsPrepared};
-ghost use Rattle.tce_workspace.specs.Operands.{combined};
-ghost use Rattle.tce_workspace.specs.Storages.{work_of, IsSame, Keeps, Changes, FailsByDisk, TellsOfDisk};
+ghost use Rattle.tce_exec.specs.Prepared.{IsPrepared};
+ghost use Rattle.tce_exec.specs.Operands.{combined};
+ghost use Rattle.tce_exec.specs.Storages.{work_of, IsSame, Keeps, Changes, FailsByDisk, TellsOfDisk};
 ghost use Rattle.tce_exec.specs.Blocks.{IsBlockOf};
 ghost use Rattle.tce_exec.specs.Evaluations.{places_of};
 ghost use Rattle.tce_exec.specs.Plans.{IsNest};
 ghost use Rattle.tce_exec.specs.Positions.{IsPosition, numbers_of};
 ghost use Rattle.tce_exec.specs.TailBlocks.{part_in, first_in, after_block, IsInTail, KeepsAround, StandsAt};
 
+use crate::evaluation::Evaluation;
+use crate::operand_windows::{Pairing, node_window, pair_windows, sum_windows};
 use crate::plan::Nest;
 use crate::position::Position;
+use crate::storage::Storage;
 use crate::turns::{TailBlock, begin_block, compute_turns, grow_turns, join_turns};
-use crate::windows::{Pairing, node_window, pair_windows, sum_windows};
 use tce_outside::{Disk, Failed};
 use tce_space::Arithmetic;
 use tce_tree::{Kind, Operand};
-use tce_workspace::{Evaluation, Storage};
 
 // What a node with two operands computes.
 fn operation_of(kind: Kind) -> Arithmetic

@@ -3,16 +3,16 @@ ghost use Rattle.std.specs.Prelude.{◌≡◌, ◌<◌, ◌≤◌, length, map, 
 ghost use Rattle.tce_space.specs.Limits.{max_loops};
 ghost use Rattle.tce_space.specs.Space.{extent_at, edge_at};
 ghost use Rattle.tce_block.specs.Cuts.{IsCut, extents_of, edges_of};
-ghost use Rattle.tce_windows.specs.Loops.{AreLoops};
-ghost use Rattle.tce_windows.specs.Sequences.{IsLoopSequence, IsUnfilled};
+ghost use Rattle.tce_exec.specs.Loops.{AreLoops};
+ghost use Rattle.tce_exec.specs.Sequences.{IsLoopSequence, IsUnfilled};
 ghost use Rattle.tce_exec.specs.Blocks.{loops_of};
 
+use crate::sequence::LoopSequence;
 use crate::steps::Windows;
 use arrayvec::ArrayVec;
 use tce_block::Cut;
 use tce_space::{MAX_LOOPS, Space};
 use tce_walk::Tail;
-use tce_windows::LoopSequence;
 
 /// The cuts of loops, each with the extent and the edge of its index's range.
 pub(crate) fn cuts_of(space: &Space, loops: &[u8]) -> ArrayVec<Cut, MAX_LOOPS>

@@ -1,24 +1,24 @@
 // What stays from run to run of one tail.
 ghost use Rattle.std.specs.Prelude.{◌≡◌, ◌<◌, ◌≤◌, false, length, map, All, IsTrue};
 ghost use Rattle.tce_space.specs.Limits.{max_loops};
-ghost use Rattle.tce_workspace.specs.NodeStates.{Places};
+ghost use Rattle.tce_exec.specs.NodeStates.{Places};
 ghost use Rattle.tce_space.specs.Space.{edge_at};
-ghost use Rattle.tce_windows.specs.Loops.{AreLoops};
+ghost use Rattle.tce_exec.specs.Loops.{AreLoops};
 ghost use Rattle.tce_exec.specs.Blocks.{loops_of};
 ghost use Rattle.tce_exec.specs.Evaluations.{places_of};
 ghost use Rattle.tce_exec.specs.Windows.{CanStep};
 ghost use Rattle.tce_exec.specs.Plans.{IsPlan, IsPlanFor, AreKept};
 
 use crate::cuts::{cuts_of, sequence_of};
+use crate::evaluation::Evaluation;
 use crate::position::Position;
+use crate::sequence::LoopSequence;
 use crate::steps::{Windows, set_steps};
 use arrayvec::ArrayVec;
 use tce_block::{Block, Blocks, Cut};
 use tce_cache::Cache;
 use tce_space::{LoopOrder, MAX_LOOPS, Space};
 use tce_walk::Tail;
-use tce_windows::LoopSequence;
-use tce_workspace::Evaluation;
 
 /// In which sequence the loops of a tail run in a block, and the windows of its operands and places.
 #[derive(Drop)]

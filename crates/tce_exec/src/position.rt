@@ -5,11 +5,11 @@ ghost use Rattle.tce_space.specs.Box.{IsInside};
 ghost use Rattle.tce_space.specs.Tiling.{IsTiling};
 ghost use Rattle.tce_tree.specs.Value.{assignment};
 ghost use Rattle.tce_tree.specs.WellFormed.{among};
-ghost use Rattle.tce_workspace.specs.Elements.{IsElementAt};
-ghost use Rattle.tce_workspace.specs.Workspace.{shape_over};
+ghost use Rattle.tce_exec.specs.Elements.{IsElementAt};
+ghost use Rattle.tce_exec.specs.Workspace.{shape_over};
 
+use crate::element::ElementPlace;
 use tce_space::{MAX_INDEXES, Numbers, Space};
-use tce_workspace::ElementPlace;
 
 /// A number for each index, in which tile of the index's range it lies, and how far behind the beginning of that tile.
 ///

@@ -9,23 +9,25 @@ ghost use Rattle.tce_code.specs.Plan.{plan_of};
 ghost use Rattle.tce_code.specs.Program.{program_of};
 ghost use Rattle.tce_walk.specs.Touches.{touch_bound};
 ghost use Rattle.tce_walk.specs.Run.{IsCodeOf};
-ghost use Rattle.tce_workspace.specs.Prepared.{IsPrepared};
-ghost use Rattle.tce_workspace.specs.Steps.{IsKept};
-ghost use Rattle.tce_workspace.specs.Storages.{work_of, Keeps, FailsByDisk, TellsOfDisk};
+ghost use Rattle.tce_exec.specs.Prepared.{IsPrepared};
+ghost use Rattle.tce_exec.specs.Steps.{IsKept};
+ghost use Rattle.tce_exec.specs.Storages.{work_of, Keeps, FailsByDisk, TellsOfDisk};
 ghost use Rattle.tce_exec.specs.Evaluations.{places_of};
 ghost use Rattle.tce_exec.specs.Plans.{AreKept};
 ghost use Rattle.tce_exec.specs.Run.{workspace_of, IsZero, IsRun};
 
+use crate::evaluation::Evaluation;
 use crate::plan::Kept;
 use crate::runner::Runner;
+use crate::storage::Storage;
 use tce_cache::Cache;
-use tce_code::{Code, Layout};
+use tce_code::Code;
+use tce_layout::Layout;
 use tce_outside::{Disk, Failed};
 use tce_space::Space;
 use tce_tree::{Fusion, Leaf, Orders, Tree};
 use tce_walk::run_program;
 use tce_words::Words;
-use tce_workspace::{Evaluation, Storage};
 
 // Runs the code of its tree on a runner.
 fn run_on<D: Disk>(runner: &mut Runner<'_, D>, code: &Code) -> Result<(), Failed>

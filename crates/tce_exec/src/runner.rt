@@ -1,18 +1,21 @@
 // The machine over words, tiles and a disk.
 ghost use Rattle.std.specs.Prelude.{◌≡◌, false};
-ghost use Rattle.tce_workspace.specs.Workspace.{state_in};
-ghost use Rattle.tce_workspace.specs.Prepared.{IsPrepared};
-ghost use Rattle.tce_workspace.specs.Storages.{work_of, setting_of};
+ghost use Rattle.tce_exec.specs.Workspace.{state_in};
+ghost use Rattle.tce_exec.specs.Prepared.{IsPrepared};
+ghost use Rattle.tce_exec.specs.Storages.{work_of, setting_of};
 ghost use Rattle.tce_exec.specs.Evaluations.{places_of};
 ghost use Rattle.tce_exec.specs.Keeping.{IsLater};
 ghost use Rattle.tce_exec.specs.Plans.{AreKept};
 
+use crate::evaluation::Evaluation;
+use crate::operation::operate;
 use crate::plan::Kept;
+use crate::puts::clear_slot;
+use crate::storage::Storage;
 use crate::tail::run_tail;
 use tce_outside::{Disk, Failed};
 use tce_space::Numbers;
 use tce_walk::{Machine, Tail};
-use tce_workspace::{Evaluation, Storage, clear_slot, operate};
 
 /// Runs loop code of an evaluation over a storage.
 pub(crate) struct Runner<'a, D: Disk> {

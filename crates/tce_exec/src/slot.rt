@@ -1,12 +1,12 @@
 // The windows of slots.
 ghost use Rattle.std.specs.Prelude.{◌<◌, ◌^◌, slice_index};
-ghost use Rattle.tce_workspace.specs.Slots.{slot_word};
+ghost use Rattle.tce_exec.specs.Slots.{slot_word};
 ghost use Rattle.tce_exec.specs.OperandWindows.{IsSlotWindow};
 
-use tce_code::Slot;
+use crate::slot_places::slot_place;
+use crate::window::Window;
+use tce_layout::Slot;
 use tce_space::Numbers;
-use tce_windows::Window;
-use tce_workspace::slot_place;
 
 /// Where the words of a slot stand from the first turn of a block on, whose numbers are `first`.
 pub fn slot_window(slot: &Slot, first: &Numbers) -> Window

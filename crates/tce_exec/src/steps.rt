@@ -2,18 +2,18 @@
 ghost use Rattle.std.specs.Prelude.{◌≡◌, ◌+◌, ◌<◌, All};
 ghost use Rattle.tce_space.specs.Limits.{max_indexes};
 ghost use Rattle.tce_tree.specs.ContractionTree.{operations};
-ghost use Rattle.tce_workspace.specs.OperandLaws.{HasShape};
-ghost use Rattle.tce_workspace.specs.Evaluations.{IsLaid, slot_of};
+ghost use Rattle.tce_exec.specs.OperandLaws.{HasShape};
+ghost use Rattle.tce_exec.specs.EvaluationSlots.{IsLaid, slot_of};
 ghost use Rattle.tce_exec.specs.Windows.{AreTensorSteps, AreOperandSteps, ArePlaceSteps, AreSteps, HasSteps, CanStep};
 ghost use Rattle.tce_exec.specs.Evaluations.{places_of, shape_of};
 
-use crate::tile_steps;
+use crate::evaluation::Evaluation;
+use crate::tile::tile_steps;
+use crate::window::Window;
 use tce_cache::Cache;
 use tce_space::MAX_INDEXES;
 use tce_tree::{Leaf, Operand};
 use tce_walk::Tail;
-use tce_windows::Window;
-use tce_workspace::Evaluation;
 
 /// The windows of a block: of its operands, of its result, and of the places of a joined product. A block with one operand
 /// has it on the left.

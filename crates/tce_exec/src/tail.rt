@@ -1,21 +1,22 @@
 // Whole tails.
 ghost use Rattle.std.specs.Prelude.{◌≡◌, ◌+◌, ◌≤◌, ◌^◌, slice_index, OnOk, IsErr};
 ghost use Rattle.tce_walk.specs.Machine.{assignment_of, touches_of_tail, IsTailAt};
-ghost use Rattle.tce_workspace.specs.Prepared.{IsPrepared};
-ghost use Rattle.tce_workspace.specs.Storages.{work_of, setting_of, IsSame, Keeps, Changes, FailsByDisk, TellsOfDisk};
+ghost use Rattle.tce_exec.specs.Prepared.{IsPrepared};
+ghost use Rattle.tce_exec.specs.Storages.{work_of, setting_of, IsSame, Keeps, Changes, FailsByDisk, TellsOfDisk};
 ghost use Rattle.tce_exec.specs.Evaluations.{places_of};
 ghost use Rattle.tce_exec.specs.Positions.{IsPosition};
 ghost use Rattle.tce_exec.specs.Plans.{IsPlanFor, AreKept};
 ghost use Rattle.tce_exec.specs.TailBlocks.{after_tail};
 
 use crate::block::run_block;
+use crate::evaluation::Evaluation;
 use crate::plan::{Kept, Plan};
 use crate::position::Position;
+use crate::storage::Storage;
 use crate::turns::TailBlock;
 use tce_outside::{Disk, Failed};
 use tce_space::Numbers;
 use tce_walk::Tail;
-use tce_workspace::{Evaluation, Storage};
 
 // Runs the blocks of a tail, from the numbers of the loops round it on.
 fn run_blocks<D: Disk>(

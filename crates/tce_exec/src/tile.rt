@@ -5,9 +5,9 @@ ghost use Rattle.tce_space.specs.Box.{IsInside};
 ghost use Rattle.tce_space.specs.Tiling.{IsTiling, tile_words};
 ghost use Rattle.tce_exec.specs.OperandWindows.{IsTileWindow, AreTileSteps};
 
+use crate::element::{coordinates_of, place_of_element};
+use crate::window::Window;
 use tce_space::{MAX_INDEXES, Numbers, Shape};
-use tce_windows::Window;
-use tce_workspace::{coordinates_of, place_of_element};
 
 /// Where the words of a tile stand from the first turn of a block on, whose numbers are `first`: `indexes` are those of
 /// the tensor's dimensions, of which an index may have several, and `at` is the place of the tile's first word.

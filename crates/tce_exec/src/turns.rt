@@ -2,22 +2,22 @@
 ghost use Rattle.std.specs.Prelude.{◌≡◌, ◌<◌, IsTrue, length, slice_index};
 ghost use Rattle.tce_block.specs.Cuts.{part_of};
 ghost use Rattle.tce_block.specs.Turns.{grown, computed};
-ghost use Rattle.tce_windows.specs.Loops.{AreLoops, AreMade, AreProductsJoined, IsResultWindow, place_along};
-ghost use Rattle.tce_windows.specs.Sequences.{IsLoopSequence};
-ghost use Rattle.tce_windows.specs.Turns.{turns_of};
+ghost use Rattle.tce_exec.specs.Loops.{AreLoops, AreMade, AreProductsJoined, IsResultWindow, place_along};
+ghost use Rattle.tce_exec.specs.Sequences.{IsLoopSequence};
+ghost use Rattle.tce_exec.specs.Turns.{turns_of};
 ghost use Rattle.tce_exec.specs.Blocks.{loops_of, IsWithin, HaveNone};
 ghost use Rattle.tce_exec.specs.Positions.{IsPosition};
 ghost use Rattle.tce_exec.specs.TailBlocks.{part_in};
 ghost use Rattle.tce_exec.specs.Windows.{FitSequence};
 
+use crate::block_loops::{BlockLoops, OperandWindows, compute, compute_and_grow, grow};
 use crate::position::Position;
+use crate::sequence::LoopSequence;
 use crate::steps::Windows;
+use crate::window::Window;
 use tce_block::Block;
 use tce_space::{Arithmetic, Numbers, Space};
 use tce_walk::Tail;
-use tce_windows::{
-    BlockLoops, LoopSequence, OperandWindows, Window, compute, compute_and_grow, grow,
-};
 use tce_words::Words;
 
 /// One block of a tail, at the numbers of the loops round it.

@@ -1,15 +1,3 @@
-pub mod ChoiceLists
-pub mod Classes
-pub mod Counts
-pub mod Joins
-pub mod Cuts
-pub mod RowLists
-pub mod NestingLaws
-pub mod SubsetLists
-pub mod RunParts
-pub mod StretchParts
-pub mod NestingTops
-pub mod Outermost
 pub mod Steps
 pub mod Operands
 pub mod Links

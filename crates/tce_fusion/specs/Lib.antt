@@ -1,10 +1,3 @@
-pub mod NestingClasses
-pub mod Subsets
-pub mod Choices
-pub mod Plan
-pub mod NestingLaws
-pub mod Ends
-pub mod Stretches
 pub mod Relation
 pub mod StateClasses
 pub mod State

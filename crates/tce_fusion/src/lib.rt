@@ -2,39 +2,19 @@
 //!
 //! [`is_legal`] says which fusions are legal, [`memory`] how much memory they leave, and [`standard_orders`] the loop orders
 //! that carry them. `specs/` has the states of subtrees, which say which loops have to be above which, and when tables of
-//! states cover all fusions. A [`Nesting`] is such a state as classes of loops; [`choices`] are the sets that may be fused
-//! above a node, and a [`Plan`] states a fusion with tables that show it least.
+//! states cover all fusions.
 //!
 //! The functions that do nothing carry laws of these definitions.
 #![tactic(auto)]
 
-mod choice;
-mod ends;
 mod legality;
-mod nesting;
-mod nesting_laws;
 mod orders;
-mod plan;
-mod row;
-mod runs;
 mod scopes;
 mod sizes;
 mod state_laws;
-mod stretches;
-mod subset_list;
-mod tables;
 
-pub use choice::{Choice, choices};
-pub use ends::{Ends, ends_of, have_conflict};
 pub use legality::{first_illegal, is_legal};
-pub use nesting::Nesting;
-pub use nesting_laws::{
-    coarser_is_preorder, joins_tell_steps, nestings_are_their_relations, restrictions_cut,
-};
 pub use orders::{first_not_carried, standard_orders};
-pub use plan::Plan;
-pub use row::Row;
-pub use runs::Run;
 pub use sizes::{memory, size_of};
 pub use state_laws::{
     bound_leaves_no_sum, choices_are_steps, costs_add_up, covered_leaves_no_step,
@@ -44,6 +24,3 @@ pub use state_laws::{
     rows_stand_together, some_rows_join, standing_is_order, states_have_classes, steps_are_reached,
     total_is_bound,
 };
-pub use stretches::{MAX_CHOICES, Stretch, allows_none, stretches_of};
-pub use subset_list::subsets;
-pub use tables::Tables;

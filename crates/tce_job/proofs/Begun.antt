@@ -15,8 +15,8 @@ use Rattle.tce_space.proofs.IndexSetLaws.{has-minus, has-empty}
 use Rattle.tce_array.specs.declared.form.Form.TheVariants.{One}
 use Rattle.tce_array.specs.Forms.{form_of, form_len, IsForm, word_at}
 use Rattle.tce_array.specs.Files.{AreBytes}
-use Rattle.tce_frames.specs.Held.{Held, look_up, AreApart}
-use Rattle.tce_frames.specs.Current.{current}
+use Rattle.tce_cache.specs.Held.{Held, look_up, AreApart}
+use Rattle.tce_cache.specs.Current.{current}
 use Rattle.tce_cache.specs.declared.array.ArrayRef.{ArrayRef}
 use Rattle.tce_cache.specs.Cache.{State as CacheState, IsCache, IsReady, IsArrayAt, AreArrays, HasRoom, layout, stored, word_of_tile, current_word}
 use Rattle.tce_cache.specs.Transfer.{HasFile, contents}
@@ -34,8 +34,8 @@ use Rattle.tce_code.specs.Plan.{plan_of}
 use Rattle.tce_code.specs.Program.{program_of}
 use Rattle.tce_walk.specs.Touches.{touch_bound}
 use Rattle.tce_walk.proofs.TouchBound.{touches_are_few}
-use Rattle.tce_workspace.specs.Workspace.{Workspace, shape_over}
-use Rattle.tce_workspace.specs.Prepared.{IsStored, HasOperands, IsPrepared as IsWorkspace}
+use Rattle.tce_exec.specs.Workspace.{Workspace, shape_over}
+use Rattle.tce_exec.specs.Prepared.{IsStored, HasOperands, IsPrepared as IsWorkspace}
 use Rattle.tce_exec.specs.Run.{IsZero}
 use Rattle.tce_job.proofs.Results.{result_tiling}
 use Rattle.tce_job.specs.Takings.{tile_count, frame_count, tile_take}

@@ -10,7 +10,7 @@ use Rattle.tce_array.specs.declared.fault.ArrayFault.TheVariants as array_fault
 use Rattle.tce_array.specs.Forms.{form_of, IsArray}
 use Rattle.tce_array.specs.Faults.{IsFault}
 use Rattle.tce_array.proofs.OneAnswer.{agree}
-use Rattle.tce_fusion.specs.declared.plan.Plan.{Plan}
+use Rattle.tce_nesting.specs.declared.plan.Plan.{Plan}
 use Rattle.tce_search.specs.LeastPlan.{IsLeastPlan}
 use Rattle.tce_spec.specs.Specification.{Specification}
 use Rattle.tce_spec.specs.Operands.{shape_of}

@@ -31,9 +31,9 @@ use Rattle.tce_tree.specs.Value.{value, assignment}
 use Rattle.tce_spec.specs.Contraction.{has_tensor}
 use Rattle.tce_spec.specs.Specification.{Specification, IsSpecification}
 use Rattle.tce_spec.specs.Operands.{shape_of}
-use Rattle.tce_workspace.specs.NodeStates.{current_cell}
-use Rattle.tce_workspace.specs.Workspace.{Workspace, shape_over, setting_in, element_of, filed_element}
-use Rattle.tce_workspace.specs.Steps.{IsKept}
+use Rattle.tce_exec.specs.NodeStates.{current_cell}
+use Rattle.tce_exec.specs.Workspace.{Workspace, shape_over, setting_in, element_of, filed_element}
+use Rattle.tce_exec.specs.Steps.{IsKept}
 use Rattle.tce_exec.specs.Run.{IsRun, HasValues}
 use Rattle.tce_job.specs.TensorFiles.{file_of, bytes_in, elements}
 use Rattle.tce_job.specs.ResultBytes.{result_element, result_bytes, with_result}

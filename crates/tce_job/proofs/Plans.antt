@@ -4,7 +4,7 @@ use Rattle.tce_outside.specs.Files.{Files}
 use Rattle.tce_outside.specs.Fault.{HasCause, TellsFaults}
 use Rattle.tce_array.specs.declared.fault.ArrayFault.{ArrayFault}
 use Rattle.tce_array.specs.declared.fault.ArrayFault.TheVariants as array_fault
-use Rattle.tce_fusion.specs.declared.plan.Plan.{Plan}
+use Rattle.tce_nesting.specs.declared.plan.Plan.{Plan}
 use Rattle.tce_search.specs.LeastPlan.{IsLeastPlan}
 use Rattle.tce_spec.specs.Specification.{Specification}
 use Rattle.tce_job.specs.Takings.{least_budget}

@@ -4,7 +4,7 @@ use Rattle.std.specs.List.{AllZip}
 use Rattle.std.specs.Option.{option_map}
 use Rattle.tce_outside.specs.Files.{Files, file, others}
 use Rattle.tce_outside.proofs.Told.{other_files}
-use Rattle.tce_fusion.specs.declared.plan.Plan.{Plan}
+use Rattle.tce_nesting.specs.declared.plan.Plan.{Plan}
 use Rattle.tce_spec.specs.Specification.{Specification}
 use Rattle.tce_job.specs.ResultBytes.{with_result}
 use Rattle.tce_job.specs.TensorFiles.{file_of}

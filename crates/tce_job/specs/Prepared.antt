@@ -9,15 +9,15 @@ use Rattle.tce_tree.specs.ContractionTree.{ContractionTree}
 use Rattle.tce_tree.specs.Fusion.{Carries}
 use Rattle.tce_tree.specs.Orders.{lists_of}
 use Rattle.tce_tree.specs.Memory.{memory}
-use Rattle.tce_fusion.specs.declared.plan.Plan.{Plan}
-use Rattle.tce_fusion.specs.Plan.{PlanFits}
+use Rattle.tce_nesting.specs.declared.plan.Plan.{Plan}
+use Rattle.tce_nesting.specs.Plan.{PlanFits}
 use Rattle.tce_search.specs.LeastPlan.{IsLeastPlan}
-use Rattle.tce_cert.specs.NodeLine.{stated}
-use Rattle.tce_cert.specs.Report.{run_text}
+use Rattle.tce_report.specs.NodeLine.{stated}
+use Rattle.tce_report.specs.Report.{run_text}
 use Rattle.tce_code.specs.Plan.{plan_of}
 use Rattle.tce_code.specs.CodeFor.{IsCodeFor}
-use Rattle.tce_code.specs.Layout.{IsLayout}
-use Rattle.tce_code.specs.Places.{PlacesFill}
+use Rattle.tce_layout.specs.Layout.{IsLayout}
+use Rattle.tce_layout.specs.Places.{PlacesFill}
 use Rattle.tce_cache.specs.Cache.{State}
 use Rattle.tce_spec.specs.Specification.{Specification}
 use Rattle.tce_spec.specs.Operands.{largest_tile, shape_of}

@@ -4,7 +4,7 @@ ghost use Rattle.tce_space.specs.Tiling.{tile_words};
 ghost use Rattle.tce_spec.specs.Operands.{largest_tile};
 ghost use Rattle.tce_job.specs.Arrays.{IsArrayOf, AreArraysOf, HasOwnShape};
 
-use crate::file_of;
+use crate::naming::file_of;
 use crate::opening::Forms;
 use std::alloc::{AllocError, Global};
 use tce_array::Form;

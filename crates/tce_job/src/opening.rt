@@ -4,7 +4,7 @@ ghost use Rattle.tce_outside.specs.Fault.{HasCause, TellsFaults};
 ghost use Rattle.tce_job.specs.TensorFiles.{file_of};
 ghost use Rattle.tce_job.specs.Opened.{HasArrayOn, HasFaultOn, AreOpenedOn, IsRefusedOn, IsOfDeclared, IsDiskFault};
 
-use crate::file_of;
+use crate::naming::file_of;
 use tce_array::{ArrayFault, Form, open};
 use tce_outside::Disk;
 use tce_space::MAX_TENSORS;

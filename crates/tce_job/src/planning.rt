@@ -14,7 +14,7 @@ use crate::opening::{Forms, Refused, open_operands};
 use crate::takings::least_budget;
 use std::alloc::Global;
 use tce_array::ArrayFault;
-use tce_fusion::Plan;
+use tce_nesting::Plan;
 use tce_outside::Disk;
 use tce_search::search;
 use tce_space::MAX_MEMORY;

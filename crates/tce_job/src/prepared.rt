@@ -4,8 +4,9 @@ ghost use Rattle.std.specs.Prelude.{◌≡◌};
 use crate::opening::Forms;
 use crate::report::RunReport;
 use tce_cache::Cache;
-use tce_code::{Code, Layout};
-use tce_fusion::Plan;
+use tce_code::Code;
+use tce_layout::Layout;
+use tce_nesting::Plan;
 use tce_words::Words;
 
 /// The plan by which a run goes, and the forms of its operands, which were opened.

@@ -26,10 +26,11 @@ use crate::takings::{frame_count, tile_take};
 use std::alloc::{AllocError, Global};
 use tce_array::{Form, form_len};
 use tce_cache::Cache;
-use tce_cert::run_text;
-use tce_code::{Code, generate, lay_out};
-use tce_fusion::Plan;
+use tce_code::{Code, generate};
+use tce_layout::lay_out;
+use tce_nesting::Plan;
 use tce_outside::{Disk, OutFault};
+use tce_report::run_text;
 use tce_spec::Spec;
 use tce_words::{Room, Words};
 

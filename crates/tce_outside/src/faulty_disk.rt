@@ -3,8 +3,9 @@ ghost use Rattle.std.specs.Prelude.{◌≡◌, ◌+◌, ◌↔◌, IsTrue, IsErr
 ghost use Rattle.tce_outside.specs.Files.{with_part, HasPart, part, IsKeptOrZeros, with_zeros, length_of, KeepsBefore, KeepsFrom, SameOthers};
 ghost use Rattle.tce_outside.specs.Schedule.{new_schedule, fails_next, after_call};
 
+use crate::device::{Disk, Failed, OutFault};
+use crate::memory::MemDisk;
 use crate::schedule::FaultSchedule;
-use crate::{Disk, Failed, MemDisk, OutFault};
 use std::marker::Model;
 
 /// A disk in memory that fails at stated calls, for tests of what a failure leaves. It tells its files.

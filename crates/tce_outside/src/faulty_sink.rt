@@ -2,8 +2,9 @@
 ghost use Rattle.std.specs.Prelude.{◌≡◌, ◌++◌, ◌↔◌, IsTrue, IsErrOf, OnOk, OnErr, Some};
 ghost use Rattle.tce_outside.specs.Schedule.{new_schedule, fails_next, after_call};
 
+use crate::device::{OutFault, Sink};
+use crate::memory::MemSink;
 use crate::schedule::FaultSchedule;
-use crate::{MemSink, OutFault, Sink};
 use std::marker::Model;
 
 /// A sink in memory that fails at stated puts, for tests of what a failure leaves. It tells its bytes.

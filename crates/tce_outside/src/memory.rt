@@ -7,7 +7,7 @@ ghost use Rattle.std.specs.FinMap as map;
 ghost use Rattle.tce_outside.specs.Files.{file, with_file, HasPart, overwritten};
 ghost use Rattle.tce_outside.specs.Memory.{files_of, OthersStay, PutsFile, PutsPart};
 
-use crate::{Disk, Failed, OutFault, Sink};
+use crate::device::{Disk, Failed, OutFault, Sink};
 use std::alloc::{AllocError, Global};
 use std::marker::Model;
 

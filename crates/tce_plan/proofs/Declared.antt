@@ -10,9 +10,9 @@ use Rattle.tce_tree.proofs.NamedIndexes.{node_dims_declared}
 use Rattle.tce_fusion.specs.Relation.{above}
 use Rattle.tce_fusion.specs.StateClasses.{in_class}
 use Rattle.tce_fusion.specs.Row.{Row, rows_joined}
-use Rattle.tce_fusion.specs.declared.plan.Plan.{Plan}
-use Rattle.tce_fusion.proofs.Classes.{above-first, above-later}
-use Rattle.tce_fusion.proofs.NestingLaws.{no_class_beyond}
+use Rattle.tce_nesting.specs.declared.plan.Plan.{Plan}
+use Rattle.tce_nesting.proofs.Classes.{above-first, above-later}
+use Rattle.tce_nesting.proofs.NestingLaws.{no_class_beyond}
 use Rattle.tce_check.specs.First.{First}
 use Rattle.tce_check.specs.Verdict.{IsLeastUncovered, IsVerdict}
 use Rattle.tce_check.specs.declared.verdict.Verdict.{Verdict}

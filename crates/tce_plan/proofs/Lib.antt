@@ -1,3 +1,10 @@
+pub mod OneCertificate
+pub mod EinsumFaults
+pub mod EinsumFiles
+pub mod Free
+pub mod Certified
+pub mod OnePath
+pub mod OneEinsum
 pub mod Names
 pub mod Declared
 pub mod OneVerification

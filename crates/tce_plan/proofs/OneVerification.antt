@@ -1,7 +1,7 @@
 -- `check` has one answer.
 use Rattle.std.proofs.Common.{◌≡◌, ◌∙◌, refl, sym, ap, subst, ◌⊎◌, inl, inr, ℕ, List, ◌++◌, Option, Some, None, codes}
 use Rattle.tce_outside.specs.Files.{Files, file}
-use Rattle.tce_fusion.specs.declared.plan.Plan.{Plan}
+use Rattle.tce_nesting.specs.declared.plan.Plan.{Plan}
 use Rattle.tce_cert.specs.Faults.{IsFault}
 use Rattle.tce_cert.specs.declared.fault.CertFault.{CertFault}
 use Rattle.tce_cert.proofs.NoFault.{certificates_have_no_fault}

@@ -3,8 +3,8 @@ use Rattle.std.specs.Prelude.{◌≡◌, ◌≢◌, ℕ, List}
 use Rattle.tce_space.specs.Space.{IsSpace}
 use Rattle.tce_tree.specs.FlatTree.{IsTree}
 use Rattle.tce_tree.specs.WellFormed.{IsDeclaredTree}
-use Rattle.tce_fusion.specs.Plan.{PlanFits}
-use Rattle.tce_fusion.specs.declared.plan.Plan.{Plan}
+use Rattle.tce_nesting.specs.Plan.{PlanFits}
+use Rattle.tce_nesting.specs.declared.plan.Plan.{Plan}
 use Rattle.tce_cert.specs.Certificate.{certificate}
 use Rattle.tce_cert.specs.Faults.{IsFault}
 use Rattle.tce_cert.specs.Laws.{RowsAreNestings}

@@ -1,10 +1,10 @@
 -- What `plan` reports.
 use Rattle.std.specs.Prelude.{◌≡◌, ℕ, List, Option}
 use Rattle.tce_outside.specs.Files.{Files}
-use Rattle.tce_fusion.specs.declared.plan.Plan.{Plan}
+use Rattle.tce_nesting.specs.declared.plan.Plan.{Plan}
 use Rattle.tce_search.specs.LeastPlan.{IsLeastPlan}
-use Rattle.tce_cert.specs.NodeLine.{stated}
-use Rattle.tce_cert.specs.Report.{plan_text}
+use Rattle.tce_report.specs.NodeLine.{stated}
+use Rattle.tce_report.specs.Report.{plan_text}
 use Rattle.tce_spec.specs.Specification.{Specification}
 use Rattle.tce_command.specs.Source.{HasSpecification}
 use Rattle.std.specs.Option.{ForSome}

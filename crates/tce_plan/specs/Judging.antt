@@ -2,7 +2,7 @@
 use Rattle.std.specs.Prelude.{◌≡◌, ◌≢◌, ℕ, List}
 use Rattle.tce_space.specs.Space.{IndexSpace}
 use Rattle.tce_fusion.specs.Least.{IsLeast}
-use Rattle.tce_fusion.specs.declared.plan.Plan.{Plan}
+use Rattle.tce_nesting.specs.declared.plan.Plan.{Plan}
 use Rattle.tce_cert.specs.declared.fault.CertFault.{CertFault}
 use Rattle.tce_cert.specs.declared.fault.CertFault.TheVariants as certs
 use Rattle.tce_check.specs.Verdict.{IsAccepted, IsVerdict}

@@ -1,3 +1,8 @@
+pub mod CertificateDone
+pub mod CertificateRefusals
+pub mod EinsumDone
+pub mod EinsumRefusals
+pub mod TextLaws
 pub mod Certificates
 pub mod Judging
 pub mod VerificationDone

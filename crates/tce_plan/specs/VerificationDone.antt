@@ -3,7 +3,7 @@ use Rattle.std.specs.Prelude.{◌≡◌, ℕ, List, ◌++◌, codes, Some, Optio
 use Rattle.std.specs.Fmt.{decimal}
 use Rattle.tce_outside.specs.Files.{Files, file}
 use Rattle.tce_fusion.specs.Least.{IsLeast}
-use Rattle.tce_fusion.specs.declared.plan.Plan.{Plan}
+use Rattle.tce_nesting.specs.declared.plan.Plan.{Plan}
 use Rattle.tce_check.specs.Verdict.{IsAccepted}
 use Rattle.tce_spec.specs.Specification.{Specification}
 use Rattle.tce_command.specs.Source.{HasSpecification}

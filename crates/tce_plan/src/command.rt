@@ -7,9 +7,9 @@ ghost use Rattle.tce_plan.specs.Done.{IsPlanReport, IsPlannedOn};
 ghost use Rattle.tce_plan.specs.Refusals.{IsPlanRefusalOn};
 
 use std::alloc::{AllocError, Global};
-use tce_cert::plan_text;
 use tce_command::{Refusal, read_source};
 use tce_outside::Disk;
+use tce_report::plan_text;
 use tce_search::search;
 use tce_spec::Spec;
 

@@ -1,6 +1,6 @@
 // Texts of certificates, judged.
 ghost use Rattle.std.specs.Prelude.{◌≡◌, IfOk, IfErr, OnOk};
-ghost use Rattle.tce_fusion.specs.Plan.{PlanFits};
+ghost use Rattle.tce_nesting.specs.Plan.{PlanFits};
 ghost use Rattle.tce_check.specs.Verdict.{IsAccepted};
 ghost use Rattle.tce_plan.specs.Certificates.{IsCertificateOf};
 ghost use Rattle.tce_plan.specs.Judging.{IsAcceptedText, IsJudgement, IsPlanRefusal, SaysFault, IsOfLeast};
@@ -9,7 +9,7 @@ use std::alloc::Global;
 use tce_cert::{CertFault, read_cert};
 use tce_check::check;
 use tce_command::{CertFlaw, CommandRefusal, Refusal};
-use tce_fusion::Plan;
+use tce_nesting::Plan;
 use tce_space::Space;
 use tce_spec::Spec;
 

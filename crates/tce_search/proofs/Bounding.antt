@@ -7,8 +7,8 @@ use Rattle.tce_space.specs.IndexSet.{IsWithin, has, meet, empty}
 use Rattle.tce_space.proofs.IndexSetLaws.{has-meet}
 use Rattle.tce_fusion.specs.Relation.{above, IsCoarser}
 use Rattle.tce_fusion.specs.StateClasses.{IsNesting, IsInhabited}
-use Rattle.tce_fusion.specs.NestingClasses.{restricted}
-use Rattle.tce_fusion.specs.Plan.{LiesWithin}
+use Rattle.tce_nesting.specs.Classes.{restricted}
+use Rattle.tce_nesting.specs.Plan.{LiesWithin}
 
 -- the indexes that are reached are above all others, and those stand to each other as the rest of the classes tells; they lie within each set that has all classes
 pub record IsPrefix (classes rest : List ℕ) (reached : ℕ) : Type 0 where

@@ -9,11 +9,11 @@ use Rattle.tce_space.specs.IndexSet.{IsIndexSet, IsWithin, has}
 use Rattle.tce_fusion.specs.Relation.{none, above, IsCoarser}
 use Rattle.tce_fusion.specs.StateClasses.{in_class}
 use Rattle.tce_fusion.specs.Row.{Row, rows_joined}
-use Rattle.tce_fusion.specs.NestingClasses.{restricted, AllowsSet}
-use Rattle.tce_fusion.specs.Plan.{LiesWithin}
-use Rattle.tce_fusion.specs.declared.choice.Choice.{Choice}
-use Rattle.tce_fusion.proofs.Joins.{in_class-above}
-use Rattle.tce_fusion.proofs.Cuts.{above-restricted}
+use Rattle.tce_nesting.specs.Classes.{restricted, AllowsSet}
+use Rattle.tce_nesting.specs.Plan.{LiesWithin}
+use Rattle.tce_nesting.specs.declared.choice.Choice.{Choice}
+use Rattle.tce_nesting.proofs.Joins.{in_class-above}
+use Rattle.tce_nesting.proofs.Cuts.{above-restricted}
 use Rattle.tce_search.specs.Steps.{IsRowJoin}
 use Rattle.tce_search.specs.declared.candidate.Candidate.{Candidate}
 use Rattle.tce_search.specs.declared.table.Choosing.{Choosing}

@@ -4,8 +4,8 @@ use Rattle.std.specs.List.{All, AllWithin, Contains}
 use Rattle.std.proofs.lemmas.List.Elements.{All-weaker, All-contains}
 use Rattle.tce_fusion.specs.Relation.{above}
 use Rattle.tce_fusion.specs.Row.{Row}
-use Rattle.tce_fusion.specs.NestingClasses.{restricted}
-use Rattle.tce_fusion.specs.declared.choice.Choice.{Choice}
+use Rattle.tce_nesting.specs.Classes.{restricted}
+use Rattle.tce_nesting.specs.declared.choice.Choice.{Choice}
 use Rattle.tce_search.specs.declared.candidate.Candidate.{Candidate}
 use Rattle.tce_search.specs.Candidates.{StandForAll, ChoiceCovered, PairCovered}
 

@@ -10,7 +10,7 @@ use Rattle.tce_fusion.specs.StateClasses.{in_class}
 use Rattle.tce_fusion.specs.Row.{Row, rows_joined}
 use Rattle.tce_fusion.proofs.ClassLists.{tally, tally-bound, tally-le, tally-lt, AreLevels, levels}
 use Rattle.tce_fusion.proofs.StateClasses.{Divides, divides-joined}
-use Rattle.tce_fusion.specs.NestingClasses.{IsJoinOf}
+use Rattle.tce_nesting.specs.Classes.{IsJoinOf}
 use Rattle.tce_search.specs.Steps.{IsRowJoin}
 
 one_more : (ci cj ck rki rkj rij : Bool) → (rkj ≡ true → (rki ≡ true) ⊎ (rij ≡ true)) → (not cj && (ck || rkj)) ≡ true

@@ -9,7 +9,7 @@ use Rattle.std.proofs.lemmas.List.Sorted.{IsPermutation-insert, IsPermutation-sy
 use Rattle.std.proofs.lemmas.Grind.{get_or_default_zero}
 use Rattle.tce_space.specs.IndexSet.{IsWithin, has}
 use Rattle.tce_fusion.specs.Relation.{Relation, above}
-use Rattle.tce_fusion.proofs.RowLists.{unchanged_at}
+use Rattle.tce_nesting.proofs.RowLists.{unchanged_at}
 use Rattle.tce_search.specs.declared.candidate.Candidate.{Candidate}
 use Rattle.tce_search.specs.declared.groups.Entry.{Entry}
 use Rattle.tce_search.specs.Candidates.{Stands}

@@ -13,10 +13,10 @@ use Rattle.tce_fusion.specs.Row.{Row, AreApart, rows_at, rows_joined}
 use Rattle.tce_fusion.specs.Cover.{left_rows, right_rows, StepsCovered, NodeCovered}
 use Rattle.tce_fusion.specs.Reached.{left_below, right_below}
 use Rattle.tce_fusion.proofs.Reached.{operands_are_joined}
-use Rattle.tce_fusion.specs.NestingClasses.{restricted}
-use Rattle.tce_fusion.specs.Plan.{LiesWithin}
-use Rattle.tce_fusion.specs.declared.choice.Choice.{Choice}
-use Rattle.tce_fusion.specs.Choices.{AreChoices}
+use Rattle.tce_nesting.specs.Classes.{restricted}
+use Rattle.tce_nesting.specs.Plan.{LiesWithin}
+use Rattle.tce_nesting.specs.declared.choice.Choice.{Choice}
+use Rattle.tce_nesting.specs.Choices.{AreChoices}
 use Rattle.tce_search.specs.declared.candidate.Candidate.{Candidate}
 use Rattle.tce_search.specs.Candidates.{AreApart as CandidatesApart, ChoiceCovered, PairCovered, IsStepOf, IsReachedBelow, IsReachedOrBound}
 use Rattle.tce_search.specs.Laws.{rows_of}

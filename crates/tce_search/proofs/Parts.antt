@@ -7,7 +7,7 @@ use Rattle.std.proofs.lemmas.List.Elements.{Contains-append_left}
 use Rattle.tce_space.specs.IndexSet.{IsIndexSet, IsWithin, has, minus}
 use Rattle.tce_space.proofs.IndexSetLaws.{has-empty, has-minus, minus_lt, same_set}
 use Rattle.tce_fusion.specs.Relation.{Relation, above}
-use Rattle.tce_fusion.proofs.Classes.{above-cons}
+use Rattle.tce_nesting.proofs.Classes.{above-cons}
 use Rattle.tce_search.specs.Parts.{IsUpperPart}
 
 -- each of the outer loops that a reached set has not is below those that it has; the rest of the classes tells what it is above else

@@ -12,8 +12,8 @@ use Rattle.tce_fusion.specs.Row.{Row}
 use Rattle.tce_fusion.specs.Cover.{Covers, ArePruned, NodesCovered, RootBelow}
 use Rattle.tce_fusion.specs.Reached.{IsLegalWith}
 use Rattle.tce_fusion.proofs.Covers.{least_by_cover}
-use Rattle.tce_fusion.specs.declared.plan.Plan.{Plan}
-use Rattle.tce_fusion.specs.Plan.{RowFits, RowsFit}
+use Rattle.tce_nesting.specs.declared.plan.Plan.{Plan}
+use Rattle.tce_nesting.specs.Plan.{RowFits, RowsFit}
 use Rattle.tce_search.specs.declared.candidate.Candidate.{Candidate}
 use Rattle.tce_search.specs.Laws.{rows_of}
 use Rattle.tce_search.specs.CandidateLists.{candidates_at, tables_of, Searched, AreCandidates, AreFound}

@@ -11,10 +11,10 @@ use Rattle.tce_fusion.specs.Relation.{above}
 use Rattle.tce_fusion.specs.Reached as states
 use Rattle.tce_fusion.specs.Row.{Row, leaf_row}
 use Rattle.tce_fusion.proofs.Reached.{leaf_row_is_reached, step_state}
-use Rattle.tce_fusion.proofs.NestingLaws.{joins_tell_steps}
-use Rattle.tce_fusion.specs.declared.choice.Choice.{Choice}
-use Rattle.tce_fusion.specs.Choices.{LeavesSize}
-use Rattle.tce_fusion.proofs.SubsetLists.{dims_within}
+use Rattle.tce_nesting.proofs.NestingLaws.{joins_tell_steps}
+use Rattle.tce_nesting.specs.declared.choice.Choice.{Choice}
+use Rattle.tce_nesting.specs.Choices.{LeavesSize}
+use Rattle.tce_nesting.proofs.SubsetLists.{dims_within}
 use Rattle.tce_search.specs.Reached.{LeavesHaveStates, StepsAreStates}
 
 Contains-fused : (choices : List Choice) (choice : Choice) → Contains choices choice → Contains (map (λ (c : Choice). c.fused) choices) choice.fused

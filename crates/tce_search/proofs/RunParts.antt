@@ -3,8 +3,8 @@ use Rattle.std.proofs.Common.{◌≡◌, ℕ, ◌+◌, ◌<◌, List, [], ◌∷
 use Rattle.std.proofs.lemmas.Bool.{cases_eq}
 use Rattle.std.proofs.lemmas.List.{get_or_append_left, get_or_push, get_or-set_same, get_or-set_other, length-set, length-map, get_or-map}
 use Rattle.tce_fusion.specs.Row.{Row}
-use Rattle.tce_fusion.specs.declared.runs.Run.{Run}
-use Rattle.tce_fusion.specs.Ends.{IsRun, AreRuns}
+use Rattle.tce_nesting.specs.declared.runs.Run.{Run}
+use Rattle.tce_nesting.specs.Ends.{IsRun, AreRuns}
 use Rattle.tce_search.specs.declared.candidate.Candidate.{Candidate}
 use Rattle.tce_search.specs.Laws.{rows_of}
 

@@ -6,9 +6,9 @@ use Rattle.std.proofs.lemmas.List.{get_or-map}
 use Rattle.std.proofs.lemmas.List.Elements.{Contains-push, Contains-append_left, All-contains}
 use Rattle.tce_fusion.specs.Relation.{above}
 use Rattle.tce_fusion.specs.Row.{Row}
-use Rattle.tce_fusion.specs.declared.ends.Ends.{Ends}
-use Rattle.tce_fusion.specs.declared.runs.Run.{Run}
-use Rattle.tce_fusion.specs.Ends.{IsTopOf, AreEnds, IsRun}
+use Rattle.tce_nesting.specs.declared.ends.Ends.{Ends}
+use Rattle.tce_nesting.specs.declared.runs.Run.{Run}
+use Rattle.tce_nesting.specs.Ends.{IsTopOf, AreEnds, IsRun}
 use Rattle.tce_search.specs.declared.candidate.Candidate.{Candidate}
 use Rattle.tce_search.specs.declared.starts.Rights.{Rights}
 use Rattle.tce_search.specs.declared.starts.Starts.{Starts}

@@ -7,13 +7,13 @@ use Rattle.tce_space.specs.Space.{IndexSpace, volume_of}
 use Rattle.tce_tree.specs.ContractionTree.{ContractionTree, node_dims, node_loops}
 use Rattle.tce_fusion.specs.Relation.{above, Allows}
 use Rattle.tce_fusion.specs.Row.{Row, rows_joined, StandsForStep}
-use Rattle.tce_fusion.specs.NestingClasses.{restricted}
-use Rattle.tce_fusion.specs.NestingLaws.{TellsStep}
-use Rattle.tce_fusion.proofs.NestingLaws.{joins_tell_steps}
-use Rattle.tce_fusion.specs.declared.choice.Choice.{Choice}
-use Rattle.tce_fusion.specs.Choices.{AreChoices}
+use Rattle.tce_nesting.specs.Classes.{restricted}
+use Rattle.tce_nesting.specs.Laws.{TellsStep}
+use Rattle.tce_nesting.proofs.NestingLaws.{joins_tell_steps}
+use Rattle.tce_nesting.specs.declared.choice.Choice.{Choice}
+use Rattle.tce_nesting.specs.Choices.{AreChoices}
 use Rattle.tce_search.specs.Steps.{IsRowJoin}
-use Rattle.tce_fusion.proofs.SubsetLists.{dims_within}
+use Rattle.tce_nesting.proofs.SubsetLists.{dims_within}
 use Rattle.tce_search.specs.declared.candidate.Candidate.{Candidate}
 use Rattle.tce_search.specs.Candidates.{Stands}
 use Rattle.tce_search.specs.Laws.{CoveredPairsCoverSteps, rows_of}

@@ -10,7 +10,7 @@ use Rattle.tce_tree.specs.declared.node.Operand.{Operand}
 use Rattle.tce_tree.specs.declared.node.Operand.TheVariants.{Leaf, Constant, Node}
 use Rattle.tce_fusion.specs.Row.{Row, leaf_row, AreApart}
 use Rattle.tce_fusion.specs.Cover.{NodeCovered}
-use Rattle.tce_fusion.specs.Plan.{LiesWithin}
+use Rattle.tce_nesting.specs.Plan.{LiesWithin}
 use Rattle.tce_search.specs.declared.candidate.Candidate.{Candidate}
 use Rattle.tce_search.specs.declared.limits.Limits.{Limits}
 use Rattle.tce_search.specs.Candidates.{IsLimited}

@@ -5,9 +5,9 @@ use Rattle.tce_space.specs.Limits.{cost_limit, max_loops, max_nodes}
 use Rattle.tce_space.specs.IndexSet.{IsWithin, count}
 use Rattle.tce_fusion.specs.Relation.{Relation, above, HasNoConflict}
 use Rattle.tce_fusion.specs.Row.{Row, StandsFor, rows_joined}
-use Rattle.tce_fusion.specs.NestingClasses.{AllowsSet, restricted}
-use Rattle.tce_fusion.specs.Plan.{LiesWithin}
-use Rattle.tce_fusion.specs.declared.choice.Choice.{Choice}
+use Rattle.tce_nesting.specs.Classes.{AllowsSet, restricted}
+use Rattle.tce_nesting.specs.Plan.{LiesWithin}
+use Rattle.tce_nesting.specs.declared.choice.Choice.{Choice}
 use Rattle.tce_search.specs.Steps.{IsRowJoin, IsRestricted}
 use Rattle.tce_search.specs.declared.candidate.Candidate.{Candidate}
 

@@ -3,9 +3,9 @@ use Rattle.std.specs.Prelude.{◌≡◌, ◌⊎◌, ℕ, ◌+◌, ◌<◌, ◌�
 use Rattle.std.specs.List.{All, Contains}
 use Rattle.tce_fusion.specs.Relation.{HasNoConflict}
 use Rattle.tce_fusion.specs.Row.{Row, rows_joined}
-use Rattle.tce_fusion.specs.declared.ends.Ends.{Ends}
-use Rattle.tce_fusion.specs.declared.runs.Run.{Run}
-use Rattle.tce_fusion.specs.Ends.{AreEnds, AreRuns}
+use Rattle.tce_nesting.specs.declared.ends.Ends.{Ends}
+use Rattle.tce_nesting.specs.declared.runs.Run.{Run}
+use Rattle.tce_nesting.specs.Ends.{AreEnds, AreRuns}
 use Rattle.tce_search.specs.declared.starts.Rights.{Rights}
 use Rattle.tce_search.specs.declared.starts.Starts.{Starts}
 use Rattle.tce_search.specs.Laws.{rows_of}

@@ -5,10 +5,10 @@ use Rattle.tce_space.specs.Limits.{max_loops, max_nodes}
 use Rattle.tce_space.specs.IndexSet.{count}
 use Rattle.tce_fusion.specs.Relation.{above, HasNoConflict}
 use Rattle.tce_fusion.specs.Row.{rows_joined}
-use Rattle.tce_fusion.specs.NestingClasses.{AllowsSet, restricted}
-use Rattle.tce_fusion.specs.declared.choice.Choice.{Choice}
-use Rattle.tce_fusion.specs.declared.stretches.Stretch.{Stretch}
-use Rattle.tce_fusion.specs.Stretches.{IsStretch}
+use Rattle.tce_nesting.specs.Classes.{AllowsSet, restricted}
+use Rattle.tce_nesting.specs.declared.choice.Choice.{Choice}
+use Rattle.tce_nesting.specs.declared.stretches.Stretch.{Stretch}
+use Rattle.tce_nesting.specs.Stretches.{IsStretch}
 use Rattle.tce_search.specs.Steps.{IsRowJoin, IsRestricted}
 use Rattle.tce_search.specs.declared.candidate.Candidate.{Candidate}
 use Rattle.tce_search.specs.Candidates.{Stands, StandForAll, IsBoundOf, IsLimited, LeavesRoom}

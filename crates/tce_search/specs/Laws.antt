@@ -5,8 +5,8 @@ use Rattle.tce_tree.specs.ContractionTree.{ContractionTree, operations, node_loo
 use Rattle.tce_fusion.specs.Relation.{HasNoConflict}
 use Rattle.tce_fusion.specs.Row.{Row, rows_joined}
 use Rattle.tce_fusion.specs.Cover.{StepsCovered}
-use Rattle.tce_fusion.specs.declared.choice.Choice.{Choice}
-use Rattle.tce_fusion.specs.Choices.{AreChoices}
+use Rattle.tce_nesting.specs.declared.choice.Choice.{Choice}
+use Rattle.tce_nesting.specs.Choices.{AreChoices}
 use Rattle.tce_search.specs.declared.candidate.Candidate.{Candidate}
 use Rattle.tce_search.specs.Candidates.{PairCovered}
 

@@ -11,8 +11,8 @@ use Rattle.tce_fusion.specs.Scope.{IsLegal, IsStandardAt}
 use Rattle.tce_fusion.specs.Least.{IsLeast}
 use Rattle.tce_fusion.specs.Row.{Row}
 use Rattle.tce_fusion.specs.Cover.{Covers, ArePruned}
-use Rattle.tce_fusion.specs.declared.plan.Plan.{Plan}
-use Rattle.tce_fusion.specs.Plan.{PlanFits}
+use Rattle.tce_nesting.specs.declared.plan.Plan.{Plan}
+use Rattle.tce_nesting.specs.Plan.{PlanFits}
 use Rattle.tce_search.specs.declared.plan.Answer.{Answer}
 use Rattle.tce_search.specs.declared.plan.Answer.TheVariants.{Least, AtLeast}
 

@@ -4,8 +4,8 @@ use Rattle.tce_space.specs.Space.{IndexSpace}
 use Rattle.tce_tree.specs.ContractionTree.{ContractionTree, is_leaf, left_tree, right_tree, operations, node, node_loops}
 use Rattle.tce_fusion.specs.Reached as states
 use Rattle.tce_fusion.specs.Row.{leaf_row}
-use Rattle.tce_fusion.specs.declared.choice.Choice.{Choice}
-use Rattle.tce_fusion.specs.Choices.{AreChoices}
+use Rattle.tce_nesting.specs.declared.choice.Choice.{Choice}
+use Rattle.tce_nesting.specs.Choices.{AreChoices}
 use Rattle.tce_search.specs.declared.candidate.Candidate.{Candidate}
 use Rattle.tce_search.specs.Candidates.{IsStepOf}
 

@@ -2,8 +2,8 @@
 use Rattle.std.specs.Prelude.{◌≡◌, ℕ, ◌+◌}
 use Rattle.tce_fusion.specs.Relation.{above}
 use Rattle.tce_fusion.specs.Row.{Row}
-use Rattle.tce_fusion.specs.NestingClasses.{IsJoinOf, restricted}
-use Rattle.tce_fusion.specs.declared.choice.Choice.{Choice}
+use Rattle.tce_nesting.specs.Classes.{IsJoinOf, restricted}
+use Rattle.tce_nesting.specs.declared.choice.Choice.{Choice}
 
 -- the row of both operand rows together: their classes joined on the loops, and the sum of their costs
 pub record IsRowJoin (loops : ℕ) (left right row : Row) : Type 0 where

@@ -5,7 +5,7 @@ ghost use Rattle.tce_tree.specs.Measure.{IsMeasured};
 
 use crate::limits::Ahead;
 use std::alloc::{AllocError, Global};
-use tce_fusion::{Choice, choices};
+use tce_nesting::{Choice, choices};
 use tce_space::{IndexSet, Space};
 use tce_tree::Tree;
 

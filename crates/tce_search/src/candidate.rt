@@ -4,7 +4,7 @@ ghost use Rattle.tce_space.specs.Limits.{max_nodes};
 ghost use Rattle.tce_search.specs.Candidates.{limit_candidate};
 
 use arrayvec::ArrayVec;
-use tce_fusion::{Nesting, Row};
+use tce_nesting::{Nesting, Row};
 use tce_space::{IndexSet, MAX_NODES};
 
 /// A state of a subtree, with the sets that are fused above its nodes, in their order; or a row without sets, which bounds states.

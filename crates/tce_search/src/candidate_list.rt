@@ -7,11 +7,11 @@ ghost use Rattle.tce_search.specs.Groups.{group_of, AreByCost, StandsAt, TripleS
 
 use crate::candidate::Candidate;
 use crate::groups::{Entry, Groups, key_of};
-use crate::stands_for;
+use crate::steps::stands_for;
 use crate::upper::{marks_of, upper_parts};
 use std::alloc::{AllocError, Global};
 use std::marker::Model;
-use tce_fusion::Row;
+use tce_nesting::Row;
 use tce_space::IndexSet;
 
 // A list has no fewer groups.

@@ -4,7 +4,7 @@ ghost use Rattle.std.specs.Prelude.{IfOk, All, Contains, IsPermutation};
 use crate::candidate::Candidate;
 use crate::ordered::by_ends;
 use std::alloc::{AllocError, Global};
-use tce_fusion::{Row, ends_of};
+use tce_nesting::{Row, ends_of};
 use tce_space::IndexSet;
 
 /// Of a node's candidates those states that cost least, at most so many for each largest upper part on the outer loops, in the order of a table.

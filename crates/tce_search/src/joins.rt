@@ -9,12 +9,12 @@ ghost use Rattle.tce_search.specs.Joins.{IsJoinBelow, IsSomeJoinBelow, JoinCover
 
 use crate::candidate::{Candidate, both_sets};
 use crate::candidate_list::CandidateList;
-use crate::join_rows;
 use crate::runs::runs_of;
 use crate::starts::{Rights, Starts, starts_for, starts_of};
+use crate::steps::join_rows;
 use crate::thinned::thinned;
 use std::alloc::{AllocError, Global};
-use tce_fusion::Ends;
+use tce_nesting::Ends;
 use tce_space::IndexSet;
 
 // Whether two operands' candidates together cost less than the limit.

@@ -2,10 +2,10 @@
 ghost use Rattle.std.specs.Prelude.{ℕ, ◌<◌, ◌≤◌, IfSome, All};
 ghost use Rattle.tce_fusion.specs.Relation.{above};
 ghost use Rattle.tce_fusion.specs.Row.{StandsFor};
-ghost use Rattle.tce_fusion.specs.Plan.{LiesWithin};
+ghost use Rattle.tce_nesting.specs.Plan.{LiesWithin};
 
 use crate::subset_numbers::SubsetNumbers;
-use tce_fusion::{Nesting, Row};
+use tce_nesting::{Nesting, Row};
 use tce_space::IndexSet;
 
 /// What a node and all above it keep together at least, in elements, for each set of its loops that a joined state puts above the others.

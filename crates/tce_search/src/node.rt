@@ -12,7 +12,7 @@ use crate::found::Found;
 use crate::limits::Limits;
 use crate::table::{NodeLoops, candidates_of};
 use std::alloc::{AllocError, Global};
-use tce_fusion::choices;
+use tce_nesting::choices;
 use tce_space::{IndexSet, Space};
 use tce_tree::Tree;
 

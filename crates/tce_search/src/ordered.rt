@@ -3,7 +3,7 @@ ghost use Rattle.std.specs.Prelude.{IfOk, IsPermutation};
 
 use crate::candidate::Candidate;
 use std::alloc::AllocError;
-use tce_fusion::{Row, ends_of};
+use tce_nesting::{Row, ends_of};
 use tce_space::IndexSet;
 
 /// The candidates by their ends on the outer loops, and then by cost.

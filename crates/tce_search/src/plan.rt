@@ -20,7 +20,8 @@ use crate::pass::look_ahead;
 use crate::root::least_fusion;
 use arrayvec::ArrayVec;
 use std::alloc::{AllocError, Global};
-use tce_fusion::{Plan, Tables, memory, size_of, standard_orders};
+use tce_fusion::{memory, size_of, standard_orders};
+use tce_nesting::{Plan, Tables};
 use tce_space::{MAX_NODES, Space};
 use tce_tree::{Fusion, Tree};
 

@@ -1,11 +1,11 @@
 // Runs of neighbours with the same ends, which are ruled out together.
 ghost use Rattle.std.specs.Prelude.{IfOk};
-ghost use Rattle.tce_fusion.specs.Ends.{AreRuns};
+ghost use Rattle.tce_nesting.specs.Ends.{AreRuns};
 ghost use Rattle.tce_search.specs.Laws.{rows_of};
 
 use crate::candidate::Candidate;
 use std::alloc::{AllocError, Global};
-use tce_fusion::Run;
+use tce_nesting::Run;
 use tce_space::IndexSet;
 
 /// For each candidate the longest run from it on.

@@ -4,7 +4,7 @@ ghost use Rattle.tce_search.specs.Ends.{KnowsRuns, IsRuledOut, AreStarts, AreFor
 
 use crate::candidate::Candidate;
 use std::alloc::{AllocError, Global};
-use tce_fusion::{Ends, Row, Run, ends_of, have_conflict};
+use tce_nesting::{Ends, Row, Run, ends_of, have_conflict};
 use tce_space::IndexSet;
 
 /// The right operand's candidates, for each the longest run from it on, and the limit of what is joined.

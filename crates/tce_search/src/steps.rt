@@ -4,10 +4,10 @@ ghost use Rattle.tce_space.specs.Limits.{cost_limit, max_loops};
 ghost use Rattle.tce_space.specs.IndexSet.{count};
 ghost use Rattle.tce_fusion.specs.Relation.{above, HasNoConflict};
 ghost use Rattle.tce_fusion.specs.Row.{rows_joined, StandsFor};
-ghost use Rattle.tce_fusion.specs.NestingClasses.{AllowsSet};
+ghost use Rattle.tce_nesting.specs.Classes.{AllowsSet};
 ghost use Rattle.tce_search.specs.Steps.{IsRowJoin, IsRestricted};
 
-use tce_fusion::{Choice, Nesting, Row};
+use tce_nesting::{Choice, Nesting, Row};
 use tce_space::IndexSet;
 
 /// The two rows of a node's operands together: their classes joined on the node's loops, at most ten, and the sum of their costs. `None` exactly where they conflict.

@@ -2,7 +2,7 @@
 ghost use Rattle.std.specs.Prelude.{◌⊎◌, ◌<◌, IfOk, OnOk, IfSome, IsSome, All, AllPairs, Any, Contains};
 ghost use Rattle.tce_space.specs.Limits.{cost_limit};
 ghost use Rattle.tce_fusion.specs.Relation.{above, none};
-ghost use Rattle.tce_fusion.specs.NestingClasses.{AllowsSet};
+ghost use Rattle.tce_nesting.specs.Classes.{AllowsSet};
 ghost use Rattle.tce_search.specs.Candidates.{Stands, AreApart, AreOperands, ChoiceCovered, PairCovered, IsReachedOrBound, IsSmall};
 ghost use Rattle.tce_search.specs.Joins.{IsNewStep, IsSomeStepFrom, IsStepOrBound, StandsForStep, Grows, HasNext, KnowsStretches};
 
@@ -11,11 +11,11 @@ use crate::candidate_list::CandidateList;
 use crate::joins::joins_of;
 use crate::limits::{Limits, bound_of};
 use crate::ordered::by_ends;
-use crate::step;
+use crate::steps::step;
 use crate::thinned::thinned;
 use arrayvec::ArrayVec;
 use std::alloc::{AllocError, Global};
-use tce_fusion::{Choice, MAX_CHOICES, Stretch, allows_none, stretches_of};
+use tce_nesting::{Choice, MAX_CHOICES, Stretch, allows_none, stretches_of};
 use tce_space::IndexSet;
 
 // The choices of a node, its loops, and from which cost on steps are of no use.

@@ -5,7 +5,7 @@ ghost use Rattle.tce_fusion.specs.Relation.{above};
 ghost use Rattle.tce_search.specs.Parts.{IsUpperPart, AreMarksOf};
 
 use arrayvec::ArrayVec;
-use tce_fusion::Nesting;
+use tce_nesting::Nesting;
 use tce_space::IndexSet;
 
 // The greatest prime for which all remainders are indexes.

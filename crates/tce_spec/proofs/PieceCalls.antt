@@ -6,7 +6,7 @@ use Rattle.tce_tree.specs.FlatTree.{first_number_of}
 use Rattle.tce_tree.proofs.Nodes.{size_bounds}
 use Rattle.tce_space.specs.Space.{IndexSpace}
 use Rattle.tce_spec.specs.Declarations.{Tensor, IsTensor}
-use Rattle.tce_pieces.specs.Pieces.{Cuts, except, piece, rest_of}
+use Rattle.tce_spec.specs.Pieces.{Cuts, except, piece, rest_of}
 
 pub is_node : (e tree part : ContractionTree) (w v : ℕ) → part ≡ node e w → e ≡ tree → w ≡ v → part ≡ node tree v
 is_node e tree part w v p q r = p ∙ ap₂ node q r

@@ -5,7 +5,7 @@ use Rattle.std.proofs.lemmas.Bool.{cases_Bool, or_cases, false≢true}
 use Rattle.std.proofs.lemmas.Map.Keys.{IsDistinct-push}
 use Rattle.std.proofs.lemmas.Map.Steps.{length-le_from_distinct_below}
 use Rattle.tce_tree.specs.ContractionTree.{ContractionTree, leaf, constant, binary, sum, operations}
-use Rattle.tce_pieces.specs.Pieces.{Cuts, stored, unless_cut, rest_of}
+use Rattle.tce_spec.specs.Pieces.{Cuts, stored, unless_cut, rest_of}
 use Rattle.tce_spec.specs.Operands.{references, with_new, each_once}
 use Rattle.tce_spec.proofs.Seen.{eqb_laws}
 

@@ -21,9 +21,9 @@ use Rattle.tce_tree.proofs.Lists.{all-among}
 use Rattle.tce_tree.proofs.Members.{dims_lt}
 use Rattle.tce_tree.proofs.NamedIndexes.{dims_below, indexes_below-node, all_below}
 use Rattle.tce_spec.specs.Declarations.{Declarations, Tensor, IsTensor, IsDeclarations, HaveNames, tensor_at, no_tensor}
-use Rattle.tce_pieces.specs.Pieces.{stored}
-use Rattle.tce_pieces.specs.Storable.{ranges_of_node, shape_of_node, has_room, storable}
-use Rattle.tce_pieces.proofs.Places.{member_is}
+use Rattle.tce_spec.specs.Pieces.{stored}
+use Rattle.tce_spec.specs.Storable.{ranges_of_node, shape_of_node, has_room, storable}
+use Rattle.tce_spec.proofs.CutPlaces.{member_is}
 use Rattle.tce_spec.specs.Specification.{Specification}
 use Rattle.tce_spec.specs.PieceSpecification.{array_of, source}
 use Rattle.tce_spec.proofs.PieceSources.{source_stored, source_declared}

@@ -9,7 +9,7 @@ use Rattle.tce_tree.specs.ContractionTree.{ContractionTree, Arithmetic, leaf, co
 use Rattle.tce_tree.specs.FlatTree.{first_number_of}
 use Rattle.tce_tree.proofs.Nodes.{node-root, node-right_at, size_bounds}
 use Rattle.tce_tree.proofs.Operands.{Stands, stands-node, stands-left, stands-right, stands-operand}
-use Rattle.tce_pieces.specs.Pieces.{Cuts, reference_to, unless_cut, rest_of}
+use Rattle.tce_spec.specs.Pieces.{Cuts, reference_to, unless_cut, rest_of}
 use Rattle.tce_spec.specs.PieceSpecification.{renumbered}
 use Rattle.tce_spec.specs.PieceCode.{StandsAt, with_operands}
 

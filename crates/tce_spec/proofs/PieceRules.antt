@@ -18,9 +18,9 @@ use Rattle.tce_tree.proofs.Operands.{stands-node}
 use Rattle.tce_tree.proofs.Permutations.{distinct-members}
 use Rattle.tce_spec.specs.Declarations.{Tensor, IsTensor, IsDeclarations, HaveNames, tensor_at, no_tensor}
 use Rattle.tce_spec.specs.Contraction.{LeavesFit, IsContraction}
-use Rattle.tce_pieces.specs.Pieces.{Cuts, stored, except, piece}
-use Rattle.tce_pieces.specs.Storable.{storable}
-use Rattle.tce_pieces.proofs.Rest.{dims_rest}
+use Rattle.tce_spec.specs.Pieces.{Cuts, stored, except, piece}
+use Rattle.tce_spec.specs.Storable.{storable}
+use Rattle.tce_spec.proofs.CutRest.{dims_rest}
 use Rattle.tce_spec.specs.Specification.{Specification, IsSpecification, ConstantsAreWords}
 use Rattle.tce_spec.specs.Operands.{references}
 use Rattle.tce_spec.specs.PieceSpecification.{CanCut, array_of, source, sources, target, target_indexes, place_in, piece_of}

@@ -13,7 +13,7 @@ use Rattle.tce_tree.proofs.Nodes.{node-left, node-right_at, node-operand, node-r
 use Rattle.tce_tree.proofs.Operands.{Stands, stands-left, stands-right, stands-operand}
 use Rattle.tce_spec.specs.Declarations.{Declarations, Tensor, tensor_at, no_tensor}
 use Rattle.tce_spec.specs.Contraction.{FitsTensor, LeavesFit, has_tensor}
-use Rattle.tce_pieces.specs.Pieces.{Cuts, stored, unless_cut, rest_of, except}
+use Rattle.tce_spec.specs.Pieces.{Cuts, stored, unless_cut, rest_of, except}
 use Rattle.tce_spec.specs.Specification.{Specification}
 use Rattle.tce_spec.specs.Operands.{references, with_new, each_once}
 use Rattle.tce_spec.specs.PieceSpecification.{array_of, source, place_in, renumbered}

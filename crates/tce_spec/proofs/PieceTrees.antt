@@ -10,8 +10,8 @@ use Rattle.tce_tree.proofs.Members.{dims_lt}
 use Rattle.tce_tree.proofs.NamedIndexes.{dims_below}
 use Rattle.tce_tree.proofs.Nodes.{node-left, node-right_at, node-operand, node-root}
 use Rattle.tce_spec.specs.Contraction.{sums_some}
-use Rattle.tce_pieces.specs.Pieces.{Cuts, unless_cut, rest_of}
-use Rattle.tce_pieces.proofs.Places.{member_is}
+use Rattle.tce_spec.specs.Pieces.{Cuts, unless_cut, rest_of}
+use Rattle.tce_spec.proofs.CutPlaces.{member_is}
 use Rattle.tce_spec.specs.Specification.{ConstantsAreWords}
 use Rattle.tce_spec.specs.PieceSpecification.{renumbered}
 

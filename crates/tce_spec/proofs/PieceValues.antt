@@ -5,8 +5,8 @@ use Rattle.tce_base.specs.Word.{word}
 use Rattle.tce_tree.specs.ContractionTree.{ContractionTree, leaf, constant, binary, sum}
 use Rattle.tce_tree.specs.Value.{Assignment, with_number, Elements, arithmetic, sum_below, sum_over, value}
 use Rattle.tce_tree.proofs.Values.{sum_below-same}
-use Rattle.tce_pieces.specs.Pieces.{Cuts, piece}
-use Rattle.tce_pieces.proofs.Values.{piece_has_value}
+use Rattle.tce_spec.specs.Pieces.{Cuts, piece}
+use Rattle.tce_spec.proofs.CutValues.{piece_has_value}
 use Rattle.tce_spec.specs.Specification.{Specification}
 use Rattle.tce_spec.specs.Operands.{references}
 use Rattle.tce_spec.specs.PieceSpecification.{sources, place_in, renumbered, piece_of}

@@ -1,3 +1,12 @@
+pub mod Canonical
+pub mod RoundTrip
+pub mod Statements
+pub mod Lines
+pub mod Expressions
+pub mod Pieces
+pub mod Storable
+pub mod CutLaws
+pub mod CutExamples
 pub mod Places
 pub mod PlaceFaults
 pub mod Meaning

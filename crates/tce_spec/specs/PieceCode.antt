@@ -6,7 +6,7 @@ use Rattle.tce_space.specs.Limits.{max_rank, max_tensors}
 use Rattle.tce_space.specs.IndexSet.{count, has}
 use Rattle.tce_tree.specs.ContractionTree.{ContractionTree, leaf, constant, binary, sum, subtract, operations, node, node_dims}
 use Rattle.tce_spec.specs.Declarations.{IsTensor, Declarations}
-use Rattle.tce_pieces.specs.Pieces.{Cuts, stored, except, rest_of}
+use Rattle.tce_spec.specs.Pieces.{Cuts, stored, except, rest_of}
 use Rattle.tce_spec.specs.Specification.{Specification}
 use Rattle.tce_spec.specs.PieceSpecification.{source, renumbered, place_in}
 use Rattle.tce_tree.specs.Expr.{tree_of}

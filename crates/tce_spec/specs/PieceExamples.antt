@@ -5,7 +5,7 @@ use Rattle.tce_tree.specs.Examples.{two_sums}
 use Rattle.tce_space.specs.Space.{IndexSpace, Range, Index}
 use Rattle.tce_spec.specs.Declarations.{Tensor}
 use Rattle.tce_spec.specs.Specification.{Specification}
-use Rattle.tce_pieces.specs.Examples.{cut_at}
+use Rattle.tce_spec.specs.CutExamples.{cut_at}
 use Rattle.tce_spec.specs.PieceSpecification.{piece_of}
 
 abbrev pub range_of : List ℕ → ℕ → Range

@@ -4,8 +4,8 @@ use Rattle.tce_space.specs.Limits.{max_indexes, max_tensors}
 use Rattle.tce_tree.specs.ContractionTree.{operations, node, node_dims}
 use Rattle.tce_tree.specs.WellFormed.{indexes_below}
 use Rattle.tce_tree.specs.Value.{Assignment, Elements, IsInExtents, value}
-use Rattle.tce_pieces.specs.Pieces.{Cuts, piece, tensors_below}
-use Rattle.tce_pieces.specs.Laws.{HoldNodes}
+use Rattle.tce_spec.specs.Pieces.{Cuts, piece, tensors_below}
+use Rattle.tce_spec.specs.CutLaws.{HoldNodes}
 use Rattle.tce_spec.specs.Specification.{Specification}
 use Rattle.tce_spec.specs.PieceSpecification.{sources, piece_of}
 

@@ -5,8 +5,8 @@ use Rattle.tce_space.specs.Limits.{max_tensors}
 use Rattle.tce_space.specs.IndexSet.{members}
 use Rattle.tce_tree.specs.ContractionTree.{ContractionTree, leaf, constant, binary, sum, operations, node_dims}
 use Rattle.tce_spec.specs.Declarations.{Tensor, tensor_at, Declarations}
-use Rattle.tce_pieces.specs.Pieces.{Cuts, is_root, piece}
-use Rattle.tce_pieces.specs.Storable.{ranges_of_node, storable}
+use Rattle.tce_spec.specs.Pieces.{Cuts, is_root, piece}
+use Rattle.tce_spec.specs.Storable.{ranges_of_node, storable}
 use Rattle.tce_spec.specs.Specification.{Specification}
 use Rattle.tce_spec.specs.Operands.{references, each_once}
 

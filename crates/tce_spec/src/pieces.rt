@@ -6,7 +6,7 @@ ghost use Rattle.tce_space.specs.IndexSet.{has, count};
 ghost use Rattle.tce_tree.specs.Expr.{tree_of};
 ghost use Rattle.tce_tree.specs.ContractionTree.{leaf, sum, operations, node, node_dims};
 ghost use Rattle.tce_spec.specs.Declarations.{HaveNames};
-ghost use Rattle.tce_pieces.specs.Pieces as model;
+ghost use Rattle.tce_spec.specs.Pieces as model;
 ghost use Rattle.tce_spec.specs.PieceSpecification.{CanCut, piece_of, renumbered, place_in, target_indexes};
 ghost use Rattle.tce_spec.specs.PieceCode.{StandsAt, HaveRank, target_number, cuts_below, IsRestOf, IsRenumbered, IsJoined, with_operands, specification_to};
 ghost use Rattle.tce_spec.specs.Specification.{ConstantsAreWords};

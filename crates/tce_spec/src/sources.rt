@@ -9,7 +9,7 @@ ghost use Rattle.tce_tree.specs.Expr.{tree_of};
 ghost use Rattle.tce_tree.specs.ContractionTree.{operations, node_dims};
 ghost use Rattle.tce_tree.specs.Measure.{IsMeasured};
 ghost use Rattle.tce_spec.specs.Declarations.{IsTensor, tensor_number};
-ghost use Rattle.tce_pieces.specs.Storable.{ranges_of_node};
+ghost use Rattle.tce_spec.specs.Storable.{ranges_of_node};
 ghost use Rattle.tce_spec.specs.PieceSpecification.{source, declared_of};
 ghost use Rattle.tce_spec.specs.PieceCode.{IsSource, CanDeclare};
 ghost use Rattle.tce_spec.specs.Operands.{references, each_once};

@@ -7,3 +7,16 @@ pub mod Renumbered
 pub mod NodeSets
 pub mod Ranges
 pub mod PiecePlans
+pub mod Roots
+pub mod PieceReads
+pub mod Sources
+pub mod Values
+pub mod Reports
+pub mod Afforded
+pub mod Ended
+pub mod Causes
+pub mod RunTurns
+pub mod Others
+pub mod Ready
+pub mod PlannedRuns
+pub mod Spared

@@ -10,8 +10,8 @@ use Rattle.tce_tree.proofs.Lists.{same_truth}
 use Rattle.tce_tree.proofs.Nodes.{size_bounds}
 use Rattle.tce_tree.proofs.Operands.{Stands, stands-node, stands-left, stands-right, stands-operand}
 use Rattle.tce_tree.proofs.Parents.{subtree_is, subtree_from}
-use Rattle.tce_pieces.specs.Pieces.{Cuts, unless_cut, rest_of, except, piece, is_root, IsRootOver}
-use Rattle.tce_pieces.specs.Storable.{storable}
+use Rattle.tce_spec.specs.Pieces.{Cuts, unless_cut, rest_of, except, piece, is_root, IsRootOver}
+use Rattle.tce_spec.specs.Storable.{storable}
 use Rattle.tce_spill.specs.Parts.{FitsMemory}
 use Rattle.tce_spill.specs.CutsFor.{AreStorable, MeetLimit, JoinMeetsLimit, in_turn, AreCutsFor}
 use Rattle.tce_spill.specs.Laws.{AreAmong}

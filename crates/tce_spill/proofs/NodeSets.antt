@@ -5,7 +5,7 @@ use Rattle.std.proofs.lemmas.Nat.Bits.{bit_at-pow_same, bit_at-pow_other}
 use lib.Pow.{pow-lt}
 use Rattle.tce_space.specs.IndexSet.{has, minus}
 use Rattle.tce_space.proofs.IndexSetLaws.{has-or, has-minus}
-use Rattle.tce_pieces.specs.Pieces.{except}
+use Rattle.tce_spec.specs.Pieces.{except}
 
 one_shl : (v : ℕ) → v < 32 → 1 * 2 ^ v % 2 ^ 32 ≡ 2 ^ v
 one_shl v low = rw one-mul (mod-eq_of_lt (pow-lt low))

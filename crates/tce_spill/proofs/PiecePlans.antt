@@ -8,15 +8,15 @@ use Rattle.std.proofs.Math.Seq.{get_or-append_seam}
 use Rattle.tce_space.specs.IndexSet.{has}
 use Rattle.tce_space.specs.Space.{IndexSpace}
 use Rattle.tce_tree.specs.ContractionTree.{ContractionTree, operations}
-use Rattle.tce_fusion.specs.declared.plan.Plan.{Plan}
+use Rattle.tce_nesting.specs.declared.plan.Plan.{Plan}
 use Rattle.tce_search.specs.LeastPlan.{IsLeastPlan}
-use Rattle.tce_pieces.specs.Pieces.{Cuts, except, piece, is_root, IsRootOver}
+use Rattle.tce_spec.specs.Pieces.{Cuts, except, piece, is_root, IsRootOver}
 use Rattle.tce_spec.specs.Specification.{Specification}
 use Rattle.tce_spec.specs.Operands.{references, each_once}
 use Rattle.tce_spec.specs.PieceSpecification.{renumbered, place_in}
 use Rattle.tce_spill.specs.InTurn.{AreDecided}
 use Rattle.tce_spill.specs.Planned.{IsAbove, IsWithoutRows, IsLeastButRows, IsPlanOfPiece, IsPlanned, HasPlan, HavePlansBelow, HavePlans, ArePlanned}
-use Rattle.tce_spill.specs.Refusals.{HasLeastMemory}
+use Rattle.tce_spill.specs.CutRefusals.{HasLeastMemory}
 use Rattle.tce_spill.specs.declared.planned.PlannedCuts.{PlannedCuts}
 use Rattle.tce_spill.proofs.Pieces.{except_is, root_some, root_itself}
 use Rattle.tce_spill.proofs.Limits.{other_piece}

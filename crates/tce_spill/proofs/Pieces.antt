@@ -11,8 +11,8 @@ use Rattle.tce_tree.proofs.Members.{dims_lt}
 use Rattle.tce_tree.proofs.Nodes.{size, size_bounds, size_nested, node-root}
 use Rattle.tce_tree.proofs.Operands.{Stands, stands-node, stands-left, stands-right, stands-operand}
 use Rattle.tce_tree.proofs.Parents.{subtree_is, subtree_from, find-range_some, find-range_finds}
-use Rattle.tce_pieces.specs.Pieces.{Cuts, unless_cut, rest_of, except, piece, is_root, IsRootOver}
-use Rattle.tce_pieces.proofs.Rest.{dims_rest}
+use Rattle.tce_spec.specs.Pieces.{Cuts, unless_cut, rest_of, except, piece, is_root, IsRootOver}
+use Rattle.tce_spec.proofs.CutRest.{dims_rest}
 use Rattle.tce_spill.specs.Parts.{IsRest, IsPart, FitsMemory}
 use Rattle.tce_spill.specs.Laws.{AreAmong}
 use Rattle.tce_spill.proofs.Parts.{parts_take_no_more}

@@ -9,7 +9,7 @@ use Rattle.tce_space.specs.Space.{IndexSpace}
 use Rattle.tce_space.proofs.IndexSetLaws.{range_more}
 use Rattle.tce_space.proofs.Ranges.{filter_one}
 use Rattle.tce_tree.specs.ContractionTree.{ContractionTree, operations, node_dims}
-use Rattle.tce_pieces.specs.Storable.{shape_of_node, has_room, storable}
+use Rattle.tce_spec.specs.Storable.{shape_of_node, has_room, storable}
 
 -- the members below a number, with one number more
 filter-more : (p : ℕ → Bool) (n : ℕ) → filter p (range_with_len 0 (n + 1)) ≡ filter p (range_with_len 0 n) ++ cond (p n) (n ∷ []) []

@@ -10,14 +10,14 @@ use Rattle.tce_tree.specs.ContractionTree.{ContractionTree, leaf, constant, bina
 use Rattle.tce_tree.specs.Fusion.{fused_at, kept_dims, FusionFits}
 use Rattle.tce_tree.specs.Memory.{size_at, size_before, memory}
 use Rattle.tce_fusion.specs.Scope.{differ, on_path, scope, IsSubset, AreDisjoint, IsLegal}
-use Rattle.tce_pieces.specs.Pieces.{Cuts, piece}
-use Rattle.tce_fusion.specs.declared.plan.Plan.{Plan}
+use Rattle.tce_spec.specs.Pieces.{Cuts, piece}
+use Rattle.tce_nesting.specs.declared.plan.Plan.{Plan}
 use Rattle.tce_search.specs.LeastPlan.{IsLeastPlan, IsExceeded}
 use Rattle.tce_spec.specs.Specification.{Specification}
 use Rattle.tce_spec.specs.PieceSpecification.{renumbered, sources, place_in, piece_of}
 use Rattle.tce_spill.specs.Laws.{HaveSameFusions}
 use Rattle.tce_spill.specs.Planned.{IsAbove}
-use Rattle.tce_spill.specs.Refusals.{HasLeastMemory}
+use Rattle.tce_spill.specs.CutRefusals.{HasLeastMemory}
 
 -- ---- trees whose nodes have the same indexes
 

@@ -7,15 +7,15 @@ use Rattle.tce_space.specs.Space.{IndexSpace}
 use Rattle.tce_tree.specs.ContractionTree.{ContractionTree, operations, parent}
 use Rattle.tce_tree.proofs.Nodes.{size_nested}
 use Rattle.tce_tree.proofs.Parents.{parent_is, subtree_is, subtree_from}
-use Rattle.tce_pieces.specs.Pieces.{Cuts, except, piece, is_root, IsRootOver}
-use Rattle.tce_pieces.specs.Storable.{storable}
+use Rattle.tce_spec.specs.Pieces.{Cuts, except, piece, is_root, IsRootOver}
+use Rattle.tce_spec.specs.Storable.{storable}
 use Rattle.tce_spec.specs.Specification.{Specification}
 use Rattle.tce_spill.specs.Parts.{FitsMemory}
 use Rattle.tce_spill.specs.CutsFor.{MeetLimit, JoinMeetsLimit, in_turn, AreCutsFor}
 use Rattle.tce_spill.specs.InTurn.{AllAreCut, AreDecided, FitBefore}
 use Rattle.tce_spill.specs.Planned.{IsAbove}
 use Rattle.tce_spec.specs.PieceSpecification.{CanCut}
-use Rattle.tce_spill.specs.Refusals.{HasLeastMemory, IsTooLarge, IsCutFault, IsFree}
+use Rattle.tce_spill.specs.CutRefusals.{HasLeastMemory, IsTooLarge, IsCutFault, IsFree}
 use Rattle.tce_spill.specs.declared.fault.SpillFault.{SpillFault}
 use Rattle.tce_spill.specs.declared.fault.SpillFault.TheVariants.{TooManyTensors, LimitTooSmall, BudgetTooSmall, Array, Disk, Memory}
 use Rattle.tce_spill.proofs.Pieces.{except_is}

@@ -2,8 +2,8 @@
 use Rattle.std.specs.Prelude.{◌≡◌, ℕ, ◌<◌, false, nat_lt, if◌then◌else◌, IsTrue}
 use Rattle.tce_space.specs.Space.{IndexSpace}
 use Rattle.tce_tree.specs.ContractionTree.{ContractionTree, operations}
-use Rattle.tce_pieces.specs.Pieces.{Cuts, except, piece, is_root, IsRootOver}
-use Rattle.tce_pieces.specs.Storable.{storable}
+use Rattle.tce_spec.specs.Pieces.{Cuts, except, piece, is_root, IsRootOver}
+use Rattle.tce_spec.specs.Storable.{storable}
 use Rattle.tce_spill.specs.Parts.{FitsMemory}
 
 -- only storable nodes are cut

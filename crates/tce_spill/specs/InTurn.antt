@@ -2,8 +2,8 @@
 use Rattle.std.specs.Prelude.{◌≡◌, ℕ, ◌<◌, ◌≤◌, false, IsTrue}
 use Rattle.tce_space.specs.Space.{IndexSpace}
 use Rattle.tce_tree.specs.ContractionTree.{ContractionTree}
-use Rattle.tce_pieces.specs.Pieces.{Cuts, piece, is_root}
-use Rattle.tce_pieces.specs.Storable.{storable}
+use Rattle.tce_spec.specs.Pieces.{Cuts, piece, is_root}
+use Rattle.tce_spec.specs.Storable.{storable}
 use Rattle.tce_spill.specs.Parts.{FitsMemory}
 use Rattle.tce_spill.specs.CutsFor.{MeetLimit, JoinMeetsLimit, in_turn}
 

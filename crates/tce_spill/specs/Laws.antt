@@ -5,7 +5,7 @@ use Rattle.tce_tree.specs.ContractionTree.{ContractionTree, operations}
 use Rattle.tce_tree.specs.Fusion.{FusionFits}
 use Rattle.tce_tree.specs.Memory.{memory}
 use Rattle.tce_fusion.specs.Scope.{IsLegal}
-use Rattle.tce_pieces.specs.Pieces.{Cuts, piece, IsRootOver}
+use Rattle.tce_spec.specs.Pieces.{Cuts, piece, IsRootOver}
 use Rattle.tce_spec.specs.PieceSpecification.{renumbered}
 use Rattle.tce_spill.specs.Parts.{IsPart, FitsMemory}
 use Rattle.tce_spill.specs.CutsFor.{AreStorable, MeetLimit, JoinMeetsLimit, AreCutsFor}

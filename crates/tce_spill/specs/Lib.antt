@@ -2,5 +2,10 @@ pub mod Parts
 pub mod CutsFor
 pub mod InTurn
 pub mod Laws
-pub mod Refusals
+pub mod CutRefusals
 pub mod Planned
+pub mod PieceRuns
+pub mod Values
+pub mod Reports
+pub mod RunRefusals
+pub mod Left

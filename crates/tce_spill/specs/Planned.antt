@@ -3,9 +3,9 @@ use Rattle.std.specs.Prelude.{◌≡◌, ℕ, ◌<◌, ◌≤◌, IsTrue, IsSome
 use Rattle.tce_space.specs.IndexSet.{has}
 use Rattle.tce_space.specs.Space.{IndexSpace}
 use Rattle.tce_tree.specs.ContractionTree.{ContractionTree, operations}
-use Rattle.tce_fusion.specs.declared.plan.Plan.{Plan}
+use Rattle.tce_nesting.specs.declared.plan.Plan.{Plan}
 use Rattle.tce_search.specs.LeastPlan.{IsLeastPlan}
-use Rattle.tce_pieces.specs.Pieces.{Cuts, piece, is_root}
+use Rattle.tce_spec.specs.Pieces.{Cuts, piece, is_root}
 use Rattle.tce_spec.specs.Specification.{Specification}
 use Rattle.tce_spec.specs.PieceSpecification.{piece_of}
 use Rattle.tce_spill.specs.Parts.{FitsMemory}

@@ -2,7 +2,7 @@
 ghost use Rattle.std.specs.Prelude.{◌≡◌, ℕ, ◌<◌, ◌||◌, ◌==◌};
 ghost use Rattle.tce_space.specs.Limits.{max_nodes};
 ghost use Rattle.tce_space.specs.IndexSet.{has};
-ghost use Rattle.tce_pieces.specs.Pieces.{except};
+ghost use Rattle.tce_spec.specs.Pieces.{except};
 
 /// Whether a node is in the set.
 pub(crate) fn has_node(nodes: u32, v: u8) -> bool

@@ -4,7 +4,7 @@ ghost use Rattle.tce_search.specs.LeastPlan.{IsExceeded};
 ghost use Rattle.tce_spill.specs.Planned.{IsWithoutRows, IsLeastButRows};
 
 use std::alloc::{AllocError, Global};
-use tce_fusion::{Plan, Tables};
+use tce_nesting::{Plan, Tables};
 use tce_search::{search, search_within};
 use tce_spec::Spec;
 

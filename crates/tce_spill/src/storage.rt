@@ -4,7 +4,7 @@ ghost use Rattle.tce_space.specs.IndexSet.{count, members};
 ghost use Rattle.tce_space.specs.Space.{IsDeclared, index_at, tiling_of};
 ghost use Rattle.tce_tree.specs.ContractionTree.{operations};
 ghost use Rattle.tce_tree.specs.Measure.{IsMeasured};
-ghost use Rattle.tce_pieces.specs.Storable as store;
+ghost use Rattle.tce_spec.specs.Storable as store;
 
 use arrayvec::ArrayVec;
 use tce_space::{IndexSet, MAX_INDEXES, MAX_RANK, Space};

@@ -1,2 +1,5 @@
+pub mod Pieces
+pub mod Seen
+pub mod Zeros
 pub mod Counted
 pub mod Tables

@@ -18,3 +18,4 @@ pub mod Zeros
 pub mod NoHalf
 pub mod Apart
 pub mod Faults
+pub mod NewFiles

@@ -5,7 +5,7 @@
 //! file has them tile by tile behind a head, as `tce_array` says. Elements move between files in bands: at most 32,768
 //! that follow each other in row-major order, and that stand in an array file in pieces of one length at equal distances.
 //! The buffers are of fixed length, so a call needs no memory of its own, however large the files are. Other crates read and
-//! write runs of words by [`read_words`], [`write_words`] and [`write_start`].
+//! write runs of words by [`read_words`], [`write_words`] and [`write_start`], and whole files by [`write_file`].
 #![tactic(auto)]
 
 mod band;
@@ -21,6 +21,7 @@ mod shuffle;
 mod storage;
 mod sum;
 mod transfer;
+mod writing;
 
 pub use band::{Band, LONGEST_BAND, band_at};
 pub use banding::write_band;
@@ -33,3 +34,4 @@ pub use run::{coords_at, is_row_major};
 pub use storage::{ElementFile, Storage, write_start};
 pub use sum::cell_sum;
 pub use transfer::{read_words, write_words};
+pub use writing::write_file;

@@ -18,15 +18,15 @@ use Rattle.tce_command.specs.declared.trouble.EinsumTrouble.TheVariants as einsu
 use Rattle.tce_command.specs.declared.status.Status.{Status}
 use Rattle.tce_command.specs.declared.status.Status.TheVariants.{Done, SpecRefused, EinsumRefused, DiskFault, SinkFault, WantOfMemory}
 use Rattle.tce_spec.specs.Specification.{Specification as Specified}
-use Rattle.tce_batch_job.specs.Reports.{HasRun}
+use Rattle.tce_batch.specs.Reports.{HasRun}
 use Rattle.tce_job.specs.Several.{HasTakenEach}
 use Rattle.tce_tree.specs.ContractionTree.{operations}
-use Rattle.tce_sequence.specs.SpillDone.{IsSpillRun, IsSpillTaking}
+use Rattle.tce_run.specs.SpillDone.{IsSpillRun, IsSpillTaking}
 use Rattle.tce_command.proofs.Outcomes.{not_both, one_refusal as one_source_refusal}
 use Rattle.tce_run.proofs.Reasons as runs
-use Rattle.tce_sequence.proofs.BatchReasons as batches
-use Rattle.tce_sequence.proofs.SpillReasons as spills
-use Rattle.tce_certify.proofs.OneEinsum as einsum_answers
+use Rattle.tce_run.proofs.BatchReasons as batches
+use Rattle.tce_run.proofs.SpillReasons as spills
+use Rattle.tce_plan.proofs.OneEinsum as einsum_answers
 use Rattle.tce_plan.proofs.OneVerification as verifications
 use Rattle.tce_tools.specs.Answers.{HasFlat, HasArray, HasFitting}
 use Rattle.tce_flat.specs.Tensors.{array_file, sym_file}

@@ -5,7 +5,7 @@ use Rattle.tce_outside.specs.Files.{Files, holding, with_file}
 use Rattle.tce_outside.specs.Fault.{Rose}
 use Rattle.tce_outside.proofs.Files.{file-with_file}
 use Rattle.tce_space.specs.Space.{IndexSpace}
-use Rattle.tce_canonical.specs.Canonical.{canonical_of}
+use Rattle.tce_spec.specs.Canonical.{canonical_of}
 use Rattle.tce_command.specs.Source.{Specifies}
 use Rattle.tce_command.specs.Command.{Command, run, batch, spill, plan, cert, check, pack, unpack, convert, expand, einsum, demo, IsCommand}
 use Rattle.tce_command.specs.Report.{LineNames, NamesNoIndex, NamesNothing, cert_line, ending_of, line_over, trouble_of}
@@ -27,7 +27,7 @@ use Rattle.tce_command.proofs.Commands.{one_command}
 use Rattle.tce_top.specs.Outcome.{AreNamed, IsDemonstration, IsPartOfBatch, IsPartOfSpill, IsTensorOf, IsWholeBatch, IsWholeEinsum, IsWholeRun, IsWholeSpill}
 use Rattle.tce_job.specs.Several.{files_after}
 use Rattle.tce_tree.specs.ContractionTree.{operations}
-use Rattle.tce_spill_job.specs.Pieces.{pieces_below}
+use Rattle.tce_spill.specs.PieceRuns.{pieces_below}
 use Rattle.tce_top.proofs.Joined.{Kept, free_fault}
 use Rattle.tce_top.proofs.Expansions.{words_tensor}
 

@@ -12,12 +12,12 @@ use Rattle.tce_command.specs.declared.command_refusal.CommandRefusal.{CommandRef
 use Rattle.tce_command.specs.declared.command_refusal.CommandRefusal.TheVariants.{Common}
 use Rattle.tce_run.specs.Done.{IsRoomLeft, IsRun, IsTaking, OnlyResultDiffers}
 use Rattle.tce_run.specs.Refusals.{IsRunRefusalIfTold}
-use Rattle.tce_sequence.specs.BatchDone.{IsBatchLeft, IsBatchRoomLeft, IsBatchRun, OnlyBatchDiffers}
-use Rattle.tce_sequence.specs.BatchRefusals.{IsBatchRefusal}
-use Rattle.tce_sequence.specs.SpillDone.{IsSpillLeft, IsSpillRoomLeft, IsSpillRun, OnlyPiecesDiffer}
-use Rattle.tce_sequence.specs.SpillRefusals.{IsSpillRefusal}
-use Rattle.tce_demo.specs.Files.{DemoOthersStay, found}
-use Rattle.tce_demo.specs.Done.{IsDemonstrated, IsDemoTaking, LeavesDemonstration, LeavesDemoRoom}
+use Rattle.tce_run.specs.BatchDone.{IsBatchLeft, IsBatchRoomLeft, IsBatchRun, OnlyBatchDiffers}
+use Rattle.tce_run.specs.BatchRefusals.{IsBatchRefusal}
+use Rattle.tce_run.specs.SpillDone.{IsSpillLeft, IsSpillRoomLeft, IsSpillRun, OnlyPiecesDiffer}
+use Rattle.tce_run.specs.SpillRefusals.{IsSpillRefusal}
+use Rattle.tce_run.specs.DemoFiles.{DemoOthersStay, found}
+use Rattle.tce_run.specs.DemoDone.{IsDemonstrated, IsDemoTaking, LeavesDemonstration, LeavesDemoRoom}
 use Rattle.tce_top.specs.Performed.{Carries, Seen}
 use Rattle.tce_top.proofs.Carried.{Performs, carried, cause_as, of_err, of_ok, told_as}
 

@@ -3,7 +3,7 @@ use Rattle.std.specs.Prelude.{◌≡◌, ℕ, List, Option, Some}
 use Rattle.std.specs.Option.{IsSomeAnd}
 use Rattle.tce_outside.specs.Files.{Files}
 use Rattle.tce_command.specs.Command.{NamesSpec, NamesCertificate}
-use Rattle.tce_certify.specs.Done.{IsCertified}
+use Rattle.tce_plan.specs.CertificateDone.{IsCertified}
 use Rattle.tce_plan.specs.VerificationDone.{CanVerify}
 
 -- the certificate that is written for a specification can be verified for it, and has the same plan

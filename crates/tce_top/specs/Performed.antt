@@ -15,24 +15,24 @@ use Rattle.tce_command.specs.declared.command_refusal.CommandRefusal.{CommandRef
 use Rattle.tce_command.specs.declared.command_refusal.CommandRefusal.TheVariants.{Common, Certificate}
 use Rattle.tce_run.specs.Done.{IsRun, IsTaking, OnlyResultDiffers}
 use Rattle.tce_run.specs.Refusals.{CanRunFile, IsRunRefusal}
-use Rattle.tce_sequence.specs.BatchDone.{IsBatchLeft, IsBatchRun, IsBatchTaking, IsCutOff, OnlyBatchDiffers}
-use Rattle.tce_sequence.specs.BatchRefusals.{CanRunBatch, IsBatchRefusal}
-use Rattle.tce_sequence.specs.SpillDone.{IsCutOffInPiece, IsSpillLeft, IsSpillRun, IsSpillTaking, OnlyPiecesDiffer}
-use Rattle.tce_sequence.specs.SpillRefusals.{CanSpill, IsSpillRefusal}
+use Rattle.tce_run.specs.BatchDone.{IsBatchLeft, IsBatchRun, IsBatchTaking, IsCutOff, OnlyBatchDiffers}
+use Rattle.tce_run.specs.BatchRefusals.{CanRunBatch, IsBatchRefusal}
+use Rattle.tce_run.specs.SpillDone.{IsCutOffInPiece, IsSpillLeft, IsSpillRun, IsSpillTaking, OnlyPiecesDiffer}
+use Rattle.tce_run.specs.SpillRefusals.{CanSpill, IsSpillRefusal}
 use Rattle.tce_plan.specs.Done.{IsPlanned}
 use Rattle.tce_plan.specs.Refusals.{CanPlan, IsPlanRefusal}
-use Rattle.tce_certify.specs.Done.{IsCertified}
-use Rattle.tce_certify.specs.Refusals.{CanCertify, IsCertifyRefusal}
-use Rattle.tce_certify.specs.EinsumDone.{IsEinsumWritten}
-use Rattle.tce_certify.specs.EinsumRefusals.{CanWriteEinsum, IsEinsumRefusal}
+use Rattle.tce_plan.specs.CertificateDone.{IsCertified}
+use Rattle.tce_plan.specs.CertificateRefusals.{CanCertify, IsCertifyRefusal}
+use Rattle.tce_plan.specs.EinsumDone.{IsEinsumWritten}
+use Rattle.tce_plan.specs.EinsumRefusals.{CanWriteEinsum, IsEinsumRefusal}
 use Rattle.tce_plan.specs.VerificationDone.{CanVerify, IsVerified}
 use Rattle.tce_plan.specs.VerificationRefusals.{IsVerifyRefusal}
 use Rattle.tce_flat.specs.Tensors.{array_file, converted_file}
 use Rattle.tce_flat.specs.Refusals.{CanPack, CanUnpack, CanConvert, CanExpand, IsPackRefusal, IsUnpackRefusal, IsConvertRefusal, IsExpandRefusal}
 use Rattle.tce_flat.specs.Done.{IsPacked, IsUnpacked, IsConverted, IsExpanded}
 use Rattle.tce_flat.specs.NoHalf.{LeavesFor, LeavesPacking, LeavesUnpacking, LeavesConverting, LeavesExpanding}
-use Rattle.tce_demo.specs.Files.{DemoOthersStay}
-use Rattle.tce_demo.specs.Done.{IsDemonstrated, IsDemoTaking, LeavesDemonstration}
+use Rattle.tce_run.specs.DemoFiles.{DemoOthersStay}
+use Rattle.tce_run.specs.DemoDone.{IsDemonstrated, IsDemoTaking, LeavesDemonstration}
 
 -- the disk has all that the command needs; an einsum needs its words alone, and a demonstration nothing
 abbrev pub CanDo : Files → Command → Type 0

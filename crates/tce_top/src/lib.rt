@@ -17,7 +17,7 @@ pub use tce_array::ArrayFault;
 pub use tce_cert::CertFault;
 pub use tce_check::Verdict;
 pub use tce_command::{CertTrouble, EinsumTrouble, SpillTrouble, Status, SymTrouble};
-pub use tce_fusion::Nesting;
+pub use tce_nesting::Nesting;
 pub use tce_space::{FileName, IndexSet, Name};
 pub use tce_spec::{Limit, SpecFault};
 pub use tce_tree::TreeFault;

@@ -5,14 +5,11 @@ ghost use Rattle.tce_command.specs.CommandCode.{command_of};
 ghost use Rattle.tce_top.specs.Performed.{Carries, Finishes, Refuses, seen};
 
 use std::alloc::Global;
-use tce_certify::{certify, write_einsum};
 use tce_command::{Command, CommandRefusal, Refusal};
-use tce_demo::demo;
 use tce_flat::{convert, expand, pack, unpack};
 use tce_outside::Disk;
-use tce_plan::{plan, verify};
-use tce_run::run;
-use tce_sequence::{run_all, spill};
+use tce_plan::{certify, plan, verify, write_einsum};
+use tce_run::{demo, run, run_all, spill};
 use tce_words::Room;
 
 /// Does what a command says, and gives its report.

@@ -1,14 +1,13 @@
 // The program over what the system gives it: the words of its command line and the files of the current folder.
-use crate::tce;
+use crate::top::tce;
 use std::alloc::{AllocError, Global};
 use std::env::{self, Args};
 use std::fs::File;
 use std::io::ErrorKind;
 use std::process::ExitCode;
 use std::rt::{Env, Files};
-use tce_holes::SparseDisk;
 use tce_outside::Sink;
-use tce_system::FileDisk;
+use tce_system::{FileDisk, SparseDisk};
 use tce_words::HeapRoom;
 
 /// The words behind the program's name. Where the system does not give them as text there are none, which are no command.

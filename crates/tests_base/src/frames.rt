@@ -1,7 +1,7 @@
 ghost use Rattle.std.specs.Prelude.{◌≡◌, ◌<◌, length, Some, None};
-ghost use Rattle.tce_frames.specs.Held.{Held, look_up};
+ghost use Rattle.tce_cache.specs.Held.{Held, look_up};
 
-use tce_frames::Table;
+use tce_cache::Table;
 
 // Makes a tile the one used last, as a cache does, and answers its frame.
 fn use_tile(table: &mut Table, array: u8, tile: u64, mark: bool) -> usize

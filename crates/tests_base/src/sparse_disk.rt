@@ -4,8 +4,8 @@ ghost use Rattle.tce_outside.specs.Files.{HasPart};
 
 use std::alloc::Global;
 use std::process::Abort;
-use tce_holes::SparseDisk;
 use tce_outside::{Disk, FaultyDisk, MemDisk};
+use tce_system::SparseDisk;
 
 // Whether the part of a file with this length lies inside it.
 fn has_part(disk: &SparseDisk<FaultyDisk>, name: &str, at: u64, len: usize) -> bool

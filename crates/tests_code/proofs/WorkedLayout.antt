@@ -4,8 +4,8 @@ use Rattle.tce_space.specs.IndexSet.{has, union, minus, with_index, members, vol
 use Rattle.tce_tree.specs.ContractionTree.{node, node_dims}
 use Rattle.tce_tree.specs.Fusion.{kept_dims}
 use Rattle.tce_tree.specs.Memory.{size_at, size_before}
-use Rattle.tce_code.specs.Layout.{step_of}
-use Rattle.tce_code.specs.LayoutExamples.{WorkedSlots}
+use Rattle.tce_layout.specs.Layout.{step_of}
+use Rattle.tce_layout.specs.Examples.{WorkedSlots}
 
 pub worked_slots : WorkedSlots
 unfolding has union minus with_index members volume node node_dims kept_dims size_at size_before step_of

@@ -5,7 +5,7 @@ ghost use Rattle.tce_search.specs.Candidates.{HaveRoom, IsLimited, IsSmall, Leav
 use arrayvec::ArrayVec;
 use std::alloc::Global;
 use std::process::Abort;
-use tce_fusion::{Choice, Nesting, Row, subsets};
+use tce_nesting::{Choice, Nesting, Row, subsets};
 use tce_search::{Ahead, Candidate, Limits, NodeLoops, candidates_of};
 use tce_space::IndexSet;
 

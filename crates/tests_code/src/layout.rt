@@ -1,14 +1,14 @@
 //! Worked slots of two trees: `(sum{k}(A[i,k])) * (sum{l}(B[j,l]))`, and a sum of three products in three steps.
 ghost use Rattle.tce_tree.specs.Measure.{IsMeasured};
-ghost use Rattle.tce_code.specs.LayoutExamples.{WorkedSlots};
+ghost use Rattle.tce_layout.specs.Examples.{WorkedSlots};
 
 use crate::given::{
     declare_all, fusion, leaf, new_space, product, short_space, three_sums, tree_over, two_sums,
 };
 use std::alloc::Global;
 use std::process::Abort;
-use tce_code::{Layout, Slot, lay_out};
 use tce_fusion::memory;
+use tce_layout::{Layout, Slot, lay_out};
 use tce_space::{MAX_INDEXES, Space};
 use tce_tree::Tree;
 

@@ -7,7 +7,7 @@ use crate::given::{fusion, orders, set, short_space, tree_over, two_sums};
 use arrayvec::ArrayVec;
 use std::alloc::Global;
 use std::process::Abort;
-use tce_fusion::{
+use tce_nesting::{
     Nesting, Plan, Row, Tables, choices, coarser_is_preorder, joins_tell_steps,
     nestings_are_their_relations, restrictions_cut, subsets,
 };

@@ -6,15 +6,13 @@ use crate::given::new_space;
 use arrayvec::ArrayVec;
 use std::alloc::Global;
 use std::process::Abort;
-use tce_code::Slot;
 use tce_exec::{
-    blocks_stay_in_tiles, changes_keep_cells, slot_window, slots_show_nodes, slots_show_words,
-    tile_window, tiles_show_nodes, tiles_show_words, touched_tiles_stay, turns_stay_in_one_tile,
-    windows_are_apart,
+    Window, blocks_stay_in_tiles, changes_keep_cells, coordinates_of, slot_window,
+    slots_show_nodes, slots_show_words, tile_window, tiles_show_nodes, tiles_show_words,
+    touched_tiles_stay, turns_stay_in_one_tile, windows_are_apart,
 };
+use tce_layout::Slot;
 use tce_space::{MAX_INDEXES, Name, Numbers, Shape, Space, is_name};
-use tce_windows::Window;
-use tce_workspace::coordinates_of;
 
 // These numbers for indexes 0 and 1, and 0 for the others.
 fn two(first: u64, second: u64) -> Numbers

@@ -1,10 +1,10 @@
 //! Elements, worked by hand.
-use tce_space::{MAX_INDEXES, Numbers, Shape};
-use tce_workspace::{
+use tce_exec::{
     ElementPlace, cleared_slots_are_cleared, coordinates_of, place_of_element,
     places_have_their_words, puts_change_one_place, slots_lead_to_places,
     tile_puts_change_one_place, touched_tiles_show_elements, touches_keep_states,
 };
+use tce_space::{MAX_INDEXES, Numbers, Shape};
 
 // Numbers of which that of index 2 is 1, that of index 3 is 4, and those of the others are 9.
 fn numbers() -> Numbers {

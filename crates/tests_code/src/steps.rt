@@ -1,7 +1,7 @@
 //! The steps of `(sum{k}(A[i,k])) * (sum{l}(B[j,l]))` with i of extent 5, j of 7, k and l of 2. The numbers of i, j, k and l are 0 to 3.
 
 use std::process::Abort;
-use tce_fusion::{Choice, Row};
+use tce_nesting::{Choice, Row};
 use tce_search::{is_stood_for, join_rows, stands_for, step};
 use tce_space::IndexSet;
 

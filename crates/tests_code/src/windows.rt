@@ -4,10 +4,10 @@ ghost use Rattle.tce_space.specs.Limits.{max_indexes};
 
 use std::alloc::Global;
 use std::process::Abort;
-use tce_space::Arithmetic;
-use tce_windows::{
-    BlockLoops, LoopSequence, OperandWindows, Window, compute, grow, grow_by_products, laws,
+use tce_exec::{
+    BlockLoops, LoopSequence, OperandWindows, Window, compute, grow, grow_by_products, loop_laws,
 };
+use tce_space::Arithmetic;
 use tce_words::{HeapRoom, Room, Words};
 
 // The loops of a product of matrices: rows, columns and what is between them.

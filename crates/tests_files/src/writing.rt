@@ -3,7 +3,7 @@
 use crate::given::{expect_file, put_file};
 use std::process::Abort;
 use tce_outside::{FaultyDisk, MemDisk, OutFault};
-use tce_writing::write_file;
+use tce_tools::write_file;
 
 fn expect_written(rt: &impl Abort, disk: &mut MemDisk, name: &str, bytes: &[u8]) {
     assert!(rt; write_file(disk, name, bytes).is_ok());

@@ -4,8 +4,7 @@ use crate::given::{joined, part, put};
 use std::alloc::Global;
 use std::process::Abort;
 use std::test::Fail;
-use tce_canonical::print_lines;
-use tce_spec::{Head, read_formula, read_head};
+use tce_spec::{Head, print_lines, read_formula, read_head};
 
 /// Five lines of declarations.
 const DECLARED: &[u8] = b"range N 2\nindex N i j k\ntensor A[N]\ntensor B[N]\ntensor C[N]\n";

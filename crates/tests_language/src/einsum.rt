@@ -3,9 +3,8 @@
 use crate::given::{numbered, part, put, words_of_limit};
 use std::alloc::Global;
 use std::process::Abort;
-use tce_canonical::print_spec;
 use tce_einsum::{EinsumFault, from_einsum};
-use tce_spec::{Spec, SpecFault};
+use tce_spec::{Spec, SpecFault, print_spec};
 
 // The fault of a produced text in words, with its line.
 fn words_of_spec(fault: &SpecFault) -> (&'static str, u64) {

@@ -1,8 +1,7 @@
 //! Texts that were written by hand, read, printed and read again.
 
 use std::alloc::Global;
-use tce_canonical::{print_spec, read_back};
-use tce_spec::{SpecFault, read_spec};
+use tce_spec::{SpecFault, print_spec, read_back, read_spec};
 
 /// The canonical text of what came back from the canonical text of what a text specifies.
 fn printed_twice(alloc: Global, text: &[u8]) -> Result<Vec<u8>, SpecFault> {

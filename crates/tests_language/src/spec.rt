@@ -3,8 +3,7 @@
 use crate::given::{expect_text, joined, part, put, told_fault, with_feeds};
 use std::alloc::Global;
 use std::process::Abort;
-use tce_canonical::print_spec;
-use tce_spec::{Spec, read_spec};
+use tce_spec::{Spec, print_spec, read_spec};
 
 /// The outer product of two vectors: six lines.
 const OUTER: &[u8] =

@@ -4,8 +4,8 @@ use Rattle.std.specs.Fmt.{digits}
 use Rattle.tce_space.specs.IndexSet.{has, union, minus, with_index, members}
 use Rattle.tce_tree.specs.ContractionTree.{node, node_dims}
 use Rattle.tce_tree.specs.FlatTree.{first_number_of}
-use Rattle.tce_pieces.specs.Pieces.{piece}
-use Rattle.tce_pieces.specs.Examples.{WorkedPieces}
+use Rattle.tce_spec.specs.Pieces.{piece}
+use Rattle.tce_spec.specs.CutExamples.{WorkedPieces}
 use Rattle.tce_spec.specs.PieceExamples.{WorkedSpecifications}
 
 pub worked_pieces : WorkedPieces

@@ -3,7 +3,7 @@ use crate::given::{TWO_SUMS, plan_of, spec_of};
 use std::alloc::Global;
 use std::process::Abort;
 use tce_cert::{CertFault, read_cert, write_cert};
-use tce_fusion::Plan;
+use tce_nesting::Plan;
 use tce_spec::Spec;
 
 const CERTIFICATE: &[u8] =

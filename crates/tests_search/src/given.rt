@@ -3,7 +3,7 @@
 use arrayvec::ArrayVec;
 use std::alloc::Global;
 use std::process::Abort;
-use tce_fusion::{Nesting, Plan, Row, Tables};
+use tce_nesting::{Nesting, Plan, Row, Tables};
 use tce_space::{IndexSet, LoopOrder};
 use tce_spec::{Spec, read_spec};
 use tce_tree::{Fusion, Orders};

@@ -1,5 +1,5 @@
 //! Worked pieces, and nodes that may be stored.
-ghost use Rattle.tce_pieces.specs.Examples as worked;
+ghost use Rattle.tce_spec.specs.CutExamples as worked;
 ghost use Rattle.tce_spec.specs.PieceExamples as whole;
 
 use std::alloc::Global;

@@ -4,7 +4,7 @@
 use crate::given::{TWO_SUMS, order, plan_of, set, spec_of};
 use std::alloc::Global;
 use std::process::Abort;
-use tce_cert::{LineFault, NodeLine, node_line, plan_text, read_node_line, run_text};
+use tce_report::{LineFault, NodeLine, node_line, plan_text, read_node_line, run_text};
 use tce_space::FileName;
 use tce_spec::Spec;
 

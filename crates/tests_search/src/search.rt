@@ -3,7 +3,7 @@
 use crate::given::{TWO_SUMS, number, part, set, spec_of};
 use std::alloc::Global;
 use std::process::Abort;
-use tce_fusion::{Plan, Row};
+use tce_nesting::{Plan, Row};
 use tce_search::{search, search_within};
 
 // a to f of extent 3000, i to l of extent 100.

@@ -6,7 +6,7 @@ use std::alloc::Global;
 use std::process::Abort;
 use std::test::Fail;
 use tce_command::{ArrayTrouble, CertFlaw, CommandRefusal, Refusal, finish, refuse, refuse_words};
-use tce_fusion::Nesting;
+use tce_nesting::Nesting;
 use tce_outside::MemSink;
 use tce_space::{IndexSet, Name, Space};
 use tce_spec::{Limit, SpecFault};

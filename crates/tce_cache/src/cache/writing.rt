@@ -2,7 +2,7 @@
 ghost use Rattle.std.specs.Prelude.{◌≡◌, ◌+◌, ◌^◌, ◌<◌, ◌≤◌, length, IfOk, OnOk, IsErr, IsTrue};
 ghost use Rattle.std.specs.Option.{ForSome};
 ghost use Rattle.tce_outside.specs.Fault.{HasCause, TellsFaults};
-ghost use Rattle.tce_frames.specs.Frames.{HasTile, IsCleaned};
+ghost use Rattle.tce_cache.specs.Frames.{HasTile, IsCleaned};
 
 use super::Cache;
 use crate::transfer::{Span, write_words};

@@ -12,7 +12,7 @@ use std::test::Fail;
 use tce_job::{Bytes, run_job};
 use tce_outside::MemDisk;
 use tce_spec::read_spec;
-use tce_spill_job::run_spill;
+use tce_spill::run_spill;
 use tce_words::HeapRoom;
 
 const DECLARED: &str =

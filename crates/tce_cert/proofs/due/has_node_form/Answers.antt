@@ -1,6 +1,6 @@
 use Rattle.std.proofs.Common.{◌<◌, arith, refl}
 use Rattle.tce_tree.specs.ContractionTree.{operations}
-use Rattle.tce_cert.specs.ReadLine.{said}
+use Rattle.tce_report.specs.ReadLine.{said}
 use Rattle.tce_cert.proofs.DueLines.{says_form}
 use Rattle.tce_cert.proofs.due.has_node_form.Goals as goal
 

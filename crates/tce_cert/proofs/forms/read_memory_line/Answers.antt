@@ -1,7 +1,7 @@
 use Rattle.std.proofs.Common.{Some, codes}
 use Rattle.std.proofs.lemmas.Bool.Decides.{Decides-eqb}
 use Rattle.std.proofs.lemmas.Slice.Eq.{strip_prefix_is}
-use Rattle.tce_fusion.proofs.Classes.{iff_trans}
+use Rattle.tce_nesting.proofs.Classes.{iff_trans}
 use Rattle.tce_cert.proofs.Stated.{memory_stated}
 use Rattle.tce_cert.proofs.forms.read_memory_line.Goals as goal
 

@@ -3,8 +3,8 @@ use Rattle.std.proofs.Common.{◌≡◌, ℕ, ◌<◌, List, ◌∷◌, ◌++◌
 use Rattle.std.specs.List.{All}
 use Rattle.std.proofs.lemmas.List.{take_all}
 use Rattle.tce_space.specs.Space.{index_at}
-use Rattle.tce_cert.specs.Names.{index_list}
-use Rattle.tce_cert.proofs.Lists.{name_pushed}
+use Rattle.tce_report.specs.Names.{index_list}
+use Rattle.tce_report.proofs.Lists.{name_pushed}
 use Rattle.tce_cert.proofs.Sets.{holds_of_tail}
 use Rattle.tce_cert.proofs.names.push_names.Goals as goal
 

@@ -1,5 +1,5 @@
 use Rattle.std.proofs.Common.{◌≡◌, ◌++◌, ◌∷◌, get_or, take}
-use Rattle.tce_cert.specs.Names.{index_list}
+use Rattle.tce_report.specs.Names.{index_list}
 use Rattle.tce_cert.proofs.names.push_names.Given as goal
 
 abbrev pub invariant-loop-index : goal.invariant-loop-index

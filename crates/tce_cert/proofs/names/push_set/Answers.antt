@@ -1,7 +1,7 @@
 use Rattle.std.proofs.Common.{◌≡◌, ◌<◌, ◌++◌, length, All, ◌∙◌, sym, subst}
 use Rattle.std.specs.Result.{OnOk}
-use Rattle.tce_cert.specs.Names.{index_list}
-use Rattle.tce_cert.specs.NodeLine.{set_text}
+use Rattle.tce_report.specs.Names.{index_list}
+use Rattle.tce_report.specs.NodeLine.{set_text}
 use Rattle.tce_cert.proofs.Sets.{members_declared}
 use Rattle.tce_cert.proofs.names.push_set.Goals as goal
 

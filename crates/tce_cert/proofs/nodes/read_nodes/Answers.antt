@@ -1,7 +1,7 @@
 use Rattle.std.proofs.Common.{◌≡◌, ◌<◌, ◌+◌, ◌-◌, length, arith}
 use Rattle.std.proofs.lemmas.Result.{err_from_is_err_and}
 use Rattle.tce_tree.specs.ContractionTree.{operations}
-use Rattle.tce_cert.specs.ReadLine.{said}
+use Rattle.tce_report.specs.ReadLine.{said}
 use Rattle.tce_cert.proofs.NodeRuns.{inner_node, root_node, keeps_node, keeps_root, node_fault, root_fault}
 use Rattle.tce_cert.proofs.nodes.read_nodes.Goals as goal
 

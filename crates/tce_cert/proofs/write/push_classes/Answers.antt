@@ -2,7 +2,7 @@ use Rattle.std.proofs.lemmas.Result.{err_from_is_err_and}
 use Rattle.std.proofs.Common.{◌∷◌, ◌++◌, get_or, sym, ap, ◌∙◌, subst, arith}
 use Rattle.std.specs.List.{All}
 use Rattle.std.proofs.lemmas.List.{take_all}
-use Rattle.tce_cert.specs.NodeLine.{set_text}
+use Rattle.tce_report.specs.NodeLine.{set_text}
 use Rattle.tce_cert.specs.Lines.{classes_text}
 use Rattle.tce_space.specs.Space.{IsDeclared}
 use Rattle.tce_cert.proofs.Sets.{class_pushed, holds_of_tail}

@@ -1,7 +1,7 @@
 use Rattle.std.proofs.lemmas.Result.{err_from_is_err_and}
 use Rattle.std.proofs.Common.{◌≡◌, ◌++◌, ap, ◌∙◌, arith}
 use Rattle.tce_tree.specs.ContractionTree.{operations}
-use Rattle.tce_cert.specs.NodeLine.{node_line, stated}
+use Rattle.tce_report.specs.NodeLine.{node_line, stated}
 use Rattle.tce_cert.specs.Certificate.{text_of, nodes_lines}
 use Rattle.tce_cert.proofs.Texts.{node_pushed}
 use Rattle.tce_cert.proofs.write.push_nodes.Goals as goal

@@ -1,6 +1,6 @@
 use Rattle.std.proofs.Common.{◌+◌, ◌<◌, length, arith, sym, subst}
-use Rattle.tce_fusion.specs.Ends.{IsRun}
-use Rattle.tce_fusion.proofs.RunParts.{run_alone}
+use Rattle.tce_nesting.specs.Ends.{IsRun}
+use Rattle.tce_nesting.proofs.RunParts.{run_alone}
 use Rattle.tce_check.proofs.runs.run_from.Goals as goal
 
 pub returns-then-place-rows : goal.returns-then-place-rows

@@ -1,7 +1,7 @@
 use Rattle.std.proofs.Common.{◌≡◌, ℕ, ◌+◌, ◌<◌, ◌≤◌, ◌^◌, All, Some, None, ◌∙◌, sym, subst, arith}
 use Rattle.tce_tree.specs.ContractionTree.{operations}
-use Rattle.tce_fusion.specs.Choices.{AreChoices}
-use Rattle.tce_fusion.specs.declared.choice.Choice.{Choice}
+use Rattle.tce_nesting.specs.Choices.{AreChoices}
+use Rattle.tce_nesting.specs.declared.choice.Choice.{Choice}
 use Rattle.tce_check.specs.declared.steps.Step.{Step}
 use Rattle.tce_check.proofs.FromTables.{match_map, covers_at, fails_at}
 use Rattle.tce_check.proofs.Reaches.{reaches_are}

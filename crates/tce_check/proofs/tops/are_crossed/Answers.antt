@@ -2,9 +2,9 @@ use Rattle.std.proofs.Common.{◌+◌, arith, drop, sym, subst}
 use Rattle.std.proofs.lemmas.Bool.{both_ways}
 use Rattle.tce_fusion.specs.Relation.{above}
 use Rattle.tce_fusion.specs.Row.{Row}
-use Rattle.tce_fusion.specs.Ends.{IsTopOf}
-use Rattle.tce_fusion.proofs.Classes.{drop-item}
-use Rattle.tce_fusion.proofs.NestingTops.{IsReached, reached_further, reached_is_top, tops_do_not_cross}
+use Rattle.tce_nesting.specs.Ends.{IsTopOf}
+use Rattle.tce_nesting.proofs.Classes.{drop-item}
+use Rattle.tce_nesting.proofs.Tops.{IsReached, reached_further, reached_is_top, tops_do_not_cross}
 use Rattle.tce_check.proofs.tops.are_crossed.Goals as goal
 
 pub loop-class-preserved : goal.loop-class-preserved

@@ -1,5 +1,5 @@
 use Rattle.std.proofs.Common.{drop}
-use Rattle.tce_fusion.proofs.NestingTops.{IsReached}
+use Rattle.tce_nesting.proofs.Tops.{IsReached}
 use Rattle.tce_check.proofs.tops.are_crossed.Given as goal
 
 abbrev pub invariant-loop-class : goal.invariant-loop-class

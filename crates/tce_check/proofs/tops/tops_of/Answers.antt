@@ -4,9 +4,9 @@ use Rattle.std.proofs.lemmas.List.{length_push}
 use Rattle.std.proofs.lemmas.List.Elements.{All-push, All-same}
 use Rattle.tce_fusion.specs.Relation.{above}
 use Rattle.tce_fusion.specs.Row.{Row}
-use Rattle.tce_fusion.specs.Ends.{IsTopOf}
-use Rattle.tce_fusion.proofs.Classes.{drop-item}
-use Rattle.tce_fusion.proofs.NestingTops.{IsReached, reached_further, reached_is_top}
+use Rattle.tce_nesting.specs.Ends.{IsTopOf}
+use Rattle.tce_nesting.proofs.Classes.{drop-item}
+use Rattle.tce_nesting.proofs.Tops.{IsReached, reached_further, reached_is_top}
 use Rattle.tce_check.specs.Tops.{AreTops}
 use Rattle.tce_check.proofs.tops.tops_of.Goals as goal
 

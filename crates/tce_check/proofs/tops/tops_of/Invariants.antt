@@ -1,8 +1,8 @@
 use Rattle.std.proofs.Common.{◌≡◌, drop, length}
 use Rattle.std.specs.List.{All}
 use Rattle.tce_fusion.specs.Relation.{above}
-use Rattle.tce_fusion.specs.Ends.{IsTopOf}
-use Rattle.tce_fusion.proofs.NestingTops.{IsReached}
+use Rattle.tce_nesting.specs.Ends.{IsTopOf}
+use Rattle.tce_nesting.proofs.Tops.{IsReached}
 use Rattle.tce_check.proofs.tops.tops_of.Given as goal
 
 abbrev pub invariant-loop-class : goal.invariant-loop-class

@@ -1,6 +1,6 @@
 use Rattle.std.proofs.Common.{arith, get_or, subst, sym}
 use Rattle.tce_space.specs.Space.{IsDeclared}
-use Rattle.tce_cert.proofs.Lists.{longer_by_one}
+use Rattle.tce_report.proofs.Lists.{longer_by_one}
 use Rattle.tce_cert.proofs.Sets.{class_pushed, holds_of_tail}
 use Rattle.tce_command.proofs.trouble_line.push_classes.Goals as goal
 

@@ -1,6 +1,6 @@
 use Rattle.std.proofs.Common.{◌<◌, ◌++◌, length, All, ◌∙◌, sym, ap, subst}
-use Rattle.tce_cert.specs.Names.{index_list}
-use Rattle.tce_cert.specs.NodeLine.{set_text}
+use Rattle.tce_report.specs.Names.{index_list}
+use Rattle.tce_report.specs.NodeLine.{set_text}
 use Rattle.tce_cert.proofs.Sets.{members_declared}
 use Rattle.tce_command.proofs.trouble_line.push_set.Goals as goal
 

@@ -2,7 +2,7 @@ use Rattle.std.proofs.Common.{ap, ◌∙◌, arith}
 use Rattle.std.proofs.lemmas.List.{length-map}
 use Rattle.tce_grammar.specs.Tokens.{word}
 use Rattle.tce_grammar.specs.Printed.{with_token}
-use Rattle.tce_canonical.proofs.Groups.{group_more}
+use Rattle.tce_spec.proofs.Groups.{group_more}
 use Rattle.tce_einsum.specs.Code as code
 use Rattle.tce_einsum.specs.Produced as produced
 use Rattle.tce_einsum.proofs.IndexLines.{index_name}

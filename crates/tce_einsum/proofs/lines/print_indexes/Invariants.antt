@@ -1,6 +1,6 @@
 use Rattle.std.proofs.Common.{◌≡◌, ◌≤◌, ◌-◌, length, map, drop}
-use Rattle.tce_canonical.specs.Statements.{groups}
-use Rattle.tce_canonical.specs.Lines.{with_lines}
+use Rattle.tce_spec.specs.Statements.{groups}
+use Rattle.tce_spec.specs.Lines.{with_lines}
 use Rattle.tce_einsum.specs.Code as code
 use Rattle.tce_einsum.specs.Produced as produced
 use Rattle.tce_einsum.proofs.lines.print_indexes.Given as goal

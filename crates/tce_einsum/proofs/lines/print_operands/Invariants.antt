@@ -1,6 +1,6 @@
 use Rattle.std.proofs.Common.{◌≡◌, ◌+◌, length}
 use Rattle.tce_fields.specs.Reading.{texts}
-use Rattle.tce_canonical.specs.Lines.{with_lines}
+use Rattle.tce_spec.specs.Lines.{with_lines}
 use Rattle.tce_einsum.specs.Code as code
 use Rattle.tce_einsum.specs.Entries.{numbered}
 use Rattle.tce_einsum.specs.Produced as produced

@@ -1,5 +1,5 @@
 use Rattle.std.proofs.Common.{◌≡◌, ◌+◌, length}
-use Rattle.tce_canonical.specs.Lines.{with_lines}
+use Rattle.tce_spec.specs.Lines.{with_lines}
 use Rattle.tce_einsum.specs.Entries.{numbered}
 use Rattle.tce_einsum.specs.Produced as produced
 use Rattle.tce_einsum.specs.ProducedCode.{tileds}

@@ -1,7 +1,7 @@
 use Rattle.std.proofs.Common.{List, ◌∙◌}
 use Rattle.std.proofs.lemmas.Result.{on_ok_weaker, IfOk-from_err}
 use Rattle.tce_fields.specs.Reading.{texts}
-use Rattle.tce_canonical.specs.Lines.{with_line, with_lines}
+use Rattle.tce_spec.specs.Lines.{with_line, with_lines}
 use Rattle.tce_einsum.specs.Text as text
 use Rattle.tce_einsum.specs.Code as code
 use Rattle.tce_einsum.specs.Entries.{numbered}

@@ -1,7 +1,7 @@
 use Rattle.std.proofs.Common.{List, length, ap, sym, ◌∙◌}
 use Rattle.std.proofs.lemmas.List.{length-map}
 use Rattle.std.proofs.lemmas.Result.{IfOk-from_err}
-use Rattle.tce_canonical.specs.Lines.{with_line}
+use Rattle.tce_spec.specs.Lines.{with_line}
 use Rattle.tce_einsum.specs.Text as text
 use Rattle.tce_einsum.specs.Path as path
 use Rattle.tce_einsum.specs.Code as code

@@ -5,8 +5,8 @@ use Rattle.tce_tree.specs.Value.{Assignment}
 use Rattle.tce_block.specs.Cuts.{part_of}
 use Rattle.tce_block.specs.Parts.{Part}
 use Rattle.tce_walk.specs.Machine.{assignment_of}
-use Rattle.tce_workspace.specs.Workspace.{Workspace}
-use Rattle.tce_workspace.specs.Storages.{work_of}
+use Rattle.tce_exec.specs.Workspace.{Workspace}
+use Rattle.tce_exec.specs.Storages.{work_of}
 use Rattle.tce_exec.specs.TailBlocks.{IsAtBlock}
 use Rattle.tce_exec.proofs.Turning.{block_loops}
 use Rattle.tce_exec.proofs.Asking.{node_at_first}

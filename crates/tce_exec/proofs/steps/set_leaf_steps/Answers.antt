@@ -3,7 +3,7 @@ use Rattle.std.proofs.lemmas.List.{length-map}
 use Rattle.tce_space.specs.Space.{extent_at}
 use Rattle.tce_space.specs.Tiling.{Tiling, IsTiling}
 use Rattle.tce_exec.specs.OperandWindows.{AreTileSteps}
-use Rattle.tce_workspace.specs.Workspace.{shape_over}
+use Rattle.tce_exec.specs.Workspace.{shape_over}
 use Rattle.tce_exec.proofs.Touching.{shape_is}
 use Rattle.tce_exec.proofs.steps.set_leaf_steps.Goals as goal
 

@@ -1,5 +1,5 @@
 use Rattle.std.proofs.Common.{◌≡◌, length, slice_index}
-use Rattle.tce_workspace.specs.Storages.{work_of, IsSame}
+use Rattle.tce_exec.specs.Storages.{work_of, IsSame}
 use Rattle.tce_exec.specs.Along.{IsAlong}
 use Rattle.tce_exec.specs.Blocks.{AreOutside, loops_of}
 use Rattle.tce_exec.specs.Evaluations.{places_of}

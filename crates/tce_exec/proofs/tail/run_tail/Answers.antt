@@ -2,7 +2,7 @@ use Rattle.tce_exec.proofs.Calls.{none_given, told_of}
 use Rattle.std.proofs.Common.{◌%◌, slice_index, IsTrue}
 use Rattle.std.proofs.lemmas.List.Elements.{All-set}
 use Rattle.tce_outside.proofs.Causes.{cause_of}
-use Rattle.tce_workspace.specs.Storages.{work_of}
+use Rattle.tce_exec.specs.Storages.{work_of}
 use Rattle.tce_exec.specs.Evaluations.{places_of}
 use Rattle.tce_exec.specs.Plans.{IsPlan}
 use Rattle.tce_exec.specs.declared.plan.Plan.{Plan}

@@ -3,7 +3,7 @@ use Rattle.std.specs.List.{All}
 use Rattle.std.proofs.lemmas.List.Elements.{All-from_recursion}
 use Rattle.tce_tree.specs.Value.{assignment}
 use Rattle.tce_tree.specs.WellFormed.{among}
-use Rattle.tce_workspace.proofs.Reading.{each_of}
+use Rattle.tce_exec.proofs.Reading.{each_of}
 use Rattle.tce_exec.specs.Blocks.{loops_of}
 use Rattle.tce_exec.proofs.turns.begin_block.Goals as goal
 

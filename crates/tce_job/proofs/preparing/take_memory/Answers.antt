@@ -1,8 +1,8 @@
 use Rattle.std.proofs.Common.{refl, subst}
 use Rattle.tce_space.specs.Space.{IndexSpace}
 use Rattle.tce_tree.specs.ContractionTree.{ContractionTree}
-use Rattle.tce_code.specs.Layout.{IsLayout}
-use Rattle.tce_code.specs.Places.{PlacesFill}
+use Rattle.tce_layout.specs.Layout.{IsLayout}
+use Rattle.tce_layout.specs.Places.{PlacesFill}
 use Rattle.tce_job.proofs.preparing.take_memory.Goals as goal
 
 pub code_and_report-requires-clause-enough : goal.code_and_report-requires-clause-enough

@@ -1,7 +1,7 @@
 use Rattle.std.proofs.Common.{refl, sym, subst, inl, inr, ◌∙◌}
 use Rattle.std.proofs.lemmas.Bool.{false≢true}
 use Rattle.tce_outside.proofs.Causes.{cause_as, answered_quiet, cause_since}
-use Rattle.tce_fusion.specs.declared.plan.Plan.{Plan}
+use Rattle.tce_nesting.specs.declared.plan.Plan.{Plan}
 use Rattle.tce_job.specs.Laws.{made_result}
 use Rattle.tce_job.specs.declared.report.RunReport.{RunReport}
 use Rattle.tce_job.specs.Prepared.{IsReport}

@@ -11,7 +11,7 @@ use Rattle.tce_code.specs.Plan.{plan_of}
 use Rattle.tce_code.specs.Program.{program_of}
 use Rattle.tce_walk.specs.Touches.{touch_bound}
 use Rattle.tce_cache.specs.Cache.{State as CacheState}
-use Rattle.tce_workspace.specs.Prepared.{IsPrepared}
+use Rattle.tce_exec.specs.Prepared.{IsPrepared}
 use Rattle.tce_exec.specs.Run.{IsZero, IsRun}
 use Rattle.tce_job.specs.TensorFiles.{file_of}
 use Rattle.tce_job.proofs.Begun.{workspace_at, of_parts, is_workspace, is_zero, few_touches}

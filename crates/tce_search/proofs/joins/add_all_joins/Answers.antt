@@ -1,6 +1,6 @@
 use Rattle.std.proofs.lemmas.Result.{err_from_is_err_and}
 use Rattle.std.proofs.Common.{sym, subst}
-use Rattle.tce_fusion.specs.Ends.{AreRuns}
+use Rattle.tce_nesting.specs.Ends.{AreRuns}
 use Rattle.tce_search.specs.Laws.{rows_of}
 use Rattle.tce_search.proofs.joins.add_all_joins.Goals as goal
 

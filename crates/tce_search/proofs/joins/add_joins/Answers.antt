@@ -1,7 +1,7 @@
 use Rattle.std.proofs.Common.{ℕ, ◌<◌, List, length, sym, ap, subst, arith, get_or}
 use Rattle.std.proofs.lemmas.List.{get_or_default}
 use Rattle.std.proofs.lemmas.List.Elements.{AllWithin-none, AllWithin-more, at_read}
-use Rattle.tce_fusion.specs.declared.runs.Run.{Run}
+use Rattle.tce_nesting.specs.declared.runs.Run.{Run}
 use Rattle.tce_search.specs.Candidates.{StandForAll}
 use Rattle.tce_search.specs.Joins.{AreJoinable, RunCovered}
 use Rattle.tce_search.proofs.JoinedLists.{grown_none, grown_further}

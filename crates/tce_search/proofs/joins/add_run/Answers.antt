@@ -1,7 +1,7 @@
 use Rattle.std.proofs.Common.{◌+◌, ◌<◌, ◌≤◌, length, sym, ap, subst, arith, get_or}
 use Rattle.std.proofs.lemmas.List.Elements.{AllWithin-none, AllWithin-more, at_read}
 use Rattle.tce_space.specs.IndexSet.{count}
-use Rattle.tce_fusion.proofs.RunParts.{run_at}
+use Rattle.tce_nesting.proofs.RunParts.{run_at}
 use Rattle.tce_search.specs.declared.candidate.Candidate.{Candidate}
 use Rattle.tce_search.specs.Joins.{JoinCovered}
 use Rattle.tce_search.specs.Laws.{rows_of}

@@ -3,7 +3,7 @@ use Rattle.tce_space.specs.IndexSet.{IsWithin}
 use Rattle.tce_fusion.specs.StateClasses.{IsNesting, in_class}
 use Rattle.tce_fusion.specs.Relation.{above, IsCoarser}
 use Rattle.tce_fusion.specs.Row.{Row}
-use Rattle.tce_fusion.proofs.Classes.{drop-item}
+use Rattle.tce_nesting.proofs.Classes.{drop-item}
 use Rattle.tce_search.proofs.Bounding.{IsPrefix, prefix_none, prefix_further, prefix_inhabited, prefix_coarser}
 use Rattle.tce_search.proofs.limits.bound_of.Goals as goal
 

@@ -1,6 +1,6 @@
 use Rattle.std.proofs.Common.{◌≡◌, ◌+◌, ◌-◌, ◌<◌, length, arith, subst}
-use Rattle.tce_fusion.specs.Ends.{IsRun}
-use Rattle.tce_fusion.proofs.RunParts.{run_at}
+use Rattle.tce_nesting.specs.Ends.{IsRun}
+use Rattle.tce_nesting.proofs.RunParts.{run_at}
 use Rattle.tce_search.specs.Laws.{rows_of}
 use Rattle.tce_search.proofs.RunParts.{rows_count, runs_set}
 use Rattle.tce_search.proofs.runs.runs_of.Goals as goal

@@ -1,5 +1,5 @@
 use Rattle.std.proofs.Common.{◌≤◌, length}
-use Rattle.tce_fusion.specs.Ends.{AreRuns}
+use Rattle.tce_nesting.specs.Ends.{AreRuns}
 use Rattle.tce_search.specs.Laws.{rows_of}
 use Rattle.tce_search.proofs.runs.runs_of.Given as goal
 

@@ -1,8 +1,8 @@
 use Rattle.std.proofs.lemmas.Result.{err_from_is_err_and}
 use Rattle.std.proofs.Common.{◌≡◌, ◌+◌, ◌<◌, ◌∙◌, ap, subst, arith, length}
 use Rattle.std.proofs.lemmas.List.{length_push}
-use Rattle.tce_fusion.specs.Ends.{IsAlone}
-use Rattle.tce_fusion.proofs.RunParts.{run_alone}
+use Rattle.tce_nesting.specs.Ends.{IsAlone}
+use Rattle.tce_nesting.proofs.RunParts.{run_alone}
 use Rattle.tce_search.specs.Laws.{rows_of}
 use Rattle.tce_search.proofs.RunParts.{rows_count, row_at, runs_further}
 use Rattle.tce_search.proofs.runs.single_runs.Goals as goal

@@ -1,6 +1,6 @@
 use Rattle.std.proofs.Common.{◌≡◌, ℕ, ◌<◌, length, get_or}
-use Rattle.tce_fusion.specs.declared.runs.Run.{Run}
-use Rattle.tce_fusion.specs.Ends.{IsRun}
+use Rattle.tce_nesting.specs.declared.runs.Run.{Run}
+use Rattle.tce_nesting.specs.Ends.{IsRun}
 use Rattle.tce_search.specs.Laws.{rows_of}
 use Rattle.tce_search.proofs.runs.single_runs.Given as goal
 

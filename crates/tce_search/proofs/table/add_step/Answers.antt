@@ -4,7 +4,7 @@ use Rattle.std.proofs.lemmas.Bool.{both_ways}
 use Rattle.std.proofs.lemmas.List.Elements.{All-push, All-weaker, All-contains_itself}
 use Rattle.std.proofs.lemmas.List.Quantifiers.{all_pairs_push}
 use Rattle.tce_fusion.specs.Relation.{above}
-use Rattle.tce_fusion.specs.NestingClasses.{restricted}
+use Rattle.tce_nesting.specs.Classes.{restricted}
 use Rattle.tce_search.specs.declared.candidate.Candidate.{Candidate}
 use Rattle.tce_search.specs.Candidates.{Stands}
 use Rattle.tce_search.specs.Groups.{LeavesOpen}

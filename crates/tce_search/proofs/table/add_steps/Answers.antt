@@ -2,8 +2,8 @@ use Rattle.std.proofs.Common.{◌⊎◌, inl, inr, arith, subst, get_or}
 use Rattle.std.specs.List.{Contains}
 use Rattle.std.proofs.lemmas.List.Elements.{AllWithin-none, AllWithin-more, All-from_all_within, All-weaker, All-contains_itself, at_read, AllWithin-upto}
 use Rattle.tce_fusion.specs.Relation.{above, none}
-use Rattle.tce_fusion.specs.Stretches.{AllowsNone}
-use Rattle.tce_fusion.proofs.StretchParts.{stretch_passed}
+use Rattle.tce_nesting.specs.Stretches.{AllowsNone}
+use Rattle.tce_nesting.proofs.StretchParts.{stretch_passed}
 use Rattle.tce_search.specs.declared.candidate.Candidate.{Candidate}
 use Rattle.tce_search.specs.Candidates.{ChoiceCovered}
 use Rattle.tce_search.specs.Joins.{IsNewStep, IsSomeStepFrom, Grows}

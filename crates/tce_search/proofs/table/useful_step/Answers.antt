@@ -1,7 +1,7 @@
 use Rattle.std.proofs.Common.{inr, arith, sym, subst}
 use Rattle.std.specs.List.{All}
 use Rattle.tce_fusion.specs.Relation.{above, IsCoarser}
-use Rattle.tce_fusion.specs.Plan.{LiesWithin}
+use Rattle.tce_nesting.specs.Plan.{LiesWithin}
 use Rattle.tce_search.proofs.Bounding.{restricted_within}
 use Rattle.tce_search.proofs.table.useful_step.Goals as goal
 

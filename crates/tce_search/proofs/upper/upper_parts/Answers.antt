@@ -5,7 +5,7 @@ use Rattle.std.proofs.lemmas.Bool.{both_ways}
 use Rattle.std.proofs.lemmas.List.{length_push}
 use Rattle.std.proofs.lemmas.List.Elements.{All-push, All-same, Contains-push, Contains-append_left}
 use Rattle.tce_fusion.specs.Relation.{above}
-use Rattle.tce_fusion.proofs.Classes.{drop-item}
+use Rattle.tce_nesting.proofs.Classes.{drop-item}
 use Rattle.tce_search.specs.Parts.{IsUpperPart}
 use Rattle.tce_search.proofs.Parts.{IsReachedPart, AreSeen, AreAll, members_of, reached_further, reached_is_upper, seen_further, seen_stop, seen_end}
 use Rattle.tce_search.proofs.upper.upper_parts.Goals as goal

@@ -3,7 +3,7 @@ use Rattle.tce_space.specs.IndexSet.{has}
 use Rattle.tce_tree.specs.Expr.{tree_of}
 use Rattle.tce_tree.specs.declared.expr.Expr.{Expr}
 use Rattle.tce_tree.specs.ContractionTree.{ContractionTree, Arithmetic, leaf, sum, binary, multiply, add, subtract, operations}
-use Rattle.tce_pieces.specs.Pieces.{except, reference_to, rest_of}
+use Rattle.tce_spec.specs.Pieces.{except, reference_to, rest_of}
 use Rattle.std.proofs.lemmas.Result.{IfOk-weaker, IfOk-from_err}
 use Rattle.tce_spec.specs.PieceCode.{IsJoined, IsRestOf}
 use Rattle.tce_spec.proofs.PieceParts.{last_node, rest_cut, rest_operands, rest_sum}

@@ -1,7 +1,7 @@
 use Rattle.std.proofs.Common.{◌≤◌, length, sym, ap, subst, ◌∙◌}
 use Rattle.std.specs.Prelude.{Option, IfSome, IfNone}
 use Rattle.tce_space.specs.IndexSet.{has}
-use Rattle.tce_fusion.specs.declared.plan.Plan.{Plan}
+use Rattle.tce_nesting.specs.declared.plan.Plan.{Plan}
 use Rattle.tce_spill.specs.Planned.{HavePlans, IsPlanOfPiece, IsAbove}
 use Rattle.tce_spill.proofs.Turns.{may_cut}
 use Rattle.tce_spill.proofs.PiecePlans.{planned_on, planned_stays, goes_decided, goes_planned, joined_count}

@@ -1,6 +1,6 @@
 use Rattle.std.proofs.Common.{◌≡◌, ℕ, ◌<◌, ◌≤◌, false}
 use Rattle.tce_space.specs.IndexSet.{has}
-use Rattle.tce_pieces.specs.Storable.{storable}
+use Rattle.tce_spec.specs.Storable.{storable}
 use Rattle.tce_spill.proofs.cutting.storable_nodes.Given as goal
 
 abbrev pub invariant-loop-v : goal.invariant-loop-v

@@ -2,7 +2,7 @@ use Rattle.std.proofs.Common.{◌≤◌, subst, arith}
 use Rattle.std.specs.Prelude.{Option, IfSome, IfNone}
 use Rattle.tce_space.specs.Space.{IndexSpace}
 use Rattle.tce_tree.specs.ContractionTree.{ContractionTree}
-use Rattle.tce_fusion.specs.declared.plan.Plan.{Plan}
+use Rattle.tce_nesting.specs.declared.plan.Plan.{Plan}
 use Rattle.tce_search.specs.LeastPlan.{IsLeastPlan, IsExceeded}
 use Rattle.tce_spill.proofs.PiecePlans.{bare_plan}
 use Rattle.tce_spill.proofs.planned.least_plan_within.Goals as goal

@@ -5,7 +5,7 @@ use Rattle.tce_space.specs.IndexSet.{has, count, members}
 use Rattle.tce_space.specs.Space.{index_at, tiling_of}
 use Rattle.tce_tree.specs.ContractionTree.{operations}
 use Rattle.tce_tree.proofs.NamedIndexes.{node_dims_declared}
-use Rattle.tce_pieces.specs.Storable as store
+use Rattle.tce_spec.specs.Storable as store
 use Rattle.tce_spill.proofs.Ranges.{storable_is, root_not_storable, rank_not_storable}
 use Rattle.tce_spill.proofs.storage.storable.Goals as goal
 use Rattle.tce_spill.proofs.storage.storable.Goals.{then-is_root-via-then-is_root, then-is_root-via-else-is_root+then-count}

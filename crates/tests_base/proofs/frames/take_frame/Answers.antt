@@ -1,5 +1,5 @@
 use Rattle.std.proofs.Common.{refl}
-use Rattle.tce_frames.proofs.Found.{front_frame}
+use Rattle.tce_cache.proofs.Found.{front_frame}
 use Rattle.tests_base.proofs.frames.take_frame.Goals as goal
 
 pub replace-requires-clause-frame : goal.replace-requires-clause-frame

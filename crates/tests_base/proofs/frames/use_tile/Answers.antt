@@ -1,4 +1,4 @@
-use Rattle.tce_frames.proofs.Found.{found_frame}
+use Rattle.tce_cache.proofs.Found.{found_frame}
 use Rattle.tests_base.proofs.frames.use_tile.Goals as goal
 
 pub touch-requires : goal.touch-requires

@@ -1,5 +1,5 @@
 use Rattle.std.proofs.Common.{◌≡◌, ℕ, ◌+◌, ◌<◌, ◌^◌, List, replicate, slice_index, slice_set, sym, subst, lit<}
-use Rattle.tce_code.specs.Places.{steps_to}
+use Rattle.tce_layout.specs.Places.{steps_to}
 use Rattle.tests_code.proofs.operand_windows.slots_go_by_their_steps.Goals as goal
 
 abbrev two : ℕ → ℕ → List ℕ

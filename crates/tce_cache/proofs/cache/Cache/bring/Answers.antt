@@ -1,8 +1,8 @@
 use Rattle.std.proofs.Common.{◌≡◌, ◌∙◌, ◌+◌, ◌<◌, ℕ, ap, sym, subst, slice_get, slice_index}
 use Rattle.std.proofs.lemmas.Result.{IfOk-from_err}
 use Rattle.std.proofs.lemmas.Bool.{false≢true}
-use Rattle.tce_frames.specs.Held.{Held}
-use Rattle.tce_frames.specs.Current.{place, IsSameOutside}
+use Rattle.tce_cache.specs.Held.{Held}
+use Rattle.tce_cache.specs.Current.{place, IsSameOutside}
 use Rattle.tce_outside.proofs.Causes.{cause_of, failed_after, no_cause}
 use Rattle.tce_cache.specs.declared.array.ArrayRef.{ArrayRef}
 use Rattle.tce_cache.specs.Transfer.{HasFile}

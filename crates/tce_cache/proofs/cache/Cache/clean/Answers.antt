@@ -1,7 +1,7 @@
 use Rattle.std.proofs.Common.{◌∙◌, sym, subst}
-use Rattle.tce_frames.specs.Held.{cleaned}
-use Rattle.tce_frames.specs.Frames.{HasTile}
-use Rattle.tce_frames.specs.Table.{Holding}
+use Rattle.tce_cache.specs.Held.{cleaned}
+use Rattle.tce_cache.specs.Frames.{HasTile}
+use Rattle.tce_cache.specs.Table.{Holding}
 use Rattle.tce_cache.specs.Cache.{State, IsCache}
 use Rattle.tce_cache.proofs.Steps.{cache_cleaned, holding_is}
 use Rattle.tce_cache.proofs.cache.Cache.clean.Goals as goal

@@ -1,6 +1,6 @@
 use Rattle.std.proofs.Common.{◌≡◌, ◌∙◌, ◌+◌, Some, true, ap, sym, refl, arith}
-use Rattle.tce_frames.specs.Held.{look_up, cleaned}
-use Rattle.tce_frames.specs.Frames.{held_at}
+use Rattle.tce_cache.specs.Held.{look_up, cleaned}
+use Rattle.tce_cache.specs.Frames.{held_at}
 use Rattle.tce_cache.specs.Cache.{State}
 use Rattle.tce_cache.specs.Touch.{with_held}
 use Rattle.tce_cache.proofs.Runs.{run_rest, run_step}

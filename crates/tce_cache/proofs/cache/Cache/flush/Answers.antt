@@ -1,7 +1,7 @@
 use Rattle.std.proofs.Common.{◌≡◌, ◌∙◌, ℕ, ◌+◌, ◌-◌, ◌<◌, Some, false, length, map, ap, refl, sym, subst, arith}
 use Rattle.std.proofs.lemmas.Result.{IfOk-from_err}
 use Rattle.std.proofs.lemmas.Bool.{false≢true}
-use Rattle.tce_frames.specs.Held.{Held, look_up}
+use Rattle.tce_cache.specs.Held.{Held, look_up}
 use Rattle.tce_outside.proofs.Causes.{failed_after, no_cause}
 use Rattle.tce_cache.specs.Cache.{State, IsCache, HasRoom, OnlyWritableDiffers}
 use Rattle.tce_cache.specs.Touch.{with_held, unmarked, IsSameArrays}

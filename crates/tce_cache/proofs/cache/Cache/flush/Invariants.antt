@@ -1,5 +1,5 @@
 use Rattle.std.proofs.Common.{◌≡◌, ◌-◌, ◌<◌, ℕ, Some, false, length, map}
-use Rattle.tce_frames.specs.Held.{Held, look_up}
+use Rattle.tce_cache.specs.Held.{Held, look_up}
 use Rattle.tce_cache.specs.Cache.{IsCache, OnlyWritableDiffers}
 use Rattle.tce_cache.specs.Touch.{with_held, unmarked, KeepsArrays}
 use Rattle.tce_cache.proofs.cache.Cache.flush.Given as goal

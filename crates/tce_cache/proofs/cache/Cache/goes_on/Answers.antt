@@ -1,8 +1,8 @@
 use Rattle.std.proofs.Common.{◌≡◌, ◌+◌, ◌<◌, ◌∙◌, ap, sym, refl, subst, length, slice_get, Some, nat_eq, true, false, inl, inr, arith}
 use Rattle.std.proofs.lemmas.Bool.{cases_eq, not-false}
 use Rattle.tce_space.specs.Tiling.{tiles}
-use Rattle.tce_frames.specs.Held.{look_up}
-use Rattle.tce_frames.specs.Frames.{held_at, AreLow}
+use Rattle.tce_cache.specs.Held.{look_up}
+use Rattle.tce_cache.specs.Frames.{held_at, AreLow}
 use Rattle.tce_cache.specs.declared.array.ArrayRef.{ArrayRef}
 use Rattle.tce_cache.specs.Cache.{State, IsCache, words_of_tile}
 use Rattle.tce_cache.proofs.Tiles.{array_low, array_at}

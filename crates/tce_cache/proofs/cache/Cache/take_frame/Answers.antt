@@ -2,8 +2,8 @@ use Rattle.std.proofs.Common.{◌≡◌, ◌∙◌, ◌≤◌, ◌<◌, ◌∷�
 use Rattle.std.proofs.lemmas.Result.{IfOk-from_err}
 use Rattle.std.proofs.lemmas.Bool.{false≢true}
 use Rattle.tce_space.specs.Tiling.{tiles}
-use Rattle.tce_frames.specs.Held.{Held, IsFree, look_up}
-use Rattle.tce_frames.proofs.Touching.{touches_change}
+use Rattle.tce_cache.specs.Held.{Held, IsFree, look_up}
+use Rattle.tce_cache.proofs.Touching.{touches_change}
 use Rattle.tce_outside.proofs.Causes.{cause_of, no_cause}
 use Rattle.tce_cache.specs.declared.array.ArrayRef.{ArrayRef}
 use Rattle.tce_cache.specs.Cache.{State, IsCache}

@@ -2,12 +2,12 @@ use Rattle.std.proofs.Common.{◌≡◌, ◌∙◌, ◌+◌, ◌<◌, ◌||◌, 
 use Rattle.std.specs.Result.{is_err}
 use Rattle.std.proofs.lemmas.Result.{err_from_is_err_and}
 use Rattle.std.proofs.lemmas.Bool.{false≢true, or_cases, or_parts}
-use Rattle.tce_frames.specs.Held.{Held, look_up, without, touched}
-use Rattle.tce_frames.specs.Current.{place}
-use Rattle.tce_frames.specs.Table.{Holding}
-use Rattle.tce_frames.proofs.Current.{found_is, below_found}
-use Rattle.tce_frames.proofs.Found.{found_in, found_frame}
-use Rattle.tce_frames.proofs.Touching.{touches_change, length_without}
+use Rattle.tce_cache.specs.Held.{Held, look_up, without, touched}
+use Rattle.tce_cache.specs.Current.{place}
+use Rattle.tce_cache.specs.Table.{Holding}
+use Rattle.tce_cache.proofs.Current.{found_is, below_found}
+use Rattle.tce_cache.proofs.Found.{found_in, found_frame}
+use Rattle.tce_cache.proofs.Touching.{touches_change, length_without}
 use Rattle.tce_outside.proofs.Causes.{cause_of, no_cause}
 use Rattle.tce_cache.specs.declared.array.ArrayRef.{ArrayRef}
 use Rattle.tce_cache.specs.Transfer.{HasFile}

@@ -1,8 +1,8 @@
 use Rattle.std.proofs.Common.{◌≡◌, ◌<◌, ◌∙◌, ap, sym, refl, subst, Some, length, arith}
 use Rattle.std.proofs.lemmas.Bool.{not-true, not-false, false≢true}
 use Rattle.std.proofs.lemmas.Result.{IfOk-from_err}
-use Rattle.tce_frames.specs.Held.{look_up}
-use Rattle.tce_frames.specs.Frames.{held_at}
+use Rattle.tce_cache.specs.Held.{look_up}
+use Rattle.tce_cache.specs.Frames.{held_at}
 use Rattle.tce_outside.proofs.Causes.{cause_of, no_cause}
 use Rattle.tce_cache.specs.declared.cache.writing.Run.{Run}
 use Rattle.tce_cache.specs.Cache.{State, IsCache}

@@ -2,8 +2,8 @@ use Rattle.std.proofs.Common.{length, ap, subst, get_or}
 use Rattle.std.proofs.lemmas.List.Elements.{AllWithin-none}
 use Rattle.tce_fusion.specs.Relation.{above}
 use Rattle.tce_fusion.specs.Row.{Row}
-use Rattle.tce_fusion.specs.Stretches.{AllowsNone}
-use Rattle.tce_fusion.proofs.StretchParts.{stretch_passed}
+use Rattle.tce_nesting.specs.Stretches.{AllowsNone}
+use Rattle.tce_nesting.proofs.StretchParts.{stretch_passed}
 use Rattle.tce_check.specs.Joint.{ChoiceCovered}
 use Rattle.tce_check.proofs.Firsts.{one_more, all_passed, fewer_left, one_less, untold}
 use Rattle.tce_check.proofs.steps.Node.covers_choices.Goals as goal

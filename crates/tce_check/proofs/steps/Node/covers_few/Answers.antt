@@ -1,6 +1,6 @@
 use Rattle.std.proofs.Common.{◌<◌, ◌^◌, sym, subst}
 use Rattle.std.proofs.lemmas.List.Elements.{AllWithin-none}
-use Rattle.tce_fusion.specs.Ends.{AreRuns}
+use Rattle.tce_nesting.specs.Ends.{AreRuns}
 use Rattle.std.specs.List.{All}
 use Rattle.tce_fusion.specs.Row.{Row}
 use Rattle.tce_fusion.specs.Cover.{StepsCovered}

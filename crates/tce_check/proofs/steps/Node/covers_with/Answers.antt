@@ -3,11 +3,11 @@ use Rattle.std.proofs.lemmas.List.Elements.{AllWithin-none}
 use Rattle.tce_fusion.specs.Row.{Row}
 use Rattle.tce_fusion.specs.Cover.{StepsCovered}
 use Rattle.tce_check.specs.Verdict.{WhereJoined}
-use Rattle.tce_fusion.specs.Ends.{AreEnds}
+use Rattle.tce_nesting.specs.Ends.{AreEnds}
 use Rattle.tce_tree.specs.ContractionTree.{node_loops}
 use Rattle.tce_check.specs.Tops.{AreTops}
 use Rattle.tce_check.proofs.Firsts.{one_more, all_passed, fewer_left, one_less, untold}
-use Rattle.tce_fusion.proofs.RunParts.{run_at}
+use Rattle.tce_nesting.proofs.RunParts.{run_at}
 use Rattle.tce_check.proofs.Reaches.{tops_of_left}
 use Rattle.tce_check.proofs.RunParts.{run_skipped, run_dear}
 use Rattle.tce_check.proofs.steps.Node.covers_with.Goals as goal

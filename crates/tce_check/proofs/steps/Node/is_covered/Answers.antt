@@ -3,7 +3,7 @@ use Rattle.std.specs.List.{Any}
 use Rattle.std.proofs.lemmas.Bool.{both_ways, not-true}
 use Rattle.tce_fusion.specs.Relation.{above}
 use Rattle.tce_fusion.specs.Row.{Row, StandsFor}
-use Rattle.tce_fusion.specs.NestingClasses.{restricted, AllowsSet}
+use Rattle.tce_nesting.specs.Classes.{restricted, AllowsSet}
 use Rattle.tce_check.proofs.steps.Node.is_covered.Goals as goal
 
 pub returns-then-stands_for_all-clause-yes : goal.returns-then-stands_for_all-clause-yes

@@ -1,7 +1,7 @@
 use Rattle.std.proofs.Common.{◌+◌, inl, inr, sym, subst}
 use Rattle.tce_tree.specs.ContractionTree.{node_loops}
 use Rattle.tce_fusion.specs.Row.{rows_joined}
-use Rattle.tce_fusion.specs.Ends.{IsTopOf}
+use Rattle.tce_nesting.specs.Ends.{IsTopOf}
 use Rattle.tce_check.proofs.Reaches.{kept_reach, one_below}
 use Rattle.tce_check.proofs.steps.Node.reach_with.Goals as goal
 

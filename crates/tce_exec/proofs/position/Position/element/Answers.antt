@@ -4,7 +4,7 @@ use Rattle.tce_space.specs.Space.{extent_at}
 use Rattle.tce_space.specs.Tiling.{Tiling}
 use Rattle.tce_space.proofs.Tilings.{tile_number-lt, place_in_tile-lt}
 use Rattle.tce_array.proofs.Way.{no_larger, small, ended}
-use Rattle.tce_workspace.specs.Workspace.{shape_over}
+use Rattle.tce_exec.specs.Workspace.{shape_over}
 use Rattle.tce_exec.proofs.Positions.{along}
 use Rattle.tce_exec.proofs.position.Position.element.Goals as goal
 

@@ -2,7 +2,7 @@ use Rattle.std.proofs.Common.{map, drop, slice_index}
 use Rattle.tce_space.specs.Space.{extent_at, edge_at}
 use Rattle.tce_space.specs.Tiling.{tile_number, place_in_tile}
 use Rattle.tce_array.specs.OnWay.{IsOnWay}
-use Rattle.tce_workspace.specs.Workspace.{shape_over}
+use Rattle.tce_exec.specs.Workspace.{shape_over}
 use Rattle.tce_exec.proofs.position.Position.element.Given as goal
 
 abbrev pub invariant-loop-d : goal.invariant-loop-d

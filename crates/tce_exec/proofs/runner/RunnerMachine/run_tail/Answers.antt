@@ -1,5 +1,5 @@
-use Rattle.tce_workspace.specs.Storages.{work_of}
-use Rattle.tce_workspace.proofs.Workspaces.{kept_setting}
+use Rattle.tce_exec.specs.Storages.{work_of}
+use Rattle.tce_exec.proofs.Workspaces.{kept_setting}
 use Rattle.tce_exec.proofs.runner.RunnerMachine.run_tail.Goals as goal
 
 pub returns-clause-setting : goal.returns-clause-setting

@@ -4,8 +4,8 @@ use Rattle.tce_tree.specs.ContractionTree.{ContractionTree}
 use Rattle.tce_tree.specs.Fusion.{Carries}
 use Rattle.tce_tree.specs.Memory.{memory}
 use Rattle.tce_tree.specs.Orders.{lists_of}
-use Rattle.tce_fusion.specs.declared.plan.Plan.{Plan}
-use Rattle.tce_fusion.specs.Plan.{PlanFits}
+use Rattle.tce_nesting.specs.declared.plan.Plan.{Plan}
+use Rattle.tce_nesting.specs.Plan.{PlanFits}
 use Rattle.tests_job.proofs.job.fusions.plan_by.Goals as goal
 
 pub returns-clause-carried : goal.returns-clause-carried

@@ -1,5 +1,0 @@
-pub mod Reports
-pub mod Plans
-pub mod Refusals
-pub mod Left
-pub mod Told

@@ -1,6 +1,0 @@
-use Rattle.tce_canonical.proofs.Outcomes.{canonical_outcome}
-use Rattle.tce_canonical.proofs.Written.{outcome_writable}
-use Rattle.tce_canonical.proofs.laws.accepted_texts_have_canonical_texts.Goals as goal
-
-pub returns : goal.returns
-returns c = λ text s is. canonical_outcome s (outcome_writable text s is)

@@ -1,7 +1,0 @@
-use Rattle.std.proofs.Common.{◌≡◌, map, take}
-use Rattle.tce_canonical.specs.Statements.{tensor_statement}
-use Rattle.tce_canonical.specs.Lines.{with_lines}
-use Rattle.tce_canonical.proofs.tensors.print_tensors.Given as goal
-
-abbrev pub invariant-loop-tensor : goal.invariant-loop-tensor
-invariant-loop-tensor l = l.printer ≡ with_lines l.fn.printer (map (tensor_statement l.declarations.space) (take l.tensor l.declarations.tensors))

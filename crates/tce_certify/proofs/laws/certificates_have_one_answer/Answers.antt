@@ -1,7 +1,0 @@
-use Rattle.tce_outside.specs.Files.{file}
-use Rattle.tce_command.proofs.Outcomes.{one_refusal}
-use Rattle.tce_certify.proofs.OneAnswer.{granted}
-use Rattle.tce_certify.proofs.laws.certificates_have_one_answer.Goals as goal
-
-pub returns : goal.returns
-returns c = record { granted = λ files spec a. granted files spec a; alone = λ files spec. one_refusal spec (file files spec) }

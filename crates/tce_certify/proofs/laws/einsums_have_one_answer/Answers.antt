@@ -1,5 +1,0 @@
-use Rattle.tce_certify.proofs.OneEinsum.{granted, alone}
-use Rattle.tce_certify.proofs.laws.einsums_have_one_answer.Goals as goal
-
-pub returns : goal.returns
-returns c = record { granted = granted; alone = alone }

@@ -1,5 +1,0 @@
-pub mod Specification
-pub mod Files
-pub mod Input
-pub mod Laws
-pub mod Done

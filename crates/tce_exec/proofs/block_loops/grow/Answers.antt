@@ -1,0 +1,48 @@
+use Rattle.std.proofs.Common.{List, length, take}
+use Rattle.tce_block.specs.StrideSteps.{sum_lens, sum_out_steps, operand_steps}
+use Rattle.tce_block.specs.Turns.{grown}
+use Rattle.tce_block.specs.declared.loops.SumLoop.{SumLoop}
+use Rattle.tce_exec.specs.Nests.{sum_loop}
+use Rattle.tce_exec.proofs.LoopCalls.{AreSumLoops, sum_loops_are, positive_nest, within_nest, apart_nest, made_by_one}
+use Rattle.tce_exec.proofs.Nests.{loops_in_front}
+use Rattle.tce_exec.proofs.block_loops.grow.Goals as goal
+
+pub grow-requires-clause-positive : goal.grow-requires-clause-positive
+grow-requires-clause-positive c =
+    let loops : List SumLoop = take c.len-count.result c.fill_sum_loops.new.loops in
+    let are : AreSumLoops c.args.loops.now.indexes.now c.args.loops.now.lens.now c.args.out.now c.args.operand.now loops =
+    sum_loops_are c.args.loops.now.indexes.now c.args.loops.now.lens.now c.args.out.now c.args.operand.now c.begin.new.self.axes.items loops c.begin.ensures.nest
+    (loops_in_front (sum_loop c.args.out.now c.args.operand.now) c.begin.new.self.axes.items c.as_slice.result.now c.fill_sum_loops.new.loops c.len-count.result c.as_slice.ensures.value c.len-count.ensures.value c.fill_sum_loops.ensures) in
+    positive_nest c.args.loops.now.indexes.now c.args.loops.now.lens.now are.inner (sum_lens loops) c.requires.loops are.same are.numbers
+
+pub grow-requires-clause-out : goal.grow-requires-clause-out
+grow-requires-clause-out c =
+    let loops : List SumLoop = take c.len-count.result c.fill_sum_loops.new.loops in
+    let are : AreSumLoops c.args.loops.now.indexes.now c.args.loops.now.lens.now c.args.out.now c.args.operand.now loops =
+    sum_loops_are c.args.loops.now.indexes.now c.args.loops.now.lens.now c.args.out.now c.args.operand.now c.begin.new.self.axes.items loops c.begin.ensures.nest
+    (loops_in_front (sum_loop c.args.out.now c.args.operand.now) c.begin.new.self.axes.items c.as_slice.result.now c.fill_sum_loops.new.loops c.len-count.result c.as_slice.ensures.value c.len-count.ensures.value c.fill_sum_loops.ensures) in
+    within_nest c.args.loops.now.indexes.now c.args.loops.now.lens.now are.inner (sum_lens loops) (sum_out_steps loops) c.args.out.now (length c.args.words.now) c.requires.loops are.same are.numbers are.outs c.requires.out
+
+pub grow-requires-clause-operand : goal.grow-requires-clause-operand
+grow-requires-clause-operand c =
+    let loops : List SumLoop = take c.len-count.result c.fill_sum_loops.new.loops in
+    let are : AreSumLoops c.args.loops.now.indexes.now c.args.loops.now.lens.now c.args.out.now c.args.operand.now loops =
+    sum_loops_are c.args.loops.now.indexes.now c.args.loops.now.lens.now c.args.out.now c.args.operand.now c.begin.new.self.axes.items loops c.begin.ensures.nest
+    (loops_in_front (sum_loop c.args.out.now c.args.operand.now) c.begin.new.self.axes.items c.as_slice.result.now c.fill_sum_loops.new.loops c.len-count.result c.as_slice.ensures.value c.len-count.ensures.value c.fill_sum_loops.ensures) in
+    within_nest c.args.loops.now.indexes.now c.args.loops.now.lens.now are.inner (sum_lens loops) (operand_steps loops) c.args.operand.now (length c.args.words.now) c.requires.loops are.same are.numbers are.operands c.requires.operand
+
+pub grow-requires-clause-apart : goal.grow-requires-clause-apart
+grow-requires-clause-apart c =
+    let loops : List SumLoop = take c.len-count.result c.fill_sum_loops.new.loops in
+    let are : AreSumLoops c.args.loops.now.indexes.now c.args.loops.now.lens.now c.args.out.now c.args.operand.now loops =
+    sum_loops_are c.args.loops.now.indexes.now c.args.loops.now.lens.now c.args.out.now c.args.operand.now c.begin.new.self.axes.items loops c.begin.ensures.nest
+    (loops_in_front (sum_loop c.args.out.now c.args.operand.now) c.begin.new.self.axes.items c.as_slice.result.now c.fill_sum_loops.new.loops c.len-count.result c.as_slice.ensures.value c.len-count.ensures.value c.fill_sum_loops.ensures) in
+    apart_nest c.args.loops.now.indexes.now c.args.loops.now.lens.now are.inner (sum_lens loops) (sum_out_steps loops) (operand_steps loops) c.args.out.now c.args.operand.now c.requires.loops are.same are.numbers are.outs are.operands c.requires.apart
+
+pub returns-clause-made : goal.returns-clause-made
+returns-clause-made c =
+    let loops : List SumLoop = take c.len-count.result c.fill_sum_loops.new.loops in
+    let are : AreSumLoops c.args.loops.now.indexes.now c.args.loops.now.lens.now c.args.out.now c.args.operand.now loops =
+    sum_loops_are c.args.loops.now.indexes.now c.args.loops.now.lens.now c.args.out.now c.args.operand.now c.begin.new.self.axes.items loops c.begin.ensures.nest
+    (loops_in_front (sum_loop c.args.out.now c.args.operand.now) c.begin.new.self.axes.items c.as_slice.result.now c.fill_sum_loops.new.loops c.len-count.result c.as_slice.ensures.value c.len-count.ensures.value c.fill_sum_loops.ensures) in
+    made_by_one (grown c.args.words.now) c.args.loops.now.indexes.now c.args.loops.now.lens.now c.args.out.now c.args.operand.now loops c.args.words.now c.grow.new.words are c.grow.ensures

@@ -1,0 +1,42 @@
+-- What a run works on as the code holds it: an evaluation, and the storage of its words. `files` says what a disk tells.
+use Rattle.std.specs.Prelude.{◌≡◌, ℕ, Option}
+use Rattle.std.specs.Option.{ForSome}
+use Rattle.tce_outside.specs.Fault.{HasCause, TellsFaults}
+use Rattle.tce_outside.specs.Files.{Files}
+use Rattle.tce_code.specs.Execution.{Setting, State}
+use Rattle.tce_exec.specs.Workspace.{Workspace, workspace, setting_in, state_in}
+use Rattle.tce_exec.specs.Steps.{IsKept, IsRead, IsChanged}
+use Rattle.tce_exec.specs.declared.evaluation.Evaluation.{Evaluation}
+use Rattle.tce_exec.specs.declared.storage.Storage.{Storage}
+
+abbrev pub work_of : {D : Type 0} → (D → Option Files) → Evaluation → Storage D → Workspace
+work_of files e s = workspace e s.words.now s.cache.now (files s.disk.now)
+
+abbrev pub setting_of : {D : Type 0} → (D → Option Files) → Evaluation → Storage D → Setting
+setting_of files e s = setting_in (work_of files e s)
+
+-- of the setting and the state, where the disk tells its files
+abbrev pub ForState : {D : Type 0} → (D → Option Files) → Evaluation → Storage D → (Setting → State → Type 0) → Type 0
+ForState files e s P = ForSome (state_in (work_of files e s)) (P (setting_of files e s))
+
+-- the words, the cache and the disk are the same ones, whatever they hold
+abbrev pub IsSame : {D : Type 0} → Storage D → Storage D → Type 0
+IsSame before after =
+    (after.words.ghost_name ≡ before.words.ghost_name) × (after.cache.ghost_name ≡ before.cache.ghost_name) × (after.disk.ghost_name ≡ before.disk.ghost_name)
+
+-- what calls leave, from one storage to another
+abbrev pub Keeps : {D : Type 0} → (D → Option Files) → Evaluation → Storage D → Storage D → Type 0
+Keeps files e before after = IsKept (work_of files e before) (work_of files e after)
+
+abbrev pub Reads : {D : Type 0} → ℕ → (D → Option Files) → Evaluation → Storage D → Storage D → Type 0
+Reads touches files e before after = IsRead touches (work_of files e before) (work_of files e after)
+
+abbrev pub Changes : {D : Type 0} → (State → State) → ℕ → (D → Option Files) → Evaluation → Storage D → Storage D → Type 0
+Changes change touches files e before after = IsChanged change touches (work_of files e before) (work_of files e after)
+
+-- faults of the disk, whose count is `faults`
+abbrev pub FailsByDisk : {D : Type 0} → (D → ℕ) → Storage D → Storage D → Type 0 → Type 0
+FailsByDisk faults before after failed = HasCause (faults before.disk.now) (faults after.disk.now) failed
+
+abbrev pub TellsOfDisk : {D : Type 0} → (D → ℕ) → Storage D → Storage D → Type 0 → Type 0
+TellsOfDisk faults before after failed = TellsFaults (faults before.disk.now) (faults after.disk.now) failed

@@ -1,9 +1,0 @@
-pub mod Current
-pub mod Kept
-pub mod Paths
-pub mod Holdings
-pub mod Finding
-pub mod Holding
-pub mod Replacing
-pub mod Touching
-pub mod Found

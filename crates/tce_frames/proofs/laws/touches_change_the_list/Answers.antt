@@ -1,5 +1,0 @@
-use Rattle.tce_frames.proofs.Touching.{touches_change}
-use Rattle.tce_frames.proofs.laws.touches_change_the_list.Goals as goal
-
-pub returns : goal.returns
-returns c = touches_change

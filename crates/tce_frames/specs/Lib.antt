@@ -1,6 +1,0 @@
-pub mod Held
-pub mod Frames
-pub mod Current
-pub mod Laws
-pub mod Ring
-pub mod Table

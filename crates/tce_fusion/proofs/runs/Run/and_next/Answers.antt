@@ -1,6 +1,0 @@
-use Rattle.std.proofs.Common.{refl, arith}
-use Rattle.tce_fusion.proofs.RunParts.{run_longer}
-use Rattle.tce_fusion.proofs.runs.Run.and_next.Goals as goal
-
-pub returns : goal.returns
-returns c = run_longer c.args.self.now c.args.next.now _ (omega arith) (omega arith) refl refl (omega arith) (omega arith)

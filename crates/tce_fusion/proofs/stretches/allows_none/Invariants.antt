@@ -1,6 +1,0 @@
-use Rattle.std.proofs.Common.{drop}
-use Rattle.tce_fusion.proofs.NestingTops.{IsReached}
-use Rattle.tce_fusion.proofs.stretches.allows_none.Given as goal
-
-abbrev pub invariant-loop-class : goal.invariant-loop-class
-invariant-loop-class l = IsReached l.loops l.class-items (drop l.class-index l.class-items) l.reached

@@ -1,6 +1,0 @@
-use Rattle.tce_fusion.proofs.StretchParts.{stretches_together}
-use Rattle.tce_fusion.proofs.stretches.together.Goals as goal
-
-pub returns-clause-whole : goal.returns-clause-whole
-returns-clause-whole c =
-    stretches_together c.args.first.now c.args.next.now c.meet.result c.union.result c.meet.ensures.members c.union.ensures.members

@@ -1,6 +1,0 @@
-use Rattle.std.proofs.Common.{◌≡◌}
-use Rattle.tce_fusion.proofs.SubsetLists.{subsets_below}
-use Rattle.tce_fusion.proofs.subset_list.subsets.Given as goal
-
-abbrev pub invariant-loop-index : goal.invariant-loop-index
-invariant-loop-index l = l.sets.items ≡ subsets_below l.set l.index

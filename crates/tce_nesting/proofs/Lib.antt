@@ -1,0 +1,12 @@
+pub mod ChoiceLists
+pub mod Classes
+pub mod Counts
+pub mod Joins
+pub mod Cuts
+pub mod RowLists
+pub mod NestingLaws
+pub mod SubsetLists
+pub mod RunParts
+pub mod StretchParts
+pub mod Tops
+pub mod Outermost

@@ -1,4 +1,0 @@
-pub mod Pieces
-pub mod Storable
-pub mod Laws
-pub mod Examples

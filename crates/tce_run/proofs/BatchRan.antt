@@ -1,0 +1,189 @@
+-- What the command leaves that runs several formulas, by what their runs leave.
+use Rattle.std.proofs.Common.{◌≡◌, ◌⊎◌, ℕ, ◌+◌, ◌-◌, ◌≤◌, List, All, get_or, Option, Some, inl, inr, refl, sym, subst, ap, ◌∙◌, arith}
+use Rattle.std.specs.Prelude.{slice_get}
+use Rattle.std.specs.Option.{ForSome, option_map}
+use Rattle.std.proofs.lemmas.Option.{slice_get_within}
+use Rattle.tce_outside.specs.Files.{Files}
+use Rattle.tce_spec.specs.Specification.{Specification}
+use Rattle.tce_job.specs.Takings.{tile_take}
+use Rattle.tce_job.specs.declared.fault.JobFault.{JobFault}
+use Rattle.tce_job.specs.declared.fault.JobFault.TheVariants as faults
+use Rattle.tce_job.specs.Refusals.{NamesDeclared, IsFree as IsFreeFault}
+use Rattle.tce_batch.specs.declared.fault.BatchFault.{BatchFault}
+use Rattle.tce_job.specs.Several.{files_after, OnlyResultsDiffer}
+use Rattle.tce_batch.specs.Refusals.{IsAt, IsOneOf, IsCauseAt}
+use Rattle.tce_batch.specs.Left.{IsLeftAt, IsRoomLeftAt}
+use Rattle.tce_command.specs.Refusals.{IsFree}
+use Rattle.tce_command.specs.declared.refusal.Refusal.{Refusal}
+use Rattle.tce_command.specs.declared.refusal.Refusal.TheVariants.{Disk, Memory}
+use Rattle.tce_run.specs.BatchSource.{HasBatch}
+use Rattle.tce_run.specs.Told.{IsOfFiles, IsToldAs}
+use Rattle.tce_run.specs.BatchDone.{IsBatchLeft, IsBatchRoomLeft, IsBatchRun, IsBatchTaking, OnlyBatchDiffers}
+use Rattle.tce_run.specs.BatchOfFormulas.{AreRun, IsFormulaFault}
+use Rattle.tce_run.specs.BatchRefusals.{IsBatchRefusal, IsFormulaRefusal, IsToldAt, IsToldWithout}
+use Rattle.tce_run.proofs.Ran.{within}
+use Rattle.tce_run.proofs.Told.{told_disk, disk_told, told_free}
+
+-- A fault names a formula.
+
+pub names_one : (told : Option Files) (formulas : List Specification) (budget formula : ℕ) (f : JobFault) → IsCauseAt told formulas budget formula f → IsOneOf formulas formula
+names_one told formulas budget formula (faults.BudgetTooSmall n) why = let w = slice_get_within formulas why.number why.specification why.at in record { some = omega (arith, why.counted); within = omega (arith, why.counted, w) }
+names_one told formulas budget formula (faults.IntermediatesTooLarge n) why =
+    let w = slice_get_within formulas why.number why.specification why.at in record { some = omega (arith, why.counted); within = omega (arith, why.counted, w) }
+names_one told formulas budget formula (faults.Array t u) why = let w = slice_get_within formulas why.number why.specification why.at in record { some = omega (arith, why.counted); within = omega (arith, why.counted, w) }
+names_one told formulas budget formula faults.Disk why = why
+names_one told formulas budget formula faults.Memory why = why
+
+pub names_tensor : (told : Option Files) (formulas : List Specification) (budget formula : ℕ) (f : JobFault) → IsCauseAt told formulas budget formula f → (s : Specification) → slice_get formulas (formula - 1) ≡ Some s
+    → NamesDeclared s f
+names_tensor told formulas budget formula (faults.BudgetTooSmall n) why s at = tt
+names_tensor told formulas budget formula (faults.IntermediatesTooLarge n) why s at = tt
+names_tensor told formulas budget formula (faults.Array t u) why s at =
+    let number : why.number ≡ formula - 1 = omega (arith, why.counted) in
+    let found : Some why.specification ≡ Some s = sym why.at ∙ ap (slice_get formulas) number ∙ at in
+    let same : why.specification ≡ s = cc in
+    subst (λ (x : Specification). NamesDeclared x (faults.Array t u)) same why.here.2
+names_tensor told formulas budget formula faults.Disk why s at = tt
+names_tensor told formulas budget formula faults.Memory why s at = tt
+
+pub of_files_at : (told : Option Files) (formulas : List Specification) (budget formula : ℕ) (f : JobFault) → IsCauseAt told formulas budget formula f → IsOfFiles f
+of_files_at told formulas budget formula (faults.BudgetTooSmall n) why = tt
+of_files_at told formulas budget formula (faults.IntermediatesTooLarge n) why = tt
+of_files_at told formulas budget formula (faults.Array t u) why = why.here.1
+of_files_at told formulas budget formula faults.Disk why = tt
+of_files_at told formulas budget formula faults.Memory why = tt
+
+-- What is told of a fault.
+
+without_free : (f : JobFault) (a : Refusal) → IsToldWithout f a → IsFree a
+without_free faults.Disk a told = subst IsFree (sym told) tt
+without_free (faults.BudgetTooSmall n) a told = subst IsFree (sym told) tt
+without_free (faults.IntermediatesTooLarge n) a told = subst IsFree (sym told) tt
+without_free (faults.Array t u) a told = subst IsFree (sym told) tt
+without_free faults.Memory a told = subst IsFree (sym told) tt
+
+free_told : (formulas : List Specification) (refused : BatchFault) (a : Refusal) → IsToldAt formulas refused a → IsFreeFault refused.fault → IsFree a
+free_told formulas refused a (inl told) free = without_free refused.fault a told
+free_told formulas refused a (inr told) free = told_free told.specification refused.fault a told.here free
+
+without_disk : (f : JobFault) (a : Refusal) → IsToldWithout f a → a ≡ Disk → f ≡ faults.Disk
+without_disk faults.Disk a told failed = refl
+without_disk (faults.BudgetTooSmall n) a told failed = absurd (cc)
+without_disk (faults.IntermediatesTooLarge n) a told failed = absurd (cc)
+without_disk (faults.Array t u) a told failed = absurd (cc)
+without_disk faults.Memory a told failed = absurd (cc)
+
+pub failed_told : (formulas : List Specification) (refused : BatchFault) (a : Refusal) → IsToldAt formulas refused a → a ≡ Disk → refused.fault ≡ faults.Disk
+failed_told formulas refused a (inl told) failed = without_disk refused.fault a told failed
+failed_told formulas refused a (inr told) failed = told_disk told.specification refused.fault a told.here failed
+
+-- and what is told as none was none
+without_failed : (f : JobFault) (a : Refusal) → IsToldWithout f a → f ≡ faults.Disk → a ≡ Disk
+without_failed f a told failed = subst (λ g. IsToldWithout g a) failed told
+
+pub disk_told_at : (formulas : List Specification) (refused : BatchFault) (a : Refusal) → IsToldAt formulas refused a → refused.fault ≡ faults.Disk → a ≡ Disk
+disk_told_at formulas refused a (inl told) failed = without_failed refused.fault a told failed
+disk_told_at formulas refused a (inr told) failed = disk_told told.specification refused.fault a told.here failed
+
+told_of_disk : (formulas : List Specification) (formula : ℕ) (a : Refusal) → IsToldWithout faults.Disk a ⊎ IsAt formulas formula (λ number s. IsToldAs s faults.Disk a) → a ≡ Disk
+told_of_disk formulas formula a (inl told) = told
+told_of_disk formulas formula a (inr told) = told.here
+
+told_of_memory : (formulas : List Specification) (formula : ℕ) (a : Refusal) → IsToldWithout faults.Memory a ⊎ IsAt formulas formula (λ number s. IsToldAs s faults.Memory a) → a ≡ Memory
+told_of_memory formulas formula a (inl told) = told
+told_of_memory formulas formula a (inr told) = told.here
+
+pub batch_refused : (before middle after : Option Files) (taken taken_after : List (ℕ × ℕ)) (spec : List ℕ) (budget : ℕ) (formulas : List Specification) (a : Refusal) → middle ≡ before
+    → ForSome before (λ files. HasBatch files spec formulas) → IsFormulaFault middle after taken taken_after formulas budget a → ForSome before (λ files. IsBatchRefusal files spec budget a)
+batch_refused before middle after taken taken_after spec budget formulas a same specified left = λ files is. inr (formulas, specified files is, by_telling files is left.told)
+  where
+    by_telling : (files : Files) → before ≡ Some files → IsToldAt formulas left.refused a → IsFree a ⊎ IsFormulaRefusal files formulas budget a
+    by_telling files is (inl told) = inl (without_free left.refused.fault a told)
+    by_telling files is (inr told) =
+        inr (record {
+          formula = left.refused.formula;
+          fault = left.refused.fault;
+          cause = subst (λ (o : Option Files). IsCauseAt o formulas budget left.refused.formula left.refused.fault) (same ∙ is) left.cause;
+          told = told;
+        })
+
+-- What is left.
+
+pub unchanged_left : (before after : Option Files) (spec : List ℕ) (a : Refusal) → after ≡ before → IsBatchLeft a before after spec
+unchanged_left before after spec Disk same = inl same
+unchanged_left before after spec Memory same = inl same
+unchanged_left before after spec a same = same
+
+files_left : (before after : Option Files) (spec : List ℕ) (formulas : List Specification) (formula : ℕ) (f : JobFault) (a : Refusal) → ForSome before (λ files. HasBatch files spec formulas)
+    → IsToldWithout f a ⊎ IsAt formulas formula (λ number s. IsToldAs s f a) → IsLeftAt before after formulas formula f → IsBatchLeft a before after spec
+files_left before after spec formulas formula (faults.BudgetTooSmall n) a specified told left = unchanged_left before after spec a left
+files_left before after spec formulas formula (faults.IntermediatesTooLarge n) a specified told left = unchanged_left before after spec a left
+files_left before after spec formulas formula (faults.Array t u) a specified told left = unchanged_left before after spec a left
+files_left before after spec formulas formula faults.Disk a specified told left =
+    subst (λ r. IsBatchLeft r before after spec) (sym (told_of_disk formulas formula a told))
+    (inr (record { formulas = formulas; specified = specified; number = left.number; formula = left.specification; at = left.at; others_are = left.here.0; no_half = left.here.1 }))
+files_left before after spec formulas formula faults.Memory a specified told left =
+    let w = slice_get_within formulas left.number left.specification left.at in
+    subst (λ r. IsBatchLeft r before after spec) (sym (told_of_memory formulas formula a told))
+    (inr (elim left.here [
+      | inl is ↦ record { formulas = formulas; specified = specified; count = left.number; within = omega (arith, w); files_are = is }
+      | inr is ↦ record { formulas = formulas; specified = specified; count = left.number + 1; within = omega (arith, w); files_are = is }
+    ]))
+
+pub batch_left : (before middle after : Option Files) (taken taken_after : List (ℕ × ℕ)) (spec : List ℕ) (budget : ℕ) (formulas : List Specification) (a : Refusal) → middle ≡ before
+    → ForSome before (λ files. HasBatch files spec formulas) → IsFormulaFault middle after taken taken_after formulas budget a → IsBatchLeft a before after spec
+batch_left before middle after taken taken_after spec budget formulas a same specified left =
+    files_left before after spec formulas left.refused.formula left.refused.fault a specified left.told
+    (subst (λ (o : Option Files). IsLeftAt o after formulas left.refused.formula left.refused.fault) same left.left)
+
+taken_in_turn : (before : Option Files) (spec : List ℕ) (budget : ℕ) (formulas : List Specification) (formula : ℕ) (f : JobFault) (taken after : List (ℕ × ℕ)) → ForSome before (λ files. HasBatch files spec formulas)
+    → IsRoomLeftAt taken after formulas budget formula f → (after ≡ taken) ⊎ IsBatchTaking before taken after spec budget
+taken_in_turn before spec budget formulas formula (faults.BudgetTooSmall n) taken after specified left = inl left
+taken_in_turn before spec budget formulas formula (faults.IntermediatesTooLarge n) taken after specified left = inl left
+taken_in_turn before spec budget formulas formula (faults.Array t u) taken after specified left =
+    let w = slice_get_within formulas left.number left.specification left.at in
+    elim left.here [
+      | inl same ↦ inl same
+      | inr some ↦ inr (record { formulas = formulas; specified = specified; count = left.number; within = omega (arith, w); taking = some })
+    ]
+taken_in_turn before spec budget formulas formula faults.Disk taken after specified left =
+    let w = slice_get_within formulas left.number left.specification left.at in
+    elim left.here [
+      | inl some ↦ inr (record { formulas = formulas; specified = specified; count = left.number; within = omega (arith, w); taking = some })
+      | inr some ↦ inr (record { formulas = formulas; specified = specified; count = left.number + 1; within = omega (arith, w); taking = some })
+    ]
+taken_in_turn before spec budget formulas formula faults.Memory taken after specified left =
+    let w = slice_get_within formulas left.number left.specification left.at in
+    elim left.here [
+      | inl some ↦ inr (record { formulas = formulas; specified = specified; count = left.number; within = omega (arith, w); taking = some })
+      | inr some ↦ inr (record { formulas = formulas; specified = specified; count = left.number + 1; within = omega (arith, w); taking = some })
+    ]
+
+pub batch_room : (before middle after : Option Files) (taken taken_after : List (ℕ × ℕ)) (spec : List ℕ) (budget : ℕ) (formulas : List Specification) (a : Refusal) → middle ≡ before
+    → ForSome before (λ files. HasBatch files spec formulas) → IsFormulaFault middle after taken taken_after formulas budget a → IsBatchRoomLeft a before taken taken_after spec budget
+batch_room before middle after taken taken_after spec budget formulas a same specified left = record {
+  takings = taken_in_turn before spec budget formulas left.refused.formula left.refused.fault taken taken_after specified left.takings;
+  untaken = λ free files is. left.tested files (same ∙ is) (λ fault. free (free_told formulas left.refused a left.told fault));
+}
+
+pub same_room : (a : Refusal) (before : Option Files) (spec : List ℕ) (budget : ℕ) (taken after : List (ℕ × ℕ)) → after ≡ taken → IsBatchRoomLeft a before taken after spec budget
+same_room a before spec budget taken after same = record { takings = inl same; untaken = λ free files is. same }
+
+pub batch_others : (before middle after : Option Files) (spec : List ℕ) (formulas : List Specification) → middle ≡ before → ForSome before (λ files. HasBatch files spec formulas) → OnlyResultsDiffer formulas middle after
+    → OnlyBatchDiffers spec before after
+batch_others before middle after spec formulas same specified stay =
+    inr (record { formulas = formulas; specified = specified; others_are = subst (λ (o : Option Files). OnlyResultsDiffer formulas o after) same stay })
+
+pub within_each : (formulas : List Specification) (budget : ℕ) → All (λ (s : Specification). tile_take s budget ≤ budget) formulas
+within_each formulas budget = λ k d less. within (get_or formulas k d) budget
+
+pub batch_ran : (before middle after : Option Files) (taken taken_after : List (ℕ × ℕ)) (spec : List ℕ) (budget : ℕ) (formulas : List Specification) (report : List ℕ) → middle ≡ before
+    → ForSome before (λ files. HasBatch files spec formulas) → AreRun middle after taken taken_after formulas budget report → IsBatchRun before after taken taken_after spec budget report
+batch_ran before middle after taken taken_after spec budget formulas report same specified are = record {
+  formulas = formulas;
+  specified = specified;
+  able = λ files told. record { affordable = are.affordable; sources = are.sources files (same ∙ told) };
+  written = are.written ∙ ap (option_map (files_after formulas)) same;
+  within = within_each formulas budget;
+  run = are.run;
+}

@@ -1,0 +1,71 @@
+use Rattle.std.proofs.Common.{inl, refl, ◌∙◌}
+use Rattle.std.proofs.lemmas.Result.{IfOk-from_err, err_from_is_err_and, IfOk-weaker, IfErr-weaker}
+use Rattle.tce_outside.proofs.Causes.{cause_as, answered_quiet, cause_since}
+use Rattle.tce_job.proofs.Answered.{same_fault}
+use Rattle.tce_run.proofs.BatchRan.{batch_refused, unchanged_left, batch_left, batch_room, same_room, batch_others, batch_ran}
+use Rattle.tce_run.proofs.batch.run_all.Goals as goal
+
+pub returns-in_err-batch-clause-left : goal.returns-in_err-batch-clause-left
+returns-in_err-batch-clause-left g c =
+    let p = err_from_is_err_and c.from_residual.result c.from_residual.ensures.1 in
+    rw (p.1, p.2) (unchanged_left (g.D.Disk.files c.args.disk.now) (g.D.Disk.files c.read_batch_source.new.disk) c.args.spec.now c.in_err-batch.field-0.0 c.in_err-batch.ensures.same)
+
+pub returns-in_err-batch-clause-takings : goal.returns-in_err-batch-clause-takings
+returns-in_err-batch-clause-takings g c =
+    let p = err_from_is_err_and c.from_residual.result c.from_residual.ensures.1 in
+    rw (p.1, p.2) (same_room c.in_err-batch.field-0.0 (g.D.Disk.files c.args.disk.now) c.args.spec.now c.args.budget (g.R.Room.takings c.args.room.now) (g.R.Room.takings c.args.room.now) refl)
+
+pub returns-clause-done : goal.returns-clause-done
+returns-clause-done g c =
+    IfOk-weaker c.run_formulas-ran.result _ _
+    (λ report run. batch_ran (g.D.Disk.files c.args.disk.now) _ _ _ _ c.args.spec.now c.args.budget c.in_ok-batch.batch _ c.in_ok-batch.ensures.same c.in_ok-batch.ensures.read run) c.run_formulas-ran.ensures.done
+
+pub returns-clause-refused : goal.returns-clause-refused
+returns-clause-refused g c =
+    IfErr-weaker c.run_formulas-ran.result _ _
+    (λ refusal left. batch_refused (g.D.Disk.files c.args.disk.now) _ _ _ _ c.args.spec.now c.args.budget c.in_ok-batch.batch refusal c.in_ok-batch.ensures.same c.in_ok-batch.ensures.read left) c.run_formulas-ran.ensures.refused
+
+pub returns-clause-left : goal.returns-clause-left
+returns-clause-left g c =
+    IfErr-weaker c.run_formulas-ran.result _ _
+    (λ refusal left. batch_left (g.D.Disk.files c.args.disk.now) _ _ _ _ c.args.spec.now c.args.budget c.in_ok-batch.batch refusal c.in_ok-batch.ensures.same c.in_ok-batch.ensures.read left) c.run_formulas-ran.ensures.refused
+
+pub returns-clause-takings : goal.returns-clause-takings
+returns-clause-takings g c =
+    IfErr-weaker c.run_formulas-ran.result _ _
+    (λ refusal left. batch_room (g.D.Disk.files c.args.disk.now) _ _ _ _ c.args.spec.now c.args.budget c.in_ok-batch.batch refusal c.in_ok-batch.ensures.same c.in_ok-batch.ensures.read left) c.run_formulas-ran.ensures.refused
+
+pub returns-clause-others : goal.returns-clause-others
+returns-clause-others g c =
+    batch_others (g.D.Disk.files c.args.disk.now) (g.D.Disk.files c.read_batch_source.new.disk) (g.D.Disk.files c.run_formulas-ran.new.disk) c.args.spec.now c.in_ok-batch.batch
+    c.in_ok-batch.ensures.same c.in_ok-batch.ensures.read c.run_formulas-ran.ensures.others
+
+pub returns-clause-cause : goal.returns-clause-cause
+returns-clause-cause g c = cause_since _ _ _ c.in_ok-batch.ensures.cause.later c.run_formulas-ran.ensures.cause
+
+pub returns-clause-told : goal.returns-clause-told
+returns-clause-told g c = λ none. c.run_formulas-ran.ensures.told none ∙ answered_quiet _ _ c.in_ok-batch.batch _ refl c.in_ok-batch.ensures.told
+
+pub returns-in_err-batch-clause-done : goal.returns-in_err-batch-clause-done
+returns-in_err-batch-clause-done g c = IfOk-from_err c.from_residual.result _ c.from_residual.ensures.0
+
+pub returns-in_err-batch-clause-refused : goal.returns-in_err-batch-clause-refused
+returns-in_err-batch-clause-refused g c =
+    let p = err_from_is_err_and c.from_residual.result c.from_residual.ensures.1 in
+    rw (p.1, p.2) (λ files is. inl (c.in_err-batch.ensures.refused files is))
+
+pub returns-in_err-batch-clause-others : goal.returns-in_err-batch-clause-others
+returns-in_err-batch-clause-others g c = inl c.in_err-batch.ensures.same
+
+pub returns-in_err-batch-clause-cause : goal.returns-in_err-batch-clause-cause
+returns-in_err-batch-clause-cause g c =
+    let p = err_from_is_err_and c.from_residual.result c.from_residual.ensures.1 in
+    rw (p.1, p.2) (cause_as _ _ (same_fault c.in_err-batch.field-0.0 _ _ refl refl) c.in_err-batch.ensures.cause)
+
+pub returns-in_err-batch-clause-told : goal.returns-in_err-batch-clause-told
+returns-in_err-batch-clause-told g c =
+    let p = err_from_is_err_and c.from_residual.result c.from_residual.ensures.1 in
+    rw (p.1, p.2) (λ none. c.in_err-batch.ensures.told (λ failed. none (same_fault c.in_err-batch.field-0.0 _ _ refl refl failed)))
+
+pub run_formulas-ran-requires : goal.run_formulas-ran-requires
+run_formulas-ran-requires g c = c.requires.budget

@@ -1,0 +1,46 @@
+use Rattle.std.proofs.Common.{List, ℕ, refl, sym, subst}
+use Rattle.tce_outside.proofs.Causes.{cause_as, answered_quiet}
+use Rattle.tce_spill.specs.Reports.{IsReportedFor}
+use Rattle.tce_run.proofs.Told.{answered}
+use Rattle.tce_run.proofs.SpillReasons.{could_run}
+use Rattle.tce_run.proofs.SpillRan.{of_files, told_failure, told_no_failure}
+use Rattle.tce_run.proofs.spilling.run_pieces.Goals as goal
+
+pub returns-in-Ok-clause-done : goal.returns-in-Ok-clause-done
+returns-in-Ok-clause-done g c = record {
+  able = could_run (g.D.Disk.files c.args.disk.now) (g.D.Disk.files c.args.disk.now) c.args.source.now c.args.budget c.args.limit c.in-Ok.ensures.told.cut c.in-Ok.report refl c.space-space.ensures.rules
+      c.in-Ok.ensures.told.are_cut c.in-Ok.ensures.exactly;
+  spilled = c.in-Ok.ensures.told;
+  run = subst (λ (text : List ℕ). IsReportedFor c.args.source.now c.args.budget c.args.limit (g.R.Room.takings c.args.room.now) (g.R.Room.takings c.run_spill.new.room) text) (sym c.into_vec.ensures) c.in-Ok.ensures.reported;
+}
+
+pub returns-in-Ok-clause-others : goal.returns-in-Ok-clause-others
+returns-in-Ok-clause-others g c = c.run_spill.ensures.others
+
+pub returns-in-Ok-clause-cause : goal.returns-in-Ok-clause-cause
+returns-in-Ok-clause-cause g c = cause_as _ _ (answered c.into_vec.result _ refl) c.in-Ok.ensures.cause
+
+pub returns-in-Ok-clause-told : goal.returns-in-Ok-clause-told
+returns-in-Ok-clause-told g c = λ none. answered_quiet _ _ c.in-Ok.report _ refl c.in-Ok.ensures.quiet
+
+pub refusal_of_pieces-requires : goal.refusal_of_pieces-requires
+refusal_of_pieces-requires g c = of_files (g.D.Disk.files c.args.disk.now) c.args.source.now c.args.budget c.args.limit c.in-Err.fault c.in-Err.ensures.refused
+
+pub returns-in-Err-clause-refused : goal.returns-in-Err-clause-refused
+returns-in-Err-clause-refused g c = record {
+  fault = c.in-Err.fault;
+  told = c.refusal_of_pieces.ensures;
+  cause = c.in-Err.ensures.refused;
+  left = c.in-Err.ensures.left;
+  takings = c.in-Err.ensures.takings;
+  tested = c.in-Err.ensures.tested;
+}
+
+pub returns-in-Err-clause-others : goal.returns-in-Err-clause-others
+returns-in-Err-clause-others g c = c.run_spill.ensures.others
+
+pub returns-in-Err-clause-cause : goal.returns-in-Err-clause-cause
+returns-in-Err-clause-cause g c = cause_as _ _ (told_failure c.in-Err.fault c.refusal_of_pieces.result _ _ refl refl c.refusal_of_pieces.ensures) c.in-Err.ensures.cause
+
+pub returns-in-Err-clause-told : goal.returns-in-Err-clause-told
+returns-in-Err-clause-told g c = λ none. c.in-Err.ensures.quiet (told_no_failure c.in-Err.fault c.refusal_of_pieces.result _ _ refl refl c.refusal_of_pieces.ensures none)

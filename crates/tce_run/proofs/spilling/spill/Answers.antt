@@ -1,0 +1,78 @@
+use Rattle.std.proofs.Common.{inl, refl, ◌∙◌}
+use Rattle.std.proofs.lemmas.Result.{IfOk-from_err, err_from_is_err_and, IfOk-weaker, IfErr-weaker}
+use Rattle.tce_outside.proofs.Causes.{cause_as, answered_quiet, cause_since}
+use Rattle.tce_job.proofs.Answered.{same_fault}
+use Rattle.tce_run.proofs.SpillRan.{spill_refused, unchanged_left, spill_left, spill_room, same_room, spill_others, spill_ran}
+use Rattle.tce_run.proofs.spilling.spill.Goals as goal
+
+pub returns-in_err-source-clause-left : goal.returns-in_err-source-clause-left
+returns-in_err-source-clause-left g c =
+    let p = err_from_is_err_and c.from_residual.result c.from_residual.ensures.1 in
+    rw (p.1, p.2) (unchanged_left (g.D.Disk.files c.args.disk.now) (g.D.Disk.files c.read_source.new.disk) c.args.spec.now c.args.limit c.in_err-source.field-0.0 c.in_err-source.ensures.same)
+
+pub returns-in_err-source-clause-takings : goal.returns-in_err-source-clause-takings
+returns-in_err-source-clause-takings g c =
+    let p = err_from_is_err_and c.from_residual.result c.from_residual.ensures.1 in
+    rw (p.1, p.2)
+    (same_room c.in_err-source.field-0.0 (g.D.Disk.files c.args.disk.now) c.args.spec.now c.args.budget c.args.limit (g.R.Room.takings c.args.room.now) (g.R.Room.takings c.args.room.now) refl)
+
+pub returns-clause-done : goal.returns-clause-done
+returns-clause-done g c =
+    IfOk-weaker c.run_pieces-ran.result _ _
+    (λ report run. spill_ran (g.D.Disk.files c.args.disk.now) _ _ _ _ c.args.spec.now c.args.budget c.args.limit c.in_ok-source.source _ c.in_ok-source.ensures.same c.in_ok-source.ensures.read run) c.run_pieces-ran.ensures.done
+
+pub returns-clause-refused : goal.returns-clause-refused
+returns-clause-refused g c =
+    IfErr-weaker c.run_pieces-ran.result _ _
+    (λ refusal left. spill_refused (g.D.Disk.files c.args.disk.now) _ _ _ _ c.args.spec.now c.args.budget c.args.limit c.in_ok-source.source refusal c.in_ok-source.ensures.same c.in_ok-source.ensures.read left)
+    c.run_pieces-ran.ensures.refused
+
+pub returns-clause-left : goal.returns-clause-left
+returns-clause-left g c =
+    IfErr-weaker c.run_pieces-ran.result _ _
+    (λ refusal left. spill_left (g.D.Disk.files c.args.disk.now) _ _ _ _ c.args.spec.now c.args.budget c.args.limit c.in_ok-source.source refusal c.in_ok-source.ensures.same c.in_ok-source.ensures.read left)
+    c.run_pieces-ran.ensures.refused
+
+pub returns-clause-takings : goal.returns-clause-takings
+returns-clause-takings g c =
+    IfErr-weaker c.run_pieces-ran.result _ _
+    (λ refusal left. spill_room (g.D.Disk.files c.args.disk.now) _ _ _ _ c.args.spec.now c.args.budget c.args.limit c.in_ok-source.source refusal c.in_ok-source.ensures.same c.in_ok-source.ensures.read left)
+    c.run_pieces-ran.ensures.refused
+
+pub returns-clause-others : goal.returns-clause-others
+returns-clause-others g c =
+    spill_others (g.D.Disk.files c.args.disk.now) (g.D.Disk.files c.read_source.new.disk) (g.D.Disk.files c.run_pieces-ran.new.disk) c.args.spec.now c.args.limit c.in_ok-source.source
+    c.in_ok-source.ensures.same c.in_ok-source.ensures.read c.run_pieces-ran.ensures.others
+
+pub returns-clause-cause : goal.returns-clause-cause
+returns-clause-cause g c = cause_since _ _ _ c.in_ok-source.ensures.cause.later c.run_pieces-ran.ensures.cause
+
+pub returns-clause-told : goal.returns-clause-told
+returns-clause-told g c = λ none. c.run_pieces-ran.ensures.told none ∙ answered_quiet _ _ c.in_ok-source.source _ refl c.in_ok-source.ensures.told
+
+pub returns-in_err-source-clause-done : goal.returns-in_err-source-clause-done
+returns-in_err-source-clause-done g c = IfOk-from_err c.from_residual.result _ c.from_residual.ensures.0
+
+pub returns-in_err-source-clause-refused : goal.returns-in_err-source-clause-refused
+returns-in_err-source-clause-refused g c =
+    let p = err_from_is_err_and c.from_residual.result c.from_residual.ensures.1 in
+    rw (p.1, p.2) (λ files is. inl (c.in_err-source.ensures.refused files is))
+
+pub returns-in_err-source-clause-others : goal.returns-in_err-source-clause-others
+returns-in_err-source-clause-others g c = inl c.in_err-source.ensures.same
+
+pub returns-in_err-source-clause-cause : goal.returns-in_err-source-clause-cause
+returns-in_err-source-clause-cause g c =
+    let p = err_from_is_err_and c.from_residual.result c.from_residual.ensures.1 in
+    rw (p.1, p.2) (cause_as _ _ (same_fault c.in_err-source.field-0.0 _ _ refl refl) c.in_err-source.ensures.cause)
+
+pub returns-in_err-source-clause-told : goal.returns-in_err-source-clause-told
+returns-in_err-source-clause-told g c =
+    let p = err_from_is_err_and c.from_residual.result c.from_residual.ensures.1 in
+    rw (p.1, p.2) (λ none. c.in_err-source.ensures.told (λ failed. none (same_fault c.in_err-source.field-0.0 _ _ refl refl failed)))
+
+pub run_pieces-ran-requires-clause-budget : goal.run_pieces-ran-requires-clause-budget
+run_pieces-ran-requires-clause-budget g c = c.requires.budget
+
+pub run_pieces-ran-requires-clause-limit : goal.run_pieces-ran-requires-clause-limit
+run_pieces-ran-requires-clause-limit g c = c.requires.limit

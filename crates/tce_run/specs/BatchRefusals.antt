@@ -1,0 +1,40 @@
+-- Why the command is refused that runs several formulas: the file, then the cost of each formula in turn, then the operands of each in turn that are no earlier results.
+use Rattle.std.specs.Prelude.{◌≡◌, ◌⊎◌, ℕ, List, Some}
+use Rattle.tce_outside.specs.Files.{Files, file}
+use Rattle.tce_spec.specs.Specification.{Specification}
+use Rattle.tce_job.specs.declared.fault.JobFault.{JobFault}
+use Rattle.tce_job.specs.declared.fault.JobFault.TheVariants as faults
+use Rattle.tce_batch.specs.Refusals.{IsAt, IsCauseAt}
+use Rattle.tce_batch.specs.declared.fault.BatchFault.{BatchFault}
+use Rattle.tce_command.specs.Refusals.{IsFree}
+use Rattle.tce_command.specs.declared.refusal.Refusal.{Refusal}
+use Rattle.tce_command.specs.declared.refusal.Refusal.TheVariants.{Disk, Memory}
+use Rattle.tce_run.specs.BatchSource.{HasBatch, IsBatchSourceRefusal}
+use Rattle.tce_run.specs.BatchDone.{CanRunFormulas}
+use Rattle.tce_run.specs.Told.{IsToldAs}
+
+-- the file holds formulas that can be run under this budget
+abbrev pub CanRunBatch : Files → List ℕ → ℕ → Type 0
+CanRunBatch files spec budget = (formulas : List Specification) × HasBatch files spec formulas × CanRunFormulas files formulas budget
+
+-- the refusal tells the first fault of the formulas by the specification of the one that has it
+pub record IsFormulaRefusal (files : Files) (formulas : List Specification) (budget : ℕ) (refusal : Refusal) : Type 0 where
+  pub formula : ℕ
+  pub fault : JobFault
+  pub cause : IsCauseAt (Some files) formulas budget formula fault
+  pub told : IsAt formulas formula (λ number s. IsToldAs s fault refusal)
+
+-- why the command is refused: for the file of the formulas, or, where it holds some, for what these need. The disk may fail, and memory be wanting, at any place
+abbrev pub IsBatchRefusal : Files → List ℕ → ℕ → Refusal → Type 0
+IsBatchRefusal files spec budget refusal =
+    IsBatchSourceRefusal spec (file files spec) refusal
+    ⊎ ((formulas : List Specification) × HasBatch files spec formulas × (IsFree refusal ⊎ IsFormulaRefusal files formulas budget refusal))
+
+-- how a fault is told where memory is wanting for the specification of its formula
+abbrev pub IsToldWithout : JobFault → Refusal → Type 0
+IsToldWithout faults.Disk refusal = refusal ≡ Disk
+IsToldWithout fault refusal = refusal ≡ Memory
+
+-- the refusal tells the fault so, or by the specification of its formula
+abbrev pub IsToldAt : List Specification → BatchFault → Refusal → Type 0
+IsToldAt formulas refused refusal = IsToldWithout refused.fault refusal ⊎ IsAt formulas refused.formula (λ number s. IsToldAs s refused.fault refusal)

@@ -1,5 +1,0 @@
-pub mod Pieces
-pub mod Values
-pub mod Reports
-pub mod Refusals
-pub mod Left

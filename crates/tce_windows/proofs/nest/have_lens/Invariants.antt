@@ -1,6 +1,0 @@
-use Rattle.std.proofs.Common.{◌≡◌, map, take}
-use Rattle.tce_windows.specs.Nests.{with_len}
-use Rattle.tce_windows.proofs.nest.have_lens.Given as goal
-
-abbrev pub invariant-loop-d : goal.invariant-loop-d
-invariant-loop-d l = take l.d l.axes ≡ map (with_len l.lens) (take l.d l.axes)

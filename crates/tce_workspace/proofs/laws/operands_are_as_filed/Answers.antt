@@ -1,5 +1,0 @@
-use Rattle.tce_workspace.proofs.Reading.{operand_as_filed}
-use Rattle.tce_workspace.proofs.laws.operands_are_as_filed.Goals as goal
-
-pub returns : goal.returns
-returns c = operand_as_filed

@@ -1,5 +1,0 @@
-use Rattle.tce_workspace.proofs.Following.{kept_on, continued_on, read_on, change_on, changed_twice}
-use Rattle.tce_workspace.proofs.laws.steps_follow.Goals as goal
-
-pub returns : goal.returns
-returns c = record { kept = kept_on; continued = continued_on; read = read_on; changed = change_on; twice = changed_twice }

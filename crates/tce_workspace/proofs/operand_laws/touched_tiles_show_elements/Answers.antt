@@ -1,5 +1,0 @@
-use Rattle.tce_workspace.proofs.States as states
-use Rattle.tce_workspace.proofs.operand_laws.touched_tiles_show_elements.Goals as goal
-
-pub returns : goal.returns
-returns c = states.touched_tiles_show_elements

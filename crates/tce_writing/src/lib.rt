@@ -1,6 +1,0 @@
-//! Whole files.
-#![tactic(auto)]
-
-mod writing;
-
-pub use writing::write_file;
