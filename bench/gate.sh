@@ -2,7 +2,9 @@
 # Runs the gate, `rt ci`, and prints the processor seconds of each crate's proof, tests and edits, dearest first, and of the
 # dearest single edits.
 # usage: bench/gate.sh [--anew] [NAME ..] [> table]      What rt says goes to standard error.
-# Where an earlier run keeps what a crate needs, its columns show what this run did alone: --anew proves all.
+# Where an earlier run keeps what a crate needs, its columns show what this run did alone: --anew proves all. Where the kit's rt
+# keeps nothing and has no --anew, as that of 13b, each run proves all, and --anew is left out. The times come by what rt calls inside;
+# where a kit's rt has another inside, the gate runs as well, and the tables are empty or have no edits.
 cd "$(dirname "$0")/.." || exit 1
 log=$(mktemp)
 trap 'rm -f "$log"' EXIT
@@ -20,6 +22,12 @@ rt = importlib.util.module_from_spec(importlib.util.spec_from_loader("rt", loade
 sys.modules["rt"] = rt
 sys.argv = [path, "ci", *words]
 loader.exec_module(rt)
+if "--anew" in words and "--anew" not in (rt.__doc__ or ""):
+    print("gate: rt ci has no --anew here: it keeps nothing, and proves all")
+    words = [it for it in words if it != "--anew"]
+if not hasattr(rt, "main") or not hasattr(getattr(rt, "rtlib", None), "guarded"):
+    print("gate: this rt has another inside: no times are taken")
+    os.execv(path, [path, "ci", *words])
 
 # A check of rattle: its crate, what it is for, its processor and wall seconds, and the edit that it tries.
 TIMED = """
@@ -38,7 +46,7 @@ if os.WIFSIGNALED(status):
 os._exit(os.WEXITSTATUS(status))
 """
 here = threading.local()
-must_fail = rt.must_fail
+must_fail = getattr(rt, "must_fail", None)
 
 
 def try_edit(crate, edit, *more):
@@ -49,7 +57,8 @@ def try_edit(crate, edit, *more):
         here.edit = "-"
 
 
-rt.must_fail = try_edit
+if must_fail:
+    rt.must_fail = try_edit
 guarded = rt.rtlib.guarded
 rt.rtlib.guarded = lambda: [*guarded(), sys.executable, "-ISc", TIMED, log, getattr(here, "edit", "-")]
 sys.exit(rt.main(["ci", *words]))
