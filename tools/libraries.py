@@ -106,7 +106,6 @@ class Libraries:
             self.places[crate.name] = rlib
             return True
         shutil.rmtree(own, ignore_errors=True)
-        (own / "out").mkdir(parents=True)
         if self.kept.of_gate(crate.name, own, gives=True):
             self.places[crate.name] = rlib
             mark.write_text(self.mark(crate), encoding="utf-8")
