@@ -17,6 +17,8 @@ from compiler import Failed, end_all
 CHECK_BYTES = 3_000_000_000
 # What a proof takes that no table tells.
 NEW_SECONDS = 60
+# What is proved from nothing, in seconds, also where checks kept work: to have all libraries with their proofs would take longer.
+FEW_SECONDS = 300
 PARTS = ("src", "specs", "proofs")
 
 
@@ -67,14 +69,15 @@ class Libraries:
         self.goes_on = False
         self.turn = threading.Condition()
         self.running, self.failed = set(), None
+        self.seconds = measured_seconds(top)
         self.ahead = self.ways()
 
     def ways(self):
         """The seconds of the longest way from each crate to the program."""
-        seconds, ahead = measured_seconds(self.top), {}
+        ahead = {}
         for crate in reversed(self.crates):
             above = [ahead[it] for it in ahead if crate in it.below()]
-            ahead[crate] = seconds.get(crate.name, NEW_SECONDS) + max(above, default=0)
+            ahead[crate] = self.seconds.get(crate.name, NEW_SECONDS) + max(above, default=0)
         return ahead
 
     def own_place(self, crate):
@@ -158,8 +161,9 @@ class Libraries:
     def take_or_prove(self):
         """Has all libraries stand. Returns their places, and raises Failed where one is not proved."""
         found = sum([self.find(it) for it in self.crates])
-        if found < len(self.crates) and self.kept and self.kept.shares():
-            # Over the work that checks kept, all libraries hold their proofs.
+        lacking = sum(self.seconds.get(it.name, NEW_SECONDS) for it in self.crates if it.name not in self.places)
+        if lacking > FEW_SECONDS and self.kept and self.kept.shares():
+            # (over the work that checks kept all libraries hold their proofs, so none is taken that does not)
             self.goes_on, self.places, self.left, found = True, {}, set(), 0
         jobs = processors()
         if found < len(self.crates):
