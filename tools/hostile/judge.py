@@ -75,8 +75,7 @@ def results_of(command, before):
 
 
 def of_results(command, before, after, status, left):
-    """What is wrong with the files of several results: in order some are complete, after a disk fault one may hold
-    anything, and the others are unchanged."""
+    """What is wrong with the files of several results: in order some are complete, and the others are unchanged."""
     states = []
     for name, content in (*command.earlier, (command.output, left)):
         held = after.get(name, (None, None))[1]
@@ -86,7 +85,7 @@ def of_results(command, before, after, status, left):
     wrong = []
     if "unchanged" in states[:begun]:
         wrong.append("a later result is there without an earlier one")
-    if "anything" in (states[: begun - 1] if status == 8 else states):
+    if "anything" in states:
         wrong.append("a result is not complete")
     if status in (0, 9) and begun < len(states):
         wrong.append("a result was not written")
@@ -106,6 +105,8 @@ def of_files(command, before, after, outcome, wrote, left, leaves):
         leaves = "anything"
     if leaves is None:
         leaves = {0: "anything", 8: "anything", 9: "complete"}.get(outcome.status, "unchanged")
+    if outcome.status == 8 and left is not None and output in changed and held != left:
+        wrong.append("the output is neither as it was nor complete")
     if leaves == "unchanged" and output in changed:
         wrong.append("the output changed")
     if leaves == "complete" and output and held != left:

@@ -99,6 +99,15 @@ def folder_at(name):
     return arrange
 
 
+def pipe_at(name):
+    def arrange(folder):
+        (folder.path / name).unlink(missing_ok=True)
+        os.mkfifo(folder.path / name)
+        folder.give(folder.path / name)
+
+    return arrange
+
+
 def sparse(name, size):
     return lambda folder: os.truncate(folder.path / name, size)
 
@@ -124,7 +133,7 @@ def closed_folders(command):
     if command.output:
         there = in_turn(*(put(name, b"what was there before") for name in results_of(command)))
         yield Case("a read-only folder", {8}, shut, leaves="unchanged")
-        yield Case("a read-only folder with the output in it", {0}, in_turn(there, shut), leaves="complete")
+        yield Case("a read-only folder with the output in it", {8}, in_turn(there, shut), leaves="unchanged")
         yield Case("a read-only output", {8}, in_turn(there, with_mode(command.output, 0o444)), leaves="unchanged")
     else:
         yield Case("a read-only folder", {0}, shut)
@@ -149,10 +158,12 @@ def bad_inputs(name):
     elsewhere = in_turn(lambda folder: (folder.path / name).rename(folder.path / "elsewhere"), link(name, "elsewhere"))
     yield Case(f"no {name}", {3}, without(name))
     yield Case(f"{name} that may not be read", {8}, with_mode(name, 0))
-    yield Case(f"a folder as {name}", {8} | refused, folder_at(name), leaves="unchanged")
+    yield Case(f"a folder as {name}", {8}, folder_at(name), leaves="unchanged")
     yield Case(f"{name} that leads nowhere", {3}, link(name, "nowhere"))
     yield Case(f"{name} that leads to itself", {8}, link(name, name), leaves="unchanged")
-    yield Case(f"an endless device as {name}", refused, link(name, "/dev/zero"))
+    yield Case(f"an endless device as {name}", {8}, link(name, "/dev/zero"), leaves="unchanged")
+    yield Case(f"an empty device as {name}", {8}, link(name, "/dev/null"), leaves="unchanged")
+    yield Case(f"a pipe as {name}", {8}, pipe_at(name), leaves="unchanged")
     yield Case(f"{name} that leads elsewhere", {0}, elsewhere)
     yield Case(f"an empty {name}", refused, put(name, b""))
     yield Case(f"{name} with a byte more", refused | ({0} if suffix == "tce" else set()), put(name, FILES[name] + b" "))
@@ -184,6 +195,7 @@ def bad_outputs(command):
     yield Case("an output in a folder that is not there", {8}, link(name, "none/there"), leaves="unchanged")
     yield Case("an output that leads to itself", {8}, link(name, name), leaves="unchanged")
     yield Case("a full device as the output", {8}, link(name, "/dev/full"), leaves="unchanged")
+    yield Case("a pipe as the output", {8}, pipe_at(name), leaves="unchanged")
     yield Case("an output that was there", {0}, put(name, b"what was there before" * 1000), leaves="complete")
 
 

@@ -2,7 +2,8 @@
 import subprocess
 
 # Met calls are counted from 0; those from FAIL_FROM to FAIL_TO fail, and the first says so on standard error.
-# FAIL_WHAT: memory; input (EIO); interrupted (EINTR, at that call alone); short (one byte is moved).
+# FAIL_WHAT: memory; input (EIO); interrupted (EINTR, at that call alone); short (one byte is moved); closing (EIO at what need
+# not succeed: a file is closed all the same, and one that is not locked is used).
 SOURCE = r"""
 #define _GNU_SOURCE
 #include <errno.h>
@@ -10,7 +11,10 @@ SOURCE = r"""
 #include <stdarg.h>
 #include <stddef.h>
 #include <stdlib.h>
+#include <limits.h>
+#include <stdio.h>
 #include <string.h>
+#include <sys/file.h>
 #include <sys/stat.h>
 #include <sys/syscall.h>
 #include <unistd.h>
@@ -20,7 +24,7 @@ void *__libc_calloc(size_t count, size_t size);
 void *__libc_realloc(void *old, size_t size);
 void *__libc_memalign(size_t align, size_t size);
 
-enum what { NOTHING, MEMORY, INPUT, INTERRUPTED, SHORT };
+enum what { NOTHING, MEMORY, INPUT, INTERRUPTED, SHORT, CLOSING };
 
 static enum what what = NOTHING;
 static long met, first, last;
@@ -32,7 +36,7 @@ __attribute__((constructor)) static void begin(void) {
     first = atol(from);
     last = atol(to);
     what = !strcmp(named, "memory") ? MEMORY : !strcmp(named, "input") ? INPUT
-         : !strcmp(named, "interrupted") ? INTERRUPTED : SHORT;
+         : !strcmp(named, "interrupted") ? INTERRUPTED : !strcmp(named, "closing") ? CLOSING : SHORT;
 }
 
 static int fails(int error) {
@@ -47,6 +51,8 @@ static int fails(int error) {
 
 static int no_memory(void) { return what == MEMORY && fails(ENOMEM); }
 static int no_call(void) { return (what == INPUT && fails(EIO)) || (what == INTERRUPTED && fails(EINTR)); }
+static int no_uninterrupted(void) { return what == INPUT && fails(EIO); }
+static int no_closing(void) { return (what == CLOSING && fails(EIO)) || (what == INTERRUPTED && fails(EINTR)); }
 static size_t moved(size_t size) { return what == SHORT && size > 1 && fails(0) ? 1 : size; }
 
 void *malloc(size_t size) { return no_memory() ? NULL : __libc_malloc(size); }
@@ -77,9 +83,22 @@ ssize_t write(int file, const void *from, size_t size) {
     return no_call() ? -1 : syscall(SYS_write, file, from, moved(size));
 }
 int ftruncate(int file, off_t size) { return no_call() ? -1 : (int)syscall(SYS_ftruncate, file, size); }
+int fsync(int file) { return no_call() ? -1 : (int)syscall(SYS_fsync, file); }
+int fdatasync(int file) { return no_call() ? -1 : (int)syscall(SYS_fdatasync, file); }
+int fchmod(int file, mode_t mode) { return no_call() ? -1 : (int)syscall(SYS_fchmod, file, mode); }
+int flock(int file, int how) { return no_closing() ? -1 : (int)syscall(SYS_flock, file, how); }
+int close(int file) {
+    int ended = (int)syscall(SYS_close, file);
+    return what == CLOSING && fails(EIO) ? -1 : ended;
+}
+// no signal interrupts these
 int statx(int at, const char *restrict name, int flags, unsigned mask, struct statx *restrict found) {
-    // no signal interrupts it
-    return what == INPUT && fails(EIO) ? -1 : (int)syscall(SYS_statx, at, name, flags, mask, found);
+    return no_uninterrupted() ? -1 : (int)syscall(SYS_statx, at, name, flags, mask, found);
+}
+int rename(const char *from, const char *to) { return no_uninterrupted() ? -1 : (int)syscall(SYS_rename, from, to); }
+int unlink(const char *name) { return no_uninterrupted() ? -1 : (int)syscall(SYS_unlink, name); }
+ssize_t readlink(const char *restrict name, char *restrict to, size_t size) {
+    return no_uninterrupted() ? -1 : syscall(SYS_readlink, name, to, size);
 }
 """
 

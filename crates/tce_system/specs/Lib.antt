@@ -1,3 +1,4 @@
 pub mod Told
 pub mod Holes
 pub mod Kept
+pub mod Counted

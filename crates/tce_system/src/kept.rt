@@ -4,12 +4,15 @@ ghost use Rattle.std.specs.Option.{option_copied};
 ghost use Rattle.std.specs.HashMap.{get_by_text, IsEmpty, IsUnchanged};
 ghost use Rattle.tce_system.specs.Kept.{KeepsOthers};
 
+use crate::place::{Place, is_name_of};
 use std::alloc::Global;
 use std::collections::HashMap;
 use std::fs::File;
+use std::rt::Files;
+use tce_outside::OutFault;
 
-/// How many files one table keeps open at most; a system often allows a process some 1,000.
-const MOST_KEPT: usize = 64;
+/// How many files one table keeps open at most; a system often allows a process some 1,000, and a command uses at most 40.
+const MOST_KEPT: usize = 256;
 
 /// A table of open files by name.
 #[derive(Drop)]
@@ -36,17 +39,33 @@ impl KeptFiles {
         self.files.get(name)
     }
 
-    /// Keeps a file open under this name. Where the table is full or there is no memory, the file is closed,
-    /// and the next call that uses it opens it again.
-    pub fn keep(&mut self, name: &str, file: File)
+    /// Answers a failure where one of these names but this one is that of the place to which this one leads.
+    pub fn stay_beside<R: Files>(
+        &self,
+        files: &R,
+        name: &str,
+        place: &Place,
+    ) -> Result<(), OutFault> {
+        for other in self.files.keys() {
+            if other.as_str() != name && is_name_of(files, self.alloc, other.as_str(), place)? {
+                return Err(OutFault::Failed);
+            }
+        }
+        Ok(())
+    }
+
+    /// Keeps a file open under this name, and answers whether it does. Where the table is full or there is no memory, the file
+    /// is closed, and the next call that uses it opens it again.
+    pub fn keep(&mut self, name: &str, file: File) -> bool
         ensures kept { (get_by_text self.new.files name.now ≡ Some file) ⊎ IsUnchanged self.old.files self.new.files }
         ensures others { KeepsOthers self.old.files self.new.files name.now }
     {
         if self.files.len() >= MOST_KEPT {
-            return;
+            return false;
         }
-        if let Ok(name) = String::from_str(self.alloc, name) {
-            let _ = self.files.insert(name, file);
+        match String::from_str(self.alloc, name) {
+            Ok(name) => self.files.insert(name, file).is_ok(),
+            Err(_) => false,
         }
     }
 

@@ -4,7 +4,8 @@ use std::cell::Cell;
 use std::fmt::Display;
 use std::fs::File;
 use std::io::{ErrorKind, PipeWriter, Read, Write};
-use std::os::unix::fs::FileExt;
+use std::os::fd::AsRawFd;
+use std::os::unix::fs::{FileExt, symlink};
 use std::process::Abort;
 use std::rt::Files;
 use std::{env, fs, io, process};
@@ -40,20 +41,22 @@ fn keeps_bytes<R: Files<File = File>>(rt: &impl Abort, disk: &mut FileDisk<'_, R
     check_read(rt, disk, name, 4, b"\0\0");
     let none = disk.read_at(name, 9, &mut []);
     check(rt, none.is_ok(), "no bytes are there everywhere");
+    check(rt, disk.write_at(name, 0, b"w").is_ok(), "the beginning");
+    check_read(rt, disk, name, 0, b"wx");
 }
 
-// Over a longer file of other bytes.
-fn makes_zeros<R: Files<File = File> + AllocGlobal + Abort>(
-    rt: &R,
-    disk: &mut FileDisk<'_, R>,
-    name: &str,
-) {
+// Over a longer file of other bytes, which stands until the new one is whole.
+fn makes_zeros<R: Files<File = File> + AllocGlobal + Abort>(rt: &R, name: &str) {
+    let mut disk = FileDisk::new(rt.alloc(), rt);
     must(rt, fs::write(rt, name, "seventeen letters"));
     check(rt, disk.make(name, 2).is_ok(), "it is made anew");
     check(rt, disk.size(name) == Ok(Some(2)), "it is shorter");
-    check_read(rt, disk, name, 0, b"\0\0");
+    check_read(rt, &mut disk, name, 0, b"\0\0");
+    check_file(rt, name, b"seventeen letters");
+    check(rt, disk.write_at(name, 0, b"\0").is_ok(), "it is whole");
     check_file(rt, name, b"\0\0");
     must(rt, fs::remove_file(rt, name));
+    drop(disk);
 }
 
 // On the file that `keeps_bytes` left. A new file takes the place of the old one.
@@ -112,7 +115,7 @@ fn counts_makes_and_sizes<R: Files<File = File> + AllocGlobal + Abort>(
     check(rt, disk.faults() == 5, "each is counted");
 }
 
-// One of 100 files, of which not all can be kept open.
+// One of 100 files, all of which stay open.
 fn uses_a_file<R: Files<File = File>>(
     rt: &impl Abort,
     disk: &mut FileDisk<'_, R>,
@@ -155,8 +158,8 @@ fn the_disk_uses_real_files(rt: HostRuntime) {
     let above = must(&rt, env::temp_dir(&rt));
     let folder = made_folder(&rt, above.as_str(), process::id(rt.process()));
     let name = behind(&rt, rt.alloc(), &folder, "/a");
+    makes_zeros(&rt, &name);
     let mut disk = FileDisk::new(rt.alloc(), &rt);
-    makes_zeros(&rt, &mut disk, &name);
     keeps_bytes(&rt, &mut disk, &name);
     keeps_files_open(&rt, &mut disk, &name);
     counts_reads_and_writes(&rt, &mut disk, &name);
@@ -166,15 +169,164 @@ fn the_disk_uses_real_files(rt: HostRuntime) {
     must(&rt, fs::remove_dir_all(&rt, folder.as_str()));
 }
 
-// A device that takes all bytes and cannot be flushed.
+// Files of a folder by their names.
+#[derive(Drop)]
+struct Trial {
+    operand: String,
+    other: String,
+    result: String,
+}
+
+// An operand of two bytes, another file, and the name of a result.
+fn trial_files<R: Files<File = File> + AllocGlobal + Abort>(rt: &R, folder: &str) -> Trial {
+    let operand = behind(rt, rt.alloc(), folder, "/operand");
+    let other = behind(rt, rt.alloc(), folder, "/other");
+    let result = behind(rt, rt.alloc(), folder, "/result");
+    must(rt, fs::write(rt, operand.as_str(), "op"));
+    must(rt, fs::write(rt, other.as_str(), "another"));
+    Trial {
+        operand,
+        other,
+        result,
+    }
+}
+
+// A run that reads an operand, makes a result of it and reads both again. Where it is refused, nothing has changed.
+fn makes_result<R: Files<File = File> + AllocGlobal + Abort>(
+    rt: &R,
+    files: &Trial,
+    is_right: bool,
+) {
+    let mut disk = FileDisk::new(rt.alloc(), rt);
+    check_read(rt, &mut disk, &files.operand, 0, b"op");
+    let made = disk.make(&files.result, 2);
+    check(rt, made.is_ok() == is_right, "it is made or refused");
+    if is_right {
+        check_read(rt, &mut disk, &files.operand, 0, b"op");
+        let written = disk.write_at(&files.result, 0, b"hi");
+        check(rt, written.is_ok(), "it is written");
+        check_read(rt, &mut disk, &files.operand, 0, b"op");
+        check_file(rt, &files.result, b"hi");
+    } else {
+        check_file(rt, &files.operand, b"op");
+    }
+    check(rt, disk.faults() == u64::from(!is_right), "it is counted");
+    drop(disk);
+}
+
+// A result whose name is a link with this text.
+fn tries_link<R: Files<File = File> + AllocGlobal + Abort>(
+    rt: &R,
+    files: &Trial,
+    text: &str,
+    is_right: bool,
+) {
+    must(rt, symlink(rt, text, files.result.as_str()));
+    makes_result(rt, files, is_right);
+    must(rt, fs::remove_file(rt, files.result.as_str()));
+}
+
 #[test]
-fn a_file_is_flushed_before_its_beginning_is_written(rt: HostRuntime) {
+fn a_result_that_is_a_link_destroys_no_operand(rt: HostRuntime) {
+    let above = must(&rt, env::temp_dir(&rt));
+    let id = process::id(rt.process());
+    let folder = made_folder(&rt, above.as_str(), id.wrapping_add(1));
+    let files = trial_files(&rt, &folder);
+    tries_link(&rt, &files, "operand", false);
+    tries_link(&rt, &files, "result", false);
+    tries_link(&rt, &files, "none/result", false);
+    tries_link(&rt, &files, "/dev/null", false);
+    tries_link(&rt, &files, "nothing", true);
+    tries_link(&rt, &files, &files.other, true);
+    check_file(&rt, &files.other, b"hi");
+
+    // a second name of the operand, and an operand that is a link to the result
+    must(
+        &rt,
+        fs::hard_link(&rt, files.operand.as_str(), files.result.as_str()),
+    );
+    makes_result(&rt, &files, true);
+    check_file(&rt, &files.operand, b"op");
+    must(
+        &rt,
+        fs::rename(&rt, files.operand.as_str(), files.result.as_str()),
+    );
+    must(&rt, symlink(&rt, "result", files.operand.as_str()));
+    makes_result(&rt, &files, true);
+    check_file(&rt, &files.operand, b"hi");
+    must(&rt, fs::remove_dir_all(&rt, folder.as_str()));
+}
+
+// Begins a result of two letters.
+fn begins<R: Files<File = File>>(rt: &impl Abort, disk: &mut FileDisk<'_, R>, name: &str) {
+    check(rt, disk.make(name, 2).is_ok(), "it is begun");
+    check(rt, disk.write_at(name, 1, b"x").is_ok(), "its end");
+}
+
+#[test]
+fn runs_at_once_keep_their_files_apart(rt: HostRuntime) {
+    let above = must(&rt, env::temp_dir(&rt));
+    let id = process::id(rt.process());
+    let folder = made_folder(&rt, above.as_str(), id.wrapping_add(2));
+    let files = trial_files(&rt, &folder);
+    let left = behind(&rt, rt.alloc(), &folder, "/tce-unfinished~1");
+    must(&rt, fs::write(&rt, left.as_str(), "what a killed run left"));
+
+    let mut one = FileDisk::new(rt.alloc(), &rt);
+    let mut other = FileDisk::new(rt.alloc(), &rt);
+    check_read(&rt, &mut other, &files.operand, 0, b"op");
+    begins(&rt, &mut one, &files.operand);
+    begins(&rt, &mut other, &files.result);
+    check(
+        &rt,
+        one.write_at(&files.operand, 0, b"a").is_ok(),
+        "it is whole",
+    );
+    check(
+        &rt,
+        other.write_at(&files.result, 0, b"b").is_ok(),
+        "it is whole",
+    );
+    check_file(&rt, &files.operand, b"ax");
+    check_file(&rt, &files.result, b"bx");
+
+    // a file that is replaced while it is open
+    check_read(&rt, &mut other, &files.operand, 0, b"op");
+    begins(&rt, &mut one, &files.result);
+    drop(one);
+    check_file(&rt, &files.result, b"bx");
+    let is_gone = matches!(fs::exists(&rt, left.as_str()), Ok(false));
+    check(&rt, is_gone, "nothing unfinished is left");
+    drop(other);
+    must(&rt, fs::remove_dir_all(&rt, folder.as_str()));
+}
+
+// What has no bytes of its own is no file: each call fails at once.
+fn is_no_file<R: Files<File = File>>(rt: &impl Abort, disk: &mut FileDisk<'_, R>, name: &str) {
+    let before = disk.faults();
+    check(rt, disk.size(name) == Err(Failed), name);
+    check(rt, disk.read_at(name, 0, &mut [0]) == Err(Failed), name);
+    check(rt, disk.write_at(name, 0, b"x") == Err(Failed), name);
+    check(rt, disk.make(name, 1) == Err(OutFault::Failed), name);
+    check(
+        rt,
+        disk.faults().saturating_sub(before) == 4,
+        "each is counted",
+    );
+}
+
+#[test]
+fn devices_and_pipes_and_folders_are_no_files(rt: HostRuntime) {
     let mut disk = FileDisk::new(rt.alloc(), &rt);
-    let behind = disk.write_at("/dev/null", 1, b"x");
-    check(&rt, behind.is_ok(), "it takes all bytes");
-    let beginning = disk.write_at("/dev/null", 0, b"x");
-    check(&rt, beginning == Err(Failed), "it is flushed first");
-    check(&rt, disk.faults() == 1, "a failed flush is a fault");
+    is_no_file(&rt, &mut disk, "/dev/null");
+    is_no_file(&rt, &mut disk, "/");
+    let (reader, end) = must(&rt, io::pipe(&rt));
+    let number = reader.as_raw_fd();
+    let name = must(&rt, format!(in rt.alloc(); "/proc/self/fd/{number}"));
+    is_no_file(&rt, &mut disk, &name);
+    drop(reader);
+    drop(end);
+    drop(disk);
 }
 
 // Prints into a pipe.

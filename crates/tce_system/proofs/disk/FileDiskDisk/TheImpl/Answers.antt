@@ -1,13 +1,13 @@
 use Rattle.std.proofs.Common.{rules, refl}
 use Rattle.std.proofs.lemmas.Option.{none-some}
-use Rattle.tce_system.proofs.Counted.{untold, untold_read, still_untold, counted_cause, counted_cause_of, counted_told, counted_told_of}
+use Rattle.tce_system.proofs.Counted.{untold, untold_read, still_untold, counted_cause, counted_told, failed_cause, failed_told}
 use Rattle.tce_system.proofs.disk.FileDiskDisk.TheImpl.Goals as goal
 
 pub size-tells : goal.size-tells
 size-tells g c = record { length = untold c.result _; same = search rules; cause = counted_cause c.result _ _ c.ensures.counted; told = counted_told c.result _ _ c.ensures.counted }
 
 pub make-tells : goal.make-tells
-make-tells g c = record { made = still_untold c.result _; memory = search rules; zeros = λ files told. absurd (none-some files told); others = search rules; cause = counted_cause_of c.result _ _ _ c.ensures.counted; told = counted_told_of c.result _ _ _ c.ensures.failed c.ensures.counted }
+make-tells g c = record { made = still_untold c.result _; memory = search rules; zeros = λ files told. absurd (none-some files told); others = search rules; cause = failed_cause c.result _ _ c.ensures.counted; told = failed_told c.result _ _ c.ensures.counted }
 
 pub read_at-tells : goal.read_at-tells
 read_at-tells g c = record { read = untold_read c.result _; same = search rules; cause = counted_cause c.result _ _ c.ensures.counted; told = counted_told c.result _ _ c.ensures.counted }
