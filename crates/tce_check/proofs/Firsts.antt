@@ -1,5 +1,5 @@
 -- First places where something fails, as loops find them, and that there is one at most.
-use Rattle.std.proofs.Common.{◌≡◌, ℕ, zero, suc, ◌+◌, ◌-◌, ◌<◌, ◌≤◌, false, List, [], ◌∷◌, length, get_or, inl, inr, subst, arith, All}
+use Rattle.std.proofs.Common.{◌≡◌, ℕ, zero, suc, ◌+◌, ◌-◌, ◌<◌, ◌≤◌, false, List, [], ◌∷◌, ◌++◌, length, get_or, inl, inr, subst, arith, All}
 use Rattle.std.specs.List.{AllWithin}
 use Rattle.std.specs.Prelude.{IsTrue}
 use Rattle.std.proofs.lemmas.Bool.{cases_order, false≢true}
@@ -72,3 +72,13 @@ number_meets count Holds Fails Breaks p q v w first other = elim (cases_order v 
   | inr (inl below) ↦ absurd (p v (other.earlier v below) first.fails)
   | inr (inr above) ↦ absurd (q w (first.earlier w above) other.fails)
 ]
+
+-- of two lists, one behind the other
+pub first_front : {X : Type 0} (Holds Fails : X → Type 0) (xs ys : List X) → First Holds Fails xs → First Holds Fails (xs ++ ys)
+first_front Holds Fails [] ys none = absurd none
+first_front Holds Fails (x ∷ xs) ys (inl bad) = inl bad
+first_front Holds Fails (x ∷ xs) ys (inr (good, rest)) = inr (good, first_front Holds Fails xs ys rest)
+
+pub first_back : {X : Type 0} (Holds Fails : X → Type 0) (xs ys : List X) → All Holds xs → First Holds Fails ys → First Holds Fails (xs ++ ys)
+first_back Holds Fails [] ys all first = first
+first_back Holds Fails (x ∷ xs) ys all first = inr (All-head Holds x xs all, first_back Holds Fails xs ys (All-tail Holds x xs all) first)

@@ -1,7 +1,10 @@
 pub mod Covering
 pub mod Firsts
 pub mod FromTables
+pub mod Gathered
 pub mod Joints
 pub mod Reaches
 pub mod RunParts
+pub mod Settled
+pub mod Settling
 pub mod Verdicts

@@ -1,6 +1,9 @@
+pub mod Branch
 pub mod First
 pub mod Joint
+pub mod Kept
 pub mod Node
+pub mod Pairs
 pub mod Reach
 pub mod Tops
 pub mod Verdict

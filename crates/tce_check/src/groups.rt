@@ -340,7 +340,7 @@ fn place_of(rows: &[Row], state: &Row, outer: IndexSet) -> Option<usize>
 }
 
 // Whether a row stands for a state.
-fn stands_for(row: &Row, state: &Row, outer: IndexSet) -> bool
+pub(crate) fn stands_for(row: &Row, state: &Row, outer: IndexSet) -> bool
     ensures { IsTrue result ↔ StandsFor outer (above state.now.classes) state.now.cost row.now }
 {
     row.cost <= state.cost && row.classes.coarser(&state.classes, outer)

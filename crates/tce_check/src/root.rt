@@ -9,6 +9,7 @@ ghost use Rattle.tce_check.specs.Verdict.{WhereJoined, IsBelow, FirstBelow};
 
 use crate::joint::joint;
 use crate::operands::{leaf_row, left_rows, right_rows};
+use crate::sums::are_above;
 use tce_nesting::{Row, Tables};
 use tce_tree::Tree;
 
@@ -23,9 +24,44 @@ pub(crate) fn first_below(tree: &Tree, tables: &Tables, total: u128) -> Option<u
     let leaf = [leaf_row()];
     let rights = right_rows(tree, tables, root, &leaf);
     let lefts = left_rows(tree, tables, root, &leaf);
-    first_below_of(tree, root, lefts, rights, total)
+    first_among(tree, root, lefts, rights, total, true)
 }
 
+// So many pairs are looked at one by one sooner than it is told that none need be.
+const FEW: usize = 1_000_000;
+
+// The same of the operands' rows. If there is such a sum and that is not known yet, `unknown` says so.
+fn first_among(
+    tree: &Tree,
+    root: u8,
+    lefts: &[Row],
+    rights: &[Row],
+    total: u128,
+    unknown: bool,
+) -> Option<u128>
+    requires inside { root < operations tree.now }
+    requires lefts { All (λ row. row.cost < cost_limit) lefts.now }
+    requires rights { All (λ row. row.cost < cost_limit) rights.now }
+    ensures { MatchOption result
+        (All (λ left. All (WhereJoined tree.now root
+        (λ l r. total ≤ l.cost + r.cost) left) rights.now) lefts.now)
+        (λ sum. FirstPair (WhereJoined tree.now root
+        (λ l r. total ≤ l.cost + r.cost)) (IsBelow tree.now root total sum) lefts.now rights.now) }
+{
+    if lefts.len() < 2 || lefts.len().saturating_mul(rights.len()) <= FEW {
+        return first_below_of(tree, root, lefts, rights, total);
+    }
+    if unknown && are_above(lefts, rights, tree.loops(root), total) {
+        return None;
+    }
+    let (front, back) = lefts.split_at(lefts.len() / 2);
+    if let Some(sum) = first_among(tree, root, front, rights, total, true) {
+        return Some(sum);
+    }
+    first_among(tree, root, back, rights, total, false)
+}
+
+// The same of so few rows that each pair is looked at.
 fn first_below_of(tree: &Tree, root: u8, lefts: &[Row], rights: &[Row], total: u128) -> Option<u128>
     requires inside { root < operations tree.now }
     requires lefts { All (λ row. row.cost < cost_limit) lefts.now }

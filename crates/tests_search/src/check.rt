@@ -1,10 +1,11 @@
 //! Plans of four trees with their verdicts: `(sum{k}(A[i,k])) * (sum{l}(B[j,l]))` with i of extent 5, j of 7, k and l of 2; `D[i,j] * (C[i,j] * (A[i,j] * B[i,j]))` with i of extent 2 and j of 3; `(2 * A[i,k]) * B[i,k]`; and `sum{k}(A[i,k])`.
 //!
 //! A plan is a text: its fused sets, its orders, its sizes, its memory, and the rows of its first two nodes, each with its cost and one class or none. Indexes are digits.
-use crate::given::{TWO_SUMS, nesting, plan_of, set, spec_of};
+use crate::given::{TWO_SUMS, nesting, plan_of, put_row, set, spec_of};
 use std::alloc::Global;
 use std::process::Abort;
 use tce_check::{Verdict, check};
+use tce_fusion::Plan;
 use tce_spec::Spec;
 
 // The verdict that a step lacks a row, of a node, a set whose indexes are one class, and a cost.
@@ -172,6 +173,31 @@ fn verdicts_on_two_sums(rt: HostRuntime) {
     wrong_sizes(&rt, rt.alloc(), &spec);
     missing_rows(&rt, rt.alloc(), &spec);
     low_sums(&rt, rt.alloc(), &spec);
+    drop(spec);
+}
+
+// A plan with so many rows of both sums that their pairs are not looked at one by one.
+fn plan_of_many(rt: &impl Abort, alloc: Global) -> Plan {
+    let mut plan = plan_of(rt, alloc, "- 1 -;02 13 10;5 1;6;5: 1:0;7: 1:1");
+    for _ in 0..2000 {
+        put_row(rt, &mut plan.tables, 0, "0", 1);
+        put_row(rt, &mut plan.tables, 1, "1", 1);
+    }
+    plan
+}
+
+#[test]
+fn verdicts_on_many_rows(rt: HostRuntime) {
+    let alloc = rt.alloc();
+    let spec = spec_of(&rt, alloc, TWO_SUMS);
+    let mut plan = plan_of_many(&rt, alloc);
+    assert!(rt; plan.fits(spec.tree()));
+    assert!(rt; check(spec.space(), spec.tree(), &plan) == Verdict::Accepted);
+    // a last left row that joins with each right one: the second of these costs 1
+    put_row(&rt, &mut plan.tables, 0, "", 4);
+    assert!(rt; plan.fits(spec.tree()));
+    assert!(rt; check(spec.space(), spec.tree(), &plan) == Verdict::BelowTotal(5));
+    drop(plan);
     drop(spec);
 }
 

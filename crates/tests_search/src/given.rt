@@ -86,7 +86,12 @@ fn sizes_of(rt: &impl Abort, text: &str) -> ArrayVec<u128, 32> {
     sizes
 }
 
-fn put(rt: &impl Abort, tables: &mut Tables, v: u8, row: Row) {
+// A row of the node with one class of these indexes, or none.
+pub(crate) fn put_row(rt: &impl Abort, tables: &mut Tables, v: u8, class: &str, cost: u128) {
+    let row = Row {
+        classes: nesting(rt, class),
+        cost,
+    };
     assert!(rt; v < tables.lists());
     assert!(rt; tables.push(v, row).is_ok());
 }
@@ -95,11 +100,13 @@ fn put(rt: &impl Abort, tables: &mut Tables, v: u8, row: Row) {
 fn put_all(rt: &impl Abort, tables: &mut Tables, v: u8, text: &str) {
     for word in text.split(' ') {
         if !word.is_empty() {
-            let row = Row {
-                classes: nesting(rt, part(word, ':', 1)),
-                cost: number(rt, part(word, ':', 0)),
-            };
-            put(rt, tables, v, row);
+            put_row(
+                rt,
+                tables,
+                v,
+                part(word, ':', 1),
+                number(rt, part(word, ':', 0)),
+            );
         }
     }
 }

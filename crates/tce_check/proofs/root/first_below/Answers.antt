@@ -10,4 +10,4 @@ returns c =
     match_map _ _ _ _ _
     (root_below tree c.args.tables.now (c.count-root.result - 1) c.args.total c.left_rows-lefts.result.now c.right_rows-rights.result.now last c.left_rows-lefts.ensures.value c.right_rows-rights.ensures.value)
     (λ sum. root_fails tree c.args.tables.now (c.count-root.result - 1) c.args.total sum c.left_rows-lefts.result.now c.right_rows-rights.result.now last c.left_rows-lefts.ensures.value c.right_rows-rights.ensures.value)
-    c.first_below_of.ensures
+    c.first_among.ensures
