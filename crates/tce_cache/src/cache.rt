@@ -118,6 +118,13 @@ impl Cache {
         &self.arrays[number as usize]
     }
 
+    /// How many tiles it can hold at once.
+    pub fn frames(&self) -> usize
+        ensures { result ≡ self.now.frames }
+    {
+        self.table.frames()
+    }
+
     /// How often a tile was touched since the cache was made.
     pub fn touches(&self) -> u128
         ensures { result ≡ self.now.touches }

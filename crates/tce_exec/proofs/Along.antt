@@ -27,18 +27,16 @@ use Rattle.tce_exec.specs.Loops.{AreLoops as AreLoopsWith}
 use Rattle.tce_exec.specs.Workspace.{Workspace, setting_in, state_in}
 use Rattle.tce_exec.specs.Prepared.{IsPrepared}
 use Rattle.tce_exec.specs.Steps.{IsKept, IsChanged}
-use Rattle.tce_exec.proofs.Following.{kept_on, changed_as, changed_twice}
+use Rattle.tce_exec.proofs.Following.{changed_as, changed_twice}
+use Rattle.tce_exec.specs.Following.{kept_on, kept_own, continued_own}
 use Rattle.tce_exec.proofs.Holding.{places_hold_words}
-use Rattle.tce_exec.proofs.Reading.{kept_own, continued_own, each_of}
+use Rattle.tce_exec.proofs.Reading.{each_of}
 use Rattle.tce_exec.proofs.Workspaces.{kept_setting}
 use Rattle.tce_exec.specs.Blocks.{loops_of, blocks_of, IsBlockOf}
 use Rattle.tce_exec.specs.Along.{after_parts, IsAlong}
+use Rattle.tce_walk.proofs.BandRuns.{mapped-same, none-left}
 
 -- ---- two changes, one after the other
-
-mapped_same : (o : Option State) → o ≡ option_map (λ s. s) o
-mapped_same None = refl
-mapped_same (Some s) = refl
 
 -- ---- the blocks
 
@@ -47,7 +45,7 @@ begun x tail a is = record {
   ran = [];
   all = refl;
   kept = kept_own x;
-  changed = record { prepared = is; state = mapped_same (state_in x); few = omega arith; continued = continued_own x };
+  changed = record { prepared = is; state = mapped-same (state_in x); few = omega arith; continued = continued_own x };
 }
 
 at_end : (ran rest : List Part) (part : Part) → slice_get (ran ++ part ∷ rest) (length ran) ≡ Some part
@@ -143,16 +141,12 @@ pub record HasTurns (space : IndexSpace) : Type 0 where
   pub extents : (i : ℕ) → i < length space.indexes → 0 < extent_at space i
   pub edges : (i : ℕ) → i < length space.indexes → 0 < edge_at space i
 
-nothing_left : (left : List Part) → slice_get left 0 ≡ None → left ≡ []
-nothing_left [] e = refl
-nothing_left (p ∷ rest) e = absurd (cc)
-
 pub ended : (x y : Workspace) (tail : Tail) (a : Assignment) (left : List Part) → IsSpace x.places.space → HasTurns x.places.space → IsPrepared x → ((k : ℕ) → slice_index x.words k < 2 ^ 64)
     → IsTailAt (setting_in x) tail a → IsAlong x y tail a left → slice_get left 0 ≡ None
     → IsChanged (λ state. exec (setting_in x) (tail_program x.places.tree tail) state a) (touches_of_tail x.places.space tail) x y
 ended x y tail a left space turns is words at along e =
     let s : Setting = setting_in x in
-    let all : blocks_of x.places.space tail ≡ along.ran = along.all ∙ ap (λ l. along.ran ++ l) (nothing_left left e) ∙ append-nil along.ran in
+    let all : blocks_of x.places.space tail ≡ along.ran = along.all ∙ ap (λ l. along.ran ++ l) (none-left left e) ∙ append-nil along.ran in
     let count : 3 * length along.ran ≡ touches_of_tail x.places.space tail = omega (arith, ap length all, blocks_counted x.places.space tail) in
     subst (λ n. IsChanged (λ state. exec s (tail_program x.places.tree tail) state a) n x y) count
     (changed_as (after_parts s tail a along.ran) (λ state. exec s (tail_program x.places.tree tail) state a) (3 * length along.ran) x y

@@ -28,7 +28,8 @@ use Rattle.tce_exec.specs.Workspace.{Workspace, setting_in, result_shape}
 use Rattle.tce_exec.specs.Prepared.{IsPrepared}
 use Rattle.tce_exec.specs.Operands.{second_word}
 use Rattle.tce_exec.specs.Steps.{IsKept, IsRead, IsChanged}
-use Rattle.tce_exec.proofs.Following.{kept_on, continued_on, change_on}
+use Rattle.tce_exec.proofs.Following.{change_on}
+use Rattle.tce_exec.specs.Following.{kept_on, continued_on}
 use Rattle.tce_exec.proofs.Holding.{places_hold_words}
 use Rattle.tce_exec.proofs.Operating.{left_word_is, right_word_is}
 use Rattle.tce_exec.proofs.Putting.{with_words}
@@ -55,10 +56,10 @@ made_differs order a part word out old new loops are = record {
 
 -- ---- the state
 
-abbrev view_with : Workspace → List ℕ → Files → State
+abbrev pub view_with : Workspace → List ℕ → Files → State
 view_with y new fs = view_of y.places y.cache fs y.tensor (result_shape y) new
 
-changed_by : (y : Workspace) (new : List ℕ) (f : State → State) → ChangesWords y new → ((fs : Files) → y.files ≡ Some fs → view_with y new fs ≡ f (view y fs)) → IsChanged f 0 y (with_words y new)
+pub changed_by : (y : Workspace) (new : List ℕ) (f : State → State) → ChangesWords y new → ((fs : Files) → y.files ≡ Some fs → view_with y new fs ≡ f (view y fs)) → IsChanged f 0 y (with_words y new)
 changed_by y new f h same = record {
   prepared = h.prepared;
   state = by_files y.files same;

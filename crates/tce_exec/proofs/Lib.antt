@@ -40,3 +40,8 @@ pub mod Following
 pub mod Putting
 pub mod Operating
 pub mod Holding
+mod Bodies
+mod LinkLaws
+mod LinkTurns
+mod BodyBlocks
+mod LinkRows

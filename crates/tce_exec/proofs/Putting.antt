@@ -36,9 +36,10 @@ use Rattle.tce_exec.specs.Prepared.{IsStored, IsPrepared}
 use Rattle.tce_exec.specs.Operands.{IsPlaceOf}
 use Rattle.tce_exec.specs.Steps.{IsKept, IsContinued, IsRead, IsChanged, IsPadding}
 use Rattle.tce_exec.specs.Elements.{IsElementTouched}
-use Rattle.tce_exec.proofs.Workspaces.{is_result, stay_operands, touched_to, touch_keeps, touch_reads}
-use Rattle.tce_exec.proofs.Following.{kept_on, change_on}
-use Rattle.tce_exec.proofs.Reading.{root_inside, slot_of, kept_own, read_own}
+use Rattle.tce_exec.proofs.Workspaces.{is_result, stay_operands, touch_keeps, touch_reads}
+use Rattle.tce_exec.specs.Following.{touched_to, kept_on, kept_own}
+use Rattle.tce_exec.proofs.Following.{change_on}
+use Rattle.tce_exec.proofs.Reading.{root_inside, slot_of, read_own}
 use Rattle.tce_exec.proofs.Touched.{tile_fits, frame_inside}
 
 -- ---- words before the frames

@@ -14,8 +14,7 @@ use Rattle.tce_cache.specs.Held.{Held, look_up}
 use Rattle.tce_cache.specs.Current.{word_of}
 use Rattle.tce_cache.specs.declared.array.ArrayRef.{ArrayRef}
 use Rattle.tce_cache.specs.Cache.{State as CacheState, IsCache, IsReady, IsArrayAt, layout, stored, word_of_tile, words_of_tile}
-use Rattle.tce_array.specs.Files.{AreBytes}
-use Rattle.tce_cache.specs.Transfer.{contents, word_in_file}
+use Rattle.tce_cache.specs.Transfer.{word_in_file}
 use Rattle.tce_tree.specs.ContractionTree.{operations, node_dims}
 use Rattle.tce_tree.specs.Fusion.{kept_dims, fused_at}
 use Rattle.tce_tree.specs.Value.{Assignment}
@@ -38,27 +37,11 @@ use Rattle.tce_exec.specs.Workspace.{Workspace, filed_element, element_of, setti
 use Rattle.tce_exec.specs.Prepared.{IsStored, IsOperand, IsPrepared}
 use Rattle.tce_exec.specs.Elements.{IsElementTouched}
 use Rattle.tce_exec.specs.Operands.{word_of_node, word_of_operand, IsPlaceOf, IsElementOf}
-use Rattle.tce_exec.specs.Steps.{IsKept, IsContinued, IsRead}
+use Rattle.tce_exec.specs.Steps.{IsRead}
+use Rattle.tce_exec.specs.Following.{continued_own}
 use Rattle.tce_exec.proofs.Workspaces.{is_result}
 
 -- ---- a workspace as it was
-
-pub kept_own : (x : Workspace) → IsKept x x
-kept_own x = record {
-  places = refl;
-  tensor = refl;
-  cache = refl;
-  same_length = refl;
-  outside = λ p low out. refl;
-  files = record { tells = refl; begins = λ name. refl; same = λ name ne fs told gs now. cc };
-}
-
-pub continued_own : (x : Workspace) → IsContinued x x
-continued_own x = record {
-  fronts = λ fs told gs now i a at. let same : fs ≡ gs = cc in cc;
-  bytes = λ fs told gs now i a at h. let same : fs ≡ gs = cc in subst (λ f. AreBytes (contents a f)) same h;
-  padding = λ fs told gs now tile k pad. let same : fs ≡ gs = cc in cc;
-}
 
 pub read_own : (n : ℕ) (x : Workspace) → IsPrepared x → IsRead n x x
 read_own n x is = record { prepared = is; state = refl; few = omega arith; continued = continued_own x }

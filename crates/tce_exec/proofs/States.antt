@@ -42,7 +42,7 @@ use Rattle.tce_exec.proofs.Slots.{is_place, stands_between, slot_ends}
 
 -- ---- states that are as before but at one place, or but at one node
 
-with_word-is : (S T : State) (v : ℕ) (at : List ℕ) (w : ℕ) → T v at ≡ w → ((u : ℕ) (p : List ℕ) → (u ≡ v → p ≡ at → ⊥) → T u p ≡ S u p) → T ≡ with_word S v at w
+pub with_word-is : (S T : State) (v : ℕ) (at : List ℕ) (w : ℕ) → T v at ≡ w → ((u : ℕ) (p : List ℕ) → (u ≡ v → p ≡ at → ⊥) → T u p ≡ S u p) → T ≡ with_word S v at w
 with_word-is S T v at w here others = fun_ext (λ u. fun_ext (λ p. place_is u p))
   where
     place_is : (u : ℕ) (p : List ℕ) → T u p ≡ (if eqb u v && bytes_eq p at then w else S u p)

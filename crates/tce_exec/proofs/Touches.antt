@@ -1,4 +1,4 @@
--- The two tiles that were touched last stay where they are.
+-- The tiles that were touched last stay where they are.
 use Rattle.std.proofs.Common.{◌≡◌, ◌∙◌, ℕ, zero, suc, ◌+◌, ◌<◌, ◌≤◌, Bool, true, false, ◌||◌, if◌then◌else◌, List, [], ◌∷◌, take, slice_get, Option, Some, None, refl, sym, ap, ap₂, inl, inr, arith}
 use Rattle.std.specs.Prelude.{IsTrue}
 use Rattle.tce_cache.specs.Held.{Held, look_up, without, touched, AreApart}
@@ -114,7 +114,7 @@ stays_same n old new array tile first marked other_array other_tile write answer
       marked_is = λ m. was.1 ∙ true_or last.held.marked write (last.marked_is m);
     }
 
-stays_behind : (n : ℕ) (old new : CacheState) (array tile first : ℕ) (marked : Bool) (other_array other_tile : ℕ) (write : Bool) (answer : ℕ) → n ≤ 2 → IsCache old
+stays_behind : (n : ℕ) (old new : CacheState) (array tile first : ℕ) (marked : Bool) (other_array other_tile : ℕ) (write : Bool) (answer : ℕ) → n + 1 ≤ old.frames → IsCache old
     → (last : IsAmongLast n old array tile first marked) → IsTouched old new other_array other_tile write answer
     → (last.held.array ≡ other_array → last.held.tile ≡ other_tile → ⊥) → IsAmongLast (n + 1) new array tile first marked
 stays_behind n old new array tile first marked other_array other_tile write answer few cache last is ne =
@@ -126,7 +126,7 @@ stays_behind n old new array tile first marked other_array other_tile write answ
       held = last.held;
       stands =
           ap (λ l. slice_get l (suc near.at)) (list_after old new other_array other_tile write answer is)
-          ∙ at_taken old.frames (g ∷ without other_array other_tile old.held) (suc near.at) (omega (arith, near.near, last.low, cache.frames))
+          ∙ at_taken old.frames (g ∷ without other_array other_tile old.held) (suc near.at) (omega (arith, near.near, last.low, few))
           ∙ near.stands;
       array_is = last.array_is;
       tile_is = last.tile_is;

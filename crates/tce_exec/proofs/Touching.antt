@@ -87,7 +87,7 @@ keeps_last_own c = λ n b u first marked few last. record {
   marked_is = last.marked_is;
 }
 
-operand_later : (n : ℕ) (x y : Workspace) (o : Operand) (first : Assignment) (w : Window) → n ≤ 2 → IsKept x y → KeepsLast x.cache y.cache → IsOperandWindow n x o first w
+operand_later : (n : ℕ) (x y : Workspace) (o : Operand) (first : Assignment) (w : Window) → n + 1 ≤ x.cache.frames → IsKept x y → KeepsLast x.cache y.cache → IsOperandWindow n x o first w
     → IsOperandWindow (n + 1) y o first w
 operand_later n x y o first w few kept keeps h = subst (λ (p : Places). IsOperandWindow (n + 1) (record y { places = p }) o first w) (sym kept.places) (by_operand o h)
   where
@@ -102,8 +102,8 @@ operand_later n x y o first w few kept keeps h = subst (λ (p : Places). IsOpera
     by_operand (Constant k) h = h
     by_operand (Node v) h = h
 
-pub operand_once : (x y : Workspace) (o : Operand) (first : Assignment) (w : Window) → IsKept x y → KeepsLast x.cache y.cache → IsOperandWindow 1 x o first w → IsOperandWindow 2 y o first w
-operand_once x y o first w kept keeps h = operand_later 1 x y o first w (omega arith) kept keeps h
+pub operand_once : (x y : Workspace) (o : Operand) (first : Assignment) (w : Window) → 3 ≤ x.cache.frames → IsKept x y → KeepsLast x.cache y.cache → IsOperandWindow 1 x o first w → IsOperandWindow 2 y o first w
+operand_once x y o first w frames kept keeps h = operand_later 1 x y o first w (omega (arith, frames)) kept keeps h
 
-pub operand_twice : (x y : Workspace) (o : Operand) (first : Assignment) (w : Window) → IsKept x y → KeepsLast x.cache y.cache → IsOperandWindow 2 x o first w → IsOperandWindow 3 y o first w
-operand_twice x y o first w kept keeps h = operand_later 2 x y o first w (omega arith) kept keeps h
+pub operand_twice : (x y : Workspace) (o : Operand) (first : Assignment) (w : Window) → 3 ≤ x.cache.frames → IsKept x y → KeepsLast x.cache y.cache → IsOperandWindow 2 x o first w → IsOperandWindow 3 y o first w
+operand_twice x y o first w frames kept keeps h = operand_later 2 x y o first w (omega (arith, frames)) kept keeps h

@@ -35,8 +35,8 @@ use Rattle.tce_exec.specs.declared.evaluation.Evaluation.{Evaluation}
 use Rattle.tce_exec.specs.Workspace.{Workspace, workspace, setting_in, state_in, result_shape}
 use Rattle.tce_exec.specs.Prepared.{IsPrepared}
 use Rattle.tce_exec.specs.Steps.{IsKept, IsContinued}
-use Rattle.tce_exec.proofs.Following.{told_between, named}
-use Rattle.tce_exec.proofs.Workspaces.{touched_to, is_result}
+use Rattle.tce_exec.specs.Following.{told_between, named, touched_to}
+use Rattle.tce_exec.proofs.Workspaces.{is_result}
 use Rattle.tce_exec.specs.Keeping.{IsLater}
 use Rattle.tce_exec.specs.Run.{IsZero, HasValues, IsRun}
 

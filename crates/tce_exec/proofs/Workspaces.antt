@@ -20,6 +20,7 @@ use Rattle.tce_exec.proofs.States.{touches_keep_states, words_are}
 use Rattle.tce_exec.specs.Workspace.{Workspace, filed_element, element_of, setting_in, state_in, result_shape}
 use Rattle.tce_exec.specs.Prepared.{IsStored, HasOperands, IsPrepared}
 use Rattle.tce_exec.specs.Steps.{IsKept, IsContinued, IsRead}
+use Rattle.tce_exec.specs.Following.{touched_to}
 
 -- ---- the elements of operands stay
 
@@ -63,9 +64,6 @@ kept_setting x y is kept =
     ∙ ap (with_cell x) (fun_ext (λ tensor. fun_ext (λ xs. element_stays x.cache x.files y.files is.arrays kept.files tensor xs)))
 
 -- ---- what a touch leaves
-
-abbrev pub touched_to : Workspace → List ℕ → List Held → ℕ → Option Files → Workspace
-touched_to x words held touches files = record x { words = words; cache = with_held x.cache held touches; files = files }
 
 pub touch_keeps : (x : Workspace) (words : List ℕ) (held : List Held) (touches : ℕ) (files : Option Files) → IsSameOutsideFrames x.cache x.words words
     → OnlyWritableDiffers x.cache x.files files → IsKept x (touched_to x words held touches files)

@@ -12,6 +12,7 @@ pub mod Positions
 pub mod Plans
 pub mod Evaluations
 pub mod TailBlocks
+pub mod Bodies
 pub mod Turns
 pub mod LoopWindows
 pub mod Loops
@@ -30,3 +31,4 @@ pub mod Operands
 pub mod EvaluationSlots
 pub mod Storages
 pub mod WorkspaceLaws
+pub mod Links

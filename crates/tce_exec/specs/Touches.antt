@@ -23,11 +23,11 @@ pub record IsAmongLast (n : ℕ) (c : CacheState) (array tile first : ℕ) (mark
   pub place_is : first ≡ place (layout c) held.frame
   pub marked_is : IsTrue marked → held.marked ≡ true
 
--- A touched tile is the last one, in the frame at the answered place. With three frames or more the two last ones stay there, with their marks, whatever
--- is touched next, and each of the last ones is held.
+-- A touched tile is the last one, in the frame at the answered place. The last ones stay there, with their marks, whatever is touched next, as long as there
+-- is a frame for each of them, and each of the last ones is held.
 pub record TouchedTilesStay : Type 0 where
   pub last : (old new : CacheState) (array tile : ℕ) (write : Bool) (answer : ℕ) → IsCache old → IsTouched old new array tile write answer
       → IsAmongLast 1 new array tile answer write
-  pub stay : (n : ℕ) (old new : CacheState) (array tile first : ℕ) (marked : Bool) (other_array other_tile : ℕ) (write : Bool) (answer : ℕ) → n ≤ 2 → IsCache old
+  pub stay : (n : ℕ) (old new : CacheState) (array tile first : ℕ) (marked : Bool) (other_array other_tile : ℕ) (write : Bool) (answer : ℕ) → n + 1 ≤ old.frames → IsCache old
       → IsAmongLast n old array tile first marked → IsTouched old new other_array other_tile write answer → IsAmongLast (n + 1) new array tile first marked
   pub held : (n : ℕ) (c : CacheState) (array tile first : ℕ) (marked : Bool) → IsCache c → IsAmongLast n c array tile first marked → IsHeldAt c array tile first marked

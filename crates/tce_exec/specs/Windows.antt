@@ -101,9 +101,9 @@ pub record CanStep (p : Places) (array : ℕ) (c : CacheState) (tail : Tail) : T
   pub indexes : All (λ i. i < max_indexes) p.result
   pub stored : HasShape c array (shape_over p.space p.result)
 
--- the tiles that were touched last stay, one further back
+-- the tiles that were touched last stay, one further back, as long as there is a frame for each
 abbrev pub KeepsLast : CacheState → CacheState → Type 0
-KeepsLast old new = (n array tile first : ℕ) (marked : Bool) → n ≤ 2 → IsAmongLast n old array tile first marked → IsAmongLast (n + 1) new array tile first marked
+KeepsLast old new = (n array tile first : ℕ) (marked : Bool) → n + 1 ≤ old.frames → IsAmongLast n old array tile first marked → IsAmongLast (n + 1) new array tile first marked
 
 -- the windows of an operand and of the places of node `v`
 pub record AreSumWindows (w : Workspace) (operand : Operand) (v : ℕ) (first : Assignment) (windows : Windows) : Type 0 where

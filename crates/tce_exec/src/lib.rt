@@ -24,6 +24,11 @@
 //! what these windows are, `specs/TilesOfBlocks.antt` where the turns of a block stay, and `specs/WindowLaws.antt` what the
 //! windows show of nodes and of tensors, and what stays when words change.
 //!
+//! **Bodies.** Operations without a loop among them run at each assignment of one block of the loops round them, one after the
+//! other, since an operation may read what the one before has put. Where the cache has a frame for each tile that they touch,
+//! each tile is touched once for the block, and each row of the last loop runs over the words of all operations' windows
+//! (`specs/Links.antt`). Else each operation is one by itself at each assignment. `specs/Bodies.antt` says what is asked there.
+//!
 //! **Blocks.** [`BlockLoops`] has the loops of one block over windows. A [`LoopSequence`] says in which sequence they run, for
 //! all blocks of one tail. What the calls leave does not depend on it, by the laws of `loop_laws.rt`.
 //!
@@ -32,10 +37,13 @@
 
 mod block;
 mod block_loops;
+mod body;
+mod chain;
 mod cuts;
 mod element;
 mod elements;
 mod evaluation;
+mod links;
 pub mod loop_laws;
 mod nest;
 mod operand_laws;

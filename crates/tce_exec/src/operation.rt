@@ -16,7 +16,7 @@ use tce_space::Numbers;
 use tce_tree::Kind;
 
 // What a node of this kind makes of two words; a sum adds the first to the second.
-fn combine(kind: Kind, first: u64, second: u64) -> u64
+pub(crate) fn combine(kind: Kind, first: u64, second: u64) -> u64
     ensures { result ≡ combined kind first second }
 {
     match kind {

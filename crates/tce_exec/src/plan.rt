@@ -9,7 +9,7 @@ ghost use Rattle.tce_exec.specs.Evaluations.{places_of};
 ghost use Rattle.tce_exec.specs.Windows.{CanStep};
 ghost use Rattle.tce_exec.specs.Plans.{IsPlan, IsPlanFor, AreKept};
 
-use crate::cuts::{cuts_of, sequence_of};
+use crate::cuts::sequence_of;
 use crate::evaluation::Evaluation;
 use crate::position::Position;
 use crate::sequence::LoopSequence;
@@ -18,7 +18,7 @@ use arrayvec::ArrayVec;
 use tce_block::{Block, Blocks, Cut};
 use tce_cache::Cache;
 use tce_space::{LoopOrder, MAX_LOOPS, Space};
-use tce_walk::Tail;
+use tce_walk::{Tail, cuts_of};
 
 /// In which sequence the loops of a tail run in a block, and the windows of its operands and places.
 #[derive(Drop)]

@@ -51,7 +51,13 @@ fn run_on<D: Disk>(runner: &mut Runner<'_, D>, code: &Code) -> Result<(), Failed
 {
     let evaluation = runner.evaluation;
     let _nodes = evaluation.tree.count();
-    run_program(evaluation.space, evaluation.tree, code.ops(), runner)?;
+    run_program(
+        evaluation.space,
+        evaluation.tree,
+        evaluation.fusion,
+        code.ops(),
+        runner,
+    )?;
     Ok(())
 }
 

@@ -7,15 +7,17 @@ ghost use Rattle.tce_exec.specs.Evaluations.{places_of};
 ghost use Rattle.tce_exec.specs.Keeping.{IsLater};
 ghost use Rattle.tce_exec.specs.Plans.{AreKept};
 
+use crate::body::run_body;
 use crate::evaluation::Evaluation;
 use crate::operation::operate;
 use crate::plan::Kept;
 use crate::puts::clear_slot;
 use crate::storage::Storage;
 use crate::tail::run_tail;
+use tce_block::Block;
 use tce_outside::{Disk, Failed};
 use tce_space::Numbers;
-use tce_walk::{Machine, Tail};
+use tce_walk::{Body, Machine, Tail};
 
 /// Runs loop code of an evaluation over a storage.
 pub(crate) struct Runner<'a, D: Disk> {
@@ -61,6 +63,24 @@ impl<'a, D: Disk> Machine for Runner<'a, D> {
             tail,
             numbers,
             &mut self.kept,
+        );
+        self.failed = answer.is_err();
+        answer
+    }
+
+    fn run_body(
+        &mut self,
+        body: &Body<'_>,
+        block: &Block,
+        numbers: &Numbers,
+    ) -> Result<(), Failed> {
+        let answer = run_body(
+            &self.evaluation,
+            &mut self.store,
+            body,
+            block,
+            numbers,
+            &mut self.kept.position,
         );
         self.failed = answer.is_err();
         answer

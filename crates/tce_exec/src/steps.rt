@@ -63,7 +63,12 @@ fn set_node_steps(evaluation: &Evaluation, v: u8, window: &mut Window)
 }
 
 // Gives a window the steps of an operand.
-fn set_operand_steps(evaluation: &Evaluation, cache: &Cache, operand: &Operand, window: &mut Window)
+pub(crate) fn set_operand_steps(
+    evaluation: &Evaluation,
+    cache: &Cache,
+    operand: &Operand,
+    window: &mut Window,
+)
     requires laid { IsLaid evaluation.now }
     requires known { HasSteps (places_of evaluation.now) cache.now operand.now }
     ensures { AreOperandSteps (places_of evaluation.now) operand.now window.new.steps }
@@ -76,7 +81,7 @@ fn set_operand_steps(evaluation: &Evaluation, cache: &Cache, operand: &Operand, 
 }
 
 // Gives a window the steps of a node's places.
-fn set_place_steps(evaluation: &Evaluation, cache: &Cache, v: u8, window: &mut Window)
+pub(crate) fn set_place_steps(evaluation: &Evaluation, cache: &Cache, v: u8, window: &mut Window)
     requires laid { IsLaid evaluation.now }
     requires node { v < operations evaluation.now.tree.now }
     requires known { All (λ i. i < max_indexes) evaluation.now.result.now.indexes.items }

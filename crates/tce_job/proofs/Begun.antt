@@ -255,6 +255,6 @@ module _ (s : Specification) (told : Option Files) (p : Prepared) (rules : IsSpe
 
   pub few_touches : IsTree s.tree → p.cache.touches + touch_bound s.declarations.space s.tree (program_of p.code) ≤ 2 ^ 100
   few_touches tree =
-      let few = touches_are_few s.declarations.space s.tree (plan_of p.plan.fusion.0.items (lists_of p.plan.orders.0.items)) p.code rules.declarations.space rules.measured tree
-      b.prepared.plan.fits.orders b.prepared.code in
+      let few = touches_are_few s.declarations.space s.tree (plan_of p.plan.fusion.0.items (lists_of p.orders.0.items)) p.code rules.declarations.space rules.measured tree
+      b.prepared.orders b.prepared.code in
       omega (arith, few, b.prepared.cache.touches)

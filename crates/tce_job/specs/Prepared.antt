@@ -6,7 +6,7 @@ use Rattle.tce_array.specs.declared.form.Form.{Form}
 use Rattle.tce_array.specs.declared.form.Form.TheVariants.{One}
 use Rattle.tce_array.specs.Forms.{form_len}
 use Rattle.tce_tree.specs.ContractionTree.{ContractionTree}
-use Rattle.tce_tree.specs.Fusion.{Carries}
+use Rattle.tce_tree.specs.Fusion.{Carries, OrdersFit}
 use Rattle.tce_tree.specs.Orders.{lists_of}
 use Rattle.tce_tree.specs.Memory.{memory}
 use Rattle.tce_nesting.specs.declared.plan.Plan.{Plan}
@@ -51,11 +51,12 @@ pub record IsEmptyCache (s : Specification) (budget : ℕ) (forms : List Form) (
   pub held : c.held ≡ []
   pub touches : c.touches ≡ 0
 
--- a run by a plan: its code, the slots of its intermediates, words that are all 0, a cache with the forms of the operands' files, and the report
+-- a run by a plan: orders of its loops, its code, the slots of its intermediates, words that are all 0, a cache with the forms of the operands' files, and the report
 pub record IsPrepared (s : Specification) (budget : ℕ) (forms : List Form) (p : Prepared) : Type 0 where
   pub plan : IsCarriedPlan s.declarations.space s.tree p.plan
   pub small : p.plan.memory ≤ max_memory
-  pub code : IsCodeFor s.tree (plan_of p.plan.fusion.0.items (lists_of p.plan.orders.0.items)) p.code
+  pub orders : OrdersFit s.tree (lists_of p.orders.0.items)
+  pub code : IsCodeFor s.tree (plan_of p.plan.fusion.0.items (lists_of p.orders.0.items)) p.code
   pub slots : IsLayout s.declarations.space s.tree p.plan.fusion.0.items p.layout.0.items
   pub places : PlacesFill s.declarations.space s.tree p.plan.fusion.0.items p.layout.0.items
   pub words : p.words ≡ replicate (p.plan.memory + tile_take s budget) 0

@@ -7,6 +7,7 @@ use tce_cache::Cache;
 use tce_code::Code;
 use tce_layout::Layout;
 use tce_nesting::Plan;
+use tce_tree::Orders;
 use tce_words::Words;
 
 /// The plan by which a run goes, and the forms of its operands, which were opened.
@@ -21,6 +22,8 @@ pub struct PlannedRun {
 pub struct Prepared {
     /// The plan of the fusion by which it runs, with orders that carry it.
     pub plan: Plan,
+    /// The orders in which its loops go, which carry the fusion too.
+    pub orders: Orders,
     pub code: Code,
     /// Where the intermediates stand among the words.
     pub layout: Layout,
@@ -37,6 +40,7 @@ impl Prepared {
     {
         let Prepared {
             plan,
+            orders,
             code,
             layout,
             words,
@@ -44,6 +48,7 @@ impl Prepared {
             report,
         } = self;
         drop(plan);
+        drop(orders);
         drop(code);
         drop(layout);
         drop(words);

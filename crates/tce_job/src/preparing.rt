@@ -3,6 +3,7 @@ ghost use Rattle.std.specs.Prelude.{◌≡◌, ◌≤◌, ◌+◌, [], ◌∷◌
 ghost use Rattle.tce_space.specs.Limits.{max_memory};
 ghost use Rattle.tce_outside.specs.Files.{others};
 ghost use Rattle.tce_outside.specs.Fault.{HasCause, TellsFaults};
+ghost use Rattle.tce_tree.specs.Fusion.{Carries, OrdersFit};
 ghost use Rattle.tce_tree.specs.Orders.{lists_of};
 ghost use Rattle.tce_code.specs.CodeFor.{IsCodeFor};
 ghost use Rattle.tce_code.specs.Plan.{plan_of};
@@ -20,7 +21,9 @@ use crate::bytes::Bytes;
 use crate::fault::JobFault;
 use crate::naming::file_of;
 use crate::opening::Forms;
+use crate::ordering::running_orders;
 use crate::prepared::{PlannedRun, Prepared};
+use crate::reads::Model;
 use crate::report::RunReport;
 use crate::takings::{frame_count, tile_take};
 use std::alloc::{AllocError, Global};
@@ -32,6 +35,7 @@ use tce_nesting::Plan;
 use tce_outside::{Disk, OutFault};
 use tce_report::run_text;
 use tce_spec::Spec;
+use tce_tree::Orders;
 use tce_words::{Room, Words};
 
 // A cache for the arrays of a run, whose frames stand behind the words of its intermediates.
@@ -76,20 +80,37 @@ fn report_of(alloc: Global, spec: &Spec, budget: u64, plan: &Plan) -> Result<Run
     })
 }
 
-// The code of a run by this plan, and its report.
+// The orders in which the loops of a run by this plan go.
+fn orders_of(spec: &Spec, budget: u64, plan: &Plan) -> Orders
+    requires enough { least_budget spec.now ≤ budget }
+    requires plan { IsCarriedPlan spec.now.declarations.space spec.now.tree plan.now }
+    ensures fit { OrdersFit spec.now.tree (lists_of result.0.items) }
+    ensures carried { Carries spec.now.tree plan.now.fusion.0.items (lists_of result.0.items) }
+{
+    let tree = spec.tree();
+    let frames = frame_count(spec, budget);
+    let model = Model::of(spec.space(), tree, &plan.fusion, spec.result(), frames);
+    running_orders(tree, &plan.fusion, &plan.orders, &model)
+}
+
+// The code of a run by this plan, with its loops in these orders, and its report.
 fn code_and_report(
     alloc: Global,
     spec: &Spec,
     budget: u64,
     plan: &Plan,
+    orders: &Orders,
 ) -> Result<(Code, RunReport), AllocError>
     requires enough { least_budget spec.now ≤ budget }
     requires plan { IsCarriedPlan spec.now.declarations.space spec.now.tree plan.now }
+    requires fit { OrdersFit spec.now.tree (lists_of orders.now.0.items) }
+    requires carried { Carries spec.now.tree plan.now.fusion.0.items
+        (lists_of orders.now.0.items) }
     ensures code { IfOk result (λ pair. IsCodeFor spec.now.tree
-        (plan_of plan.now.fusion.0.items (lists_of plan.now.orders.0.items)) pair.0) }
+        (plan_of plan.now.fusion.0.items (lists_of orders.now.0.items)) pair.0) }
     ensures report { IfOk result (λ pair. IsReport spec.now budget plan.now pair.1) }
 {
-    let code = generate(alloc, spec.tree(), &plan.fusion, &plan.orders)?;
+    let code = generate(alloc, spec.tree(), &plan.fusion, orders)?;
     match report_of(alloc, spec, budget, plan) {
         Ok(report) => Ok((code, report)),
         Err(refused) => {
@@ -147,9 +168,11 @@ fn take_memory<R: Room>(
         (Takes spec.now budget plan (R.takings room.old) (R.takings room.new)) }
     ensures refused { OnErr result (R.takings room.new ≡ R.takings room.old) }
 {
-    let (code, report) = match code_and_report(alloc, spec, budget, &plan) {
+    let orders = orders_of(spec, budget, &plan);
+    let (code, report) = match code_and_report(alloc, spec, budget, &plan, &orders) {
         Ok(written) => written,
         Err(refused) => {
+            drop(orders);
             drop(plan);
             return Err(refused);
         }
@@ -159,6 +182,7 @@ fn take_memory<R: Room>(
             let layout = lay_out(spec.space(), spec.tree(), &plan.fusion);
             Ok(Prepared {
                 plan,
+                orders,
                 code,
                 layout,
                 words,
@@ -169,6 +193,7 @@ fn take_memory<R: Room>(
         Err(refused) => {
             drop(code);
             drop(report);
+            drop(orders);
             drop(plan);
             Err(refused)
         }

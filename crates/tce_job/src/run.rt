@@ -54,7 +54,7 @@ pub fn run_prepared<D: Disk>(
         spec.space(),
         tree,
         &prepared.plan.fusion,
-        &prepared.plan.orders,
+        &prepared.orders,
         spec.result(),
         &prepared.code,
         &prepared.layout,

@@ -9,7 +9,14 @@ pub mod Tails
 pub mod TailLaws
 pub mod TouchBound
 pub mod Folds
+pub mod Boxes
+pub mod Carried
+pub mod BandLaws
+pub mod BandChecks
+pub mod BandTurns
+pub mod BandRuns
 pub mod Places
 pub mod Closed
 pub mod Operands
 pub mod PartLaws
+pub mod StraightBodies

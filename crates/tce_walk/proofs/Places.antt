@@ -6,7 +6,7 @@ use Rattle.tce_space.specs.IndexSet.{has, members, IsIndexSet}
 use Rattle.tce_tree.proofs.Lists.{among_cases, among-all}
 use Rattle.tce_tree.proofs.Members.{node_dims_lt}
 use Rattle.tce_tree.proofs.Permutations.{among-members}
-use Rattle.tce_tree.specs.ContractionTree.{dims, node, node_dims}
+use Rattle.tce_tree.specs.ContractionTree.{node_dims}
 use Rattle.tce_tree.specs.Fusion.{kept_dims, fused_at}
 use Rattle.tce_tree.specs.Value.{Assignment, assignment}
 use Rattle.tce_tree.specs.WellFormed.{among}

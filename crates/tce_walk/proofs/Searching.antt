@@ -23,13 +23,13 @@ use Rattle.tce_walk.specs.declared.machine.Tail.{Tail}
 use Rattle.tce_walk.proofs.Parts.{computing-binary, computing-sum}
 use Rattle.tce_walk.proofs.Positions.{programs_next, programs-action, programs-loop, ends-close, ends-past, programs-within, stop-close}
 
-is-stop : (p : Program) → is_stop p ≡ true → p ≡ stop
+pub is-stop : (p : Program) → is_stop p ≡ true → p ≡ stop
 is-stop stop h = refl
 is-stop (step action rest) h = absurd (false≢true h)
 is-stop (loop i body rest) h = absurd (false≢true h)
 
 -- where nothing stands, the program that comes before it ends
-stop-ends : (ops : List Op) (start at : ℕ) → is_stop (program_at ops at) ≡ true → others_of (programs_at ops at) ≡ others_of (programs_at ops start) → EndsAt ops start at
+pub stop-ends : (ops : List Op) (start at : ℕ) → is_stop (program_at ops at) ≡ true → others_of (programs_at ops at) ≡ others_of (programs_at ops start) → EndsAt ops start at
 stop-ends ops start at h e =
     elim (cases_lt at (length ops)) [
       | inl l ↦ here l (get_or ops at Close) refl
@@ -126,7 +126,7 @@ pub product-none : (tree : ContractionTree) (ops : List Op) (at v : ℕ) → at 
 product-none tree ops at v l is h n = action-none tree ops at (compute multiply v) l (sym is) (rw (h, n) refl)
 
 -- a program that goes on with another ends where that ends
-ends-with : (ops : List Op) (at start close end : ℕ) → others_of (programs_at ops at) ≡ others_of (programs_at ops start) → close ≡ end → EndsAt ops start close
+pub ends-with : (ops : List Op) (at start close end : ℕ) → others_of (programs_at ops at) ≡ others_of (programs_at ops start) → close ≡ end → EndsAt ops start close
     → EndsAt ops at end
 ends-with ops at start close end e same h =
     subst (EndsAt ops at) same (record { next = ap first_of e ∙ h.next; others = ap others_of e ∙ h.others })
@@ -187,7 +187,7 @@ inside-none tree ops at i d l is e =
     ap (tail_loops tree) (program-loop ops at i d l is) ∙ loop-none tree i (program_at ops (at + 1)) (first_of (others_of (programs_at ops (at + 1)))) e
 
 -- where the loop's body ends at `close`, what follows the loop is seen behind it
-rest-at : (ops : List Op) (at close : ℕ) → EndsAt ops (at + 1) close
+pub rest-at : (ops : List Op) (at close : ℕ) → EndsAt ops (at + 1) close
     → first_of (others_of (programs_at ops (at + 1))) ≡ program_at ops (min (close + 1) (length ops))
 rest-at ops at close ends = ends.next ∙ sym (ap first_of (programs-within ops (close + 1)))
 
@@ -224,7 +224,7 @@ operand-constant first (constant number) = refl
 operand-constant first (binary op left right) = refl
 operand-constant first (sum indexes operand) = refl
 
-or-false : (b : Bool) → b || false ≡ b
+pub or-false : (b : Bool) → b || false ≡ b
 or-false true = refl
 or-false false = refl
 

@@ -32,11 +32,11 @@ pub part-shaped : (space : IndexSpace) (tree : ContractionTree) (i : ℕ) (body 
 part-shaped space tree i body a h = record { plan = h.plan; opened = h.opened ++ i ∷ []; shape = h.shape.1 }
 
 -- lists of loops, one behind the other
-among-behind : (xs ys : List ℕ) (i : ℕ) → among ys i ≡ true → among (xs ++ ys) i ≡ true
+pub among-behind : (xs ys : List ℕ) (i : ℕ) → among ys i ≡ true → among (xs ++ ys) i ≡ true
 among-behind [] ys i h = h
 among-behind (x ∷ xs) ys i h = or_right (eqb x i) (among (xs ++ ys) i) (among-behind xs ys i h)
 
-among-front : (xs ys : List ℕ) (i : ℕ) → among (xs ++ ys) i ≡ true → among ys i ≡ false → among xs i ≡ true
+pub among-front : (xs ys : List ℕ) (i : ℕ) → among (xs ++ ys) i ≡ true → among ys i ≡ false → among xs i ≡ true
 among-front [] ys i h f = absurd (false≢true (sym f ∙ h))
 among-front (x ∷ xs) ys i h f =
     elim (cases_eq x i) [
@@ -44,7 +44,7 @@ among-front (x ∷ xs) ys i h f =
       | inr q ↦ rw (ne_eqb x i q) (among-front xs ys i (rw (ne_eqb x i q) at h) f)
     ]
 
-distinct-behind : (xs ys : List ℕ) → is_distinct (xs ++ ys) ≡ true → is_distinct ys ≡ true
+pub distinct-behind : (xs ys : List ℕ) → is_distinct (xs ++ ys) ≡ true → is_distinct ys ≡ true
 distinct-behind [] ys h = h
 distinct-behind (x ∷ xs) ys h = distinct-behind xs ys (distinct_later x (xs ++ ys) h)
 
@@ -95,13 +95,13 @@ product-some f (x ∷ xs) h =
 factor-within : (a b c n : ℕ) → 0 < a → a * b ≡ c → c ≤ n → b ≤ n
 factor-within a b c n l e h = let k = mul-le-mul_left b l in omega arith
 
-behind-within : (f : ℕ → ℕ) (xs ys : List ℕ) (n : ℕ) → ((i : ℕ) → among xs i ≡ true → 0 < f i) → product (map f (xs ++ ys)) ≤ n → product (map f ys) ≤ n
+pub behind-within : (f : ℕ → ℕ) (xs ys : List ℕ) (n : ℕ) → ((i : ℕ) → among xs i ≡ true → 0 < f i) → product (map f (xs ++ ys)) ≤ n → product (map f ys) ≤ n
 behind-within f xs ys n h l =
     factor-within (product (map f xs)) (product (map f ys)) (product (map f (xs ++ ys))) n (product-some f xs h)
     (sym (ap product (map-append f xs ys) ∙ product-append (map f xs) (map f ys))) l
 
 -- what stands inside loops stands inside these too
-round-shape : (P : Action → List ℕ → Type 0) (Q : ℕ → Type 0) (order : List ℕ) (inside : Program) (opened : List ℕ)
+pub round-shape : (P : Action → List ℕ → Type 0) (Q : ℕ → Type 0) (order : List ℕ) (inside : Program) (opened : List ℕ)
     → EachAction P Q (loops_round order inside) opened → EachAction P Q inside (opened ++ order)
 round-shape P Q [] inside opened h = subst (EachAction P Q inside) (sym (append-nil opened)) h
 round-shape P Q (i ∷ order) inside opened h =

@@ -67,7 +67,7 @@ turns-all space tree s i body a before now t u e no_tail h = record {
     whole None = refl
     whole (Some state) = refl
 
-scaled : (m n b : ℕ) → m ≤ n → m * b ≤ n * b
+pub scaled : (m n b : ℕ) → m ≤ n → m * b ≤ n * b
 scaled m n b l = let k = mul-le-mul_left b l in omega arith
 
 pub turn-few : (space : IndexSpace) (tree : ContractionTree) (s : Setting) (i : ℕ) (body : Program) (a : Assignment) (n : ℕ) (before mid : Option State) (t m : ℕ)

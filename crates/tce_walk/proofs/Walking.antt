@@ -52,12 +52,12 @@ plain-is (Add v) f g = tt
 plain-is (Sub v) f g = tt
 plain-is (Acc v) f g = tt
 
-record IsActionOf (op : Op) : Type 0 where
-  action : Action
-  spells : op_of action ≡ op
-  alone : plain_program op ≡ step action stop
+pub record IsActionOf (op : Op) : Type 0 where
+  pub action : Action
+  pub spells : op_of action ≡ op
+  pub alone : plain_program op ≡ step action stop
 
-action-of : (op : Op) → IsPlain op → IsActionOf op
+pub action-of : (op : Op) → IsPlain op → IsActionOf op
 action-of (Open i) h = absurd h
 action-of Close h = absurd h
 action-of (Clear v) h = record { action = clear v; spells = refl; alone = refl }
@@ -66,7 +66,7 @@ action-of (Add v) h = record { action = compute add v; spells = refl; alone = re
 action-of (Sub v) h = record { action = compute subtract v; spells = refl; alone = refl }
 action-of (Acc v) h = record { action = accumulate v; spells = refl; alone = refl }
 
-plain-program : (ops : List Op) (at : ℕ) (d : Op) → at < length ops → (h : IsActionOf (get_or ops at d)) → program_at ops at ≡ step h.action (program_at ops (at + 1))
+pub plain-program : (ops : List Op) (at : ℕ) (d : Op) → at < length ops → (h : IsActionOf (get_or ops at d)) → program_at ops at ≡ step h.action (program_at ops (at + 1))
 plain-program ops at d l h =
     ap first_of (programs-action ops at h.action l (named ops at d (op_of h.action) l (sym h.spells)))
 

@@ -13,3 +13,8 @@ pub mod PartExamples
 pub mod Opened
 pub mod PartRuns
 pub mod Bodies
+pub mod Bands
+pub mod BandSearch
+pub mod BandRuns
+pub mod StraightBodies
+pub mod BandExamples

@@ -7,18 +7,25 @@
 //! What a tail leaves does not depend on the sequence of its loops (`specs/Tails.antt`, `specs/TailLaws.antt`). A tail is
 //! cut at the edges of tiles into blocks; what a part of its loops leaves is said in closed form, as a function of
 //! states, and the parts, one after the other, leave what the tail leaves (`specs/Parts.antt`, `specs/PartLaws.antt`).
-//! The functions of `tail_laws.rt` and `part_laws.rt` do nothing: their contracts are these laws.
+//! The functions of `tail_laws.rt`, `part_laws.rt` and `band_laws.rt` do nothing: their contracts are these laws.
 #![tactic(auto)]
 
+mod band_laws;
+mod band_search;
+mod cuts;
 mod laws;
 mod machine;
 mod part_laws;
 mod running;
 mod search;
+mod straight;
 mod tail_laws;
+mod walk;
 
+pub use band_laws::blocks_make_bands;
+pub use cuts::cuts_of;
 pub use laws::{joined_tails_are_known, single_tails_are_known, sum_tails_are_known};
-pub use machine::{Machine, Tail};
+pub use machine::{Body, Machine, Tail};
 pub use part_laws::{parts_keep_words, parts_make_tails};
 pub use running::run_program;
 pub use tail_laws::{

@@ -3,9 +3,13 @@ ghost use Rattle.std.specs.Prelude.{◌≡◌, ◌+◌, ◌≤◌, ◌^◌, ℕ,
 ghost use Rattle.std.specs.Option.{option_map};
 ghost use Rattle.tce_outside.specs.Fault.{HasCause, TellsFaults};
 ghost use Rattle.tce_space.specs.Space.{IndexSpace};
+ghost use Rattle.tce_block.specs.Cuts.{part_of};
 ghost use Rattle.tce_code.specs.Execution.{Setting, State, cleared};
+ghost use Rattle.tce_walk.specs.Bodies.{after_body, touches_of_body, IsBodyAt};
 ghost use Rattle.tce_walk.specs.Machine.{assignment_of, after, operation_of_node, tail_program, touches_of_tail, IsNodeAt, IsInnerSum, IsTailAt};
 
+use tce_block::Block;
+use tce_code::Op;
 use tce_outside::Failed;
 use tce_space::{LoopOrder, Numbers};
 
@@ -16,6 +20,13 @@ pub struct Tail {
     pub loops: LoopOrder,
     pub node: u8,
     pub sum: Option<u8>,
+}
+
+/// A body without loops inside: its operations, and the loops round it, outermost first.
+#[derive(Clone, Copy)]
+pub struct Body<'a> {
+    pub loops: &'a [u8],
+    pub ops: &'a [Op],
 }
 
 /// What loop code runs on: the places of a tree's nodes, over one space.
@@ -82,6 +93,24 @@ pub trait Machine {
             ≡ after (setting self.old) (tail_program (setting self.old).tree tail.now) (assignment_of numbers.now) (state self.old)) }
         ensures touches { OnOk result (touches self.new
             ≤ touches self.old + touches_of_tail (space self.old) tail.now) }
+        ensures cause { HasCause (faults self.old) (faults self.new) (IsErr result) }
+        ensures told { TellsFaults (faults self.old) (faults self.new) (IsErr result) }
+        ensures space { space self.new ≡ space self.old }
+        ensures setting { setting self.new ≡ setting self.old }
+        ensures kept { keeps self.old self.new };
+
+    /// Runs a body at each assignment of one block of the loops round it, the last loop the fastest, with at most three
+    /// touches for each operation at each assignment. `numbers` has the numbers of all other loops.
+    fn run_body(&mut self, body: &Body<'_>, block: &Block, numbers: &Numbers) -> Result<(), Failed>
+        requires ready { ready self.old }
+        requires body { IsBodyAt (space self.old) (setting self.old)
+            body.now.loops.now body.now.ops.now (part_of block.now) (assignment_of numbers.now) }
+        requires few { touches self.old + touches_of_body body.now.ops.now (part_of block.now) ≤ 2 ^ 100 }
+        ensures ready { OnOk result (ready self.new) }
+        ensures state { OnOk result (state self.new ≡ after_body (setting self.old)
+            body.now.loops.now body.now.ops.now (part_of block.now) (assignment_of numbers.now) (state self.old)) }
+        ensures touches { OnOk result (touches self.new
+            ≤ touches self.old + touches_of_body body.now.ops.now (part_of block.now)) }
         ensures cause { HasCause (faults self.old) (faults self.new) (IsErr result) }
         ensures told { TellsFaults (faults self.old) (faults self.new) (IsErr result) }
         ensures space { space self.new ≡ space self.old }

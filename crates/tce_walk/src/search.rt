@@ -33,7 +33,7 @@ struct Inside {
 }
 
 // Whether no operation is left before the `Close`.
-fn is_end(ops: &[Op], at: usize) -> bool
+pub(crate) fn is_end(ops: &[Op], at: usize) -> bool
     ensures { result ≡ is_stop (program_at ops.now at) }
 {
     if at >= ops.len() {

@@ -1,3 +1,4 @@
+mod WorkedBands
 mod WorkedBlockwise
 mod WorkedCode
 mod WorkedCovers

@@ -8,12 +8,13 @@ use arrayvec::ArrayVec;
 use std::alloc::Global;
 use std::process::Abort;
 use std::test::Fail;
+use tce_block::Block;
 use tce_code::generate;
 use tce_fusion::{is_legal, standard_orders};
 use tce_outside::Failed;
 use tce_space::{IndexSet, Name, Numbers, Space};
 use tce_tree::{Expr, Fusion, Tree};
-use tce_walk::{Machine, Tail, run_program, touches_are_few};
+use tce_walk::{Body, Machine, Tail, run_program, touches_are_few};
 
 // Writes down the calls of a run as bytes, and fails where there is no room for more. It tells nothing of its places,
 // and its count of faults stands at its end.
@@ -69,7 +70,7 @@ impl<'a> Machine for Recorder<'a> {
     }
 
     fn operate(&mut self, v: u8, numbers: &Numbers) -> Result<(), Failed> {
-        self.write(&[b'o', v, (numbers[0] % 256) as u8])
+        self.write(&[b'o', v, (numbers[0] % 256) as u8, (numbers[1] % 256) as u8])
     }
 
     // The node, 100 and the sum's number where one is joined, the number of index 1, and the loops.
@@ -80,6 +81,19 @@ impl<'a> Machine for Recorder<'a> {
         };
         self.write(&[b't', tail.node, joined, (numbers[1] % 256) as u8])?;
         self.write(tail.loops.0.as_slice())
+    }
+
+    // The number of operations, that of the block's dimensions, that of index 1, and the loops.
+    fn run_body(
+        &mut self,
+        body: &Body<'_>,
+        block: &Block,
+        numbers: &Numbers,
+    ) -> Result<(), Failed> {
+        let ops = (body.ops.len() % 256) as u8;
+        let dimensions = (block.len.len() % 256) as u8;
+        self.write(&[b'b', ops, dimensions, (numbers[1] % 256) as u8])?;
+        self.write(body.loops)
     }
 
     ghost use Rattle.std.proofs.Common.{rules};
@@ -162,7 +176,7 @@ fn calls_of(
         room,
         calls,
     };
-    let answer = run_program(space, &tree, code.ops(), &mut machine);
+    let answer = run_program(space, &tree, &fusion, code.ops(), &mut machine);
     let Recorder {
         space: _,
         tree: _,
@@ -227,7 +241,7 @@ fn a_product_joins_its_sum(rt: HostRuntime) {
 
 #[test]
 fn constants_go_turn_by_turn(rt: HostRuntime) {
-    let wanted = [b'o', 0, 0, b'o', 0, 1, b'o', 0, 2];
+    let wanted = [b'o', 0, 0, 0, b'o', 0, 1, 0, b'o', 0, 2, 0];
     let expr = doubled(&rt, rt.alloc());
     let sets = [IndexSet::empty()];
     expect_calls(
@@ -249,7 +263,115 @@ fn a_failure_ends_the_run(rt: HostRuntime) {
         rt.alloc(),
         &expr,
         &sets,
-        (7, false),
-        &[b'o', 0, 0, b'o', 0, 1],
+        (11, false),
+        &[b'o', 0, 0, 0, b'o', 0, 1, 0],
+    );
+}
+
+// The numbers of i and j block by block, for tiles with edges of 2.
+const BY_BLOCKS: [(u8, u8); 9] = [
+    (0, 0),
+    (0, 1),
+    (1, 0),
+    (1, 1),
+    (0, 2),
+    (1, 2),
+    (2, 0),
+    (2, 1),
+    (2, 2),
+];
+
+fn both() -> IndexSet {
+    IndexSet::empty().with(0).with(1)
+}
+
+fn put(rt: &impl Abort, wanted: &mut ArrayVec<u8, 128>, bytes: &[u8]) {
+    assert!(rt; wanted.try_extend_from_slice(bytes).is_ok());
+}
+
+// `A[i,j] * B[i,j] * C[i,j]`, the first product inside both loops of the second
+#[test]
+fn a_band_goes_block_by_block(rt: HostRuntime) {
+    let mut wanted = ArrayVec::new();
+    for n in 0..9 {
+        let (i, j) = BY_BLOCKS[n];
+        put(&rt, &mut wanted, &[b'o', 0, i, j, b'o', 1, i, j]);
+    }
+    let pairs = product(
+        &rt,
+        rt.alloc(),
+        leaf(&rt, rt.alloc(), 0, &[0, 1]),
+        leaf(&rt, rt.alloc(), 1, &[0, 1]),
+    );
+    let expr = product(&rt, rt.alloc(), pairs, leaf(&rt, rt.alloc(), 2, &[0, 1]));
+    let sets = [both(), IndexSet::empty()];
+    expect_calls(
+        &rt,
+        rt.alloc(),
+        &expr,
+        &sets,
+        (128, true),
+        wanted.as_slice(),
+    );
+}
+
+// `sum{k}(A[i,k] * B[k,j])`
+fn summed(rt: &impl Abort, alloc: Global) -> Box<Expr> {
+    let pairs = product(
+        rt,
+        alloc,
+        leaf(rt, alloc, 0, &[0, 2]),
+        leaf(rt, alloc, 1, &[2, 1]),
+    );
+    sum(rt, alloc, &[2], pairs)
+}
+
+// `sum{k}(A[i,k] * B[k,j]) * C[i,j]`, the sum cleared and summed up inside the loops over i and j
+#[test]
+fn a_band_holds_sums(rt: HostRuntime) {
+    let mut wanted = ArrayVec::new();
+    for n in 0..9 {
+        let (i, j) = BY_BLOCKS[n];
+        put(
+            &rt,
+            &mut wanted,
+            &[b'c', 1, b't', 0, 101, j, 2, b'o', 2, i, j],
+        );
+    }
+    let expr = product(
+        &rt,
+        rt.alloc(),
+        summed(&rt, rt.alloc()),
+        leaf(&rt, rt.alloc(), 2, &[0, 1]),
+    );
+    let sets = [both().with(2), both(), IndexSet::empty()];
+    expect_calls(
+        &rt,
+        rt.alloc(),
+        &expr,
+        &sets,
+        (128, true),
+        wanted.as_slice(),
+    );
+}
+
+// `sum{k}(A[i,k] * B[k,j])`, where the product keeps a row over k
+#[test]
+fn a_body_that_keeps_rows_goes_turn_by_turn(rt: HostRuntime) {
+    let mut wanted = ArrayVec::new();
+    for _ in 0..3 {
+        for j in 0..3 {
+            put(&rt, &mut wanted, &[b't', 0, 0, j, 2, b't', 1, 0, j, 2]);
+        }
+    }
+    let expr = summed(&rt, rt.alloc());
+    let sets = [both(), IndexSet::empty()];
+    expect_calls(
+        &rt,
+        rt.alloc(),
+        &expr,
+        &sets,
+        (128, true),
+        wanted.as_slice(),
     );
 }

@@ -202,15 +202,15 @@ fn blocks_run(rt: HostRuntime) {
 
 #[test]
 fn laws_of_windows() {
-    laws::coordinates_are_turns();
-    laws::turns_are_within();
-    laws::turns_are_apart();
-    laws::others_stay();
-    laws::turns_grow();
-    laws::turns_set();
-    laws::parts_are_within();
-    laws::parts_are_apart();
-    laws::grow_leaves();
-    laws::products_leave();
-    laws::compute_leaves();
+    loop_laws::coordinates_are_turns();
+    loop_laws::turns_are_within();
+    loop_laws::turns_are_apart();
+    loop_laws::others_stay();
+    loop_laws::turns_grow();
+    loop_laws::turns_set();
+    loop_laws::parts_are_within();
+    loop_laws::parts_are_apart();
+    loop_laws::grow_leaves();
+    loop_laws::products_leave();
+    loop_laws::compute_leaves();
 }

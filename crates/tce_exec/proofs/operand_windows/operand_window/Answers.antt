@@ -2,7 +2,8 @@ use Rattle.std.proofs.Common.{refl, sym, ◌∙◌}
 use Rattle.std.proofs.lemmas.Bool.{false≢true}
 use Rattle.tce_outside.proofs.Causes.{no_cause}
 use Rattle.tce_exec.specs.Storages.{work_of}
-use Rattle.tce_exec.proofs.Reading.{kept_own, read_own}
+use Rattle.tce_exec.proofs.Reading.{read_own}
+use Rattle.tce_exec.specs.Following.{kept_own}
 use Rattle.tce_exec.proofs.Touching.{keeps_last_own}
 use Rattle.tce_exec.proofs.operand_windows.operand_window.Goals as goal
 

@@ -5,7 +5,8 @@ use Rattle.tce_outside.proofs.Causes.{cause_of, cause_since, told_after}
 use Rattle.tce_tree.specs.FlatTree.{left_of}
 use Rattle.tce_exec.specs.Workspace.{Workspace}
 use Rattle.tce_exec.specs.Storages.{work_of}
-use Rattle.tce_exec.proofs.Following.{kept_on, read_on, same_on}
+use Rattle.tce_exec.proofs.Following.{read_on, same_on}
+use Rattle.tce_exec.specs.Following.{kept_on}
 use Rattle.tce_exec.proofs.Operating.{node_after}
 use Rattle.tce_exec.specs.Windows.{HasPlace, IsOperandWindow, AreOperandSteps}
 use Rattle.tce_exec.proofs.Operands.{left_place, right_place}
@@ -93,10 +94,10 @@ returns-clause-windows g c =
     let z : Workspace = work_of g.D.Disk.files c.args.evaluation.now c.operand_window-2.new.store in
     let v : Workspace = work_of g.D.Disk.files c.args.evaluation.now c.place_window.new.store in
     on_both c.place_window.result c.place_window.ensures.window c.place_window.ensures.last (λ window last. record {
-      left_is = operand_twice z v (left_of y.places.tree c.args.v) (slice_index c.args.first.now.numbers) c.operand_window.new.window c.place_window.ensures.kept last
-          (operand_once y z (left_of y.places.tree c.args.v) (slice_index c.args.first.now.numbers) c.operand_window.new.window c.in_ok-operand_window-2.ensures.kept c.in_ok-operand_window-2.ensures.last
+      left_is = operand_twice z v (left_of y.places.tree c.args.v) (slice_index c.args.first.now.numbers) c.operand_window.new.window c.in_ok-operand_window-2.ensures.read.prepared.cache.frames c.place_window.ensures.kept last
+          (operand_once y z (left_of y.places.tree c.args.v) (slice_index c.args.first.now.numbers) c.operand_window.new.window c.in_ok-operand_window.ensures.read.prepared.cache.frames c.in_ok-operand_window-2.ensures.kept c.in_ok-operand_window-2.ensures.last
           (subst (λ o. IsOperandWindow 1 y o (slice_index c.args.first.now.numbers) c.operand_window.new.window) c.left-operand.ensures.value c.in_ok-operand_window.ensures.window));
-      right_is = operand_once z v c.args.pairing.now.right.now (slice_index c.args.first.now.numbers) c.operand_window-2.new.window c.place_window.ensures.kept last c.in_ok-operand_window-2.ensures.window;
+      right_is = operand_once z v c.args.pairing.now.right.now (slice_index c.args.first.now.numbers) c.operand_window-2.new.window c.in_ok-operand_window-2.ensures.read.prepared.cache.frames c.place_window.ensures.kept last c.in_ok-operand_window-2.ensures.window;
       out_is = window;
     })
 

@@ -6,7 +6,8 @@ use Rattle.tce_outside.proofs.Causes.{no_cause}
 use Rattle.tce_tree.specs.ContractionTree.{operations}
 use Rattle.tce_exec.specs.Workspace.{Workspace}
 use Rattle.tce_exec.specs.Storages.{work_of}
-use Rattle.tce_exec.proofs.Reading.{kept_own, read_own, result_known, root_inside}
+use Rattle.tce_exec.proofs.Reading.{read_own, result_known, root_inside}
+use Rattle.tce_exec.specs.Following.{kept_own}
 use Rattle.tce_exec.proofs.Operands.{place_at_root}
 use Rattle.tce_exec.proofs.operand_windows.place_window.Goals as goal
 

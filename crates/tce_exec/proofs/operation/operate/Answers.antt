@@ -4,7 +4,8 @@ use Rattle.tce_code.specs.Execution.{coordinates, with_word, exec}
 use Rattle.tce_walk.specs.Machine.{operation_of_node}
 use Rattle.tce_exec.specs.Workspace.{Workspace, setting_in}
 use Rattle.tce_exec.specs.Storages.{work_of}
-use Rattle.tce_exec.proofs.Following.{kept_on, change_on, changed_as}
+use Rattle.tce_exec.proofs.Following.{change_on, changed_as}
+use Rattle.tce_exec.specs.Following.{kept_on}
 use Rattle.tce_exec.proofs.Operating.{ok_then, own_place, node_after, operation_puts}
 use Rattle.tce_exec.proofs.operation.operate.Goals as goal
 

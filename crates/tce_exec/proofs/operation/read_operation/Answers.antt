@@ -3,7 +3,8 @@ use Rattle.tce_exec.specs.Workspace.{Workspace, setting_in, state_in}
 use Rattle.tce_exec.specs.Storages.{work_of}
 use Rattle.tce_exec.specs.Operands.{second_word, IsReadable}
 use Rattle.tce_tree.specs.FlatTree.{right_of}
-use Rattle.tce_exec.proofs.Following.{kept_on, read_on}
+use Rattle.tce_exec.proofs.Following.{read_on}
+use Rattle.tce_exec.specs.Following.{kept_on}
 use Rattle.tce_exec.proofs.Operating.{readable_left, word_before, both_words}
 use Rattle.tce_exec.proofs.operation.read_operation.Goals as goal
 

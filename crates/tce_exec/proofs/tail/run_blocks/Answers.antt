@@ -6,7 +6,8 @@ use Rattle.tce_block.specs.Parts.{blocks}
 use Rattle.tce_block.specs.Cuts.{part_of}
 use Rattle.tce_exec.specs.Workspace.{Workspace}
 use Rattle.tce_exec.specs.Storages.{work_of}
-use Rattle.tce_exec.proofs.Following.{kept_on, same_on}
+use Rattle.tce_exec.proofs.Following.{same_on}
+use Rattle.tce_exec.specs.Following.{kept_on}
 use Rattle.tce_space.specs.Space.{extent_at, edge_at}
 use Rattle.tce_walk.specs.declared.machine.Tail.{Tail}
 use Rattle.tce_exec.specs.Blocks.{blocks_of, loops_of}

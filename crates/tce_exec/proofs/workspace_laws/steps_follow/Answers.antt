@@ -1,4 +1,5 @@
-use Rattle.tce_exec.proofs.Following.{kept_on, continued_on, read_on, change_on, changed_twice}
+use Rattle.tce_exec.proofs.Following.{read_on, change_on, changed_twice}
+use Rattle.tce_exec.specs.Following.{kept_on, continued_on}
 use Rattle.tce_exec.proofs.workspace_laws.steps_follow.Goals as goal
 
 pub returns : goal.returns

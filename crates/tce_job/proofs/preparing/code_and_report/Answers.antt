@@ -9,7 +9,7 @@ use Rattle.tce_job.proofs.preparing.code_and_report.Goals as goal
 
 pub generate-requires-clause-carried : goal.generate-requires-clause-carried
 generate-requires-clause-carried c =
-    subst (λ (tree : ContractionTree). Carries tree c.args.plan.now.fusion.0.items (lists_of c.args.plan.now.orders.0.items)) (sym c.tree.ensures.tree) c.requires.plan.carried
+    subst (λ (tree : ContractionTree). Carries tree c.args.plan.now.fusion.0.items (lists_of c.args.orders.now.0.items)) (sym c.tree.ensures.tree) c.requires.carried
 
 pub generate-requires-clause-fusion_fits : goal.generate-requires-clause-fusion_fits
 generate-requires-clause-fusion_fits c =
@@ -17,7 +17,7 @@ generate-requires-clause-fusion_fits c =
 
 pub generate-requires-clause-orders_fit : goal.generate-requires-clause-orders_fit
 generate-requires-clause-orders_fit c =
-    subst (λ (tree : ContractionTree). OrdersFit tree (lists_of c.args.plan.now.orders.0.items)) (sym c.tree.ensures.tree) c.requires.plan.fits.orders
+    subst (λ (tree : ContractionTree). OrdersFit tree (lists_of c.args.orders.now.0.items)) (sym c.tree.ensures.tree) c.requires.fit
 
 pub returns-in_err-code-clause-code : goal.returns-in_err-code-clause-code
 returns-in_err-code-clause-code c = IfOk-from_err c.from_residual.result _ c.from_residual.ensures.0
@@ -33,7 +33,7 @@ report_of-requires-clause-plan c = c.requires.plan
 
 pub returns-in-Ok-clause-code : goal.returns-in-Ok-clause-code
 returns-in-Ok-clause-code c =
-    subst (λ (tree : ContractionTree). IsCodeFor tree (plan_of c.args.plan.now.fusion.0.items (lists_of c.args.plan.now.orders.0.items)) c.in_ok-code.code) c.tree.ensures.tree c.in_ok-code.ensures
+    subst (λ (tree : ContractionTree). IsCodeFor tree (plan_of c.args.plan.now.fusion.0.items (lists_of c.args.orders.now.0.items)) c.in_ok-code.code) c.tree.ensures.tree c.in_ok-code.ensures
 
 pub returns-in-Ok-clause-report : goal.returns-in-Ok-clause-report
 returns-in-Ok-clause-report c = c.in-Ok.ensures

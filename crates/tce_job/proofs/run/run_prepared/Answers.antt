@@ -99,11 +99,11 @@ returns-clause-touches g c =
 
 pub run_code-requires-clause-orders : goal.run_code-requires-clause-orders
 run_code-requires-clause-orders g c =
-    subst (λ (t : ContractionTree). OrdersFit t (lists_of c.args.prepared.now.plan.orders.0.items)) (sym c.tree-tree.ensures.tree) c.requires.prepared.plan.fits.orders
+    subst (λ (t : ContractionTree). OrdersFit t (lists_of c.args.prepared.now.orders.0.items)) (sym c.tree-tree.ensures.tree) c.requires.prepared.orders
 
 pub run_code-requires-clause-code : goal.run_code-requires-clause-code
 run_code-requires-clause-code g c =
-    subst (λ (t : ContractionTree). IsCodeFor t (plan_of c.args.prepared.now.plan.fusion.0.items (lists_of c.args.prepared.now.plan.orders.0.items)) c.args.prepared.now.code) (sym c.tree-tree.ensures.tree) c.requires.prepared.code
+    subst (λ (t : ContractionTree). IsCodeFor t (plan_of c.args.prepared.now.plan.fusion.0.items (lists_of c.args.prepared.now.orders.0.items)) c.args.prepared.now.code) (sym c.tree-tree.ensures.tree) c.requires.prepared.code
 
 pub returns-in_err-run_code-clause-told : goal.returns-in_err-run_code-clause-told
 returns-in_err-run_code-clause-told g c = IfOk-from_err c.from_residual.result _ c.from_residual.ensures.0

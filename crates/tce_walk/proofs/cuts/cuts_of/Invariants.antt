@@ -1,7 +1,7 @@
 use Rattle.std.proofs.Common.{◌≡◌, map, take, All}
 use Rattle.tce_space.specs.Space.{extent_at, edge_at}
 use Rattle.tce_block.specs.Cuts.{IsCut, extents_of, edges_of}
-use Rattle.tce_exec.proofs.cuts.cuts_of.Given as goal
+use Rattle.tce_walk.proofs.cuts.cuts_of.Given as goal
 
 abbrev pub invariant-loop-index : goal.invariant-loop-index
 invariant-loop-index l =

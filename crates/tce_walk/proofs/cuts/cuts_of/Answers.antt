@@ -5,7 +5,7 @@ use Rattle.std.proofs.lemmas.List.Elements.{All-push}
 use Rattle.tce_space.specs.Space.{extent_at, edge_at}
 use Rattle.tce_block.specs.Cuts.{IsCut}
 use Rattle.tce_block.specs.declared.cut.Cut.{Cut}
-use Rattle.tce_exec.proofs.cuts.cuts_of.Goals as goal
+use Rattle.tce_walk.proofs.cuts.cuts_of.Goals as goal
 
 -- as many cuts as loops that the iteration has gone through
 as_many : (f : Cut → ℕ) (g : ℕ → ℕ) (cuts : List Cut) (loops : List ℕ) (i : ℕ) → map f cuts ≡ map g (take i loops) → i ≤ length loops → length cuts ≡ i
