@@ -1,0 +1,369 @@
+"""Formulas of the language on arrays of numpy and array files: `evaluate`, `batch` and `spill`."""
+from __future__ import annotations
+
+import os
+from collections.abc import Callable, Iterable, Mapping, Sequence
+from pathlib import Path
+from typing import Any
+
+import numpy
+
+from cabunlit.arrays import TiledArray, open_array
+from cabunlit.contraction import even_edge
+from cabunlit.errors import ArrayError, FormulaError, SpecificationError
+from cabunlit.heads import is_whole
+from cabunlit.language import Formula, Reference, parse_formula, references
+from cabunlit.memory import budget_of, bytes_of
+from cabunlit.plan import as_specification, plan
+from cabunlit.progress import Progress, watcher
+from cabunlit.simulate import ORDER
+from cabunlit.specification import Range, Specification, judge
+from cabunlit.strategy import Choice, candidates, choose
+from cabunlit.tiles import Array
+from cabunlit.workspace import Out, Workspace, as_operand, check_out, move
+
+PathLike = str | os.PathLike[str]
+CAN_BE_CUT = ("more than 32 operations", "limit of indexes", "limit of tensors", "limit of ranges")
+
+
+def evaluate(text: Specification | str | PathLike, arrays: Mapping[str, Any] | None = None, *, memory: int | str | None = None,
+             chunks: Any = "auto", out: Out = None, strategy: str = "auto", disk: int | None = None, explain: bool = False,
+             progress: bool = False, program: PathLike | None = None, order: str = ORDER, **named: Any) -> TiledArray | Array:
+    """Evaluates a formula.
+
+    Parameters
+    ----------
+    text : Specification, str or path
+        A formula alone, as `C[i,j] = sum{k}(A[i,k] * B[k,j])`, of which the operands tell the extents; or a specification, its
+        text, or a file's name that ends in `.tce`.
+    arrays : mapping of str to arrays, optional
+        The operands, which may also be given by name behind all else: arrays of numpy of `<i8`, `<u8` or `<i4`, `TiledArray`s,
+        dask arrays.
+    memory : int, str or None, optional
+        Bytes for tiles and intermediates, as `"64 MiB"`; else half of what the system has.
+    chunks : "auto", int or mapping of index to int, optional
+        The edges of tiles of a formula alone. Files keep their own.
+    out : path, array, numpy.ndarray or None, optional
+        A path to keep the result at, an array to be filled, `numpy.ndarray` itself for a new array; else the answer is a
+        `TiledArray` whose file goes with it.
+    strategy : str, optional
+        `whole`, `named`, `single`, or `auto`: the one that is simulated to cost least.
+    disk : int, optional
+        Bytes that intermediates may take on disk.
+    explain : bool, optional
+        Whether the strategies, and the loop nest, are printed.
+    progress : bool, optional
+        Whether formulas are told as they are done.
+    program : path, optional
+        Where `tce` is.
+    order : str, optional
+        In which order loops are simulated, as for `cabunlit.simulate`.
+
+    Returns
+    -------
+    TiledArray or numpy.ndarray
+
+    Raises
+    ------
+    ArrayError
+        Where an operand has another type of elements or shape.
+    FormulaError, NotEnoughMemory, TceError, ProgramKilled
+
+    Examples
+    --------
+    >>> A = numpy.arange(6).reshape(2, 3)
+    >>> evaluate("C[i,j] = sum{k}(A[i,k] * A[j,k])", A=A, out=numpy.ndarray)
+    array([[ 5, 14],
+           [14, 50]])
+    """
+    sources = {name: as_operand(it, name) for name, it in {**(arrays or {}), **named}.items()}
+    spec, free = _specified(text, sources, chunks, program)
+    formula = spec.formula
+    _check_operands(spec, sources)
+    target = check_out(out, spec.shape(formula.result.tensor))
+    _judge(spec, strategy, program)
+    ways = candidates(spec, strategy)
+    choice, said = choose(ways, bytes_of(memory), free, disk, program, order)
+    if explain:
+        print("\n".join(said))
+        for it in choice.plans:
+            print(it.spec.formula.text(), it.nest_text(), sep="\n", end="")
+    with Workspace(program, target) as place, Progress("formulas", len(choice.plans), progress) as shown:
+        return run_choice(place, choice, sources, out, shown)
+
+
+def run_choice(place: Workspace, choice: Choice, sources: Mapping[str, Any], out: Out, shown: Progress) -> TiledArray | Array:
+    """Runs the formulas of a choice in a workspace, and takes the last one's result."""
+    spec, reports = choice.spec, []
+    for name in spec.inputs():
+        place.put(name, sources[name], spec)
+    for number, (part, budget) in enumerate(zip(choice.plans, choice.budgets)):
+        reports.append(place.run(["run", str(budget)], part.spec))
+        later = {name for it in spec.formulas[number + 1:] for name in it.operands()}
+        for name in set(part.spec.formula.operands()) - later:
+            place.drop(name)
+        shown.done(part.spec.formula.result.tensor)
+    return place.take(spec.formulas[-1].result.tensor, out, result_type(sources.values()), "".join(reports))
+
+
+def result_type(sources: Iterable[Any]) -> str:
+    """`<u8` where all operands have no sign, else `<i8`."""
+    kinds = {numpy.dtype(it.dtype).kind for it in sources}
+    return "<u8" if kinds == {"u"} else "<i8"
+
+
+def _judge(spec: Specification, strategy: str, program: PathLike | None) -> None:
+    """Lets the program read a formula; what a cut mends is none of its faults where it may be cut."""
+    try:
+        judge(spec.text(), program)
+    except SpecificationError as error:
+        if strategy == "whole" or not any(it in error.line for it in CAN_BE_CUT):
+            raise
+
+
+def _check_operands(spec: Specification, sources: Mapping[str, Any]) -> None:
+    wanted = spec.inputs()
+    missing, extra = [it for it in wanted if it not in sources], [it for it in sources if it not in wanted]
+    if missing or extra:
+        raise FormulaError("; ".join([*(f"operand {it} is missing: give {it}=" for it in missing),
+                                      *(f"{it} is no operand of the formula" for it in extra)]))
+    for name in wanted:
+        if tuple(sources[name].shape) != spec.shape(name):
+            raise ArrayError(f"operand {name} has the shape {tuple(sources[name].shape)}, and the formula wants {spec.shape(name)}")
+
+
+def _specified(text: Specification | str | PathLike, sources: Mapping[str, Any], chunks: Any,
+               program: PathLike | None) -> tuple[Specification, set[str]]:
+    """The specification, and the ranges whose edges may be chosen."""
+    alone = isinstance(text, str) and not text.endswith(".tce") and not any(
+        it.split()[:1] and it.split()[0] in ("range", "index", "tensor") for it in text.splitlines())
+    if not alone:
+        return as_specification(text, program), set()
+    lines = [it for it in str(text).splitlines() if it.split("#")[0].strip()]
+    return from_formulas([parse_formula(it.split("#")[0]) for it in lines], sources, chunks)
+
+
+def from_formulas(formulas: Sequence[Formula], sources: Mapping[str, Any], chunks: Any) -> tuple[Specification, set[str]]:
+    """Declarations for formulas, by the shapes of their operands; and the ranges whose edges may be chosen.
+
+    Raises
+    ------
+    FormulaError
+        Where an index has two extents, or none.
+    """
+    extents: dict[str, int] = {}
+    edges: dict[str, int] = {}
+    results = {it.result.tensor for it in formulas}
+    uses = [it for formula in formulas for it in references(formula.expression)]
+    for use in uses:
+        if use.tensor in results and use.tensor not in sources:
+            continue
+        if use.tensor not in sources:
+            raise FormulaError(f"operand {use.tensor} is missing: give {use.tensor}=")
+        _note(use, sources[use.tensor], extents, edges)
+    names = list(dict.fromkeys(i for formula in formulas for use in (formula.result, *references(formula.expression))
+                               for i in use.indexes))
+    unknown = [it for it in names if it not in extents]
+    if unknown:
+        raise FormulaError(f"index {unknown[0]} stands in no operand, so its extent is not known: write a specification")
+    rank = max([len(it.indexes) for it in uses] + [len(it.result.indexes) for it in formulas], default=0)
+    usual = {0: 64, 1: 4096, 2: 64, 3: 32, 4: 16}.get(rank, 4)
+    given = dict(chunks) if isinstance(chunks, Mapping) else {it: chunks for it in names} if chunks != "auto" else {}
+    spec, free = Specification(), set()
+    of_key: dict[tuple[int, int, bool], str] = {}
+    for it in names:
+        fixed = it in edges or it in given
+        edge = edges.get(it, min(given.get(it, even_edge(extents[it], usual)), extents[it]))
+        key = (extents[it], edge, fixed)
+        if key not in of_key:
+            of_key[key] = f"N{len(of_key)}"
+            spec.ranges[of_key[key]] = Range(extents[it], edge)
+        if not fixed:
+            free.add(of_key[key])
+        spec.add_index(of_key[key], it)
+    for use in [*uses, *(it.result for it in formulas)]:
+        positions = tuple(spec.indexes[i] for i in use.indexes)
+        if spec.tensors.setdefault(use.tensor, positions) != positions:
+            spec = _joined(spec, use, positions)
+    spec.formulas = list(formulas)
+    return spec, free & set(spec.ranges)
+
+
+def _note(use: Reference, source: Any, extents: dict[str, int], edges: dict[str, int]) -> None:
+    """What an operand tells of its indexes."""
+    if len(source.shape) != len(use.indexes):
+        raise ArrayError(f"operand {use.tensor} has {len(source.shape)} dimensions, and {len(use.indexes)} indexes in the formula")
+    for d, (index, n) in enumerate(zip(use.indexes, source.shape)):
+        if extents.setdefault(index, int(n)) != n:
+            raise ArrayError(f"index {index} has the extent {extents[index]}, and {n} in operand {use.tensor}")
+        if isinstance(source, TiledArray) and type(source) is TiledArray:
+            edges.setdefault(index, source.chunks[d])
+
+
+def _joined(spec: Specification, use: Reference, positions: tuple[str, ...]) -> Specification:
+    """The same, where the ranges of one tensor's position under different indexes are one."""
+    for old, new in zip(positions, spec.tensors[use.tensor]):
+        if old == new:
+            continue
+        if spec.ranges[old].extent != spec.ranges[new].extent:
+            raise ArrayError(f"{use.tensor} stands with indexes of different extents")
+        spec.indexes = {i: new if of == old else of for i, of in spec.indexes.items()}
+        spec.tensors = {name: tuple(new if it == old else it for it in of) for name, of in spec.tensors.items()}
+        spec.ranges.pop(old, None)
+    return spec
+
+
+def batch(text: Specification | str | PathLike, arrays: Mapping[str, Any] | None = None, *, folder: PathLike | None = None,
+          memory: int | str | None = None, chunks: Any = "auto", resume: bool = False, progress: bool = False,
+          program: PathLike | None = None, **named: Any) -> dict[str, TiledArray]:
+    """Evaluates several formulas in order; a result may be an operand of every later one.
+
+    Parameters
+    ----------
+    text : Specification, str or path
+        As for `evaluate`, with a formula a line.
+    arrays : mapping of str to arrays, optional
+        The operands. Those that are not given are the files `NAME.tca` in the folder.
+    folder : path, optional
+        Where results are kept, as `NAME.tca`; else they go with the arrays that are returned.
+    resume : bool, optional
+        Whether results in the folder that are whole and newer than their operands are kept.
+    memory, chunks, progress, program
+        As for `evaluate`.
+
+    Returns
+    -------
+    dict of str to TiledArray
+        Each result. Those in front of a formula that fails, or of an interrupt, are in the folder.
+
+    Raises
+    ------
+    As `evaluate`.
+
+    Examples
+    --------
+    >>> done = batch('''B[i] = 2 * A[i]
+    ... E[] = sum{i}(A[i] * B[i])''', A=numpy.arange(3))
+    >>> int(done["E"][()])
+    10
+    """
+    home = None if folder is None else Path(folder).absolute()
+    sources = {name: as_operand(it, name) for name, it in {**(arrays or {}), **named}.items()}
+    if home is not None:
+        sources = {**_found(text, home, sources), **sources}
+    spec, _ = _specified(text, sources, chunks, program)
+    judge(spec.text(), program)
+    _check_operands(spec, sources)
+    room = bytes_of(memory)
+    plans = [plan(spec.alone(k), program) for k in range(len(spec.formulas))]
+    budgets = [min(it.full_budget, budget_of(room, it.memory, it.least_budget // 3)) for it in plans]
+    kept = _kept(spec, home, sources) if resume and home is not None else set()
+    beside = None if home is None else home / "."
+    with Workspace(program, beside) as place, Progress("formulas", len(plans), progress) as shown:
+        for name in spec.inputs():
+            place.put(name, sources[name], spec)
+        for number, (part, budget) in enumerate(zip(plans, budgets)):
+            name = spec.formulas[number].result.tensor
+            if number not in kept:
+                place.drop(name)  # (a link there leads to an operand, or to an earlier result of this name)
+                place.run(["run", str(budget)], part.spec)
+                if home is not None:
+                    move(place.folder / f"{name}.tca", home / f"{name}.tca")
+            if home is not None:
+                place.drop(name)
+                (place.folder / f"{name}.tca").symlink_to(home / f"{name}.tca")
+            shown.done(name, number in kept)
+        dtype = result_type(sources[it] for it in spec.inputs())
+        if home is not None:
+            return {name: open_array(home / f"{name}.tca", dtype) for name in spec.results()}
+        return {name: _taken(place, name, dtype) for name in spec.results()}
+
+
+def _taken(place: Workspace, name: str, dtype: str) -> TiledArray:
+    found = place.take(name, None, dtype)
+    assert isinstance(found, TiledArray)
+    return found
+
+
+def _found(text: Specification | str | PathLike, home: Path, sources: Mapping[str, Any]) -> dict[str, TiledArray]:
+    """The operands that are files in a folder."""
+    lines = text.text() if isinstance(text, Specification) else os.fspath(text)
+    if lines.endswith(".tce") and "\n" not in lines:
+        lines = Path(lines).read_text(encoding="utf-8")
+    formulas = [parse_formula(it.split("#")[0]) for it in lines.splitlines() if "=" in it.split("#")[0]]
+    wanted = Specification(formulas=formulas).inputs()
+    return {name: open_array(home / f"{name}.tca") for name in wanted
+            if name not in sources and (home / f"{name}.tca").exists()}
+
+
+def _kept(spec: Specification, home: Path, sources: Mapping[str, Any]) -> set[int]:
+    """The formulas whose results are whole and newer than their operands."""
+    times: dict[str, float] = {}
+    for name in spec.inputs():
+        source = sources[name]
+        times[name] = os.stat(source.path).st_mtime_ns if isinstance(source, TiledArray) else float("inf")
+    kept: set[int] = set()
+    results = [it.result.tensor for it in spec.formulas]
+    for number, formula in enumerate(spec.formulas):
+        name = formula.result.tensor
+        path = home / f"{name}.tca"
+        whole = results.count(name) == 1 and is_whole(path) and _is_of(path, spec, name)
+        made = os.stat(path).st_mtime_ns if whole else float("-inf")
+        if whole and all(times[it] <= made for it in formula.operands()):
+            kept.add(number)
+            times[name] = made
+        else:
+            times[name] = float("inf")
+    return kept
+
+
+def _is_of(path: Path, spec: Specification, name: str) -> bool:
+    found = open_array(path)
+    return found.shape == spec.shape(name) and found.chunks == spec.chunks(name)
+
+
+def spill(text: Specification | str | PathLike, arrays: Mapping[str, Any] | None = None, *, limit: int,
+          memory: int | str | None = None, chunks: Any = "auto", out: Out = None, explain: bool = False, progress: bool = False,
+          program: PathLike | None = None, **named: Any) -> TiledArray | Array:
+    """Evaluates a formula in pieces, none of which keeps more than so many elements of intermediates.
+
+    Parameters
+    ----------
+    limit : int
+        Elements.
+    text, arrays, memory, chunks, out, progress, program
+        As for `evaluate`.
+    explain : bool, optional
+        Whether the pieces are printed.
+
+    Returns
+    -------
+    TiledArray or numpy.ndarray
+
+    Raises
+    ------
+    PieceTooLarge
+        Where no cuts meet the limit.
+    As `evaluate`.
+
+    Examples
+    --------
+    >>> int(spill("E[] = sum{i}(A[i]) * sum{j}(A[j])", A=numpy.arange(4), limit=2, out=numpy.ndarray))
+    36
+    """
+    sources = {name: as_operand(it, name) for name, it in {**(arrays or {}), **named}.items()}
+    spec, _ = _specified(text, sources, chunks, program)
+    _check_operands(spec, sources)
+    name = spec.formula.result.tensor
+    target = check_out(out, spec.shape(name))
+    judge(spec.text(), program)
+    with Workspace(program, target) as place, Progress("pieces", None, progress) as shown:
+        for it in spec.inputs():
+            place.put(it, sources[it], spec)
+        files: Callable[[], Iterable[Path]] = lambda: [*place.folder.glob("spill-*.tca"), place.folder / f"{name}.tca"]
+        largest = max(map(spec.tile_words, (*spec.inputs(), name)))
+        budget = budget_of(bytes_of(memory), limit, largest)
+        report = place.run(["spill", str(budget), str(limit)], spec, watcher(files, shown) if progress else None)
+        if explain:
+            print(report, end="")
+        return place.take(name, out, result_type(sources.values()), report)

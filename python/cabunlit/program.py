@@ -1,0 +1,123 @@
+"""The program `tce`: where it is, and how it is called."""
+from __future__ import annotations
+
+import os
+import shutil
+import signal
+import subprocess
+import time
+from collections.abc import Callable, Sequence
+from pathlib import Path
+
+from cabunlit.errors import ProgramKilled, ProgramNotFound, error_of
+
+PathLike = str | os.PathLike[str]
+POLL_SECONDS = 0.1
+
+
+def find_program(program: PathLike | None = None) -> Path:
+    """Where the program is.
+
+    Parameters
+    ----------
+    program : path, optional
+        Where it is; else the environment variable CABUNLIT_TCE says so, else it is `tce` at the top of the checkout that holds
+        this package, else `tce` on the path.
+
+    Returns
+    -------
+    pathlib.Path
+
+    Raises
+    ------
+    ProgramNotFound
+
+    Examples
+    --------
+    >>> find_program("/bin/sh").name
+    'sh'
+    """
+    given = program or os.environ.get("CABUNLIT_TCE")
+    if given:
+        found = shutil.which(os.fspath(given))
+        if not found:
+            raise ProgramNotFound(f"{os.fspath(given)} is no program: give the path of tce, or set CABUNLIT_TCE to it")
+        return Path(found).absolute()
+    beside = Path(__file__).resolve().parent.parent.parent / "tce"
+    if os.access(beside, os.X_OK):
+        return beside
+    on_path = shutil.which("tce")
+    if not on_path:
+        raise ProgramNotFound("tce is not found: give program=, set CABUNLIT_TCE, or put the repository's folder on PATH")
+    return Path(on_path).absolute()
+
+
+def run_program(words: Sequence[str], folder: PathLike, *, program: PathLike | None = None, text: str = "",
+                watch: Callable[[], None] | None = None, seconds: float | None = None) -> str:
+    """Calls the program in a folder and returns its report.
+
+    Parameters
+    ----------
+    words : sequence of str
+        The command.
+    folder : path
+        Where all files are.
+    program : path, optional
+        Where the program is, as for `find_program`.
+    text : str, optional
+        The specification, for the line that a refusal names.
+    watch : callable, optional
+        Is called ten times a second while the program runs.
+    seconds : float, optional
+        After so many the program is ended.
+
+    Returns
+    -------
+    str
+        What the program printed.
+
+    Raises
+    ------
+    TceError
+        Where the program refused, by its status.
+    ProgramKilled
+        Where a signal ended it, or its time was over. At an interrupt of this process the program is ended first.
+
+    Examples
+    --------
+    >>> run_program(["plan", "nowhere.tce"], "/")
+    Traceback (most recent call last):
+    ...
+    cabunlit.errors.MissingFile: error 3: no file nowhere.tce
+    Make it, or call in its folder.
+    """
+    command = [str(find_program(program)), *words]
+    until = None if seconds is None else time.monotonic() + seconds
+    wait = POLL_SECONDS if watch or until else None
+    with subprocess.Popen(command, cwd=folder, stdin=subprocess.DEVNULL, stdout=subprocess.PIPE, stderr=subprocess.PIPE) as process:
+        try:
+            while True:
+                try:
+                    said, besides = process.communicate(timeout=wait)
+                    break
+                except subprocess.TimeoutExpired:
+                    if until and time.monotonic() > until:
+                        raise ProgramKilled(f"tce {words[0]} was ended after {seconds} s") from None
+                    if watch:
+                        watch()
+        except BaseException:
+            process.kill()
+            process.wait()
+            raise
+    if watch:
+        watch()
+    report = said.decode("utf-8", "replace")
+    if process.returncode == 0:
+        return report
+    if process.returncode < 0:
+        name = signal.Signals(-process.returncode).name
+        raise ProgramKilled(f"tce was ended by {name}: run it again; a result without a head is not finished",
+                            -process.returncode)
+    lines = report.splitlines()
+    last = lines[-1] if lines and lines[-1].startswith("error ") else ""
+    raise error_of(last, text, process.returncode, "" if last else besides.decode("utf-8", "replace").strip())

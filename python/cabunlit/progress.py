@@ -1,0 +1,96 @@
+"""What is done of a long run, as it is done."""
+from __future__ import annotations
+
+import sys
+import time
+from collections.abc import Callable, Iterable
+from pathlib import Path
+from typing import Any, TextIO
+
+from cabunlit.heads import is_whole
+
+
+class Progress:
+    """Counts parts as they are done: a bar of tqdm where that is there, else a line for each.
+
+    Parameters
+    ----------
+    what : str
+        What the parts are, as `formulas`.
+    total : int or None
+        How many there are; None where that is not known.
+    show : bool, optional
+        Whether anything is shown.
+    stream : file, optional
+        Where lines go; standard error.
+    bar : bool, optional
+        Whether tqdm is used where it is there.
+
+    Examples
+    --------
+    >>> import sys
+    >>> with Progress("pieces", 2, stream=sys.stdout, bar=False) as progress:
+    ...     progress.done("piece 0")  # doctest: +ELLIPSIS
+    pieces: 1 of 2, piece 0, ... s, about ... s left
+    """
+
+    def __init__(self, what: str, total: int | None, show: bool = True, stream: TextIO | None = None, bar: bool = True) -> None:
+        self.what, self.total, self.show, self.count = what, total, show, 0
+        self.stream = stream or sys.stderr
+        self.begun = time.monotonic()
+        self.bar = _bar(what, total, self.stream) if show and bar else None
+
+    def __enter__(self) -> Progress:
+        return self
+
+    def __exit__(self, *_: object) -> None:
+        if self.bar is not None:
+            self.bar.close()
+
+    def done(self, name: str, again: bool = False) -> None:
+        """Says that a part is done; `again` where it was done before and is kept."""
+        self.count += 1
+        if not self.show:
+            return
+        if self.bar is not None:
+            self.bar.set_postfix_str(name + (" (kept)" if again else ""))
+            self.bar.update()
+            return
+        took = time.monotonic() - self.begun
+        of = f" of {self.total}" if self.total is not None else ""
+        left = ""
+        if self.total is not None and self.count < self.total:
+            left = f", about {took / self.count * (self.total - self.count):.1f} s left"
+        kept = " (kept)" if again else ""
+        print(f"{self.what}: {self.count}{of}, {name}{kept}, {took:.1f} s{left}", file=self.stream, flush=True)
+
+
+def _bar(what: str, total: int | None, stream: TextIO) -> Any:
+    """A bar of tqdm on a terminal, where it is installed."""
+    if not stream.isatty():
+        return None
+    try:
+        from tqdm import tqdm
+    except ImportError:
+        return None
+    return tqdm(total=total, desc=what, file=stream, unit=" " + what.rstrip("s"))
+
+
+def watcher(paths: Callable[[], Iterable[Path]], progress: Progress) -> Callable[[], None]:
+    """A function that tells of files once their heads stand.
+
+    Parameters
+    ----------
+    paths : callable
+        The files that may be there.
+    progress : Progress
+    """
+    seen: set[Path] = set()
+
+    def look() -> None:
+        for path in paths():
+            if path not in seen and is_whole(path):
+                seen.add(path)
+                progress.done(path.stem)
+
+    return look

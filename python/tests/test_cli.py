@@ -1,0 +1,62 @@
+"""The command, and what it prints."""
+import os
+import subprocess
+import sys
+from pathlib import Path
+
+import numpy
+import pytest
+
+import cabunlit
+from cabunlit import open_array, write_array
+from cabunlit.cli import main
+
+TOP = Path(cabunlit.__file__).resolve().parent.parent.parent
+PACKAGE = str(TOP / "python")
+PRODUCT = TOP / "examples/cut/product.tce"
+
+
+def test_info(capsys):
+    write_array("A.tca", numpy.array([[1, -2, 3]]), (1, 2))
+    write_array("B.tca", numpy.array([7], "<i4"), 1)
+    Path("S.sym").write_bytes(b"TCSYMM01" + numpy.array([0, 1, 0, 5, 6, 7], "<u8").tobytes())
+    Path("c.cert").write_text("tce certificate 1\nnode 0 sum loops i result\nmemory 0\nend\n")
+    assert main(["info", "A.tca", "B.tca", "S.sym", "c.cert"]) == 0
+    said = capsys.readouterr().out
+    assert "as signed numbers from -2 to 3" in said and "1 elements of padding" in said and "second version" in said
+    assert "symmetric in the positions 0 and 1" in said and "a certificate of 1 operations" in said
+
+
+@pytest.mark.parametrize("content", [b"", bytes(64), b"hello, world"])
+def test_info_of_other_files(content, capsys):
+    Path("A.tca").write_bytes(content)
+    assert main(["info", "A.tca"]) == 1 and capsys.readouterr().err.startswith("cabunlit: A.tca ")
+    assert main(["info", "B.tca"]) == 1 and "B.tca" in capsys.readouterr().err
+    Path("c.cert").write_text("tce certificate 1\n")
+    assert main(["info", "c.cert"]) == 1
+
+
+def test_report(capsys):
+    assert main(["report", str(PRODUCT), "--budget", "20000"]) == 0
+    said = capsys.readouterr().out
+    assert said.startswith("<!DOCTYPE html>") and "<svg" in said and "20000" in said
+    assert main(["report", "nowhere.tce"]) == 1
+
+
+def test_pieces_by_the_jobs_of_a_queue(own_folder):
+    a, b = (numpy.random.default_rng(k).integers(0, 9, (96, 96)) for k in range(2))
+    write_array("A.tca", a, 16)
+    write_array("B.tca", b, 16)
+    Path("product.tce").write_text(PRODUCT.read_text().replace("512 tile 64", "96 tile 16"))
+    environment = {**os.environ, "PYTHONPATH": PACKAGE}
+
+    def call(*words, **more):
+        return subprocess.run([sys.executable, "-m", "cabunlit", "pieces", *words], env={**environment, **more}, check=True,
+                              capture_output=True, text=True).stdout
+
+    assert call("cut", "product.tce", "i", "2") == "pieces: pieces 0 to 1\n"
+    assert call("run", "pieces", "--memory", "1MiB", SLURM_ARRAY_TASK_ID="1") == "piece 1 is done\n"
+    assert call("run", "pieces") == "piece 0 is done\n" and call("run", "pieces") == "all pieces are done\n"
+    assert call("join", "pieces", "--out", "C.tca").startswith("wrote ")
+    assert (numpy.asarray(open_array("C.tca")) == a @ b).all()
+    assert main(["pieces", "run", "pieces", "7"]) == 1 and main(["pieces", "join", "nowhere"]) == 1

@@ -1,0 +1,45 @@
+"""What is told of a long run."""
+import io
+import sys
+
+from cabunlit.progress import Progress
+
+
+class Terminal(io.StringIO):
+    """A stream that says that it is a terminal."""
+
+    def isatty(self):
+        return True
+
+
+def test_a_bar_where_tqdm_is_there():
+    stream = Terminal()
+    with Progress("pieces", 2, stream=stream) as progress:
+        assert progress.bar is not None
+        progress.done("piece 0")
+        progress.done("piece 1", again=True)
+    assert "2/2" in stream.getvalue() and "piece 1 (kept)" in stream.getvalue()
+
+
+def test_a_line_where_it_is_not(monkeypatch):
+    monkeypatch.setitem(sys.modules, "tqdm", None)
+    stream = Terminal()
+    with Progress("formulas", 2, stream=stream) as progress:
+        progress.done("B")
+        progress.done("C")
+    lines = stream.getvalue().splitlines()
+    assert lines[0].startswith("formulas: 1 of 2, B, ") and lines[0].endswith(" s left") and lines[1].startswith("formulas: 2 of 2, C")
+
+
+def test_nothing_where_nothing_is_asked_for():
+    stream = io.StringIO()
+    with Progress("pieces", None, show=False, stream=stream) as progress:
+        progress.done("piece 0")
+    assert stream.getvalue() == "" and progress.count == 1
+
+
+def test_a_number_that_is_not_known():
+    stream = io.StringIO()
+    with Progress("pieces", None, stream=stream) as progress:
+        progress.done("spill-1")
+    assert stream.getvalue().startswith("pieces: 1, spill-1, ")
