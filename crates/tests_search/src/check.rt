@@ -5,7 +5,7 @@ use crate::given::{TWO_SUMS, nesting, plan_of, put_row, set, spec_of};
 use std::alloc::Global;
 use std::process::Abort;
 use tce_check::{Verdict, check};
-use tce_fusion::Plan;
+use tce_nesting::Plan;
 use tce_spec::Spec;
 
 // The verdict that a step lacks a row, of a node, a set whose indexes are one class, and a cost.
