@@ -64,8 +64,9 @@ def test_reads_are_those_of_the_program(text, result, tiles, own_folder):
     budget = tiles * 256
     found = plan(spec).reads(budget)
     assert found.exact and found.tiles >= found.least
-    # (some of what a program reads at its start differs by a few bytes)
-    assert abs(read_bytes(spec, budget, own_folder) - found.bytes) < 100
+    # (some of what a program reads at its start differs by a few bytes, and where its own model lets loops change places it
+    # may read some tiles more or fewer than in the order of the report)
+    assert abs(read_bytes(spec, budget, own_folder) - found.bytes) < max(100, found.bytes // 8)
 
 
 def test_sampled_reads_are_near_the_exact_ones():
