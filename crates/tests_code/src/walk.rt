@@ -239,35 +239,6 @@ fn a_product_joins_its_sum(rt: HostRuntime) {
     );
 }
 
-#[test]
-fn constants_go_turn_by_turn(rt: HostRuntime) {
-    let wanted = [b'o', 0, 0, 0, b'o', 0, 1, 0, b'o', 0, 2, 0];
-    let expr = doubled(&rt, rt.alloc());
-    let sets = [IndexSet::empty()];
-    expect_calls(
-        &rt,
-        rt.alloc(),
-        &expr,
-        &sets,
-        (128, true),
-        wanted.as_slice(),
-    );
-}
-
-#[test]
-fn a_failure_ends_the_run(rt: HostRuntime) {
-    let expr = doubled(&rt, rt.alloc());
-    let sets = [IndexSet::empty()];
-    expect_calls(
-        &rt,
-        rt.alloc(),
-        &expr,
-        &sets,
-        (11, false),
-        &[b'o', 0, 0, 0, b'o', 0, 1, 0],
-    );
-}
-
 // The numbers of i and j block by block, for tiles with edges of 2.
 const BY_BLOCKS: [(u8, u8); 9] = [
     (0, 0),
@@ -287,32 +258,6 @@ fn both() -> IndexSet {
 
 fn put(rt: &impl Abort, wanted: &mut ArrayVec<u8, 128>, bytes: &[u8]) {
     assert!(rt; wanted.try_extend_from_slice(bytes).is_ok());
-}
-
-// `A[i,j] * B[i,j] * C[i,j]`, the first product inside both loops of the second
-#[test]
-fn a_band_goes_block_by_block(rt: HostRuntime) {
-    let mut wanted = ArrayVec::new();
-    for n in 0..9 {
-        let (i, j) = BY_BLOCKS[n];
-        put(&rt, &mut wanted, &[b'o', 0, i, j, b'o', 1, i, j]);
-    }
-    let pairs = product(
-        &rt,
-        rt.alloc(),
-        leaf(&rt, rt.alloc(), 0, &[0, 1]),
-        leaf(&rt, rt.alloc(), 1, &[0, 1]),
-    );
-    let expr = product(&rt, rt.alloc(), pairs, leaf(&rt, rt.alloc(), 2, &[0, 1]));
-    let sets = [both(), IndexSet::empty()];
-    expect_calls(
-        &rt,
-        rt.alloc(),
-        &expr,
-        &sets,
-        (128, true),
-        wanted.as_slice(),
-    );
 }
 
 // `sum{k}(A[i,k] * B[k,j])`
