@@ -1,6 +1,5 @@
 -- Blocks that are run one after the other.
-use Rattle.std.proofs.Common.{◌≡◌, ℕ, ◌+◌, ◌*◌, ◌<◌, ◌≤◌, ◌^◌, Bool, true, false, if◌then◌else◌, List, [], ◌∷◌, ◌++◌, map, length, drop, slice_get, slice_index, Option, Some, None, append_assoc, append-nil, length-append, refl, sym, ap, ◌∙◌, subst, arith}
-use Rattle.std.specs.Option.{option_map}
+use Rattle.std.proofs.Common.{◌≡◌, ℕ, ◌+◌, ◌*◌, ◌<◌, ◌≤◌, ◌^◌, Bool, true, false, if◌then◌else◌, List, [], ◌∷◌, ◌++◌, map, length, drop, slice_get, slice_index, Some, None, append_assoc, append-nil, length-append, refl, sym, ap, ◌∙◌, subst, arith}
 use Rattle.std.specs.List.{All}
 use Rattle.std.specs.Int.{div_ceil}
 use Rattle.std.proofs.lemmas.List.{length-map}
@@ -18,7 +17,7 @@ use Rattle.tce_block.specs.Parts.{Part}
 use Rattle.tce_block.proofs.Cover.{length-blocks}
 use Rattle.tce_walk.specs.Parts.{after_part}
 use Rattle.tce_walk.proofs.PartLaws.{parts_make_tails}
-use Rattle.tce_code.specs.Execution.{Setting, State, exec}
+use Rattle.tce_code.specs.Execution.{Setting, exec}
 use Rattle.tce_walk.specs.TailLaws.{AreLoops}
 use Rattle.tce_walk.specs.Touches.{block_count}
 use Rattle.tce_walk.specs.Machine.{tail_program, touches_of_tail, IsTailAt}
@@ -35,6 +34,7 @@ use Rattle.tce_exec.proofs.Workspaces.{kept_setting}
 use Rattle.tce_exec.specs.Blocks.{loops_of, blocks_of, IsBlockOf}
 use Rattle.tce_exec.specs.Along.{after_parts, IsAlong}
 use Rattle.tce_walk.proofs.BandRuns.{mapped-same, none-left}
+use Rattle.tce_walk.proofs.TermBlocks.{counts_are}
 
 -- ---- two changes, one after the other
 
@@ -48,11 +48,11 @@ begun x tail a is = record {
   changed = record { prepared = is; state = mapped-same (state_in x); few = omega arith; continued = continued_own x };
 }
 
-at_end : (ran rest : List Part) (part : Part) → slice_get (ran ++ part ∷ rest) (length ran) ≡ Some part
+pub at_end : (ran rest : List Part) (part : Part) → slice_get (ran ++ part ∷ rest) (length ran) ≡ Some part
 at_end [] rest part = refl
 at_end (p ∷ ran) rest part = at_end ran rest part
 
-more : (ran rest all : List Part) (part : Part) → all ≡ ran ++ part ∷ rest → all ≡ (ran ++ part ∷ []) ++ rest
+pub more : (ran rest all : List Part) (part : Part) → all ≡ ran ++ part ∷ rest → all ≡ (ran ++ part ∷ []) ++ rest
 more ran rest all part e = e ∙ sym (append_assoc ran (part ∷ []) rest)
 
 -- what comes first of those that are left
@@ -83,10 +83,6 @@ is_block x y tail a left part along e =
       length along.ran,
       ap (λ l. slice_get l (length along.ran)) (along.all ∙ ap (λ l. along.ran ++ l) first.left_is) ∙ at_end along.ran first.rest part,
     )
-
-counts_are : (space : IndexSpace) (loops : List ℕ) → product (counts_along (map (extent_at space) loops) (map (edge_at space) loops)) ≡ block_count space loops
-counts_are space [] = refl
-counts_are space (i ∷ loops) = ap (λ n. div_ceil (extent_at space i) (edge_at space i) * n) (counts_are space loops)
 
 blocks_counted : (space : IndexSpace) (tail : Tail) → length (blocks_of space tail) ≡ block_count space (loops_of tail)
 blocks_counted space tail =

@@ -42,7 +42,7 @@ use Rattle.tce_exec.proofs.Edges.{same_lengths}
 
 -- ---- the first numbers of a block
 
-as_many : (extent edge : ℕ → ℕ) (order fs ls : List ℕ) → AreParts (map extent order) (map edge order) fs ls → length fs ≡ length order
+pub as_many : (extent edge : ℕ → ℕ) (order fs ls : List ℕ) → AreParts (map extent order) (map edge order) fs ls → length fs ≡ length order
 as_many extent edge [] [] [] h = refl
 as_many extent edge [] [] (l ∷ ls) h = absurd h
 as_many extent edge [] (f ∷ fs) ls h = absurd h

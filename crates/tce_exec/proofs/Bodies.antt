@@ -11,7 +11,7 @@ use Rattle.tce_space.specs.Box.{product}
 use Rattle.tce_space.specs.IndexSet.{has}
 use Rattle.tce_space.specs.Space.{IndexSpace, IsSpace, extent_at, edge_at}
 use Rattle.tce_space.proofs.Spaces.{index_limits}
-use Rattle.tce_tree.specs.ContractionTree.{ContractionTree, leaf, constant, binary, sum, is_leaf, node, node_loops}
+use Rattle.tce_tree.specs.ContractionTree.{ContractionTree, leaf, constant, binary, sum, is_leaf, node, node_loops, operations}
 use Rattle.tce_tree.specs.Value.{Assignment, with_number}
 use Rattle.tce_tree.specs.WellFormed.{among}
 use Rattle.tce_tree.proofs.Assignments.{with-same, with-other, all_positive}
@@ -69,6 +69,13 @@ named (sum is c) (Acc v) n inner e = cc
 -- an operation names its node
 pub names_node : (s : Setting) (a : Assignment) (op : Op) (at : IsOperationAt s a op) → node_of_op op ≡ at.node
 names_node s a op at = named (node s.tree at.node) op at.node (node-not_leaf s.tree at.node at.at.known) at.alone
+
+-- so its node is one of the tree's
+pub known_nodes : (s : Setting) (loops : List ℕ) (a : Assignment) (ops : List Op) → All (IsOperationIn s loops a) ops → All (λ op. node_of_op op < operations s.tree) ops
+known_nodes s loops a ops each = λ k d low.
+    let at = each k d low in
+    let name : node_of_op (get_or ops k d) ≡ at.node = named (node s.tree at.node) (get_or ops k d) at.node (node-not_leaf s.tree at.node at.known) at.alone in
+    omega (arith, name, at.known)
 
 pub node_at : (s : Setting) (a : Assignment) (op : Op) → IsOperationAt s a op → IsNodeAt s (node_of_op op) a
 node_at s a op at = subst (λ n. IsNodeAt s n a) (sym (names_node s a op at)) at.at

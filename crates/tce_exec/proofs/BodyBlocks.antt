@@ -4,6 +4,7 @@ use mathlib.Core.Path.{fun_ext}
 use Rattle.std.specs.List.{All}
 use Rattle.std.proofs.Math.Nat.{le-mul_of_pos_right}
 use Rattle.std.proofs.lemmas.Bool.{false≢true, cases_Bool, cases_eq, eq-eqb, ne_eqb, or_left, or_right}
+use Rattle.std.proofs.lemmas.List.Elements.{All-from_recursion}
 use Rattle.tce_space.specs.Box.{product}
 use Rattle.tce_space.specs.IndexSet.{has}
 use Rattle.tce_space.specs.Space.{IndexSpace, IsSpace, extent_at, edge_at}
@@ -31,6 +32,7 @@ use Rattle.tce_exec.specs.declared.body.BodyBlock.{BodyBlock}
 use Rattle.tce_exec.proofs.Bodies.{body_in, ranges_long}
 use Rattle.tce_exec.proofs.Edges.{blocks_stay_in_tiles}
 use Rattle.tce_exec.proofs.Following.{change_on, changed_as}
+use Rattle.tce_exec.proofs.Reading.{each_of}
 use Rattle.tce_exec.proofs.Workspaces.{kept_setting}
 
 -- ---- the numbers of loops
@@ -47,7 +49,7 @@ along_same s body (i ∷ order) (f ∷ from) (n ∷ len) a b h state =
       | inr ne ↦ with-other a i (f + x) j (λ q. ne (sym q)) ∙ h j (rw (ne_eqb i j ne) o) ∙ sym (with-other b i (f + x) j (λ q. ne (sym q)))
     ]) before)))
 
-member_of : (loops : List ℕ) (d : ℕ) → d < length loops → among loops (get_or loops d 0) ≡ true
+pub member_of : (loops : List ℕ) (d : ℕ) → d < length loops → among loops (get_or loops d 0) ≡ true
 member_of [] d low = absurd (omega (arith, low))
 member_of (j ∷ js) zero low = or_left (eqb j j) (among js j) (eq-eqb j j refl)
 member_of (j ∷ js) (suc d) low = or_right (eqb j (get_or js d 0)) (among js (get_or js d 0)) (member_of js d (omega (arith, low)))
@@ -102,6 +104,7 @@ begun_at s space b part a first is extents h from_is len_is first_is = record {
         (subst (λ l. IsTurn (record { order = loops; first = (turns_of loops a part).first; count = assignment loops l }) (turns_of loops a part).first) (sym len_is) turns.first);
     between = subst (λ f. StayBetweenEdges (record { order = loops; first = f; count = assignment loops b.len.now }) (edge_at space)) (sym first_is)
         (subst (λ l. StayBetweenEdges (record { order = loops; first = (turns_of loops a part).first; count = assignment loops l }) (edge_at space)) (sym len_is) turns.between);
+    distinct = h.distinct;
     member = λ d low. member_of loops d low;
     from_is = λ d low.
         ap (λ f. f (get_or loops d 0)) first_is
@@ -122,6 +125,8 @@ begun_at s space b part a first is extents h from_is len_is first_is = record {
     };
   };
   some = positive space loops b.from.now b.len.now (subst (λ f. AreRanges space loops f b.len.now) (sym from_is) (subst (AreRanges space loops part.from) (sym len_is) whole.ranges));
+  few = h.few;
+  known = All-from_recursion (λ i. i < 24) loops (each_of (λ i. i < 24) loops (λ i m. let low = h.declared i m in let limit = is.index_limit in omega (arith, low, limit)));
 }
   where
     loops : List ℕ

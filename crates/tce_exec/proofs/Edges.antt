@@ -1,26 +1,26 @@
 -- The blocks of a box stay between its edges.
-use Rattle.std.proofs.Common.{◌≡◌, ℕ, suc, ◌+◌, ◌*◌, ◌%◌, ◌<◌, ◌≤◌, true, false, if◌then◌else◌, List, [], ◌∷◌, map, length, refl, sym, ap, ◌∙◌, subst, inl, inr, arith}
+use Rattle.std.proofs.Common.{◌≡◌, ℕ, suc, ◌+◌, ◌*◌, ◌%◌, ◌<◌, ◌≤◌, true, false, if◌then◌else◌, List, [], ◌∷◌, map, length, slice_get, Some, refl, sym, ap, ◌∙◌, subst, inl, inr, arith}
 use Rattle.std.proofs.Math.Nat.{mul-mod_left, zero-mod}
 use Rattle.std.proofs.lemmas.Bool.{cases_Bool, cases_eq, eq-eqb, ne_eqb, false≢true}
 use Rattle.tce_space.specs.Tiling.{ArePositive}
-use Rattle.tce_tree.specs.Value.{assignment}
+use Rattle.tce_tree.specs.Value.{Assignment, assignment}
 use Rattle.tce_tree.specs.WellFormed.{among}
 use Rattle.tce_tree.proofs.Lists.{among_rest}
-use Rattle.tce_block.specs.Parts.{Part, beginnings}
+use Rattle.tce_block.specs.Parts.{Part, beginnings, blocks}
 use Rattle.tce_block.specs.Laws.{AreParts}
 use Rattle.tce_block.proofs.Cover.{block_numbers}
 use Rattle.tce_block.proofs.Fitting.{fit_the_box}
 use Rattle.tce_exec.specs.Turns.{turns_of}
-use Rattle.tce_exec.specs.TilesOfBlocks.{BlocksStayInTiles}
+use Rattle.tce_exec.specs.TilesOfBlocks.{AreTurnsOfBlock, BlocksStayInTiles}
 
 -- one loop of a part
-record IsLoop (extent edge from len : ℕ) : Type 0 where
-  some : 0 < len
-  short : len ≤ edge
-  inside : from + len ≤ extent
+pub record IsLoop (extent edge from len : ℕ) : Type 0 where
+  pub some : 0 < len
+  pub short : len ≤ edge
+  pub inside : from + len ≤ extent
 
 -- each loop of a part, by its index
-loop_of : (extent edge : ℕ → ℕ) (order fs ls : List ℕ) (i : ℕ) → AreParts (map extent order) (map edge order) fs ls → among order i ≡ true
+pub loop_of : (extent edge : ℕ → ℕ) (order fs ls : List ℕ) (i : ℕ) → AreParts (map extent order) (map edge order) fs ls → among order i ≡ true
     → IsLoop (extent i) (edge i) (assignment order fs i) (assignment order ls i)
 loop_of extent edge [] fs ls i h m = absurd (false≢true m)
 loop_of extent edge (x ∷ xs) [] ls i h m = absurd h
@@ -39,7 +39,7 @@ loop_of extent edge (x ∷ xs) (f ∷ fs) (l ∷ ls) i h m =
     ]
 
 -- each loop of a block begins at a multiple of its edge
-begins : (edge : ℕ → ℕ) (order bs : List ℕ) (i : ℕ) → assignment order (beginnings (map edge order) bs) i % edge i ≡ 0
+pub begins : (edge : ℕ → ℕ) (order bs : List ℕ) (i : ℕ) → assignment order (beginnings (map edge order) bs) i % edge i ≡ 0
 begins edge [] bs i = zero-mod (edge i)
 begins edge (x ∷ xs) [] i = zero-mod (edge i)
 begins edge (x ∷ xs) (b ∷ bs) i =
@@ -72,8 +72,10 @@ pub same_lengths : (f g : ℕ → ℕ) (xs : List ℕ) → length (map f xs) ≡
 same_lengths f g [] = refl
 same_lengths f g (x ∷ xs) = omega (arith, same_lengths f g xs)
 
-pub blocks_stay_in_tiles : BlocksStayInTiles
-blocks_stay_in_tiles extent edge order a k part positive at = record {
+-- a part whose loops are within edges and begin at multiples of these
+pub parts_stay_in_tiles : (extent edge : ℕ → ℕ) (order : List ℕ) (a : Assignment) (part : Part) → AreParts (map extent order) (map edge order) part.from part.len
+    → ((i : ℕ) → assignment order part.from i % edge i ≡ 0) → AreTurnsOfBlock extent edge order a part
+parts_stay_in_tiles extent edge order a part parts multiple = record {
   as_many = all.as_many;
   some = all.some;
   first = record {
@@ -87,9 +89,6 @@ blocks_stay_in_tiles extent edge order a k part positive at = record {
   ];
 }
   where
-    parts : AreParts (map extent order) (map edge order) part.from part.len
-    parts = fit_the_box (map extent order) (map edge order) (record { same_rank = same_lengths edge extent order; positive = positive }) k part at
-
     all : AreLens order part.len
     all = lens extent edge order part.from part.len parts
 
@@ -102,10 +101,21 @@ blocks_stay_in_tiles extent edge order a k part positive at = record {
     other : (i : ℕ) → among order i ≡ false → (turns_of order a part).first i ≡ a i
     other i o = ap (λ t. if t then assignment order part.from i else a i) o
 
-    multiple : (i : ℕ) → assignment order part.from i % edge i ≡ 0
-    multiple i =
-        let numbers = block_numbers (map extent order) (map edge order) k part at in
-        subst (λ (p : Part). assignment order p.from i % edge i ≡ 0) (sym numbers.part_is) (begins edge order numbers.numbers i)
-
     first : (i : ℕ) → among order i ≡ true → (turns_of order a part).first i % edge i ≡ assignment order part.from i % edge i
     first i m = ap (λ n. n % edge i) (from i m)
+
+-- the loops of a block are within edges and begin at multiples of these
+pub block_parts : (extent edge : ℕ → ℕ) (order : List ℕ) (k : ℕ) (part : Part) → ArePositive (map edge order) → slice_get (blocks (map extent order) (map edge order)) k ≡ Some part
+    → AreParts (map extent order) (map edge order) part.from part.len
+block_parts extent edge order k part positive at =
+    fit_the_box (map extent order) (map edge order) (record { same_rank = same_lengths edge extent order; positive = positive }) k part at
+
+pub block_begins_at : (extent edge : ℕ → ℕ) (order : List ℕ) (k : ℕ) (part : Part) → slice_get (blocks (map extent order) (map edge order)) k ≡ Some part
+    → (i : ℕ) → assignment order part.from i % edge i ≡ 0
+block_begins_at extent edge order k part at i =
+    let numbers = block_numbers (map extent order) (map edge order) k part at in
+    subst (λ (p : Part). assignment order p.from i % edge i ≡ 0) (sym numbers.part_is) (begins edge order numbers.numbers i)
+
+pub blocks_stay_in_tiles : BlocksStayInTiles
+blocks_stay_in_tiles extent edge order a k part positive at =
+    parts_stay_in_tiles extent edge order a part (block_parts extent edge order k part positive at) (block_begins_at extent edge order k part at)

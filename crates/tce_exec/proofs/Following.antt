@@ -2,6 +2,7 @@
 use Rattle.std.proofs.Common.{◌≡◌, ℕ, ◌+◌, ◌≤◌, Option, Some, None, refl, ap, ◌∙◌, arith}
 use Rattle.std.specs.Option.{ForSome, option_map}
 use Rattle.tce_code.specs.Execution.{State}
+use Rattle.tce_walk.proofs.TermBands.{both_mapped}
 use Rattle.tce_exec.specs.Workspace.{Workspace, state_in}
 use Rattle.tce_exec.specs.Steps.{IsKept, IsRead, IsChanged}
 use Rattle.tce_exec.specs.Storages.{IsSame}
@@ -36,10 +37,6 @@ changed_as f g n x z same h = record {
   few = h.few;
   continued = h.continued;
 }
-
-both_mapped : (f g : State → State) (o : Option State) → option_map g (option_map f o) ≡ option_map (λ s. g (f s)) o
-both_mapped f g None = refl
-both_mapped f g (Some s) = refl
 
 pub changed_twice : (n m l : ℕ) (f g : State → State) (x y z : Workspace) → n + m ≤ l → IsKept x y → IsChanged f n x y → IsChanged g m y z → IsChanged (λ state. g (f state)) l x z
 changed_twice n m l f g x y z le k i j = record {

@@ -77,7 +77,7 @@ pub record IsLeft (y : Workspace) (new : List ℕ) (f : State → State) : Type 
   pub kept : IsKept y (with_words y new)
   pub changed : IsChanged f 0 y (with_words y new)
 
-holds : (y : Workspace) (fs : Files) (v : ℕ) → IsPrepared y → ((k : ℕ) → slice_index y.words k < 2 ^ 64) → y.files ≡ Some fs → HoldsWords v (view y fs)
+pub holds : (y : Workspace) (fs : Files) (v : ℕ) → IsPrepared y → ((k : ℕ) → slice_index y.words k < 2 ^ 64) → y.files ≡ Some fs → HoldsWords v (view y fs)
 holds y fs v is low told = places_hold_words y is low (view y fs) (ap (option_map (λ gs. view y gs)) told) v
 
 left_shows : (y : Workspace) (t : Turns) (n v : ℕ) (w : Window) (fs : Files) → v < operations y.places.tree → IsPrepared y → ((k : ℕ) → slice_index y.words k < 2 ^ 64) → y.files ≡ Some fs

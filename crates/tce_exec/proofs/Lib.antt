@@ -44,4 +44,15 @@ mod Bodies
 mod LinkLaws
 mod LinkTurns
 mod BodyBlocks
-mod LinkRows
+mod LinkSteps
+pub mod ChainRows
+mod TermSums
+mod ScaledLoops
+mod TermTurns
+mod TermPlaces
+mod ScaledStates
+mod TermLeaving
+mod TermSteps
+mod TermOperandsOf
+mod TermCombining
+pub mod MergedRows

@@ -55,25 +55,6 @@ use Rattle.tce_exec.proofs.WindowSteps.{steps_further}
 use Rattle.tce_exec.proofs.Workspaces.{kept_setting}
 use Rattle.tce_exec.proofs.Putting.{with_words}
 
--- ---- places, step by step
-
-abbrev pub place_so_far : Window → List ℕ → List ℕ → ℕ → ℕ
-place_so_far w first numbers n = w.first + sum_by (λ k. slice_index w.steps k * (slice_index numbers k - slice_index first k)) (range_with_len 0 n)
-
-pub place_next : (w : Window) (first numbers : List ℕ) (n : ℕ) → place_so_far w first numbers (n + 1) ≡ place_so_far w first numbers n + slice_index w.steps n * (slice_index numbers n - slice_index first n)
-place_next w first numbers n = omega (arith, sum_next (λ k. slice_index w.steps k * (slice_index numbers k - slice_index first k)) n)
-
-pub place_within_steps : (w : Window) (first numbers : List ℕ) (n : ℕ) → n < 24 → place_so_far w first numbers (n + 1) ≤ stands_at w (slice_index first) (slice_index numbers)
-unfolding steps_to
-place_within_steps w first numbers n l = omega (arith, range_sum_le (λ k. slice_index w.steps k * (slice_index numbers k - slice_index first k)) (n + 1) 24 (omega arith))
-
-pub place_ends : (w : Window) (first numbers : List ℕ) (n : ℕ) → n ≡ 24 → place_so_far w first numbers n ≡ stands_at w (slice_index first) (slice_index numbers)
-unfolding steps_to
-place_ends w first numbers n e = ap (place_so_far w first numbers) e
-
-pub near_low : (edge : ℕ → ℕ) (first b : Assignment) → IsNear edge first b → (i : ℕ) → first i ≤ b i
-near_low edge first b near = first_low (record { order = near.loops; first = first; count = near.count }) b near.turn
-
 -- ---- windows that begin at a turn
 
 abbrev pub moved : Window → Assignment → Assignment → Window
@@ -265,9 +246,6 @@ link_turn n y v first b l new tree is low at near h e = record {
 
 -- ---- turns of a block
 
-pub near_in : (space : IndexSpace) (b : BodyBlock) (first numbers : List ℕ) → IsInBlock space b first numbers → IsNear (edge_at space) (slice_index first) (slice_index numbers)
-near_in space b first numbers h = record { loops = b.loops.now; count = assignment b.loops.now b.len.now; turn = h.turn; between = h.between }
-
 pub still_in : (space : IndexSpace) (b : BodyBlock) (first numbers now : List ℕ) (d x : ℕ) → d < length b.loops.now → x < slice_index b.len.now d
     → slice_index now ≡ with_number (slice_index numbers) (slice_index b.loops.now d) (slice_index b.from.now d + x) → IsInBlock space b first numbers → IsInBlock space b first now
 still_in space b first numbers now d x low turn e h = record {
@@ -289,6 +267,7 @@ still_in space b first numbers now d x low turn e h = record {
     ];
   });
   between = h.between;
+  distinct = h.distinct;
   member = h.member;
   from_is = h.from_is;
   len_is = h.len_is;

@@ -41,7 +41,7 @@ use Rattle.tce_exec.proofs.Sums.{sum_over_same, sum_over-zero}
 
 -- ---- words at no turn's place
 
-each_weaker : (P Q : List ℕ → Type 0) (turns : List (List ℕ)) → ((xs : List ℕ) → P xs → Q xs) → Each P turns → Each Q turns
+pub each_weaker : (P Q : List ℕ → Type 0) (turns : List (List ℕ)) → ((xs : List ℕ) → P xs → Q xs) → Each P turns → Each Q turns
 each_weaker P Q [] h e = tt
 each_weaker P Q (xs ∷ turns) h e = (h xs e.0, each_weaker P Q turns h e.1)
 

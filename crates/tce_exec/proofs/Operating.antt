@@ -73,7 +73,7 @@ right_readable x first (binary op l r) a has_all below inside nodes o e =
     (λ i h. inside i (has-union (dims l) (dims r) i ∙ or_right (has (dims l) i) (has (dims r) i) h)) (λ u k. nodes u (ap (λ o. Some o) k)))
 right_readable x first (sum is c) a has_all below inside nodes o e = absurd (cc)
 
-operands_at : (x : Workspace) (tree : ContractionTree) (v : ℕ) → v < operations tree → HasOperands x tree → HasOperands x (node tree v)
+pub operands_at : (x : Workspace) (tree : ContractionTree) (v : ℕ) → v < operations tree → HasOperands x tree → HasOperands x (node tree v)
 operands_at x (leaf t is) v inside h = absurd (omega arith)
 operands_at x (constant k) v inside h = absurd (omega arith)
 operands_at x (binary op l r) v inside h =

@@ -13,7 +13,7 @@ pub record IsBelow (extent : ℕ → ℕ) (is : List ℕ) (a b : Assignment) : T
   pub below : (i : ℕ) → among is i ≡ true → b i < extent i
   pub others : (i : ℕ) → among is i ≡ false → b i ≡ a i
 
-later_below : (extent : ℕ → ℕ) (i : ℕ) (rest : List ℕ) (a b : Assignment) (x : ℕ) → x < extent i → IsBelow extent rest (with_number a i x) b → IsBelow extent (i ∷ rest) a b
+pub later_below : (extent : ℕ → ℕ) (i : ℕ) (rest : List ℕ) (a b : Assignment) (x : ℕ) → x < extent i → IsBelow extent rest (with_number a i x) b → IsBelow extent (i ∷ rest) a b
 later_below extent i rest a b x low h = record {
   below = λ j m.
       elim (cases_Bool (among rest j)) [

@@ -32,3 +32,12 @@ pub mod EvaluationSlots
 pub mod Storages
 pub mod WorkspaceLaws
 pub mod Links
+pub mod TileCounts
+pub mod ChainRows
+pub mod Scaling
+pub mod TermParts
+pub mod TermWindows
+pub mod TermBlocks
+pub mod TermPlans
+pub mod Combining
+pub mod MergedRows

@@ -1,7 +1,8 @@
 -- The windows of the operations of a body, in one block of the loops round it, where `first` are the numbers of the block's first turn.
 use Rattle.std.specs.Prelude.{◌≡◌, ℕ, ◌+◌, ◌*◌, ◌<◌, ◌≤◌, Bool, true, false, IsTrue, List, [], ◌∷◌, slice_index, length, Some, None}
+use Rattle.tce_space.specs.Limits.{max_indexes, max_loops}
 use Rattle.tce_space.specs.Space.{IndexSpace, edge_at}
-use Rattle.tce_tree.specs.WellFormed.{among}
+use Rattle.tce_tree.specs.WellFormed.{among, is_distinct}
 use Rattle.tce_exec.specs.TilesOfBlocks.{StayBetweenEdges}
 use Rattle.tce_exec.specs.Turns.{Turns, IsTurn}
 use Rattle.tce_exec.specs.declared.body.BodyBlock.{BodyBlock}
@@ -79,11 +80,18 @@ turns_in b first = record { order = b.loops.now; first = slice_index first; coun
 
 -- the numbers are those of a turn of the block, whose loops have these first numbers and cross no edge
 pub record IsInBlock (space : IndexSpace) (b : BodyBlock) (first numbers : List ℕ) : Type 0 where
+  pub distinct : IsTrue (is_distinct b.loops.now)
   pub turn : IsTurn (turns_in b first) (slice_index numbers)
   pub between : StayBetweenEdges (turns_in b first) (edge_at space)
   pub member : (d : ℕ) → d < length b.loops.now → IsTrue (among b.loops.now (slice_index b.loops.now d))
   pub from_is : (d : ℕ) → d < length b.loops.now → slice_index first (slice_index b.loops.now d) ≡ slice_index b.from.now d
   pub len_is : (d : ℕ) → d < length b.loops.now → assignment b.loops.now b.len.now (slice_index b.loops.now d) ≡ slice_index b.len.now d
+
+-- the numbers are those of a turn of a block at which the loops from one on have their first numbers
+pub record IsAtFirst (space : IndexSpace) (b : BodyBlock) (depth : ℕ) (numbers : List ℕ) : Type 0 where
+  pub first : List ℕ
+  pub block : IsInBlock space b first numbers
+  pub at_first : (d : ℕ) → depth ≤ d → d < length b.loops.now → slice_index numbers (slice_index b.loops.now d) ≡ slice_index b.from.now d
 
 -- a body at the first turn of a block
 pub record IsBegun (s : Setting) (space : IndexSpace) (b : BodyBlock) (first : List ℕ) : Type 0 where
@@ -91,6 +99,8 @@ pub record IsBegun (s : Setting) (space : IndexSpace) (b : BodyBlock) (first : L
   pub block : IsInBlock space b first first
   pub inside : All (IsOperationAt s (slice_index first)) b.ops.now
   pub some : 0 < product b.len.now
+  pub few : length b.loops.now ≤ max_loops
+  pub known : All (λ i. i < max_indexes) b.loops.now
 
 -- ---- what a link makes of words
 

@@ -10,11 +10,13 @@ ghost use Rattle.tce_exec.specs.Links.{IsBegun};
 ghost use Rattle.tce_exec.specs.Positions.{IsPosition};
 ghost use Rattle.tce_exec.specs.Prepared.{IsPrepared};
 ghost use Rattle.tce_exec.specs.Storages.{work_of, setting_of, IsSame, Keeps, Changes, FailsByDisk, TellsOfDisk};
+ghost use Rattle.tce_exec.specs.TileCounts.{tile_count};
 ghost use Rattle.tce_exec.specs.Bodies.{after_from, touches_from, IsBodyFrom, IsOperationAt};
 
-use crate::chain::{Chain, turn_loops};
+use crate::chain::{RowBlock, turn_loops};
 use crate::evaluation::Evaluation;
-use crate::links::{MAX_LINKS, find_links, node_of};
+use crate::links::{MAX_LINKS, find_links, node_of, tiles_of};
+use crate::merging::{Row, longest_row};
 use crate::operation::operate;
 use crate::position::Position;
 use crate::storage::Storage;
@@ -104,7 +106,7 @@ fn run_held<D: Disk>(
     requires position { IsPosition evaluation.now.space.now first.now }
     requires begun { IsBegun (setting_of D.files evaluation.now store.old)
         evaluation.now.space.now at.now first.now.numbers }
-    requires frames { 3 * length at.now.ops.now ≤ store.old.cache.now.frames }
+    requires frames { tile_count evaluation.now.tree.now at.now.ops.now ≤ store.old.cache.now.frames }
     requires room { length at.now.ops.now ≤ 8 }
     requires loops { 0 < length at.now.loops.now }
     requires few { store.old.cache.now.touches + touches_from at.now 0 ≤ 2 ^ 100 }
@@ -117,13 +119,18 @@ fn run_held<D: Disk>(
 {
     let mut links = ArrayVec::new();
     find_links(evaluation, store, at.ops, first, &mut links)?;
-    let links = links.as_slice();
-    let chain = Chain {
-        links,
-        first: &first.numbers,
+    let links = links.as_mut_slice();
+    let depth = at.loops.len() - 1;
+    let alone = Row {
+        depth,
+        count: at.len[depth],
+    };
+    let rows = RowBlock {
+        at: *at,
+        row: longest_row(at, links, alone),
     };
     let mut numbers = first.numbers;
-    turn_loops(evaluation, store, at, &chain, 0, &mut numbers);
+    turn_loops(evaluation, store, &rows, links, 0, &mut numbers);
     Ok(())
 }
 
@@ -162,8 +169,9 @@ pub(crate) fn run_body<D: Disk>(
         len,
         ops: body.ops,
     };
-    let fits = at.ops.len() <= MAX_LINKS && 3 * at.ops.len() <= store.cache.frames();
-    if fits && !at.loops.is_empty() {
+    let _nodes = evaluation.tree.count();
+    let short = at.ops.len() <= MAX_LINKS && !at.loops.is_empty();
+    if short && tiles_of(evaluation, at.ops) <= store.cache.frames() {
         position.go_to(evaluation.space, numbers);
         position.begin(evaluation.space, body.loops, from);
         return run_held(evaluation, store, &at, position);

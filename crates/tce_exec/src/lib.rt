@@ -25,9 +25,16 @@
 //! windows show of nodes and of tensors, and what stays when words change.
 //!
 //! **Bodies.** Operations without a loop among them run at each assignment of one block of the loops round them, one after the
-//! other, since an operation may read what the one before has put. Where the cache has a frame for each tile that they touch,
-//! each tile is touched once for the block, and each row of the last loop runs over the words of all operations' windows
-//! (`specs/Links.antt`). Else each operation is one by itself at each assignment. `specs/Bodies.antt` says what is asked there.
+//! other, since an operation may read what the one before has put. Where the cache has a frame for each tile that they touch
+//! (`specs/TileCounts.antt`), each tile is touched once for the block, and rows of turns run over the words of all operations'
+//! windows (`specs/Links.antt`, `specs/ChainRows.antt`). The last loops are one row where each steps as far as all numbers of
+//! the next one, in all windows (`specs/MergedRows.antt`). From row to row the windows go on by the steps of the loop that
+//! moves. Else each operation is one by itself at each assignment. `specs/Bodies.antt` says what is asked there.
+//!
+//! **Terms.** The places of a node whose value is added up from terms are set in one block of the loops round it term by term.
+//! The loops of a term stand inside of those of the block, and are cut at the edges of tiles. For each of its blocks the tiles of
+//! the operands and of the node's places are touched, at most three; what stands is multiplied by a factor before the first
+//! block, and the operand's words or the products of both are added (`specs/TermBlocks.antt`, `specs/TermPlans.antt`).
 //!
 //! **Blocks.** [`BlockLoops`] has the loops of one block over windows. A [`LoopSequence`] says in which sequence they run, for
 //! all blocks of one tail. What the calls leave does not depend on it, by the laws of `loop_laws.rt`.
@@ -45,6 +52,7 @@ mod elements;
 mod evaluation;
 mod links;
 pub mod loop_laws;
+mod merging;
 mod nest;
 mod operand_laws;
 mod operand_windows;
@@ -53,8 +61,10 @@ mod places;
 mod plan;
 mod position;
 mod puts;
+mod row;
 mod run;
 mod runner;
+mod scaling;
 mod sequence;
 mod slot;
 mod slot_places;
@@ -62,6 +72,10 @@ mod steps;
 mod still;
 mod storage;
 mod tail;
+mod term_block;
+mod term_plan;
+mod term_windows;
+mod terms;
 mod tile;
 mod turns;
 mod window;

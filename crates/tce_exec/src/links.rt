@@ -6,14 +6,14 @@ ghost use Rattle.tce_walk.specs.Machine.{IsNodeAt};
 ghost use Rattle.tce_exec.specs.Bodies.{node_of_op, IsOperationAt};
 ghost use Rattle.tce_exec.specs.Evaluations.{places_of};
 ghost use Rattle.tce_exec.specs.Links.{IsSource, IsTarget, IsLink, AreLinks, KeepsMore};
+ghost use Rattle.tce_exec.specs.TileCounts.{tile_count_of_operand, tile_count_of_place, tile_count_of_node, tile_count};
 ghost use Rattle.tce_exec.specs.Operands.{IsReadable};
 ghost use Rattle.tce_exec.specs.Positions.{IsPosition, numbers_of};
 ghost use Rattle.tce_exec.specs.Prepared.{IsPrepared};
 ghost use Rattle.tce_exec.specs.Storages.{work_of, setting_of, IsSame, Keeps, Reads, FailsByDisk, TellsOfDisk};
-ghost use Rattle.tce_exec.specs.Windows.{KeepsLast};
 
 use crate::evaluation::Evaluation;
-use crate::operand_windows::{operand_window, place_window};
+use crate::operand_windows::{node_window, operand_window, place_window};
 use crate::position::Position;
 use crate::steps::{set_operand_steps, set_place_steps};
 use crate::storage::Storage;
@@ -65,6 +65,43 @@ pub(crate) fn node_of(op: Op) -> u8
     }
 }
 
+// How many tiles the word of an operand takes.
+fn tiles_of_operand(operand: &Operand) -> usize
+    ensures { result ≡ tile_count_of_operand operand.now }
+{
+    match operand {
+        Operand::Leaf(_) => 1,
+        Operand::Constant(_) | Operand::Node(_) => 0,
+    }
+}
+
+// How many tiles the operation of a node touches: one for each tensor that it reads, and that of the result for the root.
+fn tiles_of_node(evaluation: &Evaluation, v: u8) -> usize
+    requires { v < operations evaluation.now.tree.now }
+    ensures { result ≡ tile_count_of_node evaluation.now.tree.now v }
+{
+    let count = evaluation.tree.count();
+    let left = tiles_of_operand(evaluation.tree.left(v));
+    let right = match evaluation.tree.right(v) {
+        Some(operand) => tiles_of_operand(operand),
+        None => 0,
+    };
+    left + right + usize::from(v + 1 == count)
+}
+
+/// How many tiles the operations of a body touch in a block.
+pub(crate) fn tiles_of(evaluation: &Evaluation, ops: &[Op]) -> usize
+    requires known { All (λ op. node_of_op op < operations evaluation.now.tree.now) ops.now }
+    requires few { length ops.now ≤ 8 }
+    ensures { result ≡ tile_count evaluation.now.tree.now ops.now }
+{
+    let mut tiles = 0;
+    for op in ops {
+        tiles += tiles_of_node(evaluation, node_of(*op));
+    }
+    tiles
+}
+
 // A window that means nothing yet.
 fn blank() -> Window {
     Window {
@@ -86,7 +123,7 @@ fn find_source<D: Disk>(
     requires inner { (u : ℕ) → operand.now ≡ Node u → u + 1 < operations evaluation.now.tree.now }
     requires few { store.old.cache.now.touches + 1 ≤ 2 ^ 100 }
     ensures source { IfOk result (IsSource 1 (places_of evaluation.now) store.new.cache.now (numbers_of first.now) operand.now) }
-    ensures last { OnOk result (KeepsLast store.old.cache.now store.new.cache.now) }
+    ensures last { OnOk result (KeepsMore (tile_count_of_operand operand.now) store.old.cache.now store.new.cache.now) }
     ensures read { OnOk result (Reads 1 D.files evaluation.now store.old store.new) }
     ensures kept { Keeps D.files evaluation.now store.old store.new }
     ensures same { IsSame store.old store.new }
@@ -99,6 +136,11 @@ fn find_source<D: Disk>(
     }
     let mut window = blank();
     set_operand_steps(evaluation, store.cache, operand, &mut window);
+    // A node's slot is found without a touch.
+    if let Operand::Node(v) = operand {
+        node_window(evaluation, store.words, *v, first, &mut window);
+        return Ok(Source::Words(window));
+    }
     operand_window(evaluation, store, operand, first, &mut window)?;
     Ok(Source::Words(window))
 }
@@ -116,16 +158,20 @@ fn find_target<D: Disk>(
     requires few { store.old.cache.now.touches + 1 ≤ 2 ^ 100 }
     ensures target { IfOk result (IsTarget 1 (places_of evaluation.now) store.new.cache.now
         evaluation.now.result.now.tensor (numbers_of first.now) v) }
-    ensures last { OnOk result (KeepsLast store.old.cache.now store.new.cache.now) }
+    ensures last { OnOk result (KeepsMore (tile_count_of_place evaluation.now.tree.now v) store.old.cache.now store.new.cache.now) }
     ensures read { OnOk result (Reads 1 D.files evaluation.now store.old store.new) }
     ensures kept { Keeps D.files evaluation.now store.old store.new }
     ensures same { IsSame store.old store.new }
     ensures cause { FailsByDisk D.faults store.old store.new (IsErr result) }
     ensures told { TellsOfDisk D.faults store.old store.new (IsErr result) }
 {
-    let _nodes = evaluation.tree.count();
+    let count = evaluation.tree.count();
     let mut window = blank();
     set_place_steps(evaluation, store.cache, v, &mut window);
+    if v + 1 != count {
+        node_window(evaluation, store.words, v, first, &mut window);
+        return Ok(window);
+    }
     place_window(evaluation, store, v, first, &mut window)?;
     Ok(window)
 }
@@ -141,9 +187,9 @@ fn find_link<D: Disk>(
     requires position { IsPosition evaluation.now.space.now first.now }
     requires node { IsNodeAt (setting_of D.files evaluation.now store.old) v (numbers_of first.now) }
     requires few { store.old.cache.now.touches + 3 ≤ 2 ^ 100 }
-    ensures link { IfOk result (IsLink 3 (places_of evaluation.now) store.new.cache.now
+    ensures link { IfOk result (IsLink (tile_count_of_node evaluation.now.tree.now v) (places_of evaluation.now) store.new.cache.now
         evaluation.now.result.now.tensor (numbers_of first.now) v) }
-    ensures last { OnOk result (KeepsMore 3 store.old.cache.now store.new.cache.now) }
+    ensures last { OnOk result (KeepsMore (tile_count_of_node evaluation.now.tree.now v) store.old.cache.now store.new.cache.now) }
     ensures read { OnOk result (Reads 3 D.files evaluation.now store.old store.new) }
     ensures kept { Keeps D.files evaluation.now store.old store.new }
     ensures same { IsSame store.old store.new }
@@ -190,7 +236,7 @@ pub(crate) fn find_links<D: Disk>(
     requires prepared { IsPrepared (work_of D.files evaluation.now store.old) }
     requires position { IsPosition evaluation.now.space.now first.now }
     requires ops { All (IsOperationAt (setting_of D.files evaluation.now store.old) (numbers_of first.now)) ops.now }
-    requires frames { 3 * length ops.now ≤ store.old.cache.now.frames }
+    requires frames { tile_count evaluation.now.tree.now ops.now ≤ store.old.cache.now.frames }
     requires room { length ops.now ≤ 8 }
     requires empty { links.old.items ≡ [] }
     requires few { store.old.cache.now.touches + 3 * length ops.now ≤ 2 ^ 100 }

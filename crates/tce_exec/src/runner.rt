@@ -14,10 +14,11 @@ use crate::plan::Kept;
 use crate::puts::clear_slot;
 use crate::storage::Storage;
 use crate::tail::run_tail;
+use crate::terms::run_terms;
 use tce_block::Block;
 use tce_outside::{Disk, Failed};
 use tce_space::Numbers;
-use tce_walk::{Body, Machine, Tail};
+use tce_walk::{Body, Combination, Machine, Tail};
 
 /// Runs loop code of an evaluation over a storage.
 pub(crate) struct Runner<'a, D: Disk> {
@@ -78,6 +79,24 @@ impl<'a, D: Disk> Machine for Runner<'a, D> {
             &self.evaluation,
             &mut self.store,
             body,
+            block,
+            numbers,
+            &mut self.kept.position,
+        );
+        self.failed = answer.is_err();
+        answer
+    }
+
+    fn run_terms(
+        &mut self,
+        sum: &Combination<'_>,
+        block: &Block,
+        numbers: &Numbers,
+    ) -> Result<(), Failed> {
+        let answer = run_terms(
+            &self.evaluation,
+            &mut self.store,
+            sum,
             block,
             numbers,
             &mut self.kept.position,

@@ -33,6 +33,7 @@ mod planning;
 mod prepared;
 mod preparing;
 mod reads;
+mod references;
 mod report;
 mod result_laws;
 mod run;

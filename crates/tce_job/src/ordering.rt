@@ -14,12 +14,23 @@ use tce_tree::{Fusion, Orders, Tree};
 // How often all pairs of loops are looked at.
 const ROUNDS: usize = 4;
 
+// Orders whose reads cost less by less than this part are not taken, for the model is not that exact.
+const PART: u64 = 16;
+
 // The number of no node.
 const NONE: u8 = u8::MAX;
 
 // Of each node and index the highest node of the index's scope there, or `NONE` where the index is no loop of the node.
 #[derive(Drop)]
 struct Tops([[u8; MAX_INDEXES]; MAX_NODES]);
+
+// Orders with what their reads cost, and whether they came of an exchange in this round.
+#[derive(Drop)]
+struct Best {
+    orders: Orders,
+    cost: u64,
+    is_new: bool,
+}
 
 /// The orders in which the loops of a run go: those of its plan, in which loops of one scope have changed places where fewer
 /// tiles are read by that.
@@ -39,19 +50,40 @@ pub(crate) fn running_orders(tree: &Tree, fusion: &Fusion, orders: &Orders, mode
     copied(orders)
 }
 
-// These orders, with loops exchanged as long as fewer tiles are read by that.
+// These orders, or those with loops exchanged as long as their reads cost less, where that is enough less.
 fn least_reads(model: &Model, tops: &Tops, orders: &Orders) -> Orders {
-    let mut best = copied(orders);
+    let before = model.cost(orders.0.as_slice());
+    let mut best = Best {
+        orders: copied(orders),
+        cost: before,
+        is_new: true,
+    };
     for _ in 0..ROUNDS {
-        for v in 0..MAX_NODES as u8 {
-            exchange_below(model, tops, v, &mut best);
+        if best.is_new {
+            best.is_new = false;
+            exchange_all(model, tops, &mut best);
         }
     }
-    best
+    let Best {
+        orders: found,
+        cost: after,
+        is_new: _,
+    } = best;
+    if after == before || after <= before.saturating_sub(before / PART) {
+        return found;
+    }
+    copied(orders)
+}
+
+// Tries all pairs of loops.
+fn exchange_all(model: &Model, tops: &Tops, best: &mut Best) {
+    for v in 0..MAX_NODES as u8 {
+        exchange_below(model, tops, v, best);
+    }
 }
 
 // Tries each pair of the loops whose scopes have this node at the top.
-fn exchange_below(model: &Model, tops: &Tops, v: u8, best: &mut Orders) {
+fn exchange_below(model: &Model, tops: &Tops, v: u8, best: &mut Best) {
     for outer in 0..MAX_LOOPS {
         for inner in 0..MAX_LOOPS {
             if outer < inner {
@@ -61,21 +93,26 @@ fn exchange_below(model: &Model, tops: &Tops, v: u8, best: &mut Orders) {
     }
 }
 
-// Exchanges the loops at two depths of a node, the outer one first, where they have one scope and fewer tiles are read, or as
-// many and only the inner one goes from tile to tile.
-fn exchange_pair(model: &Model, tops: &Tops, v: u8, depths: [usize; 2], best: &mut Orders) {
-    let (Some(i), Some(j)) = (loop_at(best, v, depths[0]), loop_at(best, v, depths[1])) else {
+// Exchanges the loops at two depths of a node, the outer one first, where they have one scope and the reads cost less, or as
+// much and only the inner one goes from tile to tile.
+fn exchange_pair(model: &Model, tops: &Tops, v: u8, depths: [usize; 2], best: &mut Best) {
+    let outer = loop_at(&best.orders, v, depths[0]);
+    let inner = loop_at(&best.orders, v, depths[1]);
+    let (Some(i), Some(j)) = (outer, inner) else {
         return;
     };
     if !tops.are_one_scope(v, i, j) {
         return;
     }
-    let tried = exchanged(best, tops, v, i, j);
-    let before = model.reads(best.0.as_slice());
-    let after = model.reads(tried.0.as_slice());
+    let tried = exchanged(&best.orders, tops, v, i, j);
+    let cost = model.cost(tried.0.as_slice());
     let is_outward = model.has_one_tile(i) && !model.has_one_tile(j);
-    if after < before || after == before && is_outward {
-        *best = tried;
+    if cost < best.cost || cost == best.cost && is_outward {
+        *best = Best {
+            orders: tried,
+            cost,
+            is_new: true,
+        };
     }
 }
 

@@ -1,42 +1,36 @@
-// How many tiles a run reads, by a model that tells loop orders apart.
+// What the reads of a run cost, by a model that tells loop orders apart.
+//
+// As many tiles are held as there are frames, those that were touched last. Loops that stand directly in one another go block by
+// block. All that is touched in the same loops shares the frames, so the loops are gone through from the innermost ones outwards,
+// with what all operations inside touch: as long as that is held, each tile is read once, and after that only the tiles stay
+// that each further turn touches again.
 ghost use Rattle.std.specs.Prelude.{◌<◌};
 ghost use Rattle.tce_tree.specs.ContractionTree.{operations};
 ghost use Rattle.tce_tree.specs.Fusion.{FusionFits};
 
-use arrayvec::ArrayVec;
-use tce_space::{LoopOrder, MAX_INDEXES, MAX_NODES, Numbers, Space};
-use tce_tree::{Fusion, Leaf, Operand, Tree};
+use crate::references::{Reference, References};
+use tce_space::{IndexSet, LoopOrder, MAX_INDEXES, MAX_NODES, Numbers, Space};
+use tce_tree::{Fusion, Kind, Leaf, Operand, Tree};
 
-// At each of at most ten depths a loop over tiles, and one over the elements of a block.
-const MAX_LEVELS: usize = 20;
+// A read costs as much as this many words more.
+const CALL: u64 = 256;
 
-// A loop over the tiles along an index, or one over elements, which changes no tile.
-#[derive(Clone, Copy, Default)]
-struct Level {
-    turns: u64,
-    // The index as a set; no index for elements.
-    bits: u32,
-}
+// The number of no node.
+const NONE: u8 = u8::MAX;
 
-// The tensors whose tiles a node's operation touches, as the sets of their indexes.
-#[derive(Clone, Copy, Default)]
-struct Touched {
-    bits: [u32; 3],
-    // How much a change of tile costs: a tile of the result is read and written.
-    weights: [u64; 3],
-}
-
-/// What decides how many tiles the loops of each node read: loops that stand directly in one another go block by block,
-/// and as many tiles are held as there are frames.
+/// What decides how many tiles the loops of a run read.
 #[derive(Drop)]
 pub(crate) struct Model {
-    frames: u64,
     // Along each index how many tiles there are, and how many elements a tile has.
     tiles: Numbers,
     elements: Numbers,
-    touched: [Touched; MAX_NODES],
-    // Bit d is set where something else than a loop stands at depth d of a node's loops.
-    joints: [u32; MAX_NODES],
+    // The references, before any loop.
+    references: References,
+    // How many of its loops each node shares with its parent, and in whose loops its code stands.
+    joints: [u8; MAX_NODES],
+    holders: [u8; MAX_NODES],
+    // Whether rows of values are kept in the code of a node. The loops round that do not go block by block.
+    has_rows: [bool; MAX_NODES],
 }
 
 impl Model {
@@ -57,12 +51,15 @@ impl Model {
             tiles[i as usize] = space.extent(i).div_ceil(edge);
             elements[i as usize] = edge;
         }
+        let joints = joints_of(tree, fusion);
+        let holders = holders_of(tree, &joints);
         Model {
-            frames,
             tiles,
             elements,
-            touched: touched_by(tree, output),
-            joints: joints_of(tree, fusion),
+            references: references_of(tree, output, &elements, frames),
+            joints,
+            holders,
+            has_rows: rows_of(tree, fusion, &holders),
         }
     }
 
@@ -71,13 +68,15 @@ impl Model {
         self.tiles_along(index) == 1
     }
 
-    /// How many tiles are read in all where the nodes' loops go in these orders.
-    pub(crate) fn reads(&self, orders: &[LoopOrder]) -> u64 {
-        let mut reads: u64 = 0;
-        for (v, order) in orders.iter().enumerate() {
-            reads = reads.saturating_add(self.reads_at(v, order.0.as_slice()));
+    /// What all reads cost where the nodes' loops go in these orders.
+    pub(crate) fn cost(&self, orders: &[LoopOrder]) -> u64 {
+        let mut references = self.references;
+        for v in 0..MAX_NODES as u8 {
+            if let Some(order) = orders.get(v as usize) {
+                self.go_through(v, order.0.as_slice(), &mut references);
+            }
         }
-        reads
+        references.cost()
     }
 
     fn tiles_along(&self, index: u8) -> u64 {
@@ -88,38 +87,75 @@ impl Model {
         self.elements.get(index as usize).copied().unwrap_or(1)
     }
 
-    // The tiles that the operation of one node reads.
-    fn reads_at(&self, v: usize, order: &[u8]) -> u64 {
-        let (Some(touched), Some(joints)) = (self.touched.get(v), self.joints.get(v)) else {
-            return 0;
-        };
-        let levels = self.levels(*joints, order);
-        touched.reads(levels.as_slice(), self.frames)
+    // Goes through the loops of a node that its parent has not, from the innermost one on.
+    fn go_through(&self, v: u8, order: &[u8], references: &mut References) {
+        references.settle(v);
+        let joint = self.joints.get(v as usize).copied().unwrap_or(0) as usize;
+        let mut inner = order.len();
+        let mut has_rows = false;
+        for depth in (joint..order.len() + 1).rev() {
+            if self.holds(v, depth) || depth == joint {
+                let nest = between(order, depth, inner);
+                if has_rows {
+                    self.turn_loops(v, nest, references);
+                } else {
+                    self.turn_blocks(v, nest, references);
+                }
+                inner = depth;
+                has_rows |= self.join_at(v, depth, references);
+            }
+        }
     }
 
-    // The loops round a node's operation, outermost first. Where something stands between two loops, all elements of a block
-    // come before the next loop.
-    fn levels(&self, joints: u32, order: &[u8]) -> ArrayVec<Level, MAX_LEVELS> {
-        let mut levels = ArrayVec::new();
+    // Goes through loops one after the other.
+    fn turn_loops(&self, v: u8, loops: &[u8], references: &mut References) {
+        for index in loops.iter().rev() {
+            references.turn(v, self.elements_along(*index), 0);
+            references.turn(v, self.tiles_along(*index), bits_of(*index));
+        }
+    }
+
+    // Goes through loops that stand directly in one another: the elements of a block inside, the tiles outside.
+    fn turn_blocks(&self, v: u8, loops: &[u8], references: &mut References) {
         let mut elements: u64 = 1;
-        let mut ahead = joints;
-        for index in order {
-            if ahead & 1 == 1 && elements > 1 {
-                put(&mut levels, elements, 0);
-                elements = 1;
-            }
-            ahead >>= 1;
-            put(&mut levels, self.tiles_along(*index), bits_of(*index));
+        for index in loops {
             elements = elements.saturating_mul(self.elements_along(*index));
         }
-        levels
+        references.turn(v, elements, 0);
+        for index in loops.iter().rev() {
+            references.turn(v, self.tiles_along(*index), bits_of(*index));
+        }
     }
-}
 
-// Adds a level inside those before.
-fn put(levels: &mut ArrayVec<Level, MAX_LEVELS>, turns: u64, bits: u32) {
-    if !levels.is_full() {
-        levels.push(Level { turns, bits });
+    // Whether the code of a node stands in the loops of another at this depth.
+    fn is_held(&self, u: usize, v: u8, depth: usize) -> bool {
+        match (self.holders.get(u), self.joints.get(u)) {
+            (Some(holder), Some(joint)) => *holder == v && *joint as usize == depth,
+            _ => false,
+        }
+    }
+
+    // Whether something else than a loop stands at this depth of a node's loops.
+    fn holds(&self, v: u8, depth: usize) -> bool {
+        for u in 0..MAX_NODES {
+            if self.is_held(u, v, depth) {
+                return true;
+            }
+        }
+        false
+    }
+
+    // What stands at this depth of a node's loops joins its references. Tells whether rows are kept there.
+    fn join_at(&self, v: u8, depth: usize, references: &mut References) -> bool {
+        let mut has_rows = false;
+        for u in 0..MAX_NODES {
+            if self.is_held(u, v, depth) {
+                references.join(u as u8, v);
+                has_rows |= self.has_rows[u];
+            }
+        }
+        references.settle(v);
+        has_rows
     }
 }
 
@@ -132,114 +168,93 @@ fn bits_of(index: u8) -> u32 {
     }
 }
 
-// The tensors that the operations of a tree's nodes touch.
-fn touched_by(tree: &Tree, output: &Leaf) -> [Touched; MAX_NODES] {
-    let mut touched = [Touched::default(); MAX_NODES];
+// The loops of an order from one depth to another.
+fn between(order: &[u8], from: usize, to: usize) -> &[u8] {
+    let to = to.min(order.len());
+    &order[from.min(to)..to]
+}
+
+// The references of the operations of a tree's nodes. A tile of the result is read and written.
+fn references_of(tree: &Tree, output: &Leaf, elements: &Numbers, frames: u64) -> References {
+    let mut references = References::new(frames);
     let count = tree.count();
     for v in 0..count {
-        let mut at = Touched::default();
-        at.put(0, leaf_of(Some(tree.left(v))), 1);
-        at.put(1, leaf_of(tree.right(v)), 1);
-        if v + 1 == count {
-            at.put(2, Some(output), 2);
+        if let Operand::Leaf(leaf) = tree.left(v) {
+            references.put(reference_of(v, leaf, elements, 1));
         }
-        touched[v as usize] = at;
+        if let Some(Operand::Leaf(leaf)) = tree.right(v) {
+            references.put(reference_of(v, leaf, elements, 1));
+        }
     }
-    touched
+    references.put(reference_of(count - 1, output, elements, 2));
+    references
 }
 
-// The tensor that an operand is, with its indexes.
-fn leaf_of(operand: Option<&Operand>) -> Option<&Leaf> {
-    match operand {
-        Some(Operand::Leaf(leaf)) => Some(leaf),
-        Some(Operand::Constant(_) | Operand::Node(_)) | None => None,
+// A reference by the operation of a node, whose tiles are moved so often.
+fn reference_of(node: u8, leaf: &Leaf, elements: &Numbers, moves: u64) -> Reference {
+    let mut number = leaf.tensor as u64;
+    let mut bits = 0;
+    let mut words: u64 = 1;
+    for index in leaf.indexes.as_slice() {
+        number = number.wrapping_mul(32).wrapping_add(*index as u64 + 1);
+        bits |= bits_of(*index);
+        let edge = elements.get(*index as usize).copied().unwrap_or(1);
+        words = words.saturating_mul(edge);
     }
+    let cost = words.saturating_add(CALL).saturating_mul(moves);
+    Reference::new(node, number, bits, cost)
 }
 
-// The depths of each node's loops at which the code of an operand stands, or where its own loops begin.
-fn joints_of(tree: &Tree, fusion: &Fusion) -> [u32; MAX_NODES]
+// How many loops each node shares with its parent.
+fn joints_of(tree: &Tree, fusion: &Fusion) -> [u8; MAX_NODES]
     requires { FusionFits tree.now fusion.now.0.items }
 {
-    let mut joints = [1; MAX_NODES];
-    for v in (0..tree.count()).rev() {
-        if let Some(parent) = tree.parent(v) {
-            let depth = bit_of(fusion.0[v as usize].count());
-            joints[parent as usize] |= depth;
-        }
-    }
-    for v in (0..tree.count()).rev() {
-        if let Some(parent) = tree.parent(v) {
-            // The loops above this depth are those of the parent.
-            let depth = bit_of(fusion.0[v as usize].count());
-            joints[v as usize] |= joints[parent as usize] & (depth - 1) | depth;
-        }
+    let mut joints = [0; MAX_NODES];
+    for v in 0..tree.count() {
+        joints[v as usize] = fusion.0[v as usize].count();
     }
     joints
 }
 
-// The set of one number.
-fn bit_of(number: u8) -> u32
-    ensures { 0 < result }
+// In whose loops the code of each node stands: the nearest above it that does not share more of its loops.
+fn holders_of(tree: &Tree, joints: &[u8; MAX_NODES]) -> [u8; MAX_NODES] {
+    let mut holders = [NONE; MAX_NODES];
+    for v in (0..tree.count()).rev() {
+        if let Some(parent) = tree.parent(v) {
+            holders[v as usize] = first_holder(&holders, joints, parent, joints[v as usize]);
+        }
+    }
+    holders
+}
+
+// The first node from this one on upwards that shares at most so many of its loops.
+fn first_holder(holders: &[u8; MAX_NODES], joints: &[u8; MAX_NODES], from: u8, depth: u8) -> u8 {
+    let mut holder = from;
+    for _ in 0..MAX_NODES {
+        match joints.get(holder as usize) {
+            Some(joint) if depth < *joint => holder = holders[holder as usize],
+            _ => return holder,
+        }
+    }
+    holder
+}
+
+// In the code of which nodes rows are kept: values of an operation but a sum, along loops that are not fused.
+fn rows_of(tree: &Tree, fusion: &Fusion, holders: &[u8; MAX_NODES]) -> [bool; MAX_NODES]
+    requires { FusionFits tree.now fusion.now.0.items }
 {
-    1 << number.min(MAX_INDEXES as u8)
-}
-
-impl Touched {
-    fn put(&mut self, at: usize, leaf: Option<&Leaf>, weight: u64)
-        requires { at < 3 }
-    {
-        if let Some(leaf) = leaf {
-            for index in leaf.indexes.as_slice() {
-                self.bits[at] |= bits_of(*index);
-            }
-            self.weights[at] = weight;
+    let mut has_rows = [false; MAX_NODES];
+    for v in 0..tree.count() {
+        let kept = tree.dims(v).minus(fusion.0[v as usize]);
+        match tree.kind(v) {
+            Kind::Sum => {}
+            Kind::Product | Kind::Add | Kind::Sub => has_rows[v as usize] |= kept
+                != IndexSet::empty(),
+        }
+        let holder = holders[v as usize] as usize;
+        if has_rows[v as usize] && holder < MAX_NODES {
+            has_rows[holder] = true;
         }
     }
-
-    // The tiles that are read in loops of these levels. The tiles of the inner levels are held where all of them have frames.
-    fn reads(&self, levels: &[Level], frames: u64) -> u64 {
-        let [left, right, out] = self.weights;
-        let mut held = [left.min(1), right.min(1), out.min(1)];
-        let mut outer = levels.len();
-        for level in levels.iter().rev() {
-            let more = self.more(&held, level);
-            if more[0].saturating_add(more[1]).saturating_add(more[2]) > frames {
-                break;
-            }
-            held = more;
-            outer = outer.saturating_sub(1);
-        }
-        let mut reads: u64 = 0;
-        for t in 0..3 {
-            let changes = changes(levels, outer, self.bits[t]);
-            reads = reads.saturating_add(self.weights[t].saturating_mul(held[t].saturating_mul(
-                changes,
-            )));
-        }
-        reads
-    }
-
-    // The different tiles in one level more.
-    fn more(&self, held: &[u64; 3], level: &Level) -> [u64; 3] {
-        let mut more = *held;
-        for t in 0..3 {
-            if self.bits[t] & level.bits != 0 {
-                more[t] = more[t].saturating_mul(level.turns);
-            }
-        }
-        more
-    }
-}
-
-// How often the outer levels change the tile of a tensor with these indexes.
-fn changes(levels: &[Level], outer: usize, bits: u32) -> u64 {
-    let mut turns: u64 = 1;
-    let mut changes = 1;
-    for level in levels.iter().take(outer) {
-        turns = turns.saturating_mul(level.turns);
-        if bits & level.bits != 0 {
-            changes = turns;
-        }
-    }
-    changes
+    has_rows
 }

@@ -205,10 +205,10 @@ passed_compute tree fusion claim op v old new (inr (inr is)) h k =
     subst (λ o. IsPassed tree fusion claim (plain_program o) old new) (sym is) (record { passes = and_from _ true (h subtract) refl; known = k })
 
 pub begins_band : (tree : ContractionTree) (fusion : List ℕ) (ops : List Op) (claim : Claim) (at i : ℕ) (band : Band) (new : List Bool)
-    → 0 < length claim.loops.0.items → get_or claim.loops.0.items 0 0 ≡ i → band.loops ≡ claim.loops → band.at ≡ at + length claim.loops.0.items
+    → 0 < length claim.loops.0.items → get_or claim.loops.0.items 0 0 ≡ i → band.loops ≡ claim.loops → band.carrier ≡ claim.carrier → band.at ≡ at + length claim.loops.0.items
     → IsNestAt tree fusion ops claim (at + 1) 1 band.close claim.outside new → ((v : ℕ) → (v ≡ claim.carrier) ⊎ IsTrue (known_of new v))
     → BeginsBand tree fusion ops at i band
-begins_band tree fusion ops claim at i band new some first loops is h known =
+begins_band tree fusion ops claim at i band new some first loops carries is h known =
     let order : List ℕ = claim.loops.0.items in
     let same : at + 1 + (length order - 1) ≡ band.at = omega (arith, some, is) in
     let own : order ≡ band.loops.0.items = ap (λ (o : LoopOrder). o.0.items) (sym loops) in
@@ -216,12 +216,12 @@ begins_band tree fusion ops claim at i band new some first loops is h known =
     let whole : i ∷ drop 1 order ≡ band.loops.0.items = ap (λ x. x ∷ drop 1 order) (sym first) ∙ sym (drop_more order 0 0 some) ∙ own in
     record {
       body = record {
-        carrier = claim.carrier;
         outside = known_of claim.outside;
-        passes = subst (λ o. IsBand tree fusion o claim.carrier (known_of claim.outside) (program_at ops band.at)) own (record {
-          passes = passed.passes;
-          rest = λ v. elim (known v) [ inl q ↦ inl q | inr m ↦ inr (ap (λ k. k v) (sym passed.known) ∙ m) ];
-        });
+        passes = subst (λ t. IsBand tree fusion band.loops.0.items t (known_of claim.outside) (program_at ops band.at)) (sym carries)
+            (subst (λ o. IsBand tree fusion o claim.carrier (known_of claim.outside) (program_at ops band.at)) own (record {
+              passes = passed.passes;
+              rest = λ v. elim (known v) [ inl q ↦ inl q | inr m ↦ inr (ap (λ k. k v) (sym passed.known) ∙ m) ];
+            }));
         within = omega (arith, same, h.within);
       };
       is = ap (λ p. loop i p stop) (h.is ∙ ap (λ k. loops_round (drop 1 order) (program_at ops k)) same) ∙ ap (λ xs. loops_round xs (program_at ops band.at)) whole;

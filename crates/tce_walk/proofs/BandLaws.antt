@@ -27,7 +27,7 @@ put [] xs a = a
 put (i ∷ order) [] a = a
 put (i ∷ order) (x ∷ xs) a = put order xs (with_number a i x)
 
-put_outside : (order xs : List ℕ) (a : Assignment) (i : ℕ) → among order i ≡ false → put order xs a i ≡ a i
+pub put_outside : (order xs : List ℕ) (a : Assignment) (i : ℕ) → among order i ≡ false → put order xs a i ≡ a i
 put_outside [] xs a i out = refl
 put_outside (j ∷ order) [] a i out = refl
 put_outside (j ∷ order) (x ∷ xs) a i out =
@@ -41,7 +41,7 @@ abbrev pub turn_of : Setting → List ℕ → Program → Assignment → List �
 turn_of s order body a xs state = exec s body state (put order xs a)
 
 -- a nest of loops is a box of turns, and a part of it a block of them
-exec_box : (s : Setting) (order : List ℕ) (body : Program) (a : Assignment) (state : State)
+pub exec_box : (s : Setting) (order : List ℕ) (body : Program) (a : Assignment) (state : State)
     → exec s (loops_round order body) state a ≡ box (turn_of s order body a) (map s.elements.extent order) state
 exec_box s [] body a state = refl
 exec_box s (i ∷ order) body a state =
@@ -85,7 +85,7 @@ alike s t outside = record {
 }
 
 -- a body from two states that agree on the free places
-turn_follows : (s : Setting) (t : ℕ) (order : List ℕ) (outside : Known) (body : Program) (b : Assignment) (e f : State)
+pub turn_follows : (s : Setting) (t : ℕ) (order : List ℕ) (outside : Known) (body : Program) (b : Assignment) (e f : State)
     → IsBand s.tree s.fusion order t outside body → HaveTurns s body → ((v : ℕ) (p : List ℕ) → IsFree s outside v p → e v p ≡ f v p)
     → Follows s t order outside b e f (known_after t outside body) (exec s body e b) (exec s body f b)
 turn_follows s t order outside body b e f band turns start =
@@ -154,18 +154,18 @@ exchange_turns s t order outside body a band turns xs ys x = (
     two_after = turn_follows s t order outside body (put order ys a) x (exec s body x (put order xs a)) band turns (λ v p m. sym (one.free v p m))
 
 -- what stays in each turn, and what the last one leaves at all nodes but the one that carries
-abbrev StaysFree : Setting → Known → State → State → Type 0
+abbrev pub StaysFree : Setting → Known → State → State → Type 0
 StaysFree s outside before state = (v : ℕ) (p : List ℕ) → IsFree s outside v p → state v p ≡ before v p
 
-abbrev EndsAs : Setting → ℕ → List ℕ → Program → Assignment → State → List ℕ → State → Type 0
+abbrev pub EndsAs : Setting → ℕ → List ℕ → Program → Assignment → State → List ℕ → State → Type 0
 EndsAs s t order body a before xs state = (v : ℕ) → (v ≡ t → ⊥) → (p : List ℕ) → state v p ≡ turn_of s order body a xs before v p
 
-turn_keeps : (s : Setting) (t : ℕ) (order : List ℕ) (outside : Known) (body : Program) (a : Assignment) (before : State) → IsBand s.tree s.fusion order t outside body → HaveTurns s body
+pub turn_keeps : (s : Setting) (t : ℕ) (order : List ℕ) (outside : Known) (body : Program) (a : Assignment) (before : State) → IsBand s.tree s.fusion order t outside body → HaveTurns s body
     → (xs : List ℕ) (state : State) → StaysFree s outside before state → StaysFree s outside before (turn_of s order body a xs state)
 turn_keeps s t order outside body a before band turns xs state h v p m =
     (turn_follows s t order outside body (put order xs a) state before band turns h).free v p m ∙ h v p m
 
-turn_ends : (s : Setting) (t : ℕ) (order : List ℕ) (outside : Known) (body : Program) (a : Assignment) (before : State) → IsBand s.tree s.fusion order t outside body → HaveTurns s body
+pub turn_ends : (s : Setting) (t : ℕ) (order : List ℕ) (outside : Known) (body : Program) (a : Assignment) (before : State) → IsBand s.tree s.fusion order t outside body → HaveTurns s body
     → (xs : List ℕ) (state : State) → StaysFree s outside before state → EndsAs s t order body a before xs (turn_of s order body a xs state)
 turn_ends s t order outside body a before band turns xs state h v ne p =
     elim (band.rest v) [

@@ -1,5 +1,5 @@
 -- A band, block by block.
-use Rattle.std.proofs.Common.{◌≡◌, ℕ, zero, suc, ◌+◌, ◌*◌, ◌^◌, ◌<◌, ◌≤◌, ◌||◌, true, false, Bool, Option, Some, None, List, [], ◌∷◌, ◌++◌, map, length, get_or, drop, slice_get, refl, sym, ap, ◌∙◌, subst, inl, inr, arith}
+use Rattle.std.proofs.Common.{◌≡◌, ℕ, zero, suc, ◌+◌, ◌*◌, ◌^◌, ◌<◌, ◌≤◌, Option, Some, None, List, [], ◌∷◌, ◌++◌, map, length, get_or, drop, slice_get, refl, sym, ap, ◌∙◌, subst, inl, inr, arith}
 use mathlib.Core.Path.{fun_ext}
 use Rattle.std.proofs.Math.Nat.{mul_assoc}
 use Rattle.std.proofs.lemmas.List.{length-map, get_or_default}
@@ -47,7 +47,7 @@ each-index space tree body (i ∷ order) a limits measured h (suc d) l =
     each-index space tree body order (with_number a i 0) limits measured
     (turn-part space tree i (loops_round order body) a (with_number a i 0) 0 refl (loop-index limits measured h).some h) d (omega (arith, l))
 
-inner-part : (space : IndexSpace) (tree : ContractionTree) (body : Program) (order : List ℕ) (a : Assignment) → AreKept space tree → IsMeasured space tree
+pub inner-part : (space : IndexSpace) (tree : ContractionTree) (body : Program) (order : List ℕ) (a : Assignment) → AreKept space tree → IsMeasured space tree
     → IsPart space tree (loops_round order body) a → (b : Assignment) × IsPart space tree body b
 inner-part space tree body [] a limits measured h = (a, h)
 inner-part space tree body (i ∷ order) a limits measured h =
@@ -58,7 +58,7 @@ positive-from : (f : ℕ → ℕ) (order : List ℕ) → ((d : ℕ) → d < leng
 positive-from f [] h = tt
 positive-from f (i ∷ order) h = (h 0 (omega arith), positive-from f order (λ d l. h (suc d) (omega (arith, l))))
 
-have-turns : (space : IndexSpace) (tree : ContractionTree) (s : Setting) (plan : Plan) (program : Program) (opened : List ℕ) → AreKept space tree → IsMeasured space tree
+pub have-turns : (space : IndexSpace) (tree : ContractionTree) (s : Setting) (plan : Plan) (program : Program) (opened : List ℕ) → AreKept space tree → IsMeasured space tree
     → s.elements.extent ≡ extent_at space → EachAction (ActionFits tree plan) (IsLoop tree) program opened → HaveTurns s program
 unfolding node_loops
 have-turns space tree s plan stop opened limits measured e h = tt
@@ -71,7 +71,7 @@ have-turns space tree s plan (loop i body rest) opened limits measured e h =
       have-turns space tree s plan rest opened limits measured e h.2,
     )
 
-edges-positive : (space : IndexSpace) (tree : ContractionTree) (body : Program) (loops : List ℕ) (a : Assignment) → AreKept space tree → IsMeasured space tree
+pub edges-positive : (space : IndexSpace) (tree : ContractionTree) (body : Program) (loops : List ℕ) (a : Assignment) → AreKept space tree → IsMeasured space tree
     → IsPart space tree (loops_round loops body) a → ArePositive (map (edge_at space) loops)
 edges-positive space tree body loops a limits measured part =
     positive-from (edge_at space) loops (λ d l.
@@ -171,7 +171,7 @@ grown-past : (space : IndexSpace) (tree : ContractionTree) (body : Program) (par
 grown-past space tree body [] m = omega arith
 grown-past space tree body (part ∷ parts) m = omega (arith, grown-past space tree body parts (m + touches_in space tree body part.len))
 
-first-left : (parts : List Part) (part : Part) → slice_get parts 0 ≡ Some part → parts ≡ part ∷ drop 1 parts
+pub first-left : (parts : List Part) (part : Part) → slice_get parts 0 ≡ Some part → parts ≡ part ∷ drop 1 parts
 first-left [] part e = absurd (let h : ⊥ = cc in h)
 first-left (p ∷ parts) part e = ap (λ q. q ∷ parts) (let same : p ≡ part = cc in same)
 
@@ -185,7 +185,7 @@ after-first : (s : Setting) (body : Program) (loops : List ℕ) (a : Assignment)
 after-first s body loops a part parts None = refl
 after-first s body loops a part parts (Some state) = refl
 
-slice-drop : (parts : List Part) (k : ℕ) → slice_get (drop 1 parts) k ≡ slice_get parts (suc k)
+pub slice-drop : (parts : List Part) (k : ℕ) → slice_get (drop 1 parts) k ≡ slice_get parts (suc k)
 slice-drop [] k = refl
 slice-drop (p ∷ parts) k = refl
 
@@ -258,10 +258,10 @@ blocks-all space tree fusion own s ops band a remaining before now t u limits ov
   state = mapped-same now ∙ ap (λ parts. option_map (λ state. fold (step s body loops a) state parts) now) (sym (none-left remaining none)) ∙ h.state
       ∙ ap (λ f. option_map f before) (fun_ext (λ state.
       ap (λ f. fold (step s body loops a) state (blocks (map f loops) (map (edge_at space) loops))) (sym over.extents)
-      ∙ blocks_make_bands s loops is.carrier is.outside body a (edge_at space) state (subst (λ f. ArePositive (map f loops)) (sym over.extents) extents) edges
+      ∙ blocks_make_bands s loops band.carrier is.outside body a (edge_at space) state (subst (λ f. ArePositive (map f loops)) (sym over.extents) extents) edges
       (have-turns space tree s inner.1.plan body inner.1.opened limits over.measured over.extents inner.1.shape)
-      (subst (λ c. IsBand c s.fusion loops is.carrier is.outside body) (sym over.tree_is)
-      (subst (λ g. IsBand tree g loops is.carrier is.outside body) (sym fused) is.passes))));
+      (subst (λ c. IsBand c s.fusion loops band.carrier is.outside body) (sym over.tree_is)
+      (subst (λ g. IsBand tree g loops band.carrier is.outside body) (sym fused) is.passes))));
   touches =
       let all = all-touches space tree body (map (extent_at space) loops) (map (edge_at space) loops) t
       (length-map loops (edge_at space) ∙ sym (length-map loops (extent_at space))) edges in

@@ -69,10 +69,10 @@ decide_place u v p at =
       ]
     ]
 
-written_here : (state : State) (v : ℕ) (at : List ℕ) (w u : ℕ) (p : List ℕ) → u ≡ v → p ≡ at → with_word state v at w u p ≡ w
+pub written_here : (state : State) (v : ℕ) (at : List ℕ) (w u : ℕ) (p : List ℕ) → u ≡ v → p ≡ at → with_word state v at w u p ≡ w
 written_here state v at w u p q r = rw (eq-eqb u v q, (bytes_eq-Decides p at).1 r) refl
 
-not_written : (state : State) (v : ℕ) (at : List ℕ) (w u : ℕ) (p : List ℕ) → (u ≡ v → p ≡ at → ⊥) → with_word state v at w u p ≡ state u p
+pub not_written : (state : State) (v : ℕ) (at : List ℕ) (w u : ℕ) (p : List ℕ) → (u ≡ v → p ≡ at → ⊥) → with_word state v at w u p ≡ state u p
 not_written state v at w u p away =
     elim (cases_Bool (eqb u v)) [
       | inr ne ↦ rw ne refl
@@ -127,7 +127,7 @@ right_same : (s : Setting) (known : Known) (v : ℕ) (now other : State) (a : As
     → ((u : ℕ) (p : List ℕ) → known u ≡ true → now u p ≡ other u p) → right_word s v now a ≡ right_word s v other a
 right_same s known v now other a m same = ready_same s known (right_tree (node s.tree v)) (v - 1) now other a m same
 
-no_coordinates : (set : ℕ) (a : Assignment) → set ≡ 0 → coordinates set a ≡ []
+pub no_coordinates : (set : ℕ) (a : Assignment) → set ≡ 0 → coordinates set a ≡ []
 unfolding members has
 no_coordinates set a none = ap (λ n. coordinates n a) none ∙ refl
 

@@ -32,9 +32,9 @@ use Rattle.tce_walk.proofs.Parts.{computing-binary, computing-sum}
 use Rattle.tce_walk.proofs.Searching.{sum-node}
 
 -- an assignment that differs from another in some loops alone, whose numbers lie in their extents
-record IsTurn (s : Setting) (order : List ℕ) (a b : Assignment) : Type 0 where
-  inside : (i : ℕ) → among order i ≡ true → b i < s.elements.extent i
-  same : (i : ℕ) → among order i ≡ false → b i ≡ a i
+pub record IsTurn (s : Setting) (order : List ℕ) (a b : Assignment) : Type 0 where
+  pub inside : (i : ℕ) → among order i ≡ true → b i < s.elements.extent i
+  pub same : (i : ℕ) → among order i ≡ false → b i ≡ a i
 
 turn-further : (s : Setting) (i x : ℕ) (order : List ℕ) (a b : Assignment) → x < s.elements.extent i → IsTurn s order (with_number a i x) b → IsTurn s (i ∷ order) a b
 turn-further s i x order a b l h = record {
@@ -58,7 +58,7 @@ turn-further s i x order a b l h = record {
         ]
 
 -- what each turn of the inside keeps, the loops keep
-round-keeps : (P : State → Type 0) (s : Setting) (inside : Program) (order : List ℕ) (state : State) (a : Assignment) → P state
+pub round-keeps : (P : State → Type 0) (s : Setting) (inside : Program) (order : List ℕ) (state : State) (a : Assignment) → P state
     → ((b : Assignment) → IsTurn s order a b → (other : State) → P other → P (exec s inside other b)) → P (exec s (loops_round order inside) state a)
 round-keeps P s inside [] state a start keeps = keeps a (record { inside = λ i m. absurd (false≢true m); same = λ i f. refl }) state start
 round-keeps P s inside (i ∷ order) state a start keeps =
@@ -82,7 +82,7 @@ turn-inside s tail a b at turn i m =
     ]
 
 -- no turn falls on what is no place
-misses : (s : Setting) (v : ℕ) (p : List ℕ) (b : Assignment) → ((c : Assignment) → IsPlaceAt s v p c → ⊥) → IsInExtents s.elements (dims_at s v) b
+pub misses : (s : Setting) (v : ℕ) (p : List ℕ) (b : Assignment) → ((c : Assignment) → IsPlaceAt s v p c → ⊥) → IsInExtents s.elements (dims_at s v) b
     → bytes_eq p (coordinates (dims_at s v) b) ≡ false
 misses s v p b outside inside =
     elim (cases_Bool (bytes_eq p (coordinates (dims_at s v) b))) [
@@ -156,7 +156,7 @@ last-same s v order f a before after left b inside h k =
     named : (i : ℕ) → among (members (dims_at s v)) i ≡ has (dims_at s v) i
     named i = among-members (dims_at s v) i (minus_lt (node_dims s.tree v) (fused_at s.fusion v) (node_dims_lt s.tree v))
 
-ended-same : (s : Setting) (v : ℕ) (order : List ℕ) (f : Assignment → ℕ) (a : Assignment) (before after left : State) (p : List ℕ)
+pub ended-same : (s : Setting) (v : ℕ) (order : List ℕ) (f : Assignment → ℕ) (a : Assignment) (before after left : State) (p : List ℕ)
     → EndsOnlyAtLast s v order f a before after → ((b : Assignment) → EndsAtLast s v order f a before left b)
     → (((c : Assignment) → IsPlaceAt s v p c → ⊥) → left v p ≡ before v p) → after v p ≡ left v p
 ended-same s v order f a before after left p ends law outside =

@@ -20,3 +20,13 @@ pub mod Closed
 pub mod Operands
 pub mod PartLaws
 pub mod StraightBodies
+pub mod TermLaws
+pub mod LeftValues
+pub mod TermSums
+pub mod SummedLoops
+pub mod CountedLoops
+pub mod TermOperands
+pub mod CheckedValues
+pub mod TermsFound
+pub mod TermBlocks
+pub mod TermBands

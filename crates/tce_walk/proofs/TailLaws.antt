@@ -15,10 +15,12 @@ use Rattle.tce_tree.proofs.Nodes.{size_bounds, node-positive}
 use Rattle.tce_tree.proofs.Operands.{parents_have_operands}
 use Rattle.tce_block.specs.Last.{last_of_box}
 use Rattle.tce_code.specs.Execution.{Setting, State, coordinates, left_word, right_word, operand_word}
+use Rattle.tce_base.specs.Word.{wrapping_add}
 use Rattle.tce_code.specs.Program.{step, stop, accumulate, compute}
+use Rattle.tce_code.specs.Shape.{IsSum}
 use Rattle.tce_code.proofs.Readings.{nest_word}
 use Rattle.tce_code.proofs.Sums.{hits, IsBelowLimit, nest_word-miss}
-use Rattle.tce_walk.specs.TailLaws.{dims_at, SameButTwo, EndsAtLast, AreLoops, state_after, computed_word, SumTailsAddUp, SingleTailsEndAtLast, JoinedLeaves, JoinedTailsAddUp}
+use Rattle.tce_walk.specs.TailLaws.{dims_at, SameButTwo, GrowsBySum, EndsAtLast, AreLoops, state_after, computed_word, SumTailsAddUp, SingleTailsEndAtLast, JoinedLeaves, JoinedTailsAddUp}
 use Rattle.tce_walk.proofs.Tails.{tail-word, computed-word, joined-word, nest_word-total, nest_word-last, last_hit, last_hit-at, left-elsewhere, right-elsewhere, sum-takes}
 use Rattle.tce_walk.proofs.Searching.{sum-node}
 
@@ -53,7 +55,7 @@ sum_tails_add_up s v order before a inside =
     )
 
 -- a word that is set by the loops' assignments, in the form of the law
-ends-at-last : (s : Setting) (v : ℕ) (order : List ℕ) (f : Assignment → ℕ) (a : Assignment) (before after : State) (b : Assignment) → AreLoops s order
+pub ends-at-last : (s : Setting) (v : ℕ) (order : List ℕ) (f : Assignment → ℕ) (a : Assignment) (before after : State) (b : Assignment) → AreLoops s order
     → after v (coordinates (dims_at s v) b)
     ≡ nest_word s.elements.extent (hits (dims_at s v) b) (λ z w. f z) order a (before v (coordinates (dims_at s v) b))
     → EndsAtLast s v order f a before after b
@@ -105,17 +107,16 @@ operand-apart s (constant number) w u v ne before state same a = refl
 operand-apart s (binary op left right) w u v ne before state same a = same w (ne refl).0 (ne refl).1 (coordinates (dims_at s w) a)
 operand-apart s (sum indexes operand) w u v ne before state same a = same w (ne refl).0 (ne refl).1 (coordinates (dims_at s w) a)
 
-joined-next : (s : Setting) (op : Arithmetic) (u : ℕ) (is : List ℕ) (e : ContractionTree) (order : List ℕ) (before : State) (a : Assignment)
-    → u < operations s.tree → node s.tree (u + 1) ≡ sum is e → is_leaf e ≡ false → AreLoops s order
-    → JoinedLeaves s op u (u + 1) order before a (state_after s order (step (compute op u) (step (accumulate (u + 1)) stop)) before a)
-joined-next s op u is e order before a u_in at n loops =
-    let r = joined-word s op u (u + 1) before (λ q. omega arith) left_same right_same (λ state b. sum-takes s u is e at n state b) order before a (λ w nu nv p. refl) in record {
-      others = r.0;
-      sums = λ p word. r.1 p
-          ∙ nest_word-total s.elements.extent (λ b. bytes_eq p (coordinates (dims_at s (u + 1)) b)) (computed_word s op u before) order a (before (u + 1) p) word;
-      last = λ b. ends-at-last s u order (computed_word s op u before) a before
-          (state_after s order (step (compute op u) (step (accumulate (u + 1)) stop)) before a) b loops (r.2 (coordinates (dims_at s u) b));
-    }
+-- what the operation of a product and that of its sum leave, as words
+joined-run : (s : Setting) (op : Arithmetic) (u : ℕ) (is : List ℕ) (e : ContractionTree) (order : List ℕ) (before : State) (a : Assignment)
+    → u < operations s.tree → node s.tree (u + 1) ≡ sum is e → is_leaf e ≡ false
+    → SameButTwo u (u + 1) before (state_after s order (step (compute op u) (step (accumulate (u + 1)) stop)) before a)
+    × ((p : List ℕ) → state_after s order (step (compute op u) (step (accumulate (u + 1)) stop)) before a (u + 1) p
+    ≡ nest_word s.elements.extent (λ b. bytes_eq p (coordinates (dims_at s (u + 1)) b)) (λ b w. wrapping_add w (computed_word s op u before b)) order a (before (u + 1) p))
+    × ((p : List ℕ) → state_after s order (step (compute op u) (step (accumulate (u + 1)) stop)) before a u p
+    ≡ nest_word s.elements.extent (λ b. bytes_eq p (coordinates (dims_at s u) b)) (λ b w. computed_word s op u before b) order a (before u p))
+joined-run s op u is e order before a u_in at n =
+    joined-word s op u (u + 1) before (λ q. omega arith) left_same right_same (λ state b. sum-takes s u is e at n state b) order before a (λ w nu nv p. refl)
   where
     left_same : (state : State) → SameButTwo u (u + 1) before state → (c : Assignment) → left_word s u state c ≡ left_word s u before c
     left_same state same c =
@@ -126,6 +127,33 @@ joined-next s op u is e order before a u_in at n loops =
     right_same state same c =
         operand-apart s (right_tree (node s.tree u)) (u - 1) u (u + 1)
         (λ k. let some = right-positive s.tree u u_in k in ((λ q. omega arith), (λ q. omega arith))) before state same c
+
+-- the sum grows, and nothing changes but the two nodes
+pub joined_sums : (s : Setting) (op : Arithmetic) (u v : ℕ) (order : List ℕ) (before : State) (a : Assignment) → u < operations s.tree → v < operations s.tree
+    → parent s.tree u ≡ Some v → IsSum (node s.tree v)
+    → SameButTwo u v before (state_after s order (step (compute op u) (step (accumulate v) stop)) before a)
+    × GrowsBySum s v order (computed_word s op u before) a before (state_after s order (step (compute op u) (step (accumulate v) stop)) before a)
+joined_sums s op u v order before a u_in v_in up is_sum =
+    let parts = sum-node (node s.tree v) is_sum in
+    let child = child-of s.tree u v parts.0 parts.1 parts.2 u_in v_in up in
+    let r = joined-run s op u parts.0 parts.1 order before a u_in (ap (node s.tree) child.1 ∙ parts.2) child.0 in
+    subst (λ w. SameButTwo u w before (state_after s order (step (compute op u) (step (accumulate w) stop)) before a)
+    × GrowsBySum s w order (computed_word s op u before) a before (state_after s order (step (compute op u) (step (accumulate w) stop)) before a)) child.1 (
+      r.0,
+      (λ p word. r.1 p ∙ nest_word-total s.elements.extent (λ b. bytes_eq p (coordinates (dims_at s (u + 1)) b)) (computed_word s op u before) order a (before (u + 1) p) word),
+    )
+
+joined-next : (s : Setting) (op : Arithmetic) (u : ℕ) (is : List ℕ) (e : ContractionTree) (order : List ℕ) (before : State) (a : Assignment)
+    → u < operations s.tree → node s.tree (u + 1) ≡ sum is e → is_leaf e ≡ false → AreLoops s order
+    → JoinedLeaves s op u (u + 1) order before a (state_after s order (step (compute op u) (step (accumulate (u + 1)) stop)) before a)
+joined-next s op u is e order before a u_in at n loops =
+    let r = joined-run s op u is e order before a u_in at n in record {
+      others = r.0;
+      sums = λ p word. r.1 p
+          ∙ nest_word-total s.elements.extent (λ b. bytes_eq p (coordinates (dims_at s (u + 1)) b)) (computed_word s op u before) order a (before (u + 1) p) word;
+      last = λ b. ends-at-last s u order (computed_word s op u before) a before
+          (state_after s order (step (compute op u) (step (accumulate (u + 1)) stop)) before a) b loops (r.2 (coordinates (dims_at s u) b));
+    }
 
 pub joined_tails_add_up : JoinedTailsAddUp
 joined_tails_add_up s op u v order before a u_in v_in up is_sum loops =

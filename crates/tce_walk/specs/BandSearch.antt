@@ -43,9 +43,8 @@ abbrev pub band_program : List Op → Band → Program
 band_program ops band = loops_round band.loops.0.items (program_at ops band.at)
 
 pub record IsBandAt (tree : ContractionTree) (fusion : List ℕ) (ops : List Op) (band : Band) : Type 0 where
-  pub carrier : ℕ
   pub outside : Known
-  pub passes : IsBand tree fusion band.loops.0.items carrier outside (program_at ops band.at)
+  pub passes : IsBand tree fusion band.loops.0.items band.carrier outside (program_at ops band.at)
   pub within : band.at ≤ length ops
 
 -- a loop begins a band

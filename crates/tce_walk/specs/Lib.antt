@@ -18,3 +18,6 @@ pub mod BandSearch
 pub mod BandRuns
 pub mod StraightBodies
 pub mod BandExamples
+pub mod Terms
+pub mod FoundTerms
+pub mod TermRuns

@@ -17,8 +17,8 @@ abbrev pub tail_touches : IndexSpace → Option (List ℕ) → ℕ → ℕ
 tail_touches space None otherwise = otherwise
 tail_touches space (Some order) otherwise = 3 * block_count space order
 
--- Three touches for each operation that is met, and none for a `Clear`. A loop that begins a tail in which no operand is a constant
--- runs block by block, and every other loop turn by turn.
+-- Three touches for each operation that is met, and none for a `Clear`. A tail in which no operand is a constant is counted block by
+-- block, and every other loop turn by turn. A run of a band block by block takes no more than that.
 abbrev pub touch_bound : IndexSpace → ContractionTree → Program → ℕ
 touch_bound space tree stop = 0
 touch_bound space tree (step (clear v) rest) = touch_bound space tree rest

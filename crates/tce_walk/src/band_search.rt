@@ -12,8 +12,8 @@ ghost use Rattle.tce_walk.specs.Bands.{action_passes, gained, is_sum, left_ready
 ghost use Rattle.tce_walk.specs.BandSearch.{known_of, operand_ready, BeginsBand, IsCheckedAt, IsNestAt, IsPassed};
 ghost use Rattle.tce_walk.specs.Positions.{plain_program};
 
+use crate::indexes::{are_in, is_apart};
 use crate::search::is_end;
-use crate::straight::straight_body;
 use crate::walk::Walk;
 use arrayvec::ArrayVec;
 use tce_code::Op;
@@ -21,12 +21,14 @@ use tce_space::{IndexSet, LoopOrder, MAX_INDEXES, MAX_LOOPS, MAX_NODES, Space};
 use tce_tree::{Kind, Operand};
 
 // A mark for each node.
-type Marks = [bool; MAX_NODES];
+pub(crate) type Marks = [bool; MAX_NODES];
 
-// Loops, outermost first, with the position of the body, and that of the `Close` of the outermost loop.
+// Loops, outermost first, with the node that carries what their turns leave, the position of the body, and that of the `Close`
+// of the outermost loop.
 #[derive(Drop)]
 pub(crate) struct Band {
     pub(crate) loops: LoopOrder,
+    pub(crate) carrier: u8,
     pub(crate) at: usize,
     pub(crate) close: usize,
 }
@@ -93,21 +95,26 @@ fn is_cut(space: &Space, loops: &LoopOrder) -> bool {
     false
 }
 
-// The loops that stand directly in one another from a position on, if some inner one is cut or the body has operations alone.
+// The loops that stand directly in one another from a position on, if some inner one is cut or the body begins with an operation.
 fn loops_at(walk: &Walk, at: usize) -> LoopOrder {
     let mut loops = LoopOrder(ArrayVec::new());
     push_loops(walk.ops, at, &mut loops);
     loops.0.truncate(depth_at(walk.ops, at));
-    if !is_cut(walk.space, &loops) && !is_straight(walk.ops, at, loops.0.len()) {
+    if !is_cut(walk.space, &loops) && opens_at(walk.ops, at.saturating_add(loops.0.len())) {
         loops.0.clear();
     }
     loops
 }
 
-// Whether the body behind so many loops has operations alone.
-fn is_straight(ops: &[Op], at: usize, depth: usize) -> bool {
-    let body = at.saturating_add(depth).min(ops.len());
-    straight_body(ops, body).is_some()
+// Whether a loop begins here.
+fn opens_at(ops: &[Op], at: usize) -> bool {
+    if at >= ops.len() {
+        return false;
+    }
+    match ops[at] {
+        Op::Open(_) => true,
+        _ => false,
+    }
 }
 
 // The nodes that the loop from here on writes lose their marks; the last of them is what is told.
@@ -163,14 +170,14 @@ fn is_ready(operand: &Operand, known: &Marks) -> bool
     }
 }
 
-fn is_left_ready(walk: &Walk, v: u8, known: &Marks) -> bool
+pub(crate) fn is_left_ready(walk: &Walk, v: u8, known: &Marks) -> bool
     requires { v < operations walk.now.tree.now }
     ensures { IsTrue result → IsTrue (left_ready walk.now.tree.now (known_of known.now) v) }
 {
     is_ready(walk.tree.left(v), known)
 }
 
-fn is_right_ready(walk: &Walk, v: u8, known: &Marks) -> bool
+pub(crate) fn is_right_ready(walk: &Walk, v: u8, known: &Marks) -> bool
     requires { v < operations walk.now.tree.now }
     ensures { IsTrue result → IsTrue (right_ready walk.now.tree.now (known_of known.now) v) }
 {
@@ -178,18 +185,6 @@ fn is_right_ready(walk: &Walk, v: u8, known: &Marks) -> bool
         Some(right) => is_ready(right, known),
         None => true,
     }
-}
-
-// Whether all loops are in the set.
-fn are_in(set: IndexSet, loops: &[u8]) -> bool
-    ensures { IsTrue result → IsTrue (list_all (has set) loops.now) }
-{
-    for d in 0..loops.len() {
-        if loops[d] >= MAX_INDEXES as u8 || !set.has(loops[d]) {
-            return false;
-        }
-    }
-    true
 }
 
 // Whether the places of a node with two operands are as asked: all loops are among the kept dims of the node that
@@ -272,18 +267,6 @@ fn check_action(walk: &Walk, claim: &Claim, op: Op, known: &mut Marks) -> bool
             passes
         }
     }
-}
-
-// Whether this is none of the loops.
-fn is_apart(loops: &[u8], i: u8) -> bool
-    ensures { IsTrue result → IsTrue (not (among loops.now i)) }
-{
-    for d in 0..loops.len() {
-        if loops[d] == i {
-            return false;
-        }
-    }
-    true
 }
 
 // Where the program that begins here ends, if it passes.
@@ -376,6 +359,7 @@ pub(crate) fn find_band(walk: &Walk, at: usize, i: u8) -> Option<Band>
     Some(Band {
         at: at + claim.loops.0.len(),
         loops: claim.loops,
+        carrier: claim.carrier,
         close,
     })
 }

@@ -6,8 +6,10 @@ ghost use Rattle.tce_space.specs.Space.{IndexSpace};
 ghost use Rattle.tce_block.specs.Cuts.{part_of};
 ghost use Rattle.tce_code.specs.Execution.{Setting, State, cleared};
 ghost use Rattle.tce_walk.specs.Bodies.{after_body, touches_of_body, IsBodyAt};
+ghost use Rattle.tce_walk.specs.Terms.{after_combination, touches_of_terms, IsCombinationAt};
 ghost use Rattle.tce_walk.specs.Machine.{assignment_of, after, operation_of_node, tail_program, touches_of_tail, IsNodeAt, IsInnerSum, IsTailAt};
 
+use crate::terms::Combination;
 use tce_block::Block;
 use tce_code::Op;
 use tce_outside::Failed;
@@ -111,6 +113,29 @@ pub trait Machine {
             body.now.loops.now body.now.ops.now (part_of block.now) (assignment_of numbers.now) (state self.old)) }
         ensures touches { OnOk result (touches self.new
             ≤ touches self.old + touches_of_body body.now.ops.now (part_of block.now)) }
+        ensures cause { HasCause (faults self.old) (faults self.new) (IsErr result) }
+        ensures told { TellsFaults (faults self.old) (faults self.new) (IsErr result) }
+        ensures space { space self.new ≡ space self.old }
+        ensures setting { setting self.new ≡ setting self.old }
+        ensures kept { keeps self.old self.new };
+
+    /// Sets the places of a combination's node in one block of its loops to the node's values, with at most three touches for
+    /// each block of each term's loops. No other place changes. `numbers` has the numbers of all other loops.
+    fn run_terms(
+        &mut self,
+        sum: &Combination<'_>,
+        block: &Block,
+        numbers: &Numbers,
+    ) -> Result<(), Failed>
+        requires ready { ready self.old }
+        requires terms { IsCombinationAt (space self.old) (setting self.old)
+            sum.now (part_of block.now) (assignment_of numbers.now) }
+        requires few { touches self.old + touches_of_terms (space self.old) sum.now.terms.now ≤ 2 ^ 100 }
+        ensures ready { OnOk result (ready self.new) }
+        ensures state { OnOk result (state self.new ≡ after_combination (setting self.old)
+            sum.now (part_of block.now) (assignment_of numbers.now) (state self.old)) }
+        ensures touches { OnOk result (touches self.new
+            ≤ touches self.old + touches_of_terms (space self.old) sum.now.terms.now) }
         ensures cause { HasCause (faults self.old) (faults self.new) (IsErr result) }
         ensures told { TellsFaults (faults self.old) (faults self.new) (IsErr result) }
         ensures space { space self.new ≡ space self.old }

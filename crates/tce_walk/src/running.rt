@@ -16,10 +16,12 @@ ghost use Rattle.tce_walk.specs.Tails.{loops_round};
 ghost use Rattle.tce_block.specs.Cuts.{part_of};
 
 use crate::band_search::{Band, find_band};
-use crate::cuts::cuts_of;
+use crate::combination::find_terms;
+use crate::cuts::{cuts_of, last_block};
 use crate::machine::{Body, Machine};
 use crate::search::find_tail;
 use crate::straight::straight_body;
+use crate::term_runs::run_terms_of_band;
 use crate::walk::Walk;
 use tce_block::{Block, Blocks};
 use tce_code::Op;
@@ -218,6 +220,12 @@ fn run_band<M: Machine>(
     ensures setting { M.setting machine.new ≡ M.setting machine.old }
     ensures kept { M.keeps machine.old machine.new }
 {
+    if let Some(terms) = find_terms(walk, band) {
+        run_terms_of_band(walk, machine, band, &terms, numbers)?;
+        let last = last_block(walk.space, band.loops.0.as_slice());
+        run_along(walk, machine, band, &last, 0, numbers)?;
+        return Ok(());
+    }
     let cuts = cuts_of(walk.space, band.loops.0.as_slice());
     let mut parts = Blocks::new(&cuts);
     let mut block = Block::default();

@@ -3,7 +3,7 @@ ghost use Rattle.std.specs.Prelude.{◌≡◌, ◌<◌, ◌≤◌, ◌^◌, IsTr
 ghost use Rattle.std.specs.declared.option.Option.TheVariants.{None};
 ghost use Rattle.tce_space.specs.Name.{is_name};
 
-use crate::given::{constant, leaf, new_space, product, sum, two_sums};
+use crate::given::{boxed, constant, leaf, new_space, product, sum, two_sums};
 use arrayvec::ArrayVec;
 use std::alloc::Global;
 use std::process::Abort;
@@ -14,7 +14,7 @@ use tce_fusion::{is_legal, standard_orders};
 use tce_outside::Failed;
 use tce_space::{IndexSet, Name, Numbers, Space};
 use tce_tree::{Expr, Fusion, Tree};
-use tce_walk::{Body, Machine, Tail, run_program, touches_are_few};
+use tce_walk::{Body, Combination, Machine, Tail, run_program, touches_are_few};
 
 // Writes down the calls of a run as bytes, and fails where there is no room for more. It tells nothing of its places,
 // and its count of faults stands at its end.
@@ -83,7 +83,7 @@ impl<'a> Machine for Recorder<'a> {
         self.write(tail.loops.0.as_slice())
     }
 
-    // The number of operations, that of the block's dimensions, that of index 1, and the loops.
+    // The number of operations, that of index 1, the loops, and the block's first numbers and lengths.
     fn run_body(
         &mut self,
         body: &Body<'_>,
@@ -91,9 +91,23 @@ impl<'a> Machine for Recorder<'a> {
         numbers: &Numbers,
     ) -> Result<(), Failed> {
         let ops = (body.ops.len() % 256) as u8;
-        let dimensions = (block.len.len() % 256) as u8;
-        self.write(&[b'b', ops, dimensions, (numbers[1] % 256) as u8])?;
-        self.write(body.loops)
+        self.write(&[b'b', ops, (numbers[1] % 256) as u8])?;
+        self.write(body.loops)?;
+        self.write(bytes_of(block.from.as_slice()).as_slice())?;
+        self.write(bytes_of(block.len.as_slice()).as_slice())
+    }
+
+    // The node, the number of terms, the first number of each dimension of the block, and the loops.
+    fn run_terms(
+        &mut self,
+        sum: &Combination<'_>,
+        block: &Block,
+        _numbers: &Numbers,
+    ) -> Result<(), Failed> {
+        let terms = (sum.terms.len() % 256) as u8;
+        self.write(&[b's', sum.node, terms])?;
+        self.write(bytes_of(block.from.as_slice()).as_slice())?;
+        self.write(sum.loops)
     }
 
     ghost use Rattle.std.proofs.Common.{rules};
@@ -101,6 +115,17 @@ impl<'a> Machine for Recorder<'a> {
     ghost keeps_own = { Prim.search rules };
 
     ghost keeps_on = { Prim.search rules };
+}
+
+// The last byte of each number.
+fn bytes_of(numbers: &[u64]) -> ArrayVec<u8, 16> {
+    let mut bytes = ArrayVec::new();
+    for number in numbers {
+        if !bytes.is_full() {
+            bytes.push((*number % 256) as u8);
+        }
+    }
+    bytes
 }
 
 // `sum{i}(A[i] * B[i])`
@@ -239,6 +264,34 @@ fn a_product_joins_its_sum(rt: HostRuntime) {
     );
 }
 
+#[test]
+fn a_constant_goes_block_by_block(rt: HostRuntime) {
+    let expr = doubled(&rt, rt.alloc());
+    let sets = [IndexSet::empty()];
+    expect_calls(
+        &rt,
+        rt.alloc(),
+        &expr,
+        &sets,
+        (128, true),
+        &[b'b', 1, 0, 0, 0, 2, b'b', 1, 0, 0, 2, 1],
+    );
+}
+
+#[test]
+fn a_failure_ends_the_run(rt: HostRuntime) {
+    let expr = doubled(&rt, rt.alloc());
+    let sets = [IndexSet::empty()];
+    expect_calls(
+        &rt,
+        rt.alloc(),
+        &expr,
+        &sets,
+        (8, false),
+        &[b'b', 1, 0, 0, 0, 2],
+    );
+}
+
 // The numbers of i and j block by block, for tiles with edges of 2.
 const BY_BLOCKS: [(u8, u8); 9] = [
     (0, 0),
@@ -258,6 +311,31 @@ fn both() -> IndexSet {
 
 fn put(rt: &impl Abort, wanted: &mut ArrayVec<u8, 128>, bytes: &[u8]) {
     assert!(rt; wanted.try_extend_from_slice(bytes).is_ok());
+}
+
+// `A[i,j] * B[i,j] * C[i,j]`, the first product inside both loops of the second
+#[test]
+fn a_body_of_two_goes_block_by_block(rt: HostRuntime) {
+    let wanted = [
+        b'b', 2, 0, 0, 1, 0, 0, 2, 2, b'b', 2, 0, 0, 1, 0, 2, 2, 1, b'b', 2, 0, 0, 1, 2, 0, 1, 2,
+        b'b', 2, 0, 0, 1, 2, 2, 1, 1,
+    ];
+    let pairs = product(
+        &rt,
+        rt.alloc(),
+        leaf(&rt, rt.alloc(), 0, &[0, 1]),
+        leaf(&rt, rt.alloc(), 1, &[0, 1]),
+    );
+    let expr = product(&rt, rt.alloc(), pairs, leaf(&rt, rt.alloc(), 2, &[0, 1]));
+    let sets = [both(), IndexSet::empty()];
+    expect_calls(
+        &rt,
+        rt.alloc(),
+        &expr,
+        &sets,
+        (128, true),
+        wanted.as_slice(),
+    );
 }
 
 // `sum{k}(A[i,k] * B[k,j])`
@@ -311,6 +389,85 @@ fn a_body_that_keeps_rows_goes_turn_by_turn(rt: HostRuntime) {
     }
     let expr = summed(&rt, rt.alloc());
     let sets = [both(), IndexSet::empty()];
+    expect_calls(
+        &rt,
+        rt.alloc(),
+        &expr,
+        &sets,
+        (128, true),
+        wanted.as_slice(),
+    );
+}
+
+fn difference(rt: &impl Abort, alloc: Global, left: Box<Expr>, right: Box<Expr>) -> Box<Expr> {
+    boxed(rt, alloc, Expr::Sub(left, right))
+}
+
+// The indexes i, j and k of extent 4.
+fn three_indexes(rt: &impl Abort, alloc: Global) -> Space {
+    let mut space = new_space(rt, alloc);
+    assert!(rt; space.add_range(&name_of(rt, "N"), 4, 2).is_ok());
+    declare(rt, &mut space, "i");
+    declare(rt, &mut space, "j");
+    declare(rt, &mut space, "k");
+    space
+}
+
+// Where the blocks of i and j begin.
+const QUARTERS: [(u8, u8); 4] = [(0, 0), (0, 2), (2, 0), (2, 2)];
+
+// `sum{k}(A[i,k] * B[k,j]) - sum{k}(A[i,k] * B[k,j])`, where the body runs once more at the last numbers
+#[test]
+fn terms_go_block_by_block(rt: HostRuntime) {
+    let mut wanted = ArrayVec::new();
+    for n in 0..4 {
+        let (i, j) = QUARTERS[n];
+        put(&rt, &mut wanted, &[b's', 4, 2, i, j, 0, 1]);
+    }
+    put(
+        &rt,
+        &mut wanted,
+        &[
+            b'c', 1, b't', 0, 101, 3, 2, b'c', 3, b't', 2, 103, 3, 2, b'o', 4, 3, 3,
+        ],
+    );
+    let expr = difference(
+        &rt,
+        rt.alloc(),
+        summed(&rt, rt.alloc()),
+        summed(&rt, rt.alloc()),
+    );
+    let space = three_indexes(&rt, rt.alloc());
+    let within = both().with(2);
+    let sets = [within, both(), within, both(), IndexSet::empty()];
+    let mut calls = ArrayVec::new();
+    match calls_of(rt.alloc(), &space, &expr, &sets, 128, &mut calls) {
+        Ok(ran) => assert!(&rt; ran),
+        Err(_) => panic!(&rt; "no run"),
+    }
+    assert!(&rt; calls.as_slice() == wanted.as_slice());
+    drop(space);
+}
+
+// Blocks of fewer than four elements in the mean go element by element.
+#[test]
+fn small_blocks_go_element_by_element(rt: HostRuntime) {
+    let mut wanted = ArrayVec::new();
+    for n in 0..9 {
+        let (i, j) = BY_BLOCKS[n];
+        put(
+            &rt,
+            &mut wanted,
+            &[b'c', 1, b't', 0, 101, j, 2, b'o', 2, i, j],
+        );
+    }
+    let expr = difference(
+        &rt,
+        rt.alloc(),
+        summed(&rt, rt.alloc()),
+        leaf(&rt, rt.alloc(), 2, &[0, 1]),
+    );
+    let sets = [both().with(2), both(), IndexSet::empty()];
     expect_calls(
         &rt,
         rt.alloc(),

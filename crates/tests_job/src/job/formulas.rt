@@ -19,11 +19,11 @@ use tce_words::HeapRoom;
 // The most operations of a formula.
 const MOST_OPERATIONS: u64 = 9;
 
-// The ranges, cut into tiles, and the elements of each operand in row-major order.
+/// The ranges, cut into tiles, and the elements of each operand in row-major order.
 #[derive(Drop)]
-struct Given {
-    ranges: Vec<Range>,
-    operands: Vec<Vec<u64>>,
+pub struct Given {
+    pub ranges: Vec<Range>,
+    pub operands: Vec<Vec<u64>>,
 }
 
 // The ranges, each with a drawn edge.
@@ -69,14 +69,15 @@ fn drawn_operands(
     Ok(operands)
 }
 
-fn drawn_given(alloc: Global, draws: &mut Draws) -> Result<Given, AllocError> {
+/// Ranges with drawn edges, and operands with drawn elements.
+pub fn drawn_given(alloc: Global, draws: &mut Draws) -> Result<Given, AllocError> {
     let ranges = drawn_ranges(alloc, draws)?;
     let operands = drawn_operands(alloc, draws, ranges.as_slice())?;
     Ok(Given { ranges, operands })
 }
 
-// Some of the indexes that a formula has.
-fn drawn_indexes(term: &Term, draws: &mut Draws) -> [bool; 4] {
+/// Some of the indexes that a formula has.
+pub fn drawn_indexes(term: &Term, draws: &mut Draws) -> [bool; 4] {
     let mut indexes = term.dims;
     for at in 0..4 {
         indexes[at] = term.dims[at] && draws.below(2) == 0;
@@ -84,8 +85,8 @@ fn drawn_indexes(term: &Term, draws: &mut Draws) -> [bool; 4] {
     indexes
 }
 
-// Two formulas that are joined in a drawn way, on drawn sides.
-fn drawn_join(
+/// Two formulas that are joined in a drawn way, on drawn sides.
+pub fn drawn_join(
     alloc: Global,
     draws: &mut Draws,
     one: &Term,
@@ -322,8 +323,8 @@ fn difference(
     given: &Given,
     wanted: &[u8],
 ) -> &'static str {
-    let least = spec.largest_tile().saturating_mul(3);
-    let budget = least.saturating_add(draws.below(60));
+    let tiles = draws.below(18).wrapping_add(3);
+    let budget = spec.largest_tile().saturating_mul(tiles);
     if !must(rt, makes(alloc, spec, budget, given, wanted)) {
         return "by a least fusion";
     }
@@ -348,8 +349,8 @@ fn check_text(
     assert!(rt; different.is_empty(), "{different}: {text}");
 }
 
-// Runs a formula whose result has its indexes in a drawn order.
-fn check_term(rt: &impl Abort, alloc: Global, draws: &mut Draws, term: &Term, given: &Given) {
+/// Runs a formula whose result has its indexes in a drawn order.
+pub fn check_term(rt: &impl Abort, alloc: Global, draws: &mut Draws, term: &Term, given: &Given) {
     let ranges = given.ranges.as_slice();
     let order = must(rt, drawn_order(alloc, draws, term));
     let text = must(

@@ -5,7 +5,7 @@ use Rattle.tce_block.specs.Cuts.{part_of}
 use Rattle.tce_exec.specs.Bodies.{IsBodyIn}
 use Rattle.tce_exec.specs.Storages.{setting_of, work_of}
 use Rattle.tce_exec.specs.declared.body.BodyBlock.{BodyBlock}
-use Rattle.tce_exec.proofs.Bodies.{body_in}
+use Rattle.tce_exec.proofs.Bodies.{body_in, known_nodes}
 use Rattle.tce_exec.proofs.BodyBlocks.{from_long, begun, as_body}
 use Rattle.tce_exec.proofs.Reading.{each_of}
 use Rattle.tce_exec.proofs.body.run_body.Goals as goal
@@ -38,10 +38,14 @@ run_held-requires-clause-begun g c =
     c.as_slice-from.result.now c.begin.new.self.numbers c.index_count-indexes.ensures.limits refl c.requires.body c.as_slice-from.ensures.value c.as_slice-len.ensures.value c.as_slice-from.ensures.value
     c.go_to.ensures.numbers c.begin.ensures.numbers
 
-pub returns-then-not-is_empty-clause-changed : goal.returns-then-not-is_empty-clause-changed
-returns-then-not-is_empty-clause-changed g c =
+pub returns-then-tiles_of-frames-clause-changed : goal.returns-then-tiles_of-frames-clause-changed
+returns-then-tiles_of-frames-clause-changed g c =
     let b : BodyBlock = record { loops = c.args.body.now.loops; from = c.as_slice-from.result; len = c.as_slice-len.result; ops = c.args.body.now.ops } in
     let x = work_of g.D.Disk.files c.args.evaluation.now c.args.store.now in
     let z = work_of g.D.Disk.files c.args.evaluation.now c.run_held.new.store in
     on_ok_weaker c.run_held.result (as_body x z b (part_of c.args.block.now) (slice_index c.args.numbers.now) (slice_index c.go_to.new.self.numbers) c.as_slice-from.result.now c.begin.new.self.numbers
     c.as_slice-from.ensures.value c.as_slice-len.ensures.value c.go_to.ensures.numbers c.begin.ensures.numbers) c.run_held.ensures.changed
+
+pub tiles_of-requires-clause-known : goal.tiles_of-requires-clause-known
+tiles_of-requires-clause-known g c =
+    known_nodes (setting_of g.D.Disk.files c.args.evaluation.now c.args.store.now) c.args.body.now.loops.now (slice_index c.args.numbers.now) c.args.body.now.ops.now c.requires.body.each

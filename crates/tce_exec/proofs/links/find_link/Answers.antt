@@ -6,7 +6,7 @@ use Rattle.tce_exec.specs.Operands.{IsReadable}
 use Rattle.tce_exec.specs.Storages.{work_of}
 use Rattle.tce_exec.specs.Workspace.{Workspace}
 use Rattle.tce_exec.proofs.Following.{read_on}
-use Rattle.tce_exec.proofs.LinkLaws.{keeps_two, keeps_three, pair_link, sum_link}
+use Rattle.tce_exec.proofs.LinkLaws.{pair_keeps, sum_keeps, pair_link, sum_link}
 use Rattle.tce_exec.proofs.Operating.{readable_left, readable_right}
 use Rattle.tce_exec.proofs.links.find_link.Goals as goal
 
@@ -78,14 +78,16 @@ returns-in_ok-out-in-Some-clause-last g c =
     let y : Workspace = work_of g.D.Disk.files c.args.evaluation.now c.find_source.new.store in
     let z : Workspace = work_of g.D.Disk.files c.args.evaluation.now c.find_source-in-Some.new.store in
     let u : Workspace = work_of g.D.Disk.files c.args.evaluation.now c.find_target.new.store in
-    keeps_three x.cache y.cache z.cache u.cache (ap (λ (q : CacheState). q.frames) c.in_ok-left.ensures.kept.cache) (ap (λ (q : CacheState). q.frames) c.in_ok-right-in-Some.ensures.kept.cache ∙ ap (λ (q : CacheState). q.frames) c.in_ok-left.ensures.kept.cache) c.in_ok-left.ensures.last c.in_ok-right-in-Some.ensures.last c.in_ok-out-in-Some.ensures.last
+    pair_keeps c.args.evaluation.now.tree.now c.args.v c.left-operand.result.now c.in-Some.second.now x.cache y.cache z.cache u.cache (ap (λ (q : CacheState). q.frames) c.in_ok-left.ensures.kept.cache) (ap (λ (q : CacheState). q.frames) c.in_ok-right-in-Some.ensures.kept.cache)
+    c.left-operand.ensures.value c.in-Some.ensures.value c.in_ok-left.ensures.last c.in_ok-right-in-Some.ensures.last c.in_ok-out-in-Some.ensures.last
 
 pub returns-in_ok-out-in-None-clause-last : goal.returns-in_ok-out-in-None-clause-last
 returns-in_ok-out-in-None-clause-last g c =
     let x : Workspace = work_of g.D.Disk.files c.args.evaluation.now c.args.store.now in
     let y : Workspace = work_of g.D.Disk.files c.args.evaluation.now c.find_source.new.store in
     let u : Workspace = work_of g.D.Disk.files c.args.evaluation.now c.find_target-in-None.new.store in
-    keeps_two x.cache y.cache u.cache (ap (λ (q : CacheState). q.frames) c.in_ok-left.ensures.kept.cache) c.in_ok-left.ensures.last c.in_ok-out-in-None.ensures.last
+    sum_keeps c.args.evaluation.now.tree.now c.args.v c.left-operand.result.now x.cache y.cache u.cache (ap (λ (q : CacheState). q.frames) c.in_ok-left.ensures.kept.cache)
+    c.left-operand.ensures.value c.in-None.ensures.value c.in_ok-left.ensures.last c.in_ok-out-in-None.ensures.last
 
 pub returns-in_ok-out-in-Some-clause-link : goal.returns-in_ok-out-in-Some-clause-link
 returns-in_ok-out-in-Some-clause-link g c =

@@ -1,4 +1,4 @@
-use Rattle.std.proofs.Common.{slice_index}
+use Rattle.std.proofs.Common.{slice_index, arith}
 use Rattle.tce_exec.specs.Workspace.{Workspace}
 use Rattle.tce_exec.specs.Storages.{work_of}
 use Rattle.tce_exec.proofs.Operating.{own_place}
@@ -10,3 +10,8 @@ set_place_steps-requires-clause-known g c = result_known (work_of g.D.Disk.files
 
 pub place_window-requires-clause-place : goal.place_window-requires-clause-place
 place_window-requires-clause-place g c = own_place (work_of g.D.Disk.files c.args.evaluation.now c.args.store.now) c.args.v (slice_index c.args.first.now.numbers) c.requires.node
+
+pub node_window-requires-clause-inner : goal.node_window-requires-clause-inner
+node_window-requires-clause-inner g c =
+    let at = own_place (work_of g.D.Disk.files c.args.evaluation.now c.args.store.now) c.args.v (slice_index c.args.first.now.numbers) c.requires.node in
+    record { inner = omega (arith, at.known, c.if-v-count.true, c.count-count.ensures.value); inside = at.inside }

@@ -17,12 +17,14 @@ use Rattle.tce_block.specs.Cuts.{part_of}
 use Rattle.tce_block.specs.Parts.{Part, blocks}
 use Rattle.tce_space.specs.Space.{edge_at}
 use Rattle.tce_tree.specs.Value.{with_number}
-use Rattle.tce_walk.specs.BandRuns.{IsPartRun}
+use Rattle.tce_walk.specs.BandRuns.{FitsLoops, IsPartRun}
 use Rattle.tce_walk.specs.BandSearch.{BeginsBand, band_program}
 use Rattle.tce_walk.specs.Search.{HasNoTail}
 use Rattle.tce_walk.specs.Tails.{loops_round}
 use Rattle.tce_walk.proofs.BandTurns.{ArePartTurns, part_turns-next, part_turns-all, part_turn-few, loop-part, set_restored, turn-numbers}
-use Rattle.tce_walk.proofs.BandRuns.{each-declared, few-loops, blocks-begin, block-fits, first-block, blocks-next, blocks-all, block-few, band-part, band-bound, band-run}
+use Rattle.tce_walk.proofs.BandRuns.{each-declared, each-index, few-loops, blocks-begin, block-fits, first-block, blocks-next, blocks-all, block-few, band-part, band-bound, band-run}
+use Rattle.tce_walk.specs.TermRuns.{last_part}
+use Rattle.tce_walk.proofs.TermBands.{band_code, terms_few, last_fits, last_few, terms_make_band}
 use Rattle.tce_walk.proofs.running.+walking.Goals as goal
 
 pub run_loop-find_tail-requires-clause-shaped : goal.run_loop-find_tail-requires-clause-shaped
@@ -495,9 +497,69 @@ run_along-returns-clause-run g t c =
 pub run_along-returns-clause-numbers : goal.run_along-returns-clause-numbers
 run_along-returns-clause-numbers g t c = set_restored c.args.numbers.now c.loop-x.numbers (get_or c.deref.result.now c.args.d 0) c.loop-x.invariant.numbers_set
 
+pub run_band-find_terms-requires-clause-code : goal.run_band-find_terms-requires-clause-code
+run_band-find_terms-requires-clause-code g t c =
+    band_code c.args.walk.now.space.now c.args.walk.now.tree.now c.args.walk.now.ops.now c.args.band.now (assignment_of c.args.numbers.now) c.requires.part
+
+pub run_band-run_terms_of_band-requires-clause-few : goal.run_band-run_terms_of_band-requires-clause-few
+run_band-run_terms_of_band-requires-clause-few g t c =
+    terms_few c.args.walk.now.space.now c.args.walk.now.tree.now c.args.walk.now.fusion.now.0.items c.args.walk.now.ops.now c.args.band.now c.in-Some.terms (g.M.Machine.touches c.args.machine.now)
+    c.in-Some.ensures c.requires.few
+
+pub run_band-last_block-last-requires-clause-declared : goal.run_band-last_block-last-requires-clause-declared
+run_band-last_block-last-requires-clause-declared g t c =
+    subst (λ xs. (k d : ℕ) → k < length xs → get_or xs k d < length c.args.walk.now.space.now.indexes) (sym c.as_slice.ensures.value)
+    (each-declared c.args.walk.now.space.now c.args.walk.now.tree.now (program_at c.args.walk.now.ops.now c.args.band.now.at) c.args.band.now.loops.0.items (assignment_of c.args.numbers.now) c.requires.limits c.requires.over.measured c.requires.part)
+
+pub run_band-run_along-requires : goal.run_band-run_along-requires
+run_band-run_along-requires g t c = λ κs lives.
+    let over : RunsOver c.args.walk.now.space.now c.args.walk.now.tree.now (g.M.Machine.space c.run_terms_of_band.new.machine) (g.M.Machine.setting c.run_terms_of_band.new.machine) =
+    over-later c.run_terms_of_band.ensures.space c.run_terms_of_band.ensures.setting c.requires.over in
+    let is_last : part_of c.last_block-last.result ≡ last_part (extent_at c.args.walk.now.space.now) c.args.band.now.loops.0.items =
+    c.last_block-last.ensures ∙ ap (last_part (extent_at c.args.walk.now.space.now)) c.as_slice.ensures.value in
+    let fits =
+    subst (FitsLoops c.args.walk.now.space.now c.args.band.now.loops.0.items) (sym is_last)
+    (last_fits c.args.walk.now.space.now c.args.band.now.loops.0.items (λ d l.
+    (each-index c.args.walk.now.space.now c.args.walk.now.tree.now (program_at c.args.walk.now.ops.now c.args.band.now.at) c.args.band.now.loops.0.items (assignment_of c.args.numbers.now) c.requires.limits c.requires.over.measured c.requires.part d l).some)) in
+    let many = few-loops c.args.walk.now.space.now c.args.walk.now.tree.now (program_at c.args.walk.now.ops.now c.args.band.now.at) c.args.band.now.loops.0.items (assignment_of c.args.numbers.now) c.requires.part in
+    let few =
+    last_few c.args.walk.now.space.now c.args.walk.now.tree.now c.args.walk.now.fusion.now.0.items (g.M.Machine.setting c.args.machine.now) c.args.walk.now.ops.now c.args.band.now c.in-Some.terms
+    (assignment_of c.args.numbers.now) (part_of c.last_block-last.result) (g.M.Machine.state c.args.machine.now) (g.M.Machine.state c.run_terms_of_band.new.machine)
+    (g.M.Machine.touches c.args.machine.now) (g.M.Machine.touches c.run_terms_of_band.new.machine) c.in-Some.ensures is_last (c.in_ok-run_terms_of_band.ensures).run c.requires.few in (
+      omega (arith, many),
+      (
+        lives,
+        (
+          c.requires.band.within,
+          (
+            omega arith,
+            (
+              fits,
+              (
+                c.requires.limits,
+                (
+                  ap (λ (s : Setting). s.fusion) c.run_terms_of_band.ensures.setting ∙ c.requires.fused,
+                  (over, (c.requires.part, ((c.in_ok-run_terms_of_band.ensures).ready, few))),
+                ),
+              ),
+            ),
+          ),
+        ),
+      ),
+    )
+
+pub run_band-returns-in-Some-clause-run : goal.run_band-returns-in-Some-clause-run
+run_band-returns-in-Some-clause-run g t c =
+    terms_make_band c.args.walk.now.space.now c.args.walk.now.tree.now c.args.walk.now.fusion.now.0.items (g.M.Machine.space c.args.machine.now) (g.M.Machine.setting c.args.machine.now)
+    (g.M.Machine.setting c.run_terms_of_band.new.machine) c.args.walk.now.ops.now c.args.band.now c.in-Some.terms (assignment_of c.args.numbers.now) (part_of c.last_block-last.result)
+    (g.M.Machine.state c.args.machine.now) (g.M.Machine.state c.run_terms_of_band.new.machine) (g.M.Machine.state c.run_along.new.machine)
+    (g.M.Machine.touches c.args.machine.now) (g.M.Machine.touches c.run_terms_of_band.new.machine) (g.M.Machine.touches c.run_along.new.machine) c.requires.limits c.requires.over c.requires.fused
+    c.requires.band c.requires.part c.in-Some.ensures c.run_terms_of_band.ensures.setting
+    (c.last_block-last.ensures ∙ ap (last_part (extent_at c.args.walk.now.space.now)) c.as_slice.ensures.value) (c.in_ok-run_terms_of_band.ensures).run (c.in_ok-run_along.ensures).run
+
 pub run_band-cuts_of-cuts-requires-clause-declared : goal.run_band-cuts_of-cuts-requires-clause-declared
 run_band-cuts_of-cuts-requires-clause-declared g t c =
-    subst (λ xs. (k d : ℕ) → k < length xs → get_or xs k d < length c.args.walk.now.space.now.indexes) (sym c.as_slice.ensures.value)
+    subst (λ xs. (k d : ℕ) → k < length xs → get_or xs k d < length c.args.walk.now.space.now.indexes) (sym c.as_slice-2.ensures.value)
     (each-declared c.args.walk.now.space.now c.args.walk.now.tree.now (program_at c.args.walk.now.ops.now c.args.band.now.at) c.args.band.now.loops.0.items (assignment_of c.args.numbers.now) c.requires.limits c.requires.over.measured c.requires.part)
 
 pub run_band-loop-parts-init : goal.run_band-loop-parts-init
@@ -509,8 +571,8 @@ run_band-loop-parts-init g t c = record {
   counted = refl;
   left =
       blocks-begin c.args.walk.now.space.now c.args.walk.now.tree.now (g.M.Machine.setting c.args.machine.now) (program_at c.args.walk.now.ops.now c.args.band.now.at) c.args.band.now.loops.0.items (assignment_of c.args.numbers.now) c.new-parts.result (g.M.Machine.state c.args.machine.now) (g.M.Machine.touches c.args.machine.now)
-      (c.new-parts.ensures ∙ ap₂ blocks (c.cuts_of-cuts.ensures.extents ∙ ap (map (extent_at c.args.walk.now.space.now)) c.as_slice.ensures.value)
-      (c.cuts_of-cuts.ensures.edges ∙ ap (map (edge_at c.args.walk.now.space.now)) c.as_slice.ensures.value));
+      (c.new-parts.ensures ∙ ap₂ blocks (c.cuts_of-cuts.ensures.extents ∙ ap (map (extent_at c.args.walk.now.space.now)) c.as_slice-2.ensures.value)
+      (c.cuts_of-cuts.ensures.edges ∙ ap (map (edge_at c.args.walk.now.space.now)) c.as_slice-2.ensures.value));
   numbers_same = refl;
 }
 

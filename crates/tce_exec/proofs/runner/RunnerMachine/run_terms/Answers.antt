@@ -1,0 +1,9 @@
+use Rattle.tce_exec.specs.Storages.{work_of}
+use Rattle.tce_exec.proofs.Workspaces.{kept_setting}
+use Rattle.tce_exec.proofs.runner.RunnerMachine.run_terms.Goals as goal
+
+pub returns-clause-setting : goal.returns-clause-setting
+returns-clause-setting g c =
+    let m = c.args.self.now in
+    kept_setting (work_of g.D.Disk.files m.evaluation m.store)
+    (work_of g.D.Disk.files m.evaluation c.run_terms-answer.new.store) c.requires.ready.0.cache c.run_terms-answer.ensures.kept

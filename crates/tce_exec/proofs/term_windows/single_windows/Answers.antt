@@ -1,0 +1,110 @@
+use Rattle.std.proofs.Common.{slice_index, refl, arith}
+use Rattle.std.proofs.lemmas.Result.{on_ok_weaker}
+use Rattle.std.proofs.lemmas.Bool.{false≢true}
+use Rattle.tce_outside.proofs.Causes.{cause_of, cause_since, told_after}
+use Rattle.tce_exec.specs.Workspace.{Workspace}
+use Rattle.tce_exec.specs.Storages.{work_of}
+use Rattle.tce_exec.specs.Evaluations.{places_of}
+use Rattle.tce_exec.proofs.Following.{read_on, same_on}
+use Rattle.tce_exec.specs.Following.{kept_on}
+use Rattle.tce_exec.proofs.Operating.{node_after}
+use Rattle.tce_exec.proofs.TermPlaces.{element_place, same_term_steps, one_found}
+use Rattle.tce_exec.proofs.Touching.{operand_once}
+use Rattle.tce_exec.proofs.Calls.{on_both, none_given, told_of, fewer}
+use Rattle.tce_exec.proofs.term_windows.single_windows.Goals as goal
+
+pub operand_window-requires-clause-place : goal.operand_window-requires-clause-place
+operand_window-requires-clause-place g c =
+    let x : Workspace = work_of g.D.Disk.files c.args.evaluation.now c.args.store.now in
+    element_place x c.args.operands.now.left.now (slice_index c.args.first.now.numbers) c.requires.prepared c.requires.elements.tensors.left_is c.requires.elements.left_has
+
+pub place_window-requires-clause-place : goal.place_window-requires-clause-place
+place_window-requires-clause-place g c =
+    let x : Workspace = work_of g.D.Disk.files c.args.evaluation.now c.args.store.now in
+    let y : Workspace = work_of g.D.Disk.files c.args.evaluation.now c.operand_window.new.store in
+    node_after x y c.args.operands.now.out (slice_index c.args.first.now.numbers) c.in_ok-operand_window.ensures.kept c.requires.place
+
+pub returns-in_err-operand_window-clause-windows : goal.returns-in_err-operand_window-clause-windows
+returns-in_err-operand_window-clause-windows g c = none_given _ _ c.from_residual.result c.from_residual.ensures.1
+
+pub returns-in_err-operand_window-clause-read : goal.returns-in_err-operand_window-clause-read
+returns-in_err-operand_window-clause-read g c = none_given _ _ c.from_residual.result c.from_residual.ensures.1
+
+pub returns-in_err-operand_window-clause-kept : goal.returns-in_err-operand_window-clause-kept
+returns-in_err-operand_window-clause-kept g c = c.in_err-operand_window.ensures.kept
+
+pub returns-in_err-operand_window-clause-same : goal.returns-in_err-operand_window-clause-same
+returns-in_err-operand_window-clause-same g c = c.in_err-operand_window.ensures.same
+
+pub returns-in_err-operand_window-clause-cause : goal.returns-in_err-operand_window-clause-cause
+returns-in_err-operand_window-clause-cause g c = cause_of _ _ c.in_err-operand_window.ensures.cause
+
+pub returns-in_err-operand_window-clause-told : goal.returns-in_err-operand_window-clause-told
+returns-in_err-operand_window-clause-told g c = told_of _ _ _ c.from_residual.result c.from_residual.ensures.1
+
+pub returns-clause-windows : goal.returns-clause-windows
+returns-clause-windows g c =
+    let y : Workspace = work_of g.D.Disk.files c.args.evaluation.now c.operand_window.new.store in
+    let z : Workspace = work_of g.D.Disk.files c.args.evaluation.now c.place_window.new.store in
+    on_both c.place_window.result c.place_window.ensures.window c.place_window.ensures.last (λ window last.
+    one_found z c.args.operands.now (slice_index c.args.first.now.numbers)
+    (record { left = c.operand_window.new.window; right = c.args.windows.now.right; out = c.place_window.new.window; own = c.args.windows.now.own }) c.requires.single
+    (operand_once y z c.args.operands.now.left.now (slice_index c.args.first.now.numbers) c.operand_window.new.window c.in_ok-operand_window.ensures.read.prepared.cache.frames c.place_window.ensures.kept last
+    c.in_ok-operand_window.ensures.window)
+    window)
+
+pub returns-clause-read : goal.returns-clause-read
+returns-clause-read g c =
+    let x : Workspace = work_of g.D.Disk.files c.args.evaluation.now c.args.store.now in
+    let y : Workspace = work_of g.D.Disk.files c.args.evaluation.now c.operand_window.new.store in
+    let z : Workspace = work_of g.D.Disk.files c.args.evaluation.now c.place_window.new.store in
+    on_ok_weaker c.place_window.result (read_on 1 1 3 x y z (omega arith) c.in_ok-operand_window.ensures.kept c.in_ok-operand_window.ensures.read) c.place_window.ensures.read
+
+pub returns-clause-kept : goal.returns-clause-kept
+returns-clause-kept g c =
+    let x : Workspace = work_of g.D.Disk.files c.args.evaluation.now c.args.store.now in
+    let y : Workspace = work_of g.D.Disk.files c.args.evaluation.now c.operand_window.new.store in
+    let z : Workspace = work_of g.D.Disk.files c.args.evaluation.now c.place_window.new.store in
+    kept_on x y z c.in_ok-operand_window.ensures.kept c.place_window.ensures.kept
+
+pub returns-clause-same : goal.returns-clause-same
+returns-clause-same g c = same_on c.args.store.now c.operand_window.new.store c.place_window.new.store c.in_ok-operand_window.ensures.same c.place_window.ensures.same
+
+pub returns-clause-cause : goal.returns-clause-cause
+returns-clause-cause g c = cause_since _ _ _ c.in_ok-operand_window.ensures.cause.later c.place_window.ensures.cause
+
+pub returns-clause-told : goal.returns-clause-told
+returns-clause-told g c = told_after _ _ _ (c.in_ok-operand_window.ensures.told false≢true) c.place_window.ensures.told
+
+pub operand_window-requires-clause-prepared : goal.operand_window-requires-clause-prepared
+operand_window-requires-clause-prepared g c = c.requires.prepared
+
+pub operand_window-requires-clause-position : goal.operand_window-requires-clause-position
+operand_window-requires-clause-position g c = c.requires.position
+
+pub operand_window-requires-clause-few : goal.operand_window-requires-clause-few
+operand_window-requires-clause-few g c = fewer c.args.store.now.cache.now.touches 1 2 _ c.requires.few
+
+pub place_window-requires-clause-prepared : goal.place_window-requires-clause-prepared
+place_window-requires-clause-prepared g c = c.in_ok-operand_window.ensures.read.prepared
+
+pub place_window-requires-clause-position : goal.place_window-requires-clause-position
+place_window-requires-clause-position g c = c.requires.position
+
+pub place_window-requires-clause-steps : goal.place_window-requires-clause-steps
+place_window-requires-clause-steps g c = c.requires.steps.out_are
+
+pub place_window-requires-clause-few : goal.place_window-requires-clause-few
+place_window-requires-clause-few g c = omega (arith, c.in_ok-operand_window.ensures.read.few, c.requires.few)
+
+pub operand_window-requires-clause-steps : goal.operand_window-requires-clause-steps
+operand_window-requires-clause-steps g c = c.requires.steps.left_are
+
+pub returns-in_err-operand_window-clause-steps : goal.returns-in_err-operand_window-clause-steps
+returns-in_err-operand_window-clause-steps g c = none_given _ _ c.from_residual.result c.from_residual.ensures.1
+
+pub returns-clause-steps : goal.returns-clause-steps
+returns-clause-steps g c =
+    on_ok_weaker c.place_window.result (λ window. same_term_steps (places_of c.args.evaluation.now) c.args.operands.now c.args.windows.now
+    (record { left = c.operand_window.new.window; right = c.args.windows.now.right; out = c.place_window.new.window; own = c.args.windows.now.own }) c.requires.steps
+    c.in_ok-operand_window.ensures.steps refl c.place_window.ensures.steps) c.place_window.ensures.window
