@@ -2,12 +2,14 @@
 import subprocess
 
 # Met calls are counted from 0; those from FAIL_FROM to FAIL_TO fail, and the first says so on standard error.
-# FAIL_WHAT: memory; input (EIO); interrupted (EINTR, at that call alone); short (one byte is moved); closing (EIO at what need
-# not succeed: a file is closed all the same, and one that is not locked is used).
+# FAIL_WHAT: memory; input (EIO), full (ENOSPC) or quota (EDQUOT); killed (the process ends before the call); interrupted (EINTR, at
+# that call alone); short (one byte is moved); closing (EIO at what need not succeed: a file is closed all the same, and one that is
+# not locked is used).
 SOURCE = r"""
 #define _GNU_SOURCE
 #include <errno.h>
 #include <fcntl.h>
+#include <signal.h>
 #include <stdarg.h>
 #include <stddef.h>
 #include <stdlib.h>
@@ -28,6 +30,7 @@ enum what { NOTHING, MEMORY, INPUT, INTERRUPTED, SHORT, CLOSING };
 
 static enum what what = NOTHING;
 static long met, first, last;
+static int fault = EIO, kills;
 
 __attribute__((constructor)) static void begin(void) {
     const char *from = getenv("FAIL_FROM"), *to = getenv("FAIL_TO"), *named = getenv("FAIL_WHAT");
@@ -35,8 +38,10 @@ __attribute__((constructor)) static void begin(void) {
         return;
     first = atol(from);
     last = atol(to);
-    what = !strcmp(named, "memory") ? MEMORY : !strcmp(named, "input") ? INPUT
-         : !strcmp(named, "interrupted") ? INTERRUPTED : !strcmp(named, "closing") ? CLOSING : SHORT;
+    kills = !strcmp(named, "killed");
+    fault = !strcmp(named, "full") ? ENOSPC : !strcmp(named, "quota") ? EDQUOT : EIO;
+    what = !strcmp(named, "memory") ? MEMORY : !strcmp(named, "interrupted") ? INTERRUPTED : !strcmp(named, "closing") ? CLOSING
+         : !strcmp(named, "short") ? SHORT : INPUT;
 }
 
 static int fails(int error) {
@@ -45,13 +50,15 @@ static int fails(int error) {
         return 0;
     if (at == first && syscall(SYS_write, 2, "failed", 6) != 6)
         abort();
+    if (kills)
+        raise(SIGKILL);
     errno = error;
     return 1;
 }
 
 static int no_memory(void) { return what == MEMORY && fails(ENOMEM); }
-static int no_call(void) { return (what == INPUT && fails(EIO)) || (what == INTERRUPTED && fails(EINTR)); }
-static int no_uninterrupted(void) { return what == INPUT && fails(EIO); }
+static int no_call(void) { return (what == INPUT && fails(fault)) || (what == INTERRUPTED && fails(EINTR)); }
+static int no_uninterrupted(void) { return what == INPUT && fails(fault); }
 static int no_closing(void) { return (what == CLOSING && fails(EIO)) || (what == INTERRUPTED && fails(EINTR)); }
 static size_t moved(size_t size) { return what == SHORT && size > 1 && fails(0) ? 1 : size; }
 

@@ -126,7 +126,7 @@ impl<'a, R: Files<File = File>> FileDisk<'a, R> {
         }
         let place = place_of(self.files, self.alloc, name)?;
         self.reading.stay_beside(self.files, name, &place)?;
-        stay_beside(&self.made, self.files, self.alloc, name, &place)?;
+        stay_beside(&self.made, self.files, name, &place)?;
         let new = NewFile::begin(self.files, self.alloc, name, place, len)?;
         self.reading.close(name);
         forget(&mut self.made, name);

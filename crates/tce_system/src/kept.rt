@@ -47,7 +47,7 @@ impl KeptFiles {
         place: &Place,
     ) -> Result<(), OutFault> {
         for other in self.files.keys() {
-            if other.as_str() != name && is_name_of(files, self.alloc, other.as_str(), place)? {
+            if other.as_str() != name && is_name_of(files, other.as_str(), place)? {
                 return Err(OutFault::Failed);
             }
         }

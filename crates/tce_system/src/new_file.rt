@@ -10,6 +10,9 @@ use tce_outside::OutFault;
 /// How many runs make files in one folder at once, at most.
 const MOST_DRAFTS: u32 = 4096;
 
+/// How many numbers in a row without a draft that was left end the search for more.
+const MOST_GAP: u32 = 16;
+
 /// A file under the name of a draft, in the folder of the place to which its own name leads. It is moved to that place when it is
 /// whole; where it is dropped before, it is removed.
 pub struct NewFile<'a, R: Files<File = File>> {
@@ -63,12 +66,11 @@ pub fn forget(made: &mut Vec<Made>, name: &str) {
 pub fn stay_beside<R: Files>(
     made: &[Made],
     files: &R,
-    alloc: Global,
     name: &str,
     place: &Place,
 ) -> Result<(), OutFault> {
     for one in made.iter() {
-        if one.name.as_str() != name && is_name_of(files, alloc, &one.place, place)? {
+        if one.name.as_str() != name && is_name_of(files, &one.place, place)? {
             return Err(OutFault::Failed);
         }
     }
@@ -167,16 +169,21 @@ fn taken<R: Files<File = File>>(files: &R, path: &str) -> Result<Option<File>, O
     Ok(None)
 }
 
-// Removes the drafts that were left behind this number, up to the first that is not there or is another run's.
+// Removes the drafts that were left behind this number. Where a run was killed beside others, lower numbers may be free.
 fn clear_behind<R: Files<File = File>>(
     files: &R,
     alloc: Global,
     folder: &str,
     number: u32,
 ) -> Result<(), OutFault> {
+    let mut gap = 0;
     for next in number..MOST_DRAFTS {
         let path = draft_path(alloc, folder, next + 1)?;
-        if !is_cleared(files, &path)? {
+        if is_cleared(files, &path)? {
+            gap = 0;
+        } else if gap < MOST_GAP {
+            gap += 1;
+        } else {
             return Ok(());
         }
     }

@@ -37,6 +37,14 @@ pub fn folder_of(path: &str) -> &str {
     }
 }
 
+// The name of a path in its folder.
+fn name_of(path: &str) -> &str {
+    match path.rsplit_once('/') {
+        None => path,
+        Some((_, name)) => name,
+    }
+}
+
 /// Whether both are one file.
 pub fn is_same(one: &Metadata, other: &Metadata) -> bool {
     one.dev() == other.dev() && one.ino() == other.ino()
@@ -142,31 +150,21 @@ pub fn place_of<R: Files>(files: &R, alloc: Global, name: &str) -> Result<Place,
     Err(OutFault::Failed)
 }
 
-// Whether both paths lead to one place, of which each folder goes by one name.
-fn lead_together<R: Files>(
-    files: &R,
-    alloc: Global,
-    one: &str,
-    other: &str,
-) -> Result<bool, OutFault> {
-    let one = match files.canonicalize(alloc, one) {
-        Ok(path) => path.into_string(),
-        Err(error) => return Err(fault_of(&error)),
-    };
-    let other = match files.canonicalize(alloc, other) {
-        Ok(path) => path.into_string(),
-        Err(error) => return Err(fault_of(&error)),
-    };
-    Ok(one == other)
+// Whether both paths are one name in one folder, by whatever way that folder is reached.
+fn are_one_name<R: Files>(files: &R, one: &str, other: &str) -> Result<bool, OutFault> {
+    if name_of(one) != name_of(other) {
+        return Ok(false);
+    }
+    let one = shown(files, folder_of(one))?;
+    let other = shown(files, folder_of(other))?;
+    match (one, other) {
+        (Some(one), Some(other)) => Ok(is_same(&one, &other)),
+        _ => Ok(false),
+    }
 }
 
 /// Whether a name is itself that of a place, and no link to it nor a second name of the file there.
-pub fn is_name_of<R: Files>(
-    files: &R,
-    alloc: Global,
-    name: &str,
-    place: &Place,
-) -> Result<bool, OutFault> {
+pub fn is_name_of<R: Files>(files: &R, name: &str, place: &Place) -> Result<bool, OutFault> {
     let Some(found) = &place.found else {
         return Ok(false);
     };
@@ -175,7 +173,7 @@ pub fn is_name_of<R: Files>(
             if own.nlink() == 1 {
                 Ok(true)
             } else {
-                lead_together(files, alloc, name, &place.path)
+                are_one_name(files, name, &place.path)
             }
         }
         _ => Ok(false),
