@@ -1,19 +1,30 @@
 // What the nodes of a tree and all above them keep together at least, whatever is fused above them.
-ghost use Rattle.std.specs.Prelude.{◌<◌};
+ghost use Rattle.std.specs.Prelude.{◌<◌, IfSome};
 ghost use Rattle.tce_tree.specs.ContractionTree.{operations};
 ghost use Rattle.tce_tree.specs.Measure.{IsMeasured};
 
+use crate::candidate::Candidate;
 use crate::limits::Ahead;
+use crate::side::Side;
 use std::alloc::{AllocError, Global};
 use tce_nesting::{Choice, choices};
 use tce_space::{IndexSet, Space};
-use tce_tree::Tree;
+use tce_tree::{Operand, Tree};
 
-/// What is ahead of each node's operands, the root's first.
+/// What is ahead of each node's operands, the root's first, and for its right operand with what the left one costs beside it, where that is known.
 #[derive(Drop)]
 pub(crate) struct Aheads {
     nodes: Vec<Ahead>,
+    rights: Vec<Option<Ahead>>,
+    sides: Vec<KnownSide>,
     nothing: Ahead,
+}
+
+// The side of a node's right operand.
+#[derive(Drop)]
+struct KnownSide {
+    node: u8,
+    side: Side,
 }
 
 impl Aheads {
@@ -21,25 +32,78 @@ impl Aheads {
     pub(crate) fn new(alloc: Global, space: &Space, tree: &Tree) -> Result<Aheads, AllocError>
         requires { IsMeasured space.now tree.now }
     {
+        Aheads::with_sides(alloc, space, tree, Vec::new(alloc))
+    }
+
+    // The same, where the sides of some nodes' right operands are known.
+    fn with_sides(
+        alloc: Global,
+        space: &Space,
+        tree: &Tree,
+        sides: Vec<KnownSide>,
+    ) -> Result<Aheads, AllocError>
+        requires { IsMeasured space.now tree.now }
+    {
         let root = tree.count() - 1;
         let mut aheads = Aheads {
             nodes: Vec::new(alloc),
+            rights: Vec::new(alloc),
+            sides,
             nothing: nothing(alloc, tree, root),
         };
-        aheads.nodes.push(nothing(alloc, tree, root))?;
+        aheads.push(alloc, root, nothing(alloc, tree, root))?;
         for below in 0..root {
             let ahead = ahead_of_node(alloc, space, tree, root - 1 - below, &aheads)?;
-            aheads.nodes.push(ahead)?;
+            aheads.push(alloc, root - 1 - below, ahead)?;
         }
         Ok(aheads)
+    }
+
+    // Appends what is ahead of a node's operands.
+    fn push(&mut self, alloc: Global, v: u8, ahead: Ahead) -> Result<(), AllocError> {
+        let mut right = None;
+        for known in self.sides.as_slice() {
+            if known.node == v {
+                right = Some(ahead.beside(alloc, &known.side)?);
+            }
+        }
+        self.rights.push(right)?;
+        self.nodes.push(ahead)?;
+        Ok(())
     }
 
     /// As if nothing were kept above any node.
     pub(crate) fn none(alloc: Global, tree: &Tree) -> Aheads {
         Aheads {
             nodes: Vec::new(alloc),
+            rights: Vec::new(alloc),
+            sides: Vec::new(alloc),
             nothing: nothing(alloc, tree, tree.count() - 1),
         }
+    }
+
+    /// What is ahead after the candidates of a node are found: where it is a left operand, those of the right one's subtree go with it.
+    pub(crate) fn after(
+        self,
+        alloc: Global,
+        space: &Space,
+        tree: &Tree,
+        v: u8,
+        candidates: &[Candidate],
+    ) -> Result<Aheads, AllocError>
+        requires measured { IsMeasured space.now tree.now }
+        requires inside { v < operations tree.now }
+    {
+        if self.nodes.is_empty() {
+            return Ok(self);
+        }
+        let Some(node) = right_beside(tree, v) else {
+            return Ok(self);
+        };
+        let side = Side::new(alloc, candidates, tree.loops(node))?;
+        let mut sides = self.sides;
+        sides.push(KnownSide { node, side })?;
+        Aheads::with_sides(alloc, space, tree, sides)
     }
 
     /// What is ahead of a node: what its parent keeps, and all above. Nothing is ahead of the root.
@@ -47,18 +111,45 @@ impl Aheads {
         requires { v < operations tree.now }
     {
         match tree.parent(v) {
-            Some(p) => self.of_operands(tree, p),
+            Some(p) => self.of_operand(tree, p, v),
             None => &self.nothing,
         }
     }
 
-    // What is ahead of the operands of a node.
-    fn of_operands(&self, tree: &Tree, p: u8) -> &Ahead {
-        let place = tree.count().saturating_sub(1).saturating_sub(p);
-        match self.nodes.get(place as usize) {
+    // What is ahead of an operand of a node.
+    fn of_operand(&self, tree: &Tree, p: u8, v: u8) -> &Ahead
+        requires { p < operations tree.now }
+    {
+        let place = tree.count().saturating_sub(1).saturating_sub(p) as usize;
+        if is_node(tree.right(p), v) {
+            if let Some(Some(ahead)) = self.rights.get(place) {
+                return ahead;
+            }
+        }
+        match self.nodes.get(place) {
             Some(ahead) => ahead,
             None => &self.nothing,
         }
+    }
+}
+
+// Whether an operand is the node.
+fn is_node(operand: Option<&Operand>, v: u8) -> bool {
+    match operand {
+        Some(Operand::Node(u)) => *u == v,
+        _ => false,
+    }
+}
+
+// The parent of a left operand whose right operand is a node, too.
+fn right_beside(tree: &Tree, v: u8) -> Option<u8>
+    requires { v < operations tree.now }
+    ensures { IfSome result (λ p. p < operations tree.now) }
+{
+    let p = tree.parent(v)?;
+    match tree.right(p) {
+        Some(Operand::Node(u)) if *u != v => Some(p),
+        _ => None,
     }
 }
 

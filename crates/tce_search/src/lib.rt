@@ -22,6 +22,7 @@ mod pass;
 mod plan;
 mod root;
 mod runs;
+mod side;
 mod starts;
 mod steps;
 mod subset_numbers;

@@ -4,7 +4,9 @@ ghost use Rattle.tce_fusion.specs.Relation.{above};
 ghost use Rattle.tce_fusion.specs.Row.{StandsFor};
 ghost use Rattle.tce_nesting.specs.Plan.{LiesWithin};
 
+use crate::side::Side;
 use crate::subset_numbers::SubsetNumbers;
+use std::alloc::{AllocError, Global};
 use tce_nesting::{Nesting, Row};
 use tce_space::IndexSet;
 
@@ -30,6 +32,33 @@ impl Ahead {
             within,
             beyond,
         }
+    }
+
+    // The loops that the parent sums, where costs are known: it fuses none of them.
+    pub(crate) fn summed(&self) -> IndexSet {
+        if self.beyond.is_empty() {
+            return IndexSet::empty();
+        }
+        self.loops.minus(self.dims)
+    }
+
+    // The same for the right operand alone, with what the left one costs more beside each set than it does at least.
+    pub(crate) fn beside(&self, alloc: Global, side: &Side) -> Result<Ahead, AllocError> {
+        let mut within = Vec::with_capacity(alloc, side.sets())?;
+        for place in 0..side.sets() {
+            let kept = match self.within.get(place) {
+                Some(cost) => *cost,
+                None => 0,
+            };
+            within.push(kept.saturating_add(side.more(place)))?;
+        }
+        Ok(Ahead {
+            loops: self.loops,
+            dims: self.dims,
+            numbers: self.numbers,
+            within,
+            beyond: self.beyond.clone()?,
+        })
     }
 
     /// The cost of a set. All loops are above no others, so they cost what none of them does.

@@ -31,7 +31,7 @@ pub(crate) fn find_candidates(
     ensures same { bounds.new.ceiling ≡ bounds.old.ceiling }
     ensures learns { bounds.new.learns ≡ bounds.old.learns }
 {
-    let aheads = aheads_of_round(alloc, space, tree, bounds)?;
+    let mut aheads = aheads_of_round(alloc, space, tree, bounds)?;
     let mut found = Found::new(alloc, bounds.least());
     for v in 0..tree.count() - 1 {
         let limits = Limits {
@@ -41,6 +41,7 @@ pub(crate) fn find_candidates(
         };
         let candidates = candidates_of_node(alloc, space, tree, &found, v, &limits)?;
         bounds.learn(v, candidates.as_slice());
+        aheads = aheads.after(alloc, space, tree, v, candidates.as_slice())?;
         found.push(candidates)?;
     }
     Ok(found)

@@ -1,8 +1,10 @@
 // Tables of candidates of which none stands for another.
-ghost use Rattle.std.specs.Prelude.{◌⊎◌, ◌<◌, IfOk, OnOk, IfSome, IsSome, All, AllPairs, Any, Contains};
+ghost use Rattle.std.specs.Prelude.{ℕ, ◌⊎◌, ◌<◌, ◌≤◌, IfOk, OnOk, IfSome, IsSome, All, AllPairs, Any, Contains};
 ghost use Rattle.tce_space.specs.Limits.{cost_limit};
 ghost use Rattle.tce_fusion.specs.Relation.{above, none};
+ghost use Rattle.tce_space.specs.IndexSet.{IsWithin};
 ghost use Rattle.tce_nesting.specs.Classes.{AllowsSet};
+ghost use Rattle.tce_nesting.specs.Plan.{LiesWithin};
 ghost use Rattle.tce_search.specs.Candidates.{Stands, AreApart, AreOperands, ChoiceCovered, PairCovered, IsReachedOrBound, IsSmall};
 ghost use Rattle.tce_search.specs.Joins.{IsNewStep, IsSomeStepFrom, IsStepOrBound, StandsForStep, Grows, HasNext, KnowsStretches};
 
@@ -15,7 +17,7 @@ use crate::steps::step;
 use crate::thinned::thinned;
 use arrayvec::ArrayVec;
 use std::alloc::{AllocError, Global};
-use tce_nesting::{Choice, MAX_CHOICES, Stretch, allows_none, stretches_of};
+use tce_nesting::{Choice, MAX_CHOICES, Nesting, Row, Stretch, allows_none, stretches_of};
 use tce_space::IndexSet;
 
 // The choices of a node, its loops, and from which cost on steps are of no use.
@@ -75,6 +77,87 @@ fn add_step(
     Ok(())
 }
 
+// The loops that a joined state puts above the others down to the first one that the set fuses and the node's parent sums, that one's class with them; all where there is none.
+fn loops_of_use(classes: &Nesting, fused: IndexSet, summed: IndexSet) -> IndexSet {
+    let sought = fused.meet(summed);
+    let mut reached = IndexSet::empty();
+    for class in classes.classes() {
+        reached = reached.union(*class);
+        if class.meet(sought).bits() != 0 {
+            return reached;
+        }
+    }
+    fused
+}
+
+// A row that stands for all steps which cost more than that of the choice and have the same classes of use; `None` where all are, or where it costs too little or too much.
+//
+// The parent fuses no loop that it sums, so where this step is fused on, only loops above these and in their class are. What the step puts below is of no use there.
+fn row_of_use(join: &Candidate, choice: &Choice, choosing: &Choosing) -> Option<Row>
+    requires next { HasNext join.now }
+    requires size { IsSmall choice.now }
+    ensures high { IfSome result (λ row. choosing.now.limits.least ≤ row.cost) }
+    ensures cheap { IfSome result (λ row. row.cost < choosing.now.limit) }
+    ensures within { IfSome result (λ row. (dims : ℕ) → IsWithin choice.now.fused dims → All (LiesWithin dims) row.classes) }
+{
+    let classes = &join.row.classes;
+    let of_use = loops_of_use(classes, choice.fused, choosing.limits.ahead.summed());
+    let cost = join.row.cost + choice.size + 1;
+    if choosing.limit <= cost || cost < choosing.limits.least || choice.fused.within(of_use) {
+        return None;
+    }
+    Some(Row {
+        classes: classes.restrict(of_use.meet(choice.fused)),
+        cost,
+    })
+}
+
+// Appends that row, where there is one and no candidate stands for it.
+fn add_bound(
+    list: &mut CandidateList,
+    join: &Candidate,
+    choice: &Choice,
+    choosing: &Choosing,
+) -> Result<(), AllocError>
+    requires next { HasNext join.now }
+    requires size { IsSmall choice.now }
+    ensures grows { OnOk result (Grows list.old list.new) }
+    ensures origin { OnOk result (All (λ x. Contains list.old.candidates x ⊎ IsNewStep choosing.now join.now choice.now x) list.new.candidates) }
+{
+    let Some(row) = row_of_use(join, choice, choosing) else {
+        return Ok(());
+    };
+    if list.covers(&row) {
+        return Ok(());
+    }
+    let sets = ArrayVec::new();
+    list.push(Candidate { row, sets })?;
+    Ok(())
+}
+
+// Appends the step of one choice as `add_step` does, and where it is new a row that stands for steps like it.
+fn add_choice(
+    list: &mut CandidateList,
+    join: &Candidate,
+    choice: &Choice,
+    choosing: &Choosing,
+) -> Result<(), AllocError>
+    requires limit { Any (Stands list.old.outer none choosing.now.limit) list.old.candidates }
+    requires next { HasNext join.now }
+    requires size { IsSmall choice.now }
+    ensures covered { OnOk result (ChoiceCovered list.old.outer join.now.row list.new.candidates choice.now) }
+    ensures grows { OnOk result (Grows list.old list.new) }
+    ensures origin { OnOk result (All (λ x. Contains list.old.candidates x ⊎ IsNewStep choosing.now join.now choice.now x) list.new.candidates) }
+{
+    let count = list.count();
+    add_step(list, join, choice, choosing)?;
+    if list.count() == count {
+        return Ok(());
+    }
+    add_bound(list, join, choice, choosing)?;
+    Ok(())
+}
+
 // For each of the first choices a stretch from it on.
 fn first_stretches(choices: &[Choice]) -> [Stretch; MAX_CHOICES]
     ensures { KnowsStretches choices.now result }
@@ -107,7 +190,7 @@ fn add_steps(
                 continue;
             }
         }
-        add_step(list, join, &choices[place], choosing)?;
+        add_choice(list, join, &choices[place], choosing)?;
         place += 1;
     }
     Ok(())
