@@ -1,8 +1,9 @@
 -- What is read from a file.
-use Rattle.std.proofs.Common.{◌≡◌, ◌≢◌, refl, sym, ap, subst, ℕ, ◌<◌, ◌^◌, List, length, Option, Some, None, Result, Ok, Err, if◌then◌else◌, nat_lt, true, false, Bool, IsTrue, arith}
+use Rattle.std.proofs.Common.{◌≡◌, ◌≢◌, refl, sym, ap, subst, ℕ, ◌<◌, ◌^◌, List, length, replicate, Option, Some, None, Result, Ok, Err, if◌then◌else◌, nat_lt, true, false, Bool, IsTrue, arith}
 use Rattle.std.specs.Option.{IsSomeAnd, option_map}
 use Rattle.std.proofs.lemmas.Bool.Decides.{nat_tests}
 use Rattle.std.proofs.lemmas.Option.{none-some}
+use Rattle.std.proofs.lemmas.List.{length-replicate}
 use Rattle.tce_spec.specs.Faults.{Fault, too_long}
 use Rattle.tce_spec.specs.FaultCode.{Shows}
 use Rattle.tce_spec.specs.TextCode.{fault_in}
@@ -16,7 +17,7 @@ use Rattle.tce_spec.proofs.Reading.{computed, computed_is}
 use Rattle.tce_command.specs.declared.refusal.Refusal.{Refusal}
 use Rattle.tce_command.specs.declared.refusal.Refusal.TheVariants as refusals
 use Rattle.tce_command.specs.declared.refusal.Refusal.TheVariants.{Missing, Specification as OfText, Disk}
-use Rattle.tce_command.specs.Source.{Specifies, HasFault, IsTooLong, IsTextRefusal, IsSourceRefusal}
+use Rattle.tce_command.specs.Source.{Specifies, HasFault, IsTooLong, IsTextRefusal, IsSourceRefusal, MayRefuseSource, MayRefuseText}
 
 -- a text that is too long has this fault, unread
 too_long_text : (text : List ℕ) → 2 ^ 16 < length text → HasFault text TooLong
@@ -52,6 +53,20 @@ refused_more P Q name found (OfText f) more p = found_more P Q found f (λ text.
 refused_more P Q name found Disk more p = tt
 refused_more P Q name found refusals.Memory more p = tt
 refused_more P Q name found a more p = absurd p
+
+pub may_more : (P Q : List ℕ → SpecFault → Type 0) (name : List ℕ) (a : Refusal) → ((text : List ℕ) (f : SpecFault) → P text f → Q text f) → MayRefuseText P name a → MayRefuseText Q name a
+may_more P Q name (Missing x) more p = p
+may_more P Q name (OfText f) more (text, p) = (text, more text f p)
+may_more P Q name Disk more p = tt
+may_more P Q name refusals.Memory more p = tt
+may_more P Q name a more p = absurd p
+
+-- a file that is too long may be refused so
+pub long_may : (len : ℕ) → 2 ^ 16 < len → (text : List ℕ) × IsTooLong text TooLong
+long_may len h = let same = length-replicate {A = ℕ} len 0 in (replicate len 0, (refl, omega (arith, h, same)))
+
+pub may_unread : (name : List ℕ) (a : Refusal) → MayRefuseText IsTooLong name a → MayRefuseSource name a
+may_unread name a p = may_more IsTooLong HasFault name a long_text p
 
 pub unread : (name : List ℕ) (found : Option (List ℕ)) (a : Refusal) → IsTextRefusal IsTooLong name found a → IsSourceRefusal name found a
 unread name found a p = refused_more IsTooLong HasFault name found a long_text p

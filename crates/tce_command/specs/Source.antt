@@ -37,9 +37,20 @@ IsTextRefusal Has name found Disk = ⊤
 IsTextRefusal Has name found refusals.Memory = ⊤
 IsTextRefusal Has name found refusal = ⊥
 
+-- how a text may be refused, whatever the disk tells: a file that is not there is the one of this name, and a fault is that of some text
+abbrev pub MayRefuseText : (List ℕ → SpecFault → Type 0) → List ℕ → Refusal → Type 0
+MayRefuseText Has name (Missing file) = file.bytes ≡ name
+MayRefuseText Has name (Specification fault) = (text : List ℕ) × Has text fault
+MayRefuseText Has name Disk = ⊤
+MayRefuseText Has name refusals.Memory = ⊤
+MayRefuseText Has name refusal = ⊥
+
 -- why the specification in such a file is refused
 abbrev pub IsSourceRefusal : List ℕ → Option (List ℕ) → Refusal → Type 0
 IsSourceRefusal name found refusal = IsTextRefusal HasFault name found refusal
+
+abbrev pub MayRefuseSource : List ℕ → Refusal → Type 0
+MayRefuseSource name refusal = MayRefuseText HasFault name refusal
 
 -- the file is there, and its text specifies this
 abbrev pub HasSpecification : Files → List ℕ → Specified → Type 0
@@ -55,10 +66,10 @@ HoldsOn told name bytes = ForSome told (λ files. file files name ≡ Some bytes
 abbrev pub HasSpecificationOn : Option Files → List ℕ → Specified → Type 0
 HasSpecificationOn told name s = ForSome told (λ files. HasSpecification files name s)
 
--- why its text is refused, where `Has` says which faults a text has
+-- its text is refused as it may be, and where the disk tells its files for what is there, where `Has` says which faults a text has
 abbrev pub IsTextRefusalOn : Option Files → (List ℕ → SpecFault → Type 0) → List ℕ → Refusal → Type 0
-IsTextRefusalOn told Has name refusal = ForSome told (λ files. IsTextRefusal Has name (file files name) refusal)
+IsTextRefusalOn told Has name refusal = MayRefuseText Has name refusal × ForSome told (λ files. IsTextRefusal Has name (file files name) refusal)
 
--- why its specification is refused
+-- its specification is refused so
 abbrev pub IsSourceRefusalOn : Option Files → List ℕ → Refusal → Type 0
-IsSourceRefusalOn told name refusal = ForSome told (λ files. IsSourceRefusal name (file files name) refusal)
+IsSourceRefusalOn told name refusal = MayRefuseSource name refusal × ForSome told (λ files. IsSourceRefusal name (file files name) refusal)

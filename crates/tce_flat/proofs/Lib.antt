@@ -7,3 +7,4 @@ pub mod SymFiles
 pub mod SymInputs
 pub mod NoHalf
 pub mod ToolFaults
+pub mod May

@@ -41,11 +41,11 @@ if_err (Ok x) f p = tt
 if_err (Err e) f p = f e p
 
 -- the refusals of a tensor that was found are those of its command
-pub refused_for : {A : Type 0} (refuses : Files → Refuses) (told before : Option Files) (spec tensor : List ℕ) (shape : Tiling) (r : Result A Refusal)
+pub refused_for : {A : Type 0} (refuses : Files → Refuses) (Lacks May : Refusal → Type 0) (told before : Option Files) (spec tensor : List ℕ) (shape : Tiling) (r : Result A Refusal)
     → told ≡ before → ForSome before (λ files. HasTensor files spec tensor shape)
-    → IfErr r (λ a. ForSome told (λ files. IsFree a ⊎ refuses files shape a)) → IfErr r (λ a. ForSome before (λ files. IsRefusedFor (refuses files) files spec tensor a))
-refused_for refuses told before spec tensor shape r same there p =
-    if_err r (λ a q files is. found_refusal (refuses files) files spec tensor shape a (there files is) (q files (same ∙ is))) p
+    → IfErr r (λ a. May a × ForSome told (λ files. IsFree a ⊎ refuses files shape a)) → IfErr r (λ a. (Lacks a ⊎ May a) × ForSome before (λ files. IsRefusedFor (refuses files) files spec tensor a))
+refused_for refuses Lacks May told before spec tensor shape r same there p =
+    if_err r (λ a q. (inr q.0, λ files is. found_refusal (refuses files) files spec tensor shape a (there files is) (q.1 files (same ∙ is)))) p
 
 -- a command that changed nothing before it moved elements changed nothing where that changed nothing
 pub unchanged_from : {A : Type 0} (told before after : Option Files) (r : Result A Refusal) → told ≡ before → IfErr r (λ a. a ≢ Disk → after ≡ told) → IfErr r (λ a. a ≢ Disk → after ≡ before)

@@ -1,5 +1,6 @@
 pub mod Tensors
 pub mod Refusals
+pub mod May
 pub mod Done
 pub mod Tools
 pub mod NoHalf

@@ -1,5 +1,5 @@
 -- What is answered to a text, to its file, and to two files.
-use Rattle.std.proofs.Common.{◌≡◌, sym, ap, subst, ◌∙◌, inr, ℕ, List, Option, Result, Ok, Err}
+use Rattle.std.proofs.Common.{◌≡◌, sym, ap, subst, ◌∙◌, inr, ℕ, List, Option, Some, Result, Ok, Err}
 use Rattle.std.specs.Prelude.{IfOk, IfErr, OnOk}
 use Rattle.std.specs.Option.{ForSome}
 use Rattle.tce_outside.specs.Files.{Files, file}
@@ -16,10 +16,10 @@ use Rattle.tce_command.specs.declared.refusal.Refusal.TheVariants.{Disk}
 use Rattle.tce_command.specs.declared.command_refusal.CommandRefusal.{CommandRefusal}
 use Rattle.tce_command.specs.declared.command_refusal.CommandRefusal.TheVariants.{Common, Certificate}
 use Rattle.tce_plan.specs.Certificates.{IsCertificateOf, IsTrouble}
-use Rattle.tce_plan.specs.VerificationDone.{IsVerified, report_text}
+use Rattle.tce_plan.specs.VerificationDone.{CanVerify, IsVerified, report_text}
 use Rattle.tce_plan.specs.Judging.{IsAcceptedText, IsJudgement, IsOfPlan, IsOfLeast, IsPlanRefusal}
 use Rattle.tce_plan.specs.OfFile.{IsRefusedForOn, IsVerifiedFor, IsVerifiedText}
-use Rattle.tce_plan.specs.VerificationRefusals.{IsUnread, IsVerifyRefusalOn, IsWrittenFor}
+use Rattle.tce_plan.specs.VerificationRefusals.{IsUnread, IsVerifyRefusalOn, IsWrittenFor, MayBeUnread}
 
 -- ---- a plan and its text
 
@@ -39,13 +39,13 @@ refused_text s plan text (Certificate t line) certifies p = (trouble_of_plan s p
 -- ---- a text and its file
 
 pub file_verified : (told : Option Files) (cert : List ℕ) (s : Specification) (text report : List ℕ) → HoldsOn told cert text → IsVerifiedText s text report
-    → ForSome told (λ files. IsVerifiedFor s (file files cert) report)
-file_verified told cert s text report held verified = λ files is. record { text = text; held = held files is; verified = verified }
+    → IsVerifiedFor told s cert report
+file_verified told cert s text report held verified = record { text = text; held = held; verified = verified }
 
 pub file_refused : (told : Option Files) (cert : List ℕ) (s : Specification) (text : List ℕ) (a : CommandRefusal) → HoldsOn told cert text → IsJudgement s text a
     → IsRefusedForOn told s cert a
-file_refused told cert s text (Common a) held p = λ files is. subst (IsUnread cert (file files cert)) (sym p) tt
-file_refused told cert s text (Certificate t line) held p = λ files is. record { text = text; held = held files is; trouble_is = p.0 }
+file_refused told cert s text (Common a) held p = (subst (MayBeUnread cert) (sym p) tt, λ files is. subst (IsUnread cert (file files cert)) (sym p) tt)
+file_refused told cert s text (Certificate t line) held p = ((text, p), λ files is. record { text = text; held = held files is; trouble_is = p.0 })
 
 pub written_over : (s : Specification) (text : List ℕ) (a : CommandRefusal) → IsJudgement s text a → IsWrittenOver s.declarations.space a
 written_over s text (Common a) p = tt
@@ -59,25 +59,34 @@ no_fault (Err (Certificate t line)) s text p e = absurd (cc)
 
 -- ---- two files
 
-pub verified : (told : Option Files) (spec cert : List ℕ) (s : Specification) (report : List ℕ) → HasSpecificationOn told spec s
-    → ForSome told (λ files. IsVerifiedFor s (file files cert) report) → ForSome told (λ files. IsVerified files spec cert report)
-verified told spec cert s report specified found =
-    λ files is.
-    let here = found files is in
-    let a = here.verified.accepted in
+pub verified : (told middle : Option Files) (spec cert : List ℕ) (s : Specification) (report : List ℕ) → middle ≡ told → HasSpecificationOn told spec s
+    → IsVerifiedFor middle s cert report → IsVerified told spec cert report
+verified told middle spec cert s report same specified found =
+    let a = found.verified.accepted in
     record {
-      can = record { specification = s; specified = specified files is; text = here.text; held = here.held; plan = a.plan; certifies = a.certifies; accepted = a.accepted };
+      specification = s;
+      specified = specified;
+      text = found.text;
+      held = λ files is. found.held files (same ∙ is);
+      plan = a.plan;
+      certifies = a.certifies;
+      accepted = a.accepted;
       least = a.least;
-      reported = here.verified.reported ∙ ap report_text a.memory_is;
+      reported = found.verified.reported ∙ ap report_text a.memory_is;
     }
+
+-- what is verified could be
+pub could_verify : (told : Option Files) (files : Files) (spec cert report : List ℕ) → told ≡ Some files → IsVerified told spec cert report → CanVerify files spec cert
+could_verify told files spec cert report is a =
+    record { specification = a.specification; specified = a.specified files is; text = a.text; held = a.held files is; plan = a.plan; certifies = a.certifies; accepted = a.accepted }
 
 pub refused : (told : Option Files) (spec cert : List ℕ) (s : Specification) (a : CommandRefusal) → HasSpecificationOn told spec s → IsRefusedForOn told s cert a
     → IsVerifyRefusalOn told spec cert a
-refused told spec cert s (Common a) specified found = λ files is. inr ((s, specified files is), found files is)
-refused told spec cert s (Certificate t line) specified found =
-    λ files is.
-    let here = found files is in
-    record { specification = s; specified = specified files is; text = here.text; held = here.held; trouble_is = here.trouble_is }
+refused told spec cert s (Common a) specified found = (inr found.0, λ files is. inr ((s, specified files is), found.1 files is))
+refused told spec cert s (Certificate t line) specified found = (
+  (s, found.0),
+  λ files is. let here = found.1 files is in record { specification = s; specified = specified files is; text = here.text; held = here.held; trouble_is = here.trouble_is },
+)
 
 pub written_for : (told : Option Files) (spec : List ℕ) (s : Specification) (a : CommandRefusal) → HasSpecificationOn told spec s → IsWrittenOver s.declarations.space a → IsWrittenFor told spec a
 written_for told spec s (Common a) specified p = tt

@@ -1,5 +1,5 @@
 -- `plan` has one answer.
-use Rattle.std.proofs.Common.{◌≡◌, subst, ℕ, List, arith}
+use Rattle.std.proofs.Common.{◌≡◌, refl, subst, ℕ, List, Some, arith}
 use Rattle.tce_outside.specs.Files.{Files}
 use Rattle.tce_space.specs.Space.{IndexSpace}
 use Rattle.tce_tree.specs.ContractionTree.{ContractionTree}
@@ -24,8 +24,8 @@ same_memory space tree p q a b =
     let of_q = b.memory_is in
     omega (arith, below, above, of_p, of_q)
 
-pub one_memory : (files : Files) (spec report other : List ℕ) (a : IsPlanned files spec report) (b : IsPlanned files spec other) → a.planned.plan.memory ≡ b.planned.plan.memory
+pub one_memory : (files : Files) (spec report other : List ℕ) (a : IsPlanned (Some files) spec report) (b : IsPlanned (Some files) spec other) → a.planned.plan.memory ≡ b.planned.plan.memory
 one_memory files spec report other a b =
-    let same = one files spec a.specification b.specification a.specified b.specified in
+    let same = one files spec a.specification b.specification (a.specified files refl) (b.specified files refl) in
     same_memory b.specification.declarations.space b.specification.tree a.planned.plan b.planned.plan
     (subst (λ (s : Specification). IsLeastPlan s.declarations.space s.tree a.planned.plan) same a.planned.least) b.planned.least

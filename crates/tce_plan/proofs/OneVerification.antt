@@ -109,10 +109,10 @@ alone files spec cert (Certificate t line) (Certificate u other) p q free =
     let same = trouble_alone files spec cert (trouble_of t) (trouble_of u) p q in
     inr (refl, λ space. ap (λ x. line_over space (CertRefused x)) same)
 
-pub one_report : (files : Files) (spec cert report other : List ℕ) → IsVerified files spec cert report → IsVerified files spec cert other → report ≡ other
+pub one_report : (files : Files) (spec cert report other : List ℕ) → IsVerified (Some files) spec cert report → IsVerified (Some files) spec cert other → report ≡ other
 one_report files spec cert report other a b =
-    let s = one files spec a.can.specification b.can.specification a.can.specified b.can.specified in
-    let text = same_text (file files cert) a.can.text b.can.text a.can.held b.can.held in
-    let certifies = moved (λ s text. IsCertificateOf s a.can.plan text) a.can.specification b.can.specification a.can.text b.can.text s text a.can.certifies in
-    let plan = same_plan b.can.specification a.can.plan b.can.plan b.can.text certifies b.can.certifies in
+    let s = one files spec a.specification b.specification (a.specified files refl) (b.specified files refl) in
+    let text = same_text (file files cert) a.text b.text (a.held files refl) (b.held files refl) in
+    let certifies = moved (λ s text. IsCertificateOf s a.plan text) a.specification b.specification a.text b.text s text a.certifies in
+    let plan = same_plan b.specification a.plan b.plan b.text certifies b.certifies in
     a.reported ∙ ap (λ (p : Plan). report_text p.memory) plan ∙ sym b.reported

@@ -15,12 +15,8 @@ pub record IsPlanReport (s : Specification) (report : List ℕ) : Type 0 where
   pub least : IsLeastPlan s.declarations.space s.tree plan
   pub reported : report ≡ plan_text s.declarations.space s.tree (stated plan)
 
--- the file specifies what is planned
-pub record IsPlanned (files : Files) (spec report : List ℕ) : Type 0 where
+-- a specification is planned, where the disk tells its files the one in the file
+pub record IsPlanned (told : Option Files) (spec report : List ℕ) : Type 0 where
   pub specification : Specification
-  pub specified : HasSpecification files spec specification
+  pub specified : ForSome told (λ files. HasSpecification files spec specification)
   pub planned : IsPlanReport specification report
-
--- the same of a disk, where it tells its files
-abbrev pub IsPlannedOn : Option Files → List ℕ → List ℕ → Type 0
-IsPlannedOn told spec report = ForSome told (λ files. IsPlanned files spec report)

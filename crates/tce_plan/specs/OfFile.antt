@@ -1,19 +1,17 @@
 -- What is answered to a file, for a specification that is known.
 use Rattle.std.specs.Prelude.{◌≡◌, ℕ, List, Option, Some}
 use Rattle.std.specs.Option.{ForSome}
-use Rattle.std.specs.String.{string_bytes}
-use Rattle.std.specs.declared.string.String.{String}
-use Rattle.std.specs.declared.alloc.Global.{Global}
 use Rattle.tce_outside.specs.Files.{Files, file}
 use Rattle.tce_spec.specs.Specification.{Specification}
 use Rattle.tce_command.specs.Report.{trouble_of}
+use Rattle.tce_command.specs.Source.{HoldsOn}
 use Rattle.tce_command.specs.declared.trouble.CertTrouble.{CertTrouble}
 use Rattle.tce_command.specs.declared.command_refusal.CommandRefusal.{CommandRefusal}
 use Rattle.tce_command.specs.declared.command_refusal.CommandRefusal.TheVariants.{Common, Certificate}
 use Rattle.tce_plan.specs.Certificates.{IsTrouble}
 use Rattle.tce_plan.specs.VerificationDone.{report_text}
 use Rattle.tce_plan.specs.Judging.{IsAcceptedText}
-use Rattle.tce_plan.specs.VerificationRefusals.{IsUnread}
+use Rattle.tce_plan.specs.VerificationRefusals.{IsUnread, MayBeUnread, MayHaveTrouble}
 
 -- the text is the certificate of an accepted plan, and the report is that on its memory
 pub record IsVerifiedText (s : Specification) (text report : List ℕ) : Type 0 where
@@ -21,10 +19,10 @@ pub record IsVerifiedText (s : Specification) (text report : List ℕ) : Type 0 
   pub accepted : IsAcceptedText s text memory
   pub reported : report ≡ report_text memory
 
--- the file is there, and its text is such a certificate
-pub record IsVerifiedFor (s : Specification) (found : Option (List ℕ)) (report : List ℕ) : Type 0 where
+-- a text is such a certificate, where the disk tells its files that of the file
+pub record IsVerifiedFor (told : Option Files) (s : Specification) (cert report : List ℕ) : Type 0 where
   pub text : List ℕ
-  pub held : found ≡ Some text
+  pub held : HoldsOn told cert text
   pub verified : IsVerifiedText s text report
 
 -- the file is there, and this is wrong with its text
@@ -38,10 +36,11 @@ abbrev pub IsRefusedFor : Specification → List ℕ → Option (List ℕ) → C
 IsRefusedFor s name found (Common refusal) = IsUnread name found refusal
 IsRefusedFor s name found (Certificate flaw line) = HasTroubleFor s found (trouble_of flaw)
 
--- Of a disk, where it tells its files.
+-- how it may be refused, whatever the disk tells
+abbrev pub MayRefuseFor : Specification → List ℕ → CommandRefusal → Type 0
+MayRefuseFor s cert (Common refusal) = MayBeUnread cert refusal
+MayRefuseFor s cert (Certificate flaw line) = MayHaveTrouble s (Certificate flaw line)
 
-abbrev pub IsVerifiedForOn : Option Files → Specification → List ℕ → String Global → Type 0
-IsVerifiedForOn told s cert report = ForSome told (λ files. IsVerifiedFor s (file files cert) (string_bytes report))
-
+-- it is refused so, and where the disk tells its files for what is there
 abbrev pub IsRefusedForOn : Option Files → Specification → List ℕ → CommandRefusal → Type 0
-IsRefusedForOn told s cert refusal = ForSome told (λ files. IsRefusedFor s cert (file files cert) refusal)
+IsRefusedForOn told s cert refusal = MayRefuseFor s cert refusal × ForSome told (λ files. IsRefusedFor s cert (file files cert) refusal)

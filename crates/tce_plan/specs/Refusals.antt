@@ -3,7 +3,7 @@ use Rattle.std.specs.Prelude.{ℕ, List, Option}
 use Rattle.tce_outside.specs.Files.{Files, file}
 use Rattle.tce_spec.specs.Specification.{Specification}
 use Rattle.tce_command.specs.declared.refusal.Refusal.{Refusal}
-use Rattle.tce_command.specs.Source.{HasSpecification, IsSourceRefusal}
+use Rattle.tce_command.specs.Source.{HasSpecification, IsSourceRefusal, MayRefuseSource}
 use Rattle.std.specs.Option.{ForSome}
 
 -- the file holds a specification
@@ -14,6 +14,6 @@ CanPlan files spec = (s : Specification) × HasSpecification files spec s
 abbrev pub IsPlanRefusal : Files → List ℕ → Refusal → Type 0
 IsPlanRefusal files spec refusal = IsSourceRefusal spec (file files spec) refusal
 
--- the same of a disk, where it tells its files
+-- it is refused as it may be, and where the disk tells its files for what is there
 abbrev pub IsPlanRefusalOn : Option Files → List ℕ → Refusal → Type 0
-IsPlanRefusalOn told spec refusal = ForSome told (λ files. IsPlanRefusal files spec refusal)
+IsPlanRefusalOn told spec refusal = MayRefuseSource spec refusal × ForSome told (λ files. IsPlanRefusal files spec refusal)

@@ -9,9 +9,6 @@ use Rattle.tce_spec.specs.Specification.{Specification}
 use Rattle.tce_command.specs.Source.{HasSpecification}
 use Rattle.tce_plan.specs.Certificates.{IsCertificateOf}
 use Rattle.std.specs.Option.{ForSome}
-use Rattle.std.specs.String.{string_bytes}
-use Rattle.std.specs.declared.string.String.{String}
-use Rattle.std.specs.declared.alloc.Global.{Global}
 
 -- the report: the memory of the plan
 abbrev pub report_text : ℕ → List ℕ
@@ -27,12 +24,14 @@ pub record CanVerify (files : Files) (spec cert : List ℕ) : Type 0 where
   pub certifies : IsCertificateOf specification plan text
   pub accepted : IsAccepted specification.declarations.space specification.tree plan
 
--- no legal fusion takes less memory than that of the plan, which is reported
-pub record IsVerified (files : Files) (spec cert report : List ℕ) : Type 0 where
-  pub can : CanVerify files spec cert
-  pub least : IsLeast can.specification.declarations.space can.specification.tree can.plan.fusion.0.items
-  pub reported : report ≡ report_text can.plan.memory
-
--- the same of a disk, where it tells its files
-abbrev pub IsVerifiedOn : Option Files → List ℕ → List ℕ → String Global → Type 0
-IsVerifiedOn told spec cert report = ForSome told (λ files. IsVerified files spec cert (string_bytes report))
+-- a certificate of such a plan for a specification is accepted, no legal fusion takes less memory, and that memory is reported; where the disk tells its files, these are the specification and the certificate in them
+pub record IsVerified (told : Option Files) (spec cert report : List ℕ) : Type 0 where
+  pub specification : Specification
+  pub specified : ForSome told (λ files. HasSpecification files spec specification)
+  pub text : List ℕ
+  pub held : ForSome told (λ files. file files cert ≡ Some text)
+  pub plan : Plan
+  pub certifies : IsCertificateOf specification plan text
+  pub accepted : IsAccepted specification.declarations.space specification.tree plan
+  pub least : IsLeast specification.declarations.space specification.tree plan.fusion.0.items
+  pub reported : report ≡ report_text plan.memory

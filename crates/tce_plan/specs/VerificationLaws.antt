@@ -1,5 +1,5 @@
 -- `check` has one answer, and accepts what is least.
-use Rattle.std.specs.Prelude.{◌≡◌, ◌⊎◌, ℕ, List}
+use Rattle.std.specs.Prelude.{◌≡◌, ◌⊎◌, ℕ, List, Some}
 use Rattle.tce_outside.specs.Files.{Files}
 use Rattle.tce_fusion.specs.Least.{IsLeast}
 use Rattle.tce_command.specs.CommandRefusals.{MayReplace, EndsAlike}
@@ -11,8 +11,8 @@ use Rattle.tce_plan.specs.VerificationRefusals.{IsVerifyRefusal}
 pub record VerificationsHaveOneAnswer : Type 0 where
   pub granted : (files : Files) (spec cert : List ℕ) (a : CommandRefusal) → CanVerify files spec cert → IsVerifyRefusal files spec cert a → MayReplace a
   pub alone : (files : Files) (spec cert : List ℕ) (a b : CommandRefusal) → IsVerifyRefusal files spec cert a → IsVerifyRefusal files spec cert b → (MayReplace b → ⊥) → MayReplace a ⊎ EndsAlike a b
-  pub possible : (files : Files) (spec cert report : List ℕ) → IsVerified files spec cert report → CanVerify files spec cert
-  pub one_report : (files : Files) (spec cert report other : List ℕ) → IsVerified files spec cert report → IsVerified files spec cert other → report ≡ other
+  pub possible : (files : Files) (spec cert report : List ℕ) → IsVerified (Some files) spec cert report → CanVerify files spec cert
+  pub one_report : (files : Files) (spec cert report other : List ℕ) → IsVerified (Some files) spec cert report → IsVerified (Some files) spec cert other → report ≡ other
 
 -- whoever wrote the certificate, no legal fusion takes less memory than that of an accepted plan
 abbrev pub AcceptedIsLeast : Type 0

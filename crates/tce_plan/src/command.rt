@@ -3,7 +3,7 @@ ghost use Rattle.std.specs.Prelude.{◌≡◌, Err, IfOk, IfErr};
 ghost use Rattle.tce_outside.specs.Fault.{HasCause, TellsFaults};
 ghost use Rattle.tce_command.specs.Command as commands;
 ghost use Rattle.tce_command.specs.Command.{KeepsRules};
-ghost use Rattle.tce_plan.specs.Done.{IsPlanReport, IsPlannedOn};
+ghost use Rattle.tce_plan.specs.Done.{IsPlanReport, IsPlanned};
 ghost use Rattle.tce_plan.specs.Refusals.{IsPlanRefusalOn};
 
 use std::alloc::{AllocError, Global};
@@ -18,7 +18,7 @@ use tce_spec::Spec;
 /// Beside the refusals of the specification itself only want of memory and failures of the disk are refused.
 pub fn plan<D: Disk>(alloc: Global, spec: &str, disk: &mut D) -> Result<Vec<u8>, Refusal>
     requires { KeepsRules (commands.plan spec.now) }
-    ensures done { IfOk result (λ report. IsPlannedOn (D.files disk.old) spec.now report.items) }
+    ensures done { IfOk result (λ report. IsPlanned (D.files disk.old) spec.now report.items) }
     ensures refused { IfErr result (IsPlanRefusalOn (D.files disk.old) spec.now) }
     ensures unchanged { D.files disk.new ≡ D.files disk.old }
     ensures cause { HasCause (D.faults disk.old) (D.faults disk.new) (result ≡ Err Refusal.Disk) }

@@ -4,9 +4,9 @@ ghost use Rattle.std.specs.String.{string_bytes};
 ghost use Rattle.tce_outside.specs.Fault.{HasCause, TellsFaults};
 ghost use Rattle.tce_command.specs.Command.{NamesCertificate, NamesSpec};
 ghost use Rattle.tce_command.specs.CommandRefusals.{IsWrittenOver};
-ghost use Rattle.tce_plan.specs.VerificationDone.{report_text, IsVerifiedOn};
+ghost use Rattle.tce_plan.specs.VerificationDone.{report_text, IsVerified};
 ghost use Rattle.tce_plan.specs.Judging.{IsJudgement};
-ghost use Rattle.tce_plan.specs.OfFile.{IsRefusedForOn, IsVerifiedForOn, IsVerifiedText};
+ghost use Rattle.tce_plan.specs.OfFile.{IsRefusedForOn, IsVerifiedFor, IsVerifiedText};
 ghost use Rattle.tce_plan.specs.VerificationRefusals.{IsWrittenFor, IsVerifyRefusalOn, IsDiskFault};
 
 use crate::judging::judge;
@@ -28,7 +28,8 @@ pub fn verify<D: Disk>(
 ) -> Result<String, CommandRefusal>
     requires spec { NamesSpec spec.now }
     requires cert { NamesCertificate cert.now }
-    ensures done { IfOk result (IsVerifiedOn (D.files disk.old) spec.now cert.now) }
+    ensures done { IfOk result (λ report. IsVerified (D.files disk.old)
+        spec.now cert.now (string_bytes report)) }
     ensures refused { IfErr result (IsVerifyRefusalOn (D.files disk.old) spec.now cert.now) }
     ensures line { IfErr result (λ refusal. IsWrittenFor (D.files disk.old) spec.now refusal) }
     ensures unchanged { D.files disk.new ≡ D.files disk.old }
@@ -49,7 +50,8 @@ fn verify_file<D: Disk>(
     disk: &mut D,
 ) -> Result<String, CommandRefusal>
     requires { length cert.now ≤ 200 }
-    ensures done { IfOk result (IsVerifiedForOn (D.files disk.old) spec.now cert.now) }
+    ensures done { IfOk result (λ report. IsVerifiedFor (D.files disk.old)
+        spec.now cert.now (string_bytes report)) }
     ensures refused { IfErr result (IsRefusedForOn (D.files disk.old) spec.now cert.now) }
     ensures line { IfErr result (IsWrittenOver spec.now.declarations.space) }
     ensures unchanged { D.files disk.new ≡ D.files disk.old }

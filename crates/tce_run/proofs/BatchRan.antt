@@ -20,7 +20,8 @@ use Rattle.tce_run.specs.BatchSource.{HasBatch}
 use Rattle.tce_run.specs.Told.{IsOfFiles, IsToldAs}
 use Rattle.tce_run.specs.BatchDone.{IsBatchLeft, IsBatchRoomLeft, IsBatchRun, IsBatchTaking, OnlyBatchDiffers}
 use Rattle.tce_run.specs.BatchOfFormulas.{AreRun, IsFormulaFault}
-use Rattle.tce_run.specs.BatchRefusals.{IsBatchRefusal, IsFormulaRefusal, IsToldAt, IsToldWithout}
+use Rattle.tce_run.specs.BatchRefusals.{IsBatchRefusalOn, IsFormulaRefusal, IsToldAt, IsToldWithout}
+use Rattle.tce_run.proofs.May.{untold_at}
 use Rattle.tce_run.proofs.Ran.{within}
 use Rattle.tce_run.proofs.Told.{told_disk, disk_told, told_free}
 
@@ -94,8 +95,11 @@ told_of_memory formulas formula a (inl told) = told
 told_of_memory formulas formula a (inr told) = told.here
 
 pub batch_refused : (before middle after : Option Files) (taken taken_after : List (ℕ × ℕ)) (spec : List ℕ) (budget : ℕ) (formulas : List Specification) (a : Refusal) → middle ≡ before
-    → ForSome before (λ files. HasBatch files spec formulas) → IsFormulaFault middle after taken taken_after formulas budget a → ForSome before (λ files. IsBatchRefusal files spec budget a)
-batch_refused before middle after taken taken_after spec budget formulas a same specified left = λ files is. inr (formulas, specified files is, by_telling files is left.told)
+    → ForSome before (λ files. HasBatch files spec formulas) → IsFormulaFault middle after taken taken_after formulas budget a → IsBatchRefusalOn before spec budget a
+batch_refused before middle after taken taken_after spec budget formulas a same specified left = (
+  inr (formulas, record { refused = left.refused; told = left.told; cause = untold_at middle formulas budget left.refused.formula left.refused.fault left.cause }),
+  λ files is. inr (formulas, specified files is, by_telling files is left.told),
+)
   where
     by_telling : (files : Files) → before ≡ Some files → IsToldAt formulas left.refused a → IsFree a ⊎ IsFormulaRefusal files formulas budget a
     by_telling files is (inl told) = inl (without_free left.refused.fault a told)

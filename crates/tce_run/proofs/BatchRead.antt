@@ -13,9 +13,9 @@ use Rattle.tce_batch.specs.Outcome.{IsBatchOutcome, together}
 use Rattle.tce_batch.specs.BatchCode as batches
 use Rattle.tce_batch.proofs.Computed.{batch_computed, batch_is}
 use Rattle.tce_command.specs.declared.refusal.Refusal.{Refusal}
-use Rattle.tce_command.specs.Source.{IsTooLong, IsTextRefusal}
+use Rattle.tce_command.specs.Source.{IsTooLong, IsTextRefusal, MayRefuseText}
 use Rattle.tce_run.specs.BatchSource.{HasBatchFault, IsBatchSourceRefusal}
-use Rattle.tce_command.proofs.Read.{refused_more, shown_is}
+use Rattle.tce_command.proofs.Read.{may_more, refused_more, shown_is}
 
 long_batch_text : (text : List ℕ) → 2 ^ 16 < length text → HasBatchFault text TooLong
 long_batch_text text h =
@@ -36,6 +36,9 @@ long_batch_text text h =
 
 long_batch : (text : List ℕ) (f : SpecFault) → IsTooLong text f → HasBatchFault text f
 long_batch text f (is, h) = subst (HasBatchFault text) (sym is) (long_batch_text text h)
+
+pub may_unread_batch : (name : List ℕ) (a : Refusal) → MayRefuseText IsTooLong name a → MayRefuseText HasBatchFault name a
+may_unread_batch name a p = may_more IsTooLong HasBatchFault name a long_batch p
 
 pub unread_batch : (name : List ℕ) (found : Option (List ℕ)) (a : Refusal) → IsTextRefusal IsTooLong name found a → IsBatchSourceRefusal name found a
 unread_batch name found a p = refused_more IsTooLong HasBatchFault name found a long_batch p

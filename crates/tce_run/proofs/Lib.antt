@@ -13,6 +13,7 @@ pub mod DemoRan
 pub mod AsRun
 pub mod DemoNoHalf
 pub mod Reasons
+pub mod May
 pub mod Told
 pub mod Ran
 pub mod Alike

@@ -18,6 +18,7 @@ use Rattle.tce_run.specs.Refusals.{IsRunRefusalIfTold}
 use Rattle.tce_run.specs.Done.{IsRun, IsRoomLeft, OnlyResultDiffers}
 use Rattle.tce_run.specs.OfSource.{IsRunFault, IsRunOf}
 use Rattle.tce_run.proofs.Told.{told_cause, told_room, unchanged}
+use Rattle.tce_run.proofs.May.{untold}
 use Rattle.tce_run.proofs.Reasons.{cause_map}
 
 -- the words for tiles are within the budget
@@ -44,8 +45,11 @@ ran before middle after taken taken_after spec budget s text same specified done
 
 pub refused : (before middle after : Option Files) (taken taken_after : List (ℕ × ℕ)) (spec : List ℕ) (budget : ℕ) (s : Specification) (a : Refusal) → middle ≡ before
     → ForSome before (λ files. HasSpecification files spec s) → IsRunFault middle after taken taken_after s budget a → IsRunRefusalIfTold before spec budget a
-refused before middle after taken taken_after spec budget s a same specified left = λ files is.
-    inr (s, specified files is, told_cause files s budget left.fault a left.told (cause_map (MayBeRefused middle s) (IsRefused files s) s budget left.fault (λ r h. h.1 files (same ∙ is)) left.cause))
+refused before middle after taken taken_after spec budget s a same specified left = (
+  inr (s, record { fault = left.fault; told = left.told; cause = untold middle s budget left.fault left.cause }),
+  λ files is.
+      inr (s, specified files is, told_cause files s budget left.fault a left.told (cause_map (MayBeRefused middle s) (IsRefused files s) s budget left.fault (λ r h. h.1 files (same ∙ is)) left.cause)),
+)
 
 pub left_unchanged : (before middle after : Option Files) (taken taken_after : List (ℕ × ℕ)) (budget : ℕ) (s : Specification) (a : Refusal) → middle ≡ before
     → IsRunFault middle after taken taken_after s budget a → (a ≡ Disk) ⊎ (after ≡ before)

@@ -19,7 +19,8 @@ use Rattle.tce_run.proofs.Ran.{within}
 use Rattle.tce_run.proofs.Told.{refusal_in}
 use Rattle.tce_run.specs.SpillDone.{IsSpillLeft, IsSpillRoomLeft, IsSpillRun, IsSpillTaking, OnlyPiecesDiffer}
 use Rattle.tce_run.specs.SpillOfSource.{ArePiecesRun, IsPieceFault}
-use Rattle.tce_run.specs.SpillRefusals.{IsOfFiles, IsSpillRefusal, IsToldAs}
+use Rattle.tce_run.specs.SpillRefusals.{IsOfFiles, IsSpillRefusalOn, IsToldAs}
+use Rattle.tce_run.proofs.May.{untold_pieces}
 use Rattle.tce_run.proofs.SpillReasons.{told_free}
 use Rattle.tce_run.proofs.BatchRan.{within_each}
 
@@ -59,9 +60,12 @@ told_no_failure f a given told is was says none failed =
     none (was ∙ ap Err (disk_told f a says fault))
 
 pub spill_refused : (before middle after : Option Files) (taken taken_after : List (ℕ × ℕ)) (spec : List ℕ) (budget limit : ℕ) (s : Specification) (a : Refusal) → middle ≡ before
-    → ForSome before (λ files. HasSpecification files spec s) → IsPieceFault middle after taken taken_after s budget limit a → ForSome before (λ files. IsSpillRefusal files spec budget limit a)
-spill_refused before middle after taken taken_after spec budget limit s a same specified left = λ files is.
-    inr (s, specified files is, record { fault = left.fault; cause = subst (λ (o : Option Files). IsSpillCause o s budget limit left.fault) (same ∙ is) left.cause; told = left.told })
+    → ForSome before (λ files. HasSpecification files spec s) → IsPieceFault middle after taken taken_after s budget limit a → IsSpillRefusalOn before spec budget limit a
+spill_refused before middle after taken taken_after spec budget limit s a same specified left = (
+  inr (s, record { fault = left.fault; told = left.told; cause = untold_pieces middle s budget limit left.fault left.cause }),
+  λ files is.
+      inr (s, specified files is, record { fault = left.fault; cause = subst (λ (o : Option Files). IsSpillCause o s budget limit left.fault) (same ∙ is) left.cause; told = left.told }),
+)
 
 -- What is left.
 

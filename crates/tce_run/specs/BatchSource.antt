@@ -10,7 +10,7 @@ use Rattle.tce_spec.specs.Specification.{Specification}
 use Rattle.tce_batch.specs.Outcome.{IsBatchOutcome}
 use Rattle.tce_outside.specs.Files.{Files, file}
 use Rattle.tce_command.specs.declared.refusal.Refusal.{Refusal}
-use Rattle.tce_command.specs.Source.{IsTextRefusal}
+use Rattle.tce_command.specs.Source.{IsTextRefusal, MayRefuseText}
 
 -- the text has this fault as one of several formulas, which is not want of memory
 pub record HasBatchFault (text : List ℕ) (fault : SpecFault) : Type 0 where
@@ -33,6 +33,6 @@ HasBatch files spec batch = IsSomeAnd (file files spec) (λ text. IsBatchOutcome
 abbrev pub HasBatchOn : Option Files → List ℕ → List Specification → Type 0
 HasBatchOn told name batch = ForSome told (λ files. HasBatch files name batch)
 
--- why the formulas in the file are refused
+-- they are refused as they may be, and where the disk tells its files for what is there
 abbrev pub IsBatchSourceRefusalOn : Option Files → List ℕ → Refusal → Type 0
-IsBatchSourceRefusalOn told name refusal = ForSome told (λ files. IsBatchSourceRefusal name (file files name) refusal)
+IsBatchSourceRefusalOn told name refusal = MayRefuseText HasBatchFault name refusal × ForSome told (λ files. IsBatchSourceRefusal name (file files name) refusal)

@@ -1,5 +1,5 @@
 -- Why the command is refused, by the first cause in order: the specification, the budget, the memory for intermediates, the first operand that is refused.
-use Rattle.std.specs.Prelude.{◌≡◌, ◌⊎◌, ⊤, ℕ, ◌<◌, ◌≤◌, List, Option}
+use Rattle.std.specs.Prelude.{◌≡◌, ◌⊎◌, ⊤, ℕ, ◌<◌, ◌≤◌, List, Option, None}
 use Rattle.std.specs.Option.{ForSome}
 use Rattle.tce_space.specs.Limits.{max_memory}
 use Rattle.tce_outside.specs.Files.{Files, file}
@@ -10,10 +10,13 @@ use Rattle.tce_job.specs.TensorFiles.{name_of, file_of}
 use Rattle.tce_job.specs.Takings.{least_budget}
 use Rattle.tce_job.specs.Opened.{IsRefused}
 use Rattle.tce_job.specs.Refusals.{IsLeastMemory, IsAffordable, CanRun}
+use Rattle.tce_job.specs.Told.{IsRefusalOf}
+use Rattle.tce_job.specs.declared.fault.JobFault.{JobFault}
 use Rattle.tce_command.specs.Report.{fault_of}
 use Rattle.tce_command.specs.declared.refusal.Refusal.{Refusal}
 use Rattle.tce_command.specs.declared.refusal.Refusal.TheVariants.{Missing, Array, Budget, Intermediates, Disk, Memory}
-use Rattle.tce_command.specs.Source.{HasSpecification, IsSourceRefusal}
+use Rattle.tce_command.specs.Source.{HasSpecification, IsSourceRefusal, MayRefuseSource}
+use Rattle.tce_run.specs.Told.{IsToldAs}
 
 -- the file holds a specification that can be run under this budget
 abbrev pub CanRunFile : Files → List ℕ → ℕ → Type 0
@@ -40,6 +43,16 @@ IsRunRefusal files spec budget refusal =
     IsSourceRefusal spec (file files spec) refusal
     ⊎ ((s : Specification) × HasSpecification files spec s × IsJobRefusal files s budget refusal)
 
--- and the same of a disk that may tell its files
+-- the refusal tells a fault that a run of the specification may have over a disk that tells nothing
+pub record MayRefuseJob (s : Specification) (budget : ℕ) (refusal : Refusal) : Type 0 where
+  pub fault : JobFault
+  pub told : IsToldAs s fault refusal
+  pub cause : IsRefusalOf None s budget fault
+
+-- how the command may be refused, whatever the disk tells
+abbrev pub MayRefuseRun : List ℕ → ℕ → Refusal → Type 0
+MayRefuseRun spec budget refusal = MayRefuseSource spec refusal ⊎ ((s : Specification) × MayRefuseJob s budget refusal)
+
+-- it is refused so, and where the disk tells its files for what they are
 abbrev pub IsRunRefusalIfTold : Option Files → List ℕ → ℕ → Refusal → Type 0
-IsRunRefusalIfTold told spec budget refusal = ForSome told (λ files. IsRunRefusal files spec budget refusal)
+IsRunRefusalIfTold told spec budget refusal = MayRefuseRun spec budget refusal × ForSome told (λ files. IsRunRefusal files spec budget refusal)

@@ -1,5 +1,6 @@
 -- Why the command is refused that runs a tree in pieces: the file, then what stands against cuts, then the budget, then the operands.
-use Rattle.std.specs.Prelude.{◌≡◌, ◌≢◌, ◌⊎◌, ⊤, ℕ, ◌*◌, ◌≤◌, List, Some}
+use Rattle.std.specs.Prelude.{◌≡◌, ◌≢◌, ◌⊎◌, ⊤, ℕ, ◌*◌, ◌≤◌, List, Option, Some, None}
+use Rattle.std.specs.Option.{ForSome}
 use Rattle.tce_outside.specs.Files.{Files, file}
 use Rattle.tce_array.specs.declared.fault.ArrayFault.TheVariants as array_fault
 use Rattle.tce_spec.specs.Pieces.{Cuts}
@@ -12,7 +13,7 @@ use Rattle.tce_spill.specs.RunRefusals.{AreCut, IsSpillCause}
 use Rattle.tce_command.specs.declared.refusal.Refusal.{Refusal}
 use Rattle.tce_command.specs.declared.refusal.Refusal.TheVariants.{Budget, Spill, Disk, Memory}
 use Rattle.tce_command.specs.declared.trouble.SpillTrouble.TheVariants as troubles
-use Rattle.tce_command.specs.Source.{HasSpecification, IsSourceRefusal}
+use Rattle.tce_command.specs.Source.{HasSpecification, IsSourceRefusal, MayRefuseSource}
 use Rattle.tce_run.specs.Told.{TellsArray}
 
 -- all that the pieces need is there: there are cuts for the limit, the budget holds three of the largest tiles of the operands, the result and the arrays of the cut nodes, and each operand has its file
@@ -51,3 +52,17 @@ abbrev pub IsSpillRefusal : Files → List ℕ → ℕ → ℕ → Refusal → T
 IsSpillRefusal files spec budget limit refusal =
     IsSourceRefusal spec (file files spec) refusal
     ⊎ ((s : Specification) × HasSpecification files spec s × IsPieceRefusal files s budget limit refusal)
+
+-- the refusal tells a fault that the pieces of the specification may have over a disk that tells nothing
+pub record MayRefusePieces (s : Specification) (budget limit : ℕ) (refusal : Refusal) : Type 0 where
+  pub fault : SpillFault
+  pub told : IsToldAs fault refusal
+  pub cause : IsSpillCause None s budget limit fault
+
+-- how the command may be refused, whatever the disk tells
+abbrev pub MayRefuseSpill : List ℕ → ℕ → ℕ → Refusal → Type 0
+MayRefuseSpill spec budget limit refusal = MayRefuseSource spec refusal ⊎ ((s : Specification) × MayRefusePieces s budget limit refusal)
+
+-- it is refused so, and where the disk tells its files for what they are
+abbrev pub IsSpillRefusalOn : Option Files → List ℕ → ℕ → ℕ → Refusal → Type 0
+IsSpillRefusalOn told spec budget limit refusal = MayRefuseSpill spec budget limit refusal × ForSome told (λ files. IsSpillRefusal files spec budget limit refusal)

@@ -1,13 +1,12 @@
 // The command that runs several formulas.
 ghost use Rattle.std.specs.Prelude.{◌≡◌, ◌≤◌, Err, IfOk, IfErr};
-ghost use Rattle.std.specs.Option.{ForSome};
 ghost use Rattle.tce_space.specs.Limits.{max_memory};
 ghost use Rattle.tce_outside.specs.Fault.{HasCause, TellsFaults};
 ghost use Rattle.tce_command.specs.Command.{NamesSpec};
 ghost use Rattle.tce_job.specs.Several.{OnlyResultsDiffer};
 ghost use Rattle.tce_run.specs.BatchDone.{IsBatchLeft, IsBatchRoomLeft, IsBatchRun, OnlyBatchDiffers};
 ghost use Rattle.tce_run.specs.BatchOfFormulas.{AreRun, IsFormulaFault};
-ghost use Rattle.tce_run.specs.BatchRefusals.{IsBatchRefusal};
+ghost use Rattle.tce_run.specs.BatchRefusals.{IsBatchRefusalOn};
 
 use crate::batch_reading::read_batch_source;
 use crate::batch_refusals::refusal_at;
@@ -36,7 +35,7 @@ pub fn run_all<D: Disk, R: Room>(
     requires spec { NamesSpec spec.now }
     requires budget { budget ≤ max_memory }
     ensures done { IfOk result (λ report. IsBatchRun (D.files disk.old) (D.files disk.new) (R.takings room.old) (R.takings room.new) spec.now budget report.items) }
-    ensures refused { IfErr result (λ refusal. ForSome (D.files disk.old) (λ files. IsBatchRefusal files spec.now budget refusal)) }
+    ensures refused { IfErr result (IsBatchRefusalOn (D.files disk.old) spec.now budget) }
     ensures left { IfErr result (λ refusal. IsBatchLeft refusal (D.files disk.old) (D.files disk.new) spec.now) }
     ensures takings { IfErr result (λ refusal. IsBatchRoomLeft refusal (D.files disk.old) (R.takings room.old) (R.takings room.new) spec.now budget) }
     ensures others { OnlyBatchDiffers spec.now (D.files disk.old) (D.files disk.new) }

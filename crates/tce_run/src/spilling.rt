@@ -1,6 +1,5 @@
 // The command that runs a tree in pieces.
 ghost use Rattle.std.specs.Prelude.{◌≡◌, ◌≤◌, Err, IfOk, IfErr};
-ghost use Rattle.std.specs.Option.{ForSome};
 ghost use Rattle.tce_space.specs.Limits.{max_memory};
 ghost use Rattle.tce_outside.specs.Fault.{HasCause, TellsFaults};
 ghost use Rattle.tce_command.specs.Command.{NamesSpec};
@@ -8,7 +7,7 @@ ghost use Rattle.tce_spec.specs.Declarations.{HaveNames};
 ghost use Rattle.tce_spill.specs.Left.{OnlyPiecesDiffer as OnlyFilesOfPiecesDiffer};
 ghost use Rattle.tce_run.specs.SpillDone.{IsSpillLeft, IsSpillRoomLeft, IsSpillRun, OnlyPiecesDiffer};
 ghost use Rattle.tce_run.specs.SpillOfSource.{ArePiecesRun, IsPieceFault};
-ghost use Rattle.tce_run.specs.SpillRefusals.{IsSpillRefusal};
+ghost use Rattle.tce_run.specs.SpillRefusals.{IsSpillRefusalOn};
 
 use crate::spill_refusals::refusal_of_pieces;
 use std::alloc::Global;
@@ -39,7 +38,7 @@ pub fn spill<D: Disk, R: Room>(
     requires budget { budget ≤ max_memory }
     requires limit { limit ≤ max_memory }
     ensures done { IfOk result (λ report. IsSpillRun (D.files disk.old) (D.files disk.new) (R.takings room.old) (R.takings room.new) spec.now budget limit report.items) }
-    ensures refused { IfErr result (λ refusal. ForSome (D.files disk.old) (λ files. IsSpillRefusal files spec.now budget limit refusal)) }
+    ensures refused { IfErr result (IsSpillRefusalOn (D.files disk.old) spec.now budget limit) }
     ensures left { IfErr result (λ refusal. IsSpillLeft refusal (D.files disk.old) (D.files disk.new) spec.now limit) }
     ensures takings { IfErr result (λ refusal. IsSpillRoomLeft refusal (D.files disk.old) (R.takings room.old) (R.takings room.new) spec.now budget limit) }
     ensures others { OnlyPiecesDiffer spec.now limit (D.files disk.old) (D.files disk.new) }

@@ -13,7 +13,7 @@ use Rattle.tce_command.specs.declared.command_refusal.CommandRefusal.{CommandRef
 use Rattle.tce_command.specs.declared.command_refusal.CommandRefusal.TheVariants.{Common, Certificate}
 use Rattle.tce_plan.specs.VerificationRefusals.{IsVerifyRefusalOn, IsWrittenFor}
 use Rattle.tce_plan.specs.VerificationDone.{IsVerified}
-use Rattle.tce_top.specs.Performed.{Carries, IsCommandRefusal, IsDone, KeepsRoom, LeavesInTurn, LeavesNoHalf, MayLeaveOther, MayTake, NamesItsIndexes, OthersStay, Seen}
+use Rattle.tce_top.specs.Performed.{Carries, IsCommandRefusal, IsDone, KeepsRoom, LeavesInTurn, LeavesNoHalf, MayLeaveOther, MayRefuse, MayTake, NamesItsIndexes, OthersStay, Seen}
 use Rattle.tce_top.proofs.Carried.{Performs, carried, cause_as, disk_or_same, of_err, of_ok, told_as}
 
 -- what a command of its own file may leave: takings as they were, and other files after a failing disk alone
@@ -51,6 +51,7 @@ quiet_leaves command r A quiet (inr same) = inr same
 -- What is known of a call that takes nothing: what it does and why it refuses, in the words of the command, and what it leaves.
 pub record Called {T : Type 0} (command : Command) (given : Result T Refusal) (before after : Seen) (Done : List ℕ → Type 0) (Refused : Refusal → Type 0) : Type 0 where
   pub done : (report : List ℕ) → Done report → IsDone command before.files after.files before.takings after.takings report
+  pub possible : (r : Refusal) → Refused r → MayRefuse command (Common r)
   pub refused : (r : Refusal) → Refused r → ForSome before.files (λ files. IsCommandRefusal files command (Common r))
   pub unchanged : IfErr given (λ r. r ≢ Disk → after.files ≡ before.files)
   pub untaken : after.takings ≡ before.takings
@@ -71,6 +72,7 @@ calls bytes items command this before after given answer Done Refused is quiet s
       faults = answered_quiet before.faults after.faults report given ok called.told;
     })
     (λ cause err. record {
+      possible = called.possible cause (of_err Refused given cause err refused);
       refused = called.refused cause (of_err Refused given cause err refused);
       line = tt;
       unchanged = quiet_leaves this (Common cause) (after.files ≡ before.files) quiet (disk_or_same (after.files ≡ before.files) cause (of_err _ given cause err called.unchanged));
@@ -90,7 +92,7 @@ names_its told spec file (Certificate flaw line) written = (written.0.declaratio
 
 pub verifies : {T S : Type 0} (bytes : T → List ℕ) (items : S → List ℕ) (command : Command) (before after : Seen) (given : Result T CommandRefusal) (answer : Result S CommandRefusal) (spec file : List ℕ)
     → command ≡ check spec file → Carries bytes items (λ refusal. refusal) given answer
-    → IfOk given (λ report. ForSome before.files (λ files. IsVerified files spec file (bytes report))) → IfErr given (IsVerifyRefusalOn before.files spec file) → IfErr given (IsWrittenFor before.files spec)
+    → IfOk given (λ report. IsVerified before.files spec file (bytes report)) → IfErr given (IsVerifyRefusalOn before.files spec file) → IfErr given (IsWrittenFor before.files spec)
     → after.files ≡ before.files → after.takings ≡ before.takings
     → HasCause before.faults after.faults (given ≡ Err (Common Disk)) → TellsFaults before.faults after.faults (given ≡ Err (Common Disk))
     → Performs items command before after answer
@@ -102,8 +104,9 @@ verifies bytes items command before after given answer spec file is same done re
       others = unchanged;
       faults = answered_quiet before.faults after.faults report given ok told;
     })
-    (λ r err. record {
-      refused = of_err _ given r err refused;
+    (λ r err. let why : IsVerifyRefusalOn before.files spec file r = of_err _ given r err refused in record {
+      possible = why.0;
+      refused = why.1;
       line = names_its before.files spec file r (of_err _ given r err line);
       unchanged = inr unchanged;
       left = tt;

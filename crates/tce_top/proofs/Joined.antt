@@ -9,7 +9,7 @@ use Rattle.tce_command.specs.Report.{status_of, ending_of, code_of, line_over, w
 use Rattle.tce_command.specs.Refusals.{IsFree, SameRefusal}
 use Rattle.tce_command.specs.CommandRefusals.{EndsAlike, MayReplace, OnCommon}
 use Rattle.tce_command.proofs.Statuses.{or_alike}
-use Rattle.tce_command.specs.Outcome.{Answers, IsFault, IsReported}
+use Rattle.tce_command.specs.Outcome.{Answers, IsFault, IsRefusal, IsReported}
 use Rattle.tce_command.specs.declared.refusal.Refusal.{Refusal}
 use Rattle.tce_command.specs.declared.refusal.Refusal.TheVariants.{Specification, Missing, Array, Budget, Intermediates, Flat, Tensor, Misfit, Einsum, Spill, Symmetry, Disk, Memory}
 use Rattle.tce_command.specs.declared.command_refusal.CommandRefusal.{CommandRefusal}
@@ -27,6 +27,7 @@ use Rattle.tce_run.proofs.Reasons as runs
 use Rattle.tce_run.proofs.BatchReasons as batches
 use Rattle.tce_run.proofs.SpillReasons as spills
 use Rattle.tce_plan.proofs.OneEinsum as einsum_answers
+use Rattle.tce_plan.proofs.Judged.{could_verify}
 use Rattle.tce_plan.proofs.OneVerification as verifications
 use Rattle.tce_tools.specs.Answers.{HasFlat, HasArray, HasFitting}
 use Rattle.tce_flat.specs.Tensors.{array_file, sym_file}
@@ -34,8 +35,8 @@ use Rattle.tce_flat.specs.Refusals.{HasPairs, IsFlatRefusal, IsArrayRefusal, IsF
 use Rattle.tce_flat.proofs.Stages.{same_refusal, ready_not_refused}
 use Rattle.tce_flat.proofs.Inputs.{one_flat_refusal, flat_not_refused, one_array_refusal, array_not_refused, one_form_refusal, form_not_refused}
 use Rattle.tce_flat.proofs.SymInputs.{one_sym_refusal, sym_not_refused}
-use Rattle.tce_top.specs.Performed.{CanDo, IsCommandRefusal, IsDone, MayTake}
-use Rattle.tce_top.specs.Cause.{IsCause, HasRefusal}
+use Rattle.tce_top.specs.Performed.{CanDo, IsCommandRefusal, IsDone, MayRefuse, MayTake}
+use Rattle.tce_top.specs.Cause.{IsCause, HasRefusal, MayEnd}
 
 -- Each command has one answer.
 
@@ -92,9 +93,9 @@ pub done_can : (command : Command) (before after : Option Files) (taken taken_af
 done_can (run spec budget) before after taken taken_after report done = λ files told. (done.specification, done.specified files told, done.able files told)
 done_can (batch spec budget) before after taken taken_after report done = λ files told. (done.formulas, done.specified files told, done.able files told)
 done_can (spill spec budget limit) before after taken taken_after report done = λ files told. (done.specification, done.specified files told, done.able files told)
-done_can (plan spec) before after taken taken_after report done = λ files told. let planned = done.0 files told in (planned.specification, planned.specified)
+done_can (plan spec) before after taken taken_after report done = λ files told. (done.0.specification, done.0.specified files told)
 done_can (cert spec name) before after taken taken_after report done = λ files told. (done.0.specification, done.0.specified files told)
-done_can (check spec name) before after taken taken_after report done = λ files told. let verified = done.0 files told in verified.can
+done_can (check spec name) before after taken taken_after report done = λ files told. could_verify before files spec name report told done.0
 done_can (pack spec tensor flat) before after taken taken_after report done = λ files told. (done.0.shape, done.0.tensor_is files told, done.0.packing.found files told)
 done_can (unpack spec tensor flat) before after taken taken_after report done = λ files told. (done.0.shape, done.0.tensor_is files told, done.0.unpacking.found files told)
 done_can (convert spec tensor form) before after taken taken_after report done = λ files told. (done.0.shape, done.0.tensor_is files told, done.0.converting.found files told)
@@ -199,6 +200,11 @@ cause_of files command (Certificate trouble line) p = record { refusal = Certifi
 -- how the line of a refusal was put
 abbrev pub Kept : CommandRefusal → Status → Type 0
 Kept r status = (status ≡ ending_of r) ⊎ ((status ≡ WantOfMemory) × (ending_of r ≡ DiskFault → ⊥))
+
+-- how the command may have been refused, where the status is that of a refusal
+pub may_end : (command : Command) (r : CommandRefusal) (status : Status) → Kept r status → IsRefusal status → MayRefuse command r → MayEnd command status
+may_end command r status (inl kept) refused may = record { refusal = r; possible = may; same = kept }
+may_end command r status (inr memory) refused may = absurd (subst IsRefusal memory.0 refused)
 
 pub refused_cause : (files : Files) (command : Command) (r : CommandRefusal) (status : Status) → Kept r status → IsCommandRefusal files command r → IsCause files command status
 refused_cause files command r status (inl kept) p = subst (IsCause files command) (sym kept) (cause_of files command r p)

@@ -22,7 +22,7 @@ use Rattle.tce_command.specs.declared.command_refusal.CommandRefusal.{CommandRef
 use Rattle.tce_command.specs.declared.command_refusal.CommandRefusal.TheVariants.{Common, Certificate}
 use Rattle.tce_command.specs.declared.status.Status.{Status}
 use Rattle.tce_command.specs.declared.status.Status.TheVariants.{Done, BadWords, SpecRefused, NoFile, ArrayRefused, BudgetTooSmall, IntermediatesTooLarge, CertRefused, DiskFault, SinkFault, WantOfMemory, FlatRefused, UnknownTensor, DoesNotFit, EinsumRefused, SpillRefused, SymRefused}
-use Rattle.tce_top.specs.Performed.{HasIndexes, IsCommandRefusal, IsDone, KeepsRoom, LeavesCutOff, LeavesInTurn, MayLeaveOther, NamesItsIndexes}
+use Rattle.tce_top.specs.Performed.{HasIndexes, IsDone, KeepsRoom, LeavesCutOff, LeavesInTurn, MayLeaveOther, MayRefuse, NamesItsIndexes}
 use Rattle.tce_command.proofs.Commands.{one_command}
 use Rattle.tce_top.specs.Outcome.{AreNamed, IsDemonstration, IsPartOfBatch, IsPartOfSpill, IsTensorOf, IsWholeBatch, IsWholeEinsum, IsWholeRun, IsWholeSpill}
 use Rattle.tce_job.specs.Several.{files_after}
@@ -205,13 +205,13 @@ no_memory_names a b status before after faults faults_after memory h = any_names
 abbrev PutFor : CommandRefusal → Status → Option (List ℕ) → Option (List ℕ) → ℕ → ℕ → Type 0
 PutFor r status before after faults faults_after = (names : LineNames) → HasNames names r → HasErrorLine names status before after faults faults_after
 
-pair_line : (words : List (List ℕ)) (told : Option Files) (command : Command) (tensor : ArrayString) (trouble : SymTrouble) (status : Status) (before after : Option (List ℕ)) (faults faults_after : ℕ) → IsCommand words command
-    → ForSome told (λ files. IsCommandRefusal files command (Common (Symmetry tensor trouble))) → PutFor (Common (Symmetry tensor trouble)) status before after faults faults_after → Kept (Common (Symmetry tensor trouble)) status
-    → (names : LineNames) → IsTensorOf words told status names.tensor → HasErrorLine names status before after faults faults_after
-pair_line words told command tensor trouble status before after faults faults_after is refused line (inl kept) names of =
-    let due : IsTensorOf words told (SymRefused trouble) names.tensor = subst (λ s. IsTensorOf words told s names.tensor) kept of in
-    line names (words_tensor words told command names.tensor tensor trouble is refused due)
-pair_line words told command tensor trouble status before after faults faults_after is refused line (inr memory) names of =
+pair_line : (words : List (List ℕ)) (command : Command) (tensor : ArrayString) (trouble : SymTrouble) (status : Status) (before after : Option (List ℕ)) (faults faults_after : ℕ) → IsCommand words command
+    → MayRefuse command (Common (Symmetry tensor trouble)) → PutFor (Common (Symmetry tensor trouble)) status before after faults faults_after → Kept (Common (Symmetry tensor trouble)) status
+    → (names : LineNames) → IsTensorOf words status names.tensor → HasErrorLine names status before after faults faults_after
+pair_line words command tensor trouble status before after faults faults_after is may line (inl kept) names of =
+    let due : IsTensorOf words (SymRefused trouble) names.tensor = subst (λ s. IsTensorOf words s names.tensor) kept of in
+    line names (words_tensor words command names.tensor tensor trouble is may due)
+pair_line words command tensor trouble status before after faults faults_after is may line (inr memory) names of =
     let put : LineNames = record { space = names.space; tensor = tensor.bytes } in
     no_memory_names put names status before after faults faults_after memory.0 (line put refl)
 
@@ -228,24 +228,24 @@ certificate_line space flaw text status before after faults faults_after is line
     no_memory_names own names status before after faults faults_after memory.0 (line own is)
 
 pub plain_line : (words : List (List ℕ)) (command : Command) (told : Option Files) (r : CommandRefusal) (status : Status) (before after : Option (List ℕ)) (faults faults_after : ℕ)
-    → IsCommand words command → ForSome told (λ files. IsCommandRefusal files command r) → NamesItsIndexes command told r → PutFor r status before after faults faults_after → NamesNoIndex status → Kept r status
-    → (names : LineNames) → IsTensorOf words told status names.tensor → HasErrorLine names status before after faults faults_after
-plain_line words command told (Certificate flaw text) status before after faults faults_after is refused own line plain kept names of =
+    → IsCommand words command → MayRefuse command r → NamesItsIndexes command told r → PutFor r status before after faults faults_after → NamesNoIndex status → Kept r status
+    → (names : LineNames) → IsTensorOf words status names.tensor → HasErrorLine names status before after faults faults_after
+plain_line words command told (Certificate flaw text) status before after faults faults_after is may own line plain kept names of =
     certificate_line own.0 flaw text status before after faults faults_after own.2 line plain kept names
-plain_line words command told (Common (Symmetry tensor trouble)) status before after faults faults_after is refused own line plain kept names of =
-    pair_line words told command tensor trouble status before after faults faults_after is refused line kept names of
-plain_line words command told (Common (Specification fault)) status before after faults faults_after is refused own line plain kept names of = line names tt
-plain_line words command told (Common (Missing name)) status before after faults faults_after is refused own line plain kept names of = line names tt
-plain_line words command told (Common (Array name fault)) status before after faults faults_after is refused own line plain kept names of = line names tt
-plain_line words command told (Common (Budget n)) status before after faults faults_after is refused own line plain kept names of = line names tt
-plain_line words command told (Common (Intermediates n)) status before after faults faults_after is refused own line plain kept names of = line names tt
-plain_line words command told (Common (Flat n)) status before after faults faults_after is refused own line plain kept names of = line names tt
-plain_line words command told (Common (Tensor name)) status before after faults faults_after is refused own line plain kept names of = line names tt
-plain_line words command told (Common (Misfit n)) status before after faults faults_after is refused own line plain kept names of = line names tt
-plain_line words command told (Common (Spill trouble)) status before after faults faults_after is refused own line plain kept names of = line names tt
-plain_line words command told (Common (Einsum trouble)) status before after faults faults_after is refused own line plain kept names of = line names tt
-plain_line words command told (Common Disk) status before after faults faults_after is refused own line plain kept names of = line names tt
-plain_line words command told (Common Memory) status before after faults faults_after is refused own line plain kept names of = line names tt
+plain_line words command told (Common (Symmetry tensor trouble)) status before after faults faults_after is may own line plain kept names of =
+    pair_line words command tensor trouble status before after faults faults_after is may line kept names of
+plain_line words command told (Common (Specification fault)) status before after faults faults_after is may own line plain kept names of = line names tt
+plain_line words command told (Common (Missing name)) status before after faults faults_after is may own line plain kept names of = line names tt
+plain_line words command told (Common (Array name fault)) status before after faults faults_after is may own line plain kept names of = line names tt
+plain_line words command told (Common (Budget n)) status before after faults faults_after is may own line plain kept names of = line names tt
+plain_line words command told (Common (Intermediates n)) status before after faults faults_after is may own line plain kept names of = line names tt
+plain_line words command told (Common (Flat n)) status before after faults faults_after is may own line plain kept names of = line names tt
+plain_line words command told (Common (Tensor name)) status before after faults faults_after is may own line plain kept names of = line names tt
+plain_line words command told (Common (Misfit n)) status before after faults faults_after is may own line plain kept names of = line names tt
+plain_line words command told (Common (Spill trouble)) status before after faults faults_after is may own line plain kept names of = line names tt
+plain_line words command told (Common (Einsum trouble)) status before after faults faults_after is may own line plain kept names of = line names tt
+plain_line words command told (Common Disk) status before after faults faults_after is may own line plain kept names of = line names tt
+plain_line words command told (Common Memory) status before after faults faults_after is may own line plain kept names of = line names tt
 
 -- the line of a refused certificate
 abbrev CertLine : Command → Option Files → Status → Option (List ℕ) → Option (List ℕ) → ℕ → ℕ → Type 0

@@ -6,3 +6,4 @@ pub mod Written
 pub mod Carried
 pub mod Calls
 pub mod Runs
+pub mod Reported

@@ -13,11 +13,11 @@ use Rattle.tce_command.specs.declared.command_refusal.CommandRefusal.TheVariants
 use Rattle.tce_run.specs.Done.{IsRoomLeft, IsRun, IsTaking, OnlyResultDiffers}
 use Rattle.tce_run.specs.Refusals.{IsRunRefusalIfTold}
 use Rattle.tce_run.specs.BatchDone.{IsBatchLeft, IsBatchRoomLeft, IsBatchRun, OnlyBatchDiffers}
-use Rattle.tce_run.specs.BatchRefusals.{IsBatchRefusal}
+use Rattle.tce_run.specs.BatchRefusals.{IsBatchRefusalOn}
 use Rattle.tce_run.specs.SpillDone.{IsSpillLeft, IsSpillRoomLeft, IsSpillRun, OnlyPiecesDiffer}
-use Rattle.tce_run.specs.SpillRefusals.{IsSpillRefusal}
+use Rattle.tce_run.specs.SpillRefusals.{IsSpillRefusalOn}
 use Rattle.tce_run.specs.DemoFiles.{DemoOthersStay, found}
-use Rattle.tce_run.specs.DemoDone.{IsDemonstrated, IsDemoTaking, LeavesDemonstration, LeavesDemoRoom}
+use Rattle.tce_run.specs.DemoDone.{IsDemonstrated, IsDemoRefusal, IsDemoTaking, LeavesDemonstration, LeavesDemoRoom}
 use Rattle.tce_top.specs.Performed.{Carries, Seen}
 use Rattle.tce_top.proofs.Carried.{Performs, carried, cause_as, of_err, of_ok, told_as}
 
@@ -62,8 +62,12 @@ runs bytes items command before after given answer spec budget is same done refu
       others = others;
       faults = answered_quiet before.faults after.faults report given ok fails.told;
     })
-    (λ r err. let room : IsRoomLeft r before.files before.takings after.takings spec budget = of_err (λ k. IsRoomLeft k before.files before.takings after.takings spec budget) given r err takings in record {
-      refused = of_err _ given r err refused;
+    (λ r err.
+    let why : IsRunRefusalIfTold before.files spec budget r = of_err _ given r err refused in
+    let room : IsRoomLeft r before.files before.takings after.takings spec budget = of_err (λ k. IsRoomLeft k before.files before.takings after.takings spec budget) given r err takings in
+    record {
+      possible = why.0;
+      refused = why.1;
       line = tt;
       unchanged = same_or_disk _ r (of_err _ given r err unchanged);
       left = tt;
@@ -93,7 +97,7 @@ untaken_or_free A r kept =
 pub batches : {T S : Type 0} (bytes : T → List ℕ) (items : S → List ℕ) (command : Command) (before after : Seen) (given : Result T Refusal) (answer : Result S CommandRefusal) (spec : List ℕ) (budget : ℕ)
     → command ≡ batch spec budget → Carries bytes items Common given answer
     → IfOk given (λ report. IsBatchRun before.files after.files before.takings after.takings spec budget (bytes report))
-    → IfErr given (λ r. ForSome before.files (λ files. IsBatchRefusal files spec budget r)) → IfErr given (λ r. IsBatchLeft r before.files after.files spec)
+    → IfErr given (IsBatchRefusalOn before.files spec budget) → IfErr given (λ r. IsBatchLeft r before.files after.files spec)
     → IfErr given (λ r. IsBatchRoomLeft r before.files before.takings after.takings spec budget) → OnlyBatchDiffers spec before.files after.files → Fails given before after
     → Performs items command before after answer
 batches bytes items command before after given answer spec budget is same done refused left takings others fails =
@@ -105,10 +109,12 @@ batches bytes items command before after given answer spec budget is same done r
       faults = answered_quiet before.faults after.faults report given ok fails.told;
     })
     (λ r err.
+    let why : IsBatchRefusalOn before.files spec budget r = of_err _ given r err refused in
     let files_left : IsBatchLeft r before.files after.files spec = of_err (λ k. IsBatchLeft k before.files after.files spec) given r err left in
     let room : IsBatchRoomLeft r before.files before.takings after.takings spec budget = of_err (λ k. IsBatchRoomLeft k before.files before.takings after.takings spec budget) given r err takings in
     record {
-      refused = of_err _ given r err refused;
+      possible = why.0;
+      refused = why.1;
       line = tt;
       unchanged = batch_same r before.files after.files spec files_left;
       left = files_left;
@@ -130,7 +136,7 @@ spill_same r before after spec limit left = inr left
 pub spills : {T S : Type 0} (bytes : T → List ℕ) (items : S → List ℕ) (command : Command) (before after : Seen) (given : Result T Refusal) (answer : Result S CommandRefusal) (spec : List ℕ) (budget limit : ℕ)
     → command ≡ spill spec budget limit → Carries bytes items Common given answer
     → IfOk given (λ report. IsSpillRun before.files after.files before.takings after.takings spec budget limit (bytes report))
-    → IfErr given (λ r. ForSome before.files (λ files. IsSpillRefusal files spec budget limit r)) → IfErr given (λ r. IsSpillLeft r before.files after.files spec limit)
+    → IfErr given (IsSpillRefusalOn before.files spec budget limit) → IfErr given (λ r. IsSpillLeft r before.files after.files spec limit)
     → IfErr given (λ r. IsSpillRoomLeft r before.files before.takings after.takings spec budget limit) → OnlyPiecesDiffer spec limit before.files after.files → Fails given before after
     → Performs items command before after answer
 spills bytes items command before after given answer spec budget limit is same done refused left takings others fails =
@@ -142,10 +148,12 @@ spills bytes items command before after given answer spec budget limit is same d
       faults = answered_quiet before.faults after.faults report given ok fails.told;
     })
     (λ r err.
+    let why : IsSpillRefusalOn before.files spec budget limit r = of_err _ given r err refused in
     let files_left : IsSpillLeft r before.files after.files spec limit = of_err (λ k. IsSpillLeft k before.files after.files spec limit) given r err left in
     let room : IsSpillRoomLeft r before.files before.takings after.takings spec budget limit = of_err (λ k. IsSpillRoomLeft k before.files before.takings after.takings spec budget limit) given r err takings in
     record {
-      refused = of_err _ given r err refused;
+      possible = why.0;
+      refused = why.1;
       line = tt;
       unchanged = spill_same r before.files after.files spec limit files_left;
       left = files_left;
@@ -179,10 +187,10 @@ demo_untaken v o taken taken_after r (inr same) = inr same
 
 pub demonstrates : {T S : Type 0} (bytes : T → List ℕ) (items : S → List ℕ) (command : Command) (before after : Seen) (given : Result T Refusal) (answer : Result S CommandRefusal) (seed v o : ℕ)
     → command ≡ demo seed v o → Carries bytes items Common given answer
-    → IfOk given (λ report. IsDemonstrated before.files after.files before.takings after.takings seed v o (bytes report)) → IfErr given (λ r. ForSome before.files (λ files. IsFree r))
+    → IfOk given (λ report. IsDemonstrated before.files after.files before.takings after.takings seed v o (bytes report)) → IfErr given (λ r. ForSome before.files (λ files. IsFree r)) → IfErr given (IsDemoRefusal v o)
     → LeavesDemoRoom v o before.takings after.takings given → LeavesDemonstration seed v o before.files after.files → DemoOthersStay before.files after.files → Fails given before after
     → Performs items command before after answer
-demonstrates bytes items command before after given answer seed v o is same done refused takings no_half others fails =
+demonstrates bytes items command before after given answer seed v o is same done refused as_run takings no_half others fails =
     carried bytes items Common command (demo seed v o) before after given answer is same
     (λ report ok. record {
       done = of_ok _ given report ok done;
@@ -191,6 +199,7 @@ demonstrates bytes items command before after given answer seed v o is same done
       faults = answered_quiet before.faults after.faults report given ok fails.told;
     })
     (λ r err. let room : (IsFree r × IsDemoTaking v o before.takings after.takings) ⊎ (after.takings ≡ before.takings) = of_err (λ k. (IsFree k × IsDemoTaking v o before.takings after.takings) ⊎ (after.takings ≡ before.takings)) given r err takings in record {
+      possible = of_err (IsDemoRefusal v o) given r err as_run;
       refused = of_err _ given r err refused;
       line = tt;
       unchanged = demo_same before.files after.files r (of_err (λ k. ForSome before.files (λ files. IsFree k)) given r err refused) others;

@@ -1,4 +1,4 @@
--- Why a command ends with a status, where the disk tells its files.
+-- Why a command ends with a status.
 use Rattle.std.specs.Prelude.{◌≡◌, ⊤, ℕ, List, Option}
 use Rattle.std.specs.Option.{ForSome}
 use Rattle.tce_outside.specs.Files.{Files}
@@ -7,9 +7,9 @@ use Rattle.tce_command.specs.Report.{ending_of}
 use Rattle.tce_command.specs.declared.command_refusal.CommandRefusal.{CommandRefusal}
 use Rattle.tce_command.specs.declared.status.Status.{Status}
 use Rattle.tce_command.specs.declared.status.Status.TheVariants.{Done, DiskFault, SinkFault, WantOfMemory}
-use Rattle.tce_top.specs.Performed.{CanDo, IsCommandRefusal}
+use Rattle.tce_top.specs.Performed.{CanDo, IsCommandRefusal, MayRefuse}
 
--- the command is refused, and this is the status of its refusal
+-- the command is refused where the disk tells its files, and this is the status of its refusal
 pub record HasRefusal (files : Files) (command : Command) (status : Status) : Type 0 where
   pub refusal : CommandRefusal
   pub cause : IsCommandRefusal files command refusal
@@ -22,6 +22,12 @@ IsCause files command SinkFault = CanDo files command
 IsCause files command DiskFault = ⊤
 IsCause files command WantOfMemory = ⊤
 IsCause files command status = HasRefusal files command status
+
+-- the status is that of a refusal that the command may have, whatever the disk tells
+pub record MayEnd (command : Command) (status : Status) : Type 0 where
+  pub refusal : CommandRefusal
+  pub possible : MayRefuse command refusal
+  pub same : status ≡ ending_of refusal
 
 -- where the words are those of a command
 abbrev pub OfCommand : List (List ℕ) → (Command → Type 0) → Type 0

@@ -82,10 +82,10 @@ pub record IsWholeEinsum (text path spec : List ℕ) (files after : Files) : Typ
   pub written : after ≡ with_file files spec (canonical_of specification)
   pub specified : HasSpecification after spec specification
 
--- where the status is that of a refused file of stored pairs, the disk tells its files and the words are those of the expansion of this tensor
-abbrev pub IsTensorOf : List (List ℕ) → Option Files → Status → List ℕ → Type 0
-IsTensorOf words told (SymRefused trouble) tensor = ((files : Files) × (told ≡ Some files)) × ((spec : List ℕ) × IsCommand words (expand spec tensor))
-IsTensorOf words told status tensor = ⊤
+-- where the status is that of a refused file of stored pairs, the words are those of the expansion of this tensor
+abbrev pub IsTensorOf : List (List ℕ) → Status → List ℕ → Type 0
+IsTensorOf words (SymRefused trouble) tensor = (spec : List ℕ) × IsCommand words (expand spec tensor)
+IsTensorOf words status tensor = ⊤
 
 -- the words are those of a demonstration
 abbrev pub IsDemonstration : List (List ℕ) → Type 0

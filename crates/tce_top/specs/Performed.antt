@@ -5,7 +5,7 @@ use Rattle.tce_outside.specs.Fault.{HasCause, TellsFaults}
 use Rattle.tce_outside.specs.Files.{Files, others}
 use Rattle.tce_space.specs.Space.{IndexSpace}
 use Rattle.tce_spec.specs.Specification.{Specification}
-use Rattle.tce_command.specs.Source.{HasSpecification}
+use Rattle.tce_command.specs.Source.{HasSpecification, MayRefuseSource}
 use Rattle.tce_command.specs.Command.{Command, run, batch, spill, plan, cert, check, pack, unpack, convert, expand, einsum, demo}
 use Rattle.tce_command.specs.Report.{cert_line, trouble_of}
 use Rattle.tce_command.specs.Refusals.{IsFree}
@@ -14,11 +14,11 @@ use Rattle.tce_command.specs.declared.refusal.Refusal.TheVariants.{Disk}
 use Rattle.tce_command.specs.declared.command_refusal.CommandRefusal.{CommandRefusal}
 use Rattle.tce_command.specs.declared.command_refusal.CommandRefusal.TheVariants.{Common, Certificate}
 use Rattle.tce_run.specs.Done.{IsRun, IsTaking, OnlyResultDiffers}
-use Rattle.tce_run.specs.Refusals.{CanRunFile, IsRunRefusal}
+use Rattle.tce_run.specs.Refusals.{CanRunFile, IsRunRefusal, MayRefuseRun}
 use Rattle.tce_run.specs.BatchDone.{IsBatchLeft, IsBatchRun, IsBatchTaking, IsCutOff, OnlyBatchDiffers}
-use Rattle.tce_run.specs.BatchRefusals.{CanRunBatch, IsBatchRefusal}
+use Rattle.tce_run.specs.BatchRefusals.{CanRunBatch, IsBatchRefusal, MayRefuseBatch}
 use Rattle.tce_run.specs.SpillDone.{IsCutOffInPiece, IsSpillLeft, IsSpillRun, IsSpillTaking, OnlyPiecesDiffer}
-use Rattle.tce_run.specs.SpillRefusals.{CanSpill, IsSpillRefusal}
+use Rattle.tce_run.specs.SpillRefusals.{CanSpill, IsSpillRefusal, MayRefuseSpill}
 use Rattle.tce_plan.specs.Done.{IsPlanned}
 use Rattle.tce_plan.specs.Refusals.{CanPlan, IsPlanRefusal}
 use Rattle.tce_plan.specs.CertificateDone.{IsCertified}
@@ -26,13 +26,14 @@ use Rattle.tce_plan.specs.CertificateRefusals.{CanCertify, IsCertifyRefusal}
 use Rattle.tce_plan.specs.EinsumDone.{IsEinsumWritten}
 use Rattle.tce_plan.specs.EinsumRefusals.{CanWriteEinsum, IsEinsumRefusal}
 use Rattle.tce_plan.specs.VerificationDone.{CanVerify, IsVerified}
-use Rattle.tce_plan.specs.VerificationRefusals.{IsVerifyRefusal}
+use Rattle.tce_plan.specs.VerificationRefusals.{IsVerifyRefusal, MayRefuseVerify}
 use Rattle.tce_flat.specs.Tensors.{array_file, converted_file}
 use Rattle.tce_flat.specs.Refusals.{CanPack, CanUnpack, CanConvert, CanExpand, IsPackRefusal, IsUnpackRefusal, IsConvertRefusal, IsExpandRefusal}
+use Rattle.tce_flat.specs.May.{MayRefusePack, MayRefuseUnpack, MayRefuseConvert, MayRefuseExpand}
 use Rattle.tce_flat.specs.Done.{IsPacked, IsUnpacked, IsConverted, IsExpanded}
 use Rattle.tce_flat.specs.NoHalf.{LeavesFor, LeavesPacking, LeavesUnpacking, LeavesConverting, LeavesExpanding}
 use Rattle.tce_run.specs.DemoFiles.{DemoOthersStay}
-use Rattle.tce_run.specs.DemoDone.{IsDemonstrated, IsDemoTaking, LeavesDemonstration}
+use Rattle.tce_run.specs.DemoDone.{IsDemonstrated, IsDemoRefusal, IsDemoTaking, LeavesDemonstration}
 
 -- the disk has all that the command needs; an einsum needs its words alone, and a demonstration nothing
 abbrev pub CanDo : Files → Command → Type 0
@@ -64,14 +65,29 @@ IsCommandRefusal files (expand spec tensor) refusal = OnCommon (IsExpandRefusal 
 IsCommandRefusal files (einsum text path spec) refusal = OnCommon (IsEinsumRefusal text path) refusal
 IsCommandRefusal files (demo seed v o) refusal = OnCommon IsFree refusal
 
+-- how the command may be refused, whatever the disk tells: for its own words, and for texts and specifications that there may be
+abbrev pub MayRefuse : Command → CommandRefusal → Type 0
+MayRefuse (run spec budget) refusal = OnCommon (MayRefuseRun spec budget) refusal
+MayRefuse (batch spec budget) refusal = OnCommon (MayRefuseBatch spec budget) refusal
+MayRefuse (spill spec budget limit) refusal = OnCommon (MayRefuseSpill spec budget limit) refusal
+MayRefuse (plan spec) refusal = OnCommon (MayRefuseSource spec) refusal
+MayRefuse (cert spec file) refusal = OnCommon (MayRefuseSource spec) refusal
+MayRefuse (check spec file) refusal = MayRefuseVerify spec file refusal
+MayRefuse (pack spec tensor flat) refusal = OnCommon (MayRefusePack spec tensor flat) refusal
+MayRefuse (unpack spec tensor flat) refusal = OnCommon (MayRefuseUnpack spec tensor) refusal
+MayRefuse (convert spec tensor form) refusal = OnCommon (MayRefuseConvert spec tensor form) refusal
+MayRefuse (expand spec tensor) refusal = OnCommon (MayRefuseExpand spec tensor) refusal
+MayRefuse (einsum text path spec) refusal = OnCommon (IsEinsumRefusal text path) refusal
+MayRefuse (demo seed v o) refusal = OnCommon (IsDemoRefusal v o) refusal
+
 -- the command is done, with this report
 abbrev pub IsDone : Command → Option Files → Option Files → List (ℕ × ℕ) → List (ℕ × ℕ) → List ℕ → Type 0
 IsDone (run spec budget) before after taken taken_after report = IsRun before after taken taken_after spec budget report
 IsDone (batch spec budget) before after taken taken_after report = IsBatchRun before after taken taken_after spec budget report
 IsDone (spill spec budget limit) before after taken taken_after report = IsSpillRun before after taken taken_after spec budget limit report
-IsDone (plan spec) before after taken taken_after report = ForSome before (λ files. IsPlanned files spec report) × (after ≡ before) × (taken_after ≡ taken)
+IsDone (plan spec) before after taken taken_after report = IsPlanned before spec report × (after ≡ before) × (taken_after ≡ taken)
 IsDone (cert spec file) before after taken taken_after report = IsCertified before after spec file report × (taken_after ≡ taken)
-IsDone (check spec file) before after taken taken_after report = ForSome before (λ files. IsVerified files spec file report) × (after ≡ before) × (taken_after ≡ taken)
+IsDone (check spec file) before after taken taken_after report = IsVerified before spec file report × (after ≡ before) × (taken_after ≡ taken)
 IsDone (pack spec tensor flat) before after taken taken_after report = IsPacked before after spec tensor flat report × (taken_after ≡ taken)
 IsDone (unpack spec tensor flat) before after taken taken_after report = IsUnpacked before after spec tensor flat report × (taken_after ≡ taken)
 IsDone (convert spec tensor form) before after taken taken_after report = IsConverted before after spec tensor form report × (taken_after ≡ taken)
@@ -168,8 +184,9 @@ pub record Finishes (command : Command) (before after : Seen) (report : List ℕ
   pub others : OthersStay command before.files after.files
   pub faults : after.faults ≡ before.faults
 
--- the command is refused: why, with which line, and what it leaves; the disk failed exactly where that is the refusal
+-- the command is refused: as it may be, and where the disk tells its files for what they are, with which line, and what it leaves; the disk failed exactly where that is the refusal
 pub record Refuses (command : Command) (before after : Seen) (refusal : CommandRefusal) : Type 0 where
+  pub possible : MayRefuse command refusal
   pub refused : ForSome before.files (λ files. IsCommandRefusal files command refusal)
   pub line : NamesItsIndexes command before.files refusal
   pub unchanged : MayLeaveOther command refusal ⊎ (after.files ≡ before.files)

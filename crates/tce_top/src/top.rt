@@ -8,7 +8,7 @@ ghost use Rattle.tce_command.specs.Report.{IsWellFormed, LineNames, NamesNoIndex
 ghost use Rattle.tce_command.specs.declared.trouble.CertTrouble.{CertTrouble};
 ghost use Rattle.tce_command.specs.Outcome.{Answers, Grew, GrewWithin, HasErrorLine, HasLine, IsFault, IsRefusal};
 ghost use Rattle.tce_top.specs.Performed.{KeepsRoom, LeavesCutOff, LeavesNoHalf, MayTake, OthersStay};
-ghost use Rattle.tce_top.specs.Cause.{IsCause, OfCommand, Told};
+ghost use Rattle.tce_top.specs.Cause.{IsCause, MayEnd, OfCommand, Told};
 ghost use Rattle.tce_top.specs.Outcome.{AreNamed, IsDemonstration, IsFinished, IsPartOfBatch, IsPartOfSpill, IsTensorOf, IsWholeBatch, IsWholeEinsum, IsWholeRun, IsWholeSpill};
 
 use crate::perform::perform;
@@ -60,7 +60,8 @@ pub fn tce<D: Disk, K: Sink, R: Room>(
     ensures cause { Told (map string_bytes words.now) (D.files disk.old) (λ files command. IsCause files command result) }
     ensures exactly { Told (map string_bytes words.now) (D.files disk.old) (λ files command.
         (due : Status) → (IsFault due → ⊥) → IsCause files command due → Answers result due) }
-    // What no status holds, whatever the disk tells: a fault that is told by another status.
+    // Whatever the disk tells: how a command may be refused, and no fault that is told by another status.
+    ensures refused { IsRefusal result → OfCommand (map string_bytes words.now) (λ command. MayEnd command result) }
     ensures well_formed { IsWellFormed result }
     ensures disk_fault { HasCause (D.faults disk.old) (D.faults disk.new) (result ≡ Status.DiskFault) }
     ensures disk_told { TellsFaults (D.faults disk.old) (D.faults disk.new) (result ≡ Status.DiskFault) }
@@ -70,7 +71,7 @@ pub fn tce<D: Disk, K: Sink, R: Room>(
     ensures unchanged { IsRefusal result → (D.files disk.new ≡ D.files disk.old)
         × OfCommand (map string_bytes words.now) (λ command. KeepsRoom command (D.files disk.old) (R.takings room.old) (R.takings room.new)) }
     ensures untouched { IsNoCommand (map string_bytes words.now) → (D.files disk.new ≡ D.files disk.old) × (R.takings room.new ≡ R.takings room.old) }
-    ensures line { HasLine result → NamesNoIndex result → (names : LineNames) → IsTensorOf (map string_bytes words.now) (D.files disk.old) result names.tensor
+    ensures line { HasLine result → NamesNoIndex result → (names : LineNames) → IsTensorOf (map string_bytes words.now) result names.tensor
         → HasErrorLine names result (K.bytes out.old) (K.bytes out.new) (K.faults out.old) (K.faults out.new) }
     ensures cert_line { (trouble : CertTrouble) → result ≡ Status.CertRefused trouble
         → (names : LineNames) × AreNamed (map string_bytes words.now) (D.files disk.old) names.space × HasErrorLine names result (K.bytes out.old) (K.bytes out.new) (K.faults out.old) (K.faults out.new) }

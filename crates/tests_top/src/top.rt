@@ -7,6 +7,7 @@ mod einsums;
 pub mod failing;
 mod flat_files;
 pub mod given;
+mod limits;
 mod losing;
 mod plans;
 mod refused;

@@ -2,12 +2,12 @@ use Rattle.std.proofs.Common.{sym, refl, ◌∙◌}
 use Rattle.std.proofs.lemmas.Bool.{false≢true}
 use Rattle.tce_outside.proofs.Causes.{cause_as, cause_since}
 use Rattle.tce_command.proofs.Outcomes.{ok_no_disk}
-use Rattle.tce_command.proofs.Read.{long_file, memory_no_disk, text_no_disk}
+use Rattle.tce_command.proofs.Read.{long_file, long_may, memory_no_disk, text_no_disk}
 use Rattle.tce_outside.specs.Files.{file}
 use Rattle.tce_command.proofs.source_reading.read_text.Goals as goal
 
 pub returns-then-len-clause-refused : goal.returns-then-len-clause-refused
-returns-then-len-clause-refused g c = λ files told. long_file (file files c.args.name.now) c.in-Some.len (sym c.in-Some.is ∙ c.in-Ok.ensures.length files told) c.if-len.true
+returns-then-len-clause-refused g c = (long_may c.in-Some.len c.if-len.true, λ files told. long_file (file files c.args.name.now) c.in-Some.len (sym c.in-Some.is ∙ c.in-Ok.ensures.length files told) c.if-len.true)
 
 pub returns-in_default-clause-told : goal.returns-in_default-clause-told
 returns-in_default-clause-told g c = λ none. absurd (none refl)

@@ -4,6 +4,7 @@ use Rattle.tce_outside.specs.Files.{others}
 use Rattle.tce_outside.proofs.Causes.{cause_since}
 use Rattle.tce_flat.specs.Tensors.{converted_file}
 use Rattle.tce_flat.specs.Refusals.{IsFormRefusal}
+use Rattle.tce_flat.specs.May.{MayLackTensor, MayRefuseForm}
 use Rattle.tce_flat.proofs.Names.{short_tensor, short_spec}
 use Rattle.tce_flat.proofs.Tools.{converted_from, refused_for, unchanged_from}
 use Rattle.tce_command.proofs.Refused.{cause_for, told_for}
@@ -26,7 +27,7 @@ returns-in_err-shape-clause-done g c = IfOk-from_err c.from_residual.result _ c.
 pub returns-in_err-shape-clause-refused : goal.returns-in_err-shape-clause-refused
 returns-in_err-shape-clause-refused g c =
     let p = err_from_is_err_and c.from_residual.result c.from_residual.ensures.1 in
-    rw (p.1, p.2) (λ files told. inl (c.in_err-shape.ensures.refused files told))
+    rw (p.1, p.2) (inl c.in_err-shape.ensures.refused.0, λ files told. inl (c.in_err-shape.ensures.refused.1 files told))
 
 pub returns-in_err-shape-clause-unchanged : goal.returns-in_err-shape-clause-unchanged
 returns-in_err-shape-clause-unchanged g c =
@@ -56,7 +57,7 @@ returns-clause-done g c =
 
 pub returns-clause-refused : goal.returns-clause-refused
 returns-clause-refused g c =
-    refused_for (λ files. IsFormRefusal files c.args.tensor.now c.args.form) _ _ c.args.spec.now c.args.tensor.now c.in_ok-shape.shape c.convert_tensor-done.result c.in_ok-shape.ensures.same
+    refused_for (λ files. IsFormRefusal files c.args.tensor.now c.args.form) (MayLackTensor c.args.spec.now c.args.tensor.now) (MayRefuseForm c.args.tensor.now c.args.form) _ _ c.args.spec.now c.args.tensor.now c.in_ok-shape.shape c.convert_tensor-done.result c.in_ok-shape.ensures.same
     c.in_ok-shape.ensures.found c.convert_tensor-done.ensures.refused
 
 pub returns-clause-unchanged : goal.returns-clause-unchanged

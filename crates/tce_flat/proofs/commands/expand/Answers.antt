@@ -4,6 +4,7 @@ use Rattle.tce_outside.specs.Files.{others}
 use Rattle.tce_outside.proofs.Causes.{cause_since}
 use Rattle.tce_flat.specs.Tensors.{array_file}
 use Rattle.tce_flat.specs.Refusals.{IsSymRefusal}
+use Rattle.tce_flat.specs.May.{MayLackTensor, MayRefuseSym}
 use Rattle.tce_flat.proofs.Names.{short_tensor, short_spec}
 use Rattle.tce_flat.proofs.Tools.{refused_for, unchanged_from}
 use Rattle.tce_flat.proofs.SymFiles.{expanded_from}
@@ -27,7 +28,7 @@ returns-in_err-shape-clause-done g c = IfOk-from_err c.from_residual.result _ c.
 pub returns-in_err-shape-clause-refused : goal.returns-in_err-shape-clause-refused
 returns-in_err-shape-clause-refused g c =
     let p = err_from_is_err_and c.from_residual.result c.from_residual.ensures.1 in
-    rw (p.1, p.2) (λ files told. inl (c.in_err-shape.ensures.refused files told))
+    rw (p.1, p.2) (inl c.in_err-shape.ensures.refused.0, λ files told. inl (c.in_err-shape.ensures.refused.1 files told))
 
 pub returns-in_err-shape-clause-unchanged : goal.returns-in_err-shape-clause-unchanged
 returns-in_err-shape-clause-unchanged g c =
@@ -57,7 +58,7 @@ returns-clause-done g c =
 
 pub returns-clause-refused : goal.returns-clause-refused
 returns-clause-refused g c =
-    refused_for (λ files. IsSymRefusal files c.args.tensor.now) _ _ c.args.spec.now c.args.tensor.now c.in_ok-shape.shape c.expand_tensor-done.result c.in_ok-shape.ensures.same
+    refused_for (λ files. IsSymRefusal files c.args.tensor.now) (MayLackTensor c.args.spec.now c.args.tensor.now) (MayRefuseSym c.args.tensor.now) _ _ c.args.spec.now c.args.tensor.now c.in_ok-shape.shape c.expand_tensor-done.result c.in_ok-shape.ensures.same
     c.in_ok-shape.ensures.found c.expand_tensor-done.ensures.refused
 
 pub returns-clause-unchanged : goal.returns-clause-unchanged

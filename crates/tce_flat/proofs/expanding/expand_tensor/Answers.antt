@@ -9,6 +9,7 @@ use Rattle.tce_sym.specs.declared.symmetry.Symmetry.{Symmetry}
 use Rattle.tce_sym.specs.Storage.{full_cell}
 use Rattle.tce_flat.specs.Tensors.{array_file, sym_file}
 use Rattle.tce_sym.specs.Told.{Expands, IsStoredIn}
+use Rattle.tce_flat.proofs.May.{may_sym}
 use Rattle.tce_flat.proofs.SymFiles.{files_apart, sym_cause, sym_told, sym_refused}
 use Rattle.tce_flat.proofs.Tools.{report_is}
 use Rattle.tce_outside.proofs.Causes.{answered_quiet, cause_as, cause_since}
@@ -88,9 +89,12 @@ returns-clause-others g c =
     (c.expand_file.ensures.others ∙ ap (others c.as_str-4.result.now) c.open_sym.ensures.same)
 
 pub returns-in-Err-clause-refused : goal.returns-in-Err-clause-refused
-returns-in-Err-clause-refused g c = λ files told.
-    sym_refused files c.args.tensor.now c.args.shape.now c.in-Err.fault c.sym_refusal.result c.sym_refusal.ensures
-    (subst (λ (name : List ℕ). IsFault c.args.shape.now.extents (file files name) c.in-Err.fault) (c.as_str-2.ensures.value ∙ c.file_of-packed.ensures) (c.in-Err.ensures.fault files told))
+returns-in-Err-clause-refused g c = (
+  may_sym c.args.tensor.now c.in-Err.fault c.sym_refusal.result c.sym_refusal.ensures,
+  λ files told.
+      sym_refused files c.args.tensor.now c.args.shape.now c.in-Err.fault c.sym_refusal.result c.sym_refusal.ensures
+      (subst (λ (name : List ℕ). IsFault c.args.shape.now.extents (file files name) c.in-Err.fault) (c.as_str-2.ensures.value ∙ c.file_of-packed.ensures) (c.in-Err.ensures.fault files told)),
+)
 
 pub returns-in-Err-clause-unchanged : goal.returns-in-Err-clause-unchanged
 returns-in-Err-clause-unchanged g c = λ real. c.open_sym.ensures.same
@@ -114,7 +118,7 @@ pub returns-in-Ok-expand_file-clause-told : goal.returns-in-Ok-expand_file-claus
 returns-in-Ok-expand_file-clause-told g c = λ none. answered_quiet _ _ _ _ refl c.in-Ok-expand_file.ensures.told ∙ answered_quiet _ _ _ _ refl c.in-Ok-open_sym.ensures.told
 
 pub returns-in-Err-Failed-clause-refused : goal.returns-in-Err-Failed-clause-refused
-returns-in-Err-Failed-clause-refused g c = λ files told. inl tt
+returns-in-Err-Failed-clause-refused g c = (tt, λ files told. inl tt)
 
 pub returns-in-Err-Failed-clause-cause : goal.returns-in-Err-Failed-clause-cause
 returns-in-Err-Failed-clause-cause g c = cause_since _ _ _ c.open_sym.ensures.cause.later (cause_as _ _ (λ e. ap Err c.in-Err-Failed.field-0-is) c.in-Err-Failed.ensures.cause)
@@ -123,7 +127,7 @@ pub returns-in-Err-Failed-clause-told : goal.returns-in-Err-Failed-clause-told
 returns-in-Err-Failed-clause-told g c = λ none. absurd (none refl)
 
 pub returns-clause-refused : goal.returns-clause-refused
-returns-clause-refused g c = λ files told. inl tt
+returns-clause-refused g c = (tt, λ files told. inl tt)
 
 pub returns-clause-cause : goal.returns-clause-cause
 returns-clause-cause g c = record { later = omega (arith, c.open_sym.ensures.cause.later, c.expand_file.ensures.cause.later); rose = λ failed. absurd (cc) }

@@ -10,6 +10,7 @@ use Rattle.tce_tools.specs.Storage.{holding_by}
 use Rattle.std.specs.Option.{ForSome}
 use Rattle.tce_flat.specs.Tools.{Stands}
 use Rattle.tce_flat.proofs.Tools.{report_is}
+use Rattle.tce_flat.proofs.May.{may_form}
 use Rattle.tce_flat.proofs.ToolFaults.{tool_keeps, tool_cause, tool_told, form_refused}
 use Rattle.tce_outside.proofs.Causes.{answered_quiet}
 use Rattle.tce_command.proofs.Outcomes.{ok_no_disk}
@@ -53,10 +54,14 @@ returns-in-Ok-convert-clause-done g c = record {
 }
 
 pub returns-in-Err-clause-refused : goal.returns-in-Err-clause-refused
-returns-in-Err-clause-refused g c = λ files told.
-    form_refused files c.args.tensor.now c.args.form c.args.shape.now c.in-Err.fault c.refusal_of.result
-    (subst (λ (input : List ℕ). Stands c.args.tensor.now input c.in-Err.fault c.refusal_of.result) (c.as_str-in-Err.ensures.value ∙ c.file_of-array.ensures) c.refusal_of.ensures)
-    (subst (λ (input : List ℕ). IsConvertAnswer c.args.form c.args.shape.now (file files input) (Err c.in-Err.fault)) (c.as_str-2.ensures.value ∙ c.file_of-array.ensures) (c.in-Err.ensures.answer files told))
+returns-in-Err-clause-refused g c =
+    let stands : Stands c.args.tensor.now (array_file c.args.tensor.now) c.in-Err.fault c.refusal_of.result =
+    subst (λ (input : List ℕ). Stands c.args.tensor.now input c.in-Err.fault c.refusal_of.result) (c.as_str-in-Err.ensures.value ∙ c.file_of-array.ensures) c.refusal_of.ensures
+    in (
+      may_form c.args.tensor.now c.args.form c.in-Err.fault c.refusal_of.result stands c.in-Err.ensures.own,
+      λ files told. form_refused files c.args.tensor.now c.args.form c.args.shape.now c.in-Err.fault c.refusal_of.result stands
+          (subst (λ (input : List ℕ). IsConvertAnswer c.args.form c.args.shape.now (file files input) (Err c.in-Err.fault)) (c.as_str-2.ensures.value ∙ c.file_of-array.ensures) (c.in-Err.ensures.answer files told)),
+    )
 
 pub returns-in-Err-clause-unchanged : goal.returns-in-Err-clause-unchanged
 returns-in-Err-clause-unchanged g c = tool_keeps c.args.tensor.now c.as_str-in-Err.result.now c.in-Err.fault c.refusal_of.result _ _ c.refusal_of.ensures c.in-Err.ensures.refused

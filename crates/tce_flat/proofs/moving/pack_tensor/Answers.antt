@@ -8,6 +8,7 @@ use Rattle.tce_tools.specs.Storage.{holding_by}
 use Rattle.tce_flat.proofs.Tools.{report_is}
 use Rattle.tce_tools.proofs.NoHalf.{same_left}
 use Rattle.tce_flat.specs.Tensors.{array_file}
+use Rattle.tce_flat.proofs.May.{may_flat}
 use Rattle.tce_flat.proofs.ToolFaults.{tool_keeps, tool_cause, tool_told, flat_refused}
 use Rattle.tce_outside.proofs.Causes.{answered_quiet}
 use Rattle.tce_command.proofs.Outcomes.{ok_no_disk}
@@ -45,8 +46,10 @@ returns-in_default-clause-no_half g c =
     same_left (array_file c.args.tensor.now) (head_len One c.args.shape.now) (λ files. array_bytes c.args.shape.now (flat_element c.args.shape.now (contents files c.args.flat.now))) _ _ refl
 
 pub returns-in-Err-clause-refused : goal.returns-in-Err-clause-refused
-returns-in-Err-clause-refused g c =
-    λ files told. flat_refused files c.args.tensor.now c.args.flat.now c.args.shape.now c.in-Err.fault c.refusal_of.result c.refusal_of.ensures (c.in-Err.ensures.answer files told)
+returns-in-Err-clause-refused g c = (
+  may_flat c.args.tensor.now c.args.flat.now c.in-Err.fault c.refusal_of.result c.refusal_of.ensures c.in-Err.ensures.own,
+  λ files told. flat_refused files c.args.tensor.now c.args.flat.now c.args.shape.now c.in-Err.fault c.refusal_of.result c.refusal_of.ensures (c.in-Err.ensures.answer files told),
+)
 
 pub returns-in-Err-clause-unchanged : goal.returns-in-Err-clause-unchanged
 returns-in-Err-clause-unchanged g c = tool_keeps c.args.tensor.now c.args.flat.now c.in-Err.fault c.refusal_of.result _ _ c.refusal_of.ensures c.in-Err.ensures.refused

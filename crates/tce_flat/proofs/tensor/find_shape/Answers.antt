@@ -2,6 +2,7 @@ use Rattle.std.proofs.Common.{rules, inl}
 use Rattle.std.proofs.lemmas.Result.{IfOk-weaker, IfErr-weaker, IfErr-at_err, IfOk-from_err, err_from_is_err_and}
 use Rattle.tce_flat.specs.Refusals.{IsUndeclared}
 use Rattle.tce_flat.proofs.Tools.{found_in, undeclared_in}
+use Rattle.tce_flat.proofs.May.{may_lack}
 use Rattle.tce_command.proofs.Refused.{cause_for, told_for}
 use Rattle.tce_flat.proofs.tensor.find_shape.Goals as goal
 
@@ -13,7 +14,7 @@ returns-clause-found g c =
 pub returns-clause-refused : goal.returns-clause-refused
 returns-clause-refused g c =
     IfErr-weaker c.shape_named-found.result _ _
-    (λ a no files told. undeclared_in files c.args.spec.now c.args.tensor.now c.in_ok-source.source a (c.in_ok-source.ensures.read files told) no) c.shape_named-found.ensures.refused
+    (λ a no. (may_lack c.args.spec.now c.args.tensor.now c.in_ok-source.source a no, λ files told. undeclared_in files c.args.spec.now c.args.tensor.now c.in_ok-source.source a (c.in_ok-source.ensures.read files told) no)) c.shape_named-found.ensures.refused
 
 pub returns-clause-cause : goal.returns-clause-cause
 returns-clause-cause g c = record {
@@ -30,7 +31,7 @@ returns-in_err-source-clause-found g c = IfOk-from_err c.from_residual.result _ 
 pub returns-in_err-source-clause-refused : goal.returns-in_err-source-clause-refused
 returns-in_err-source-clause-refused g c =
     let p = err_from_is_err_and c.from_residual.result c.from_residual.ensures.1 in
-    rw (p.1, p.2) (λ files told. inl (c.in_err-source.ensures.refused files told))
+    rw (p.1, p.2) (inl c.in_err-source.ensures.refused.0, λ files told. inl (c.in_err-source.ensures.refused.1 files told))
 
 pub returns-in_err-source-clause-same : goal.returns-in_err-source-clause-same
 returns-in_err-source-clause-same g c = c.in_err-source.ensures.same

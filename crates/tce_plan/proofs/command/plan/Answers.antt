@@ -7,7 +7,7 @@ use Rattle.tce_plan.proofs.command.plan.Goals as goal
 pub returns-clause-done : goal.returns-clause-done
 returns-clause-done g c =
     IfOk-weaker c.plan_source-made.result _ _
-    (λ report planned files told. record { specification = c.in_ok-source.source; specified = c.in_ok-source.ensures.read files told; planned = planned }) c.plan_source-made.ensures.done
+    (λ report planned. record { specification = c.in_ok-source.source; specified = c.in_ok-source.ensures.read; planned = planned }) c.plan_source-made.ensures.done
 
 pub returns-clause-refused : goal.returns-clause-refused
 returns-clause-refused g c = IfErr-weaker c.plan_source-made.result _ _ (memory_refused (g.D.Disk.files c.args.disk.now) c.args.spec.now) c.plan_source-made.ensures.refused

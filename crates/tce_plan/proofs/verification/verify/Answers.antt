@@ -12,7 +12,7 @@ read_source-requires g c = short (codes ".tce") c.args.spec.now c.requires.spec
 pub returns-in_err-source-clause-refused : goal.returns-in_err-source-clause-refused
 returns-in_err-source-clause-refused g c =
     let p = err_from_is_err_and c.from_residual.result c.from_residual.ensures.1 in
-    rw (p.1, p.2) (λ files told. inl (c.in_err-source.ensures.refused files told))
+    rw (p.1, p.2) (inl c.in_err-source.ensures.refused.0, λ files told. inl (c.in_err-source.ensures.refused.1 files told))
 
 pub returns-in_err-source-clause-line : goal.returns-in_err-source-clause-line
 returns-in_err-source-clause-line g c =
@@ -35,14 +35,13 @@ verify_file-verified-requires g c = short (codes ".cert") c.args.cert.now c.requ
 pub returns-clause-done : goal.returns-clause-done
 returns-clause-done g c =
     IfOk-weaker c.verify_file-verified.result _ _
-    (λ report found. verified (g.D.Disk.files c.args.disk.now) c.args.spec.now c.args.cert.now c.in_ok-source.source _ c.in_ok-source.ensures.read
-    (λ files told. found files (c.in_ok-source.ensures.same ∙ told))) c.verify_file-verified.ensures.done
+    (λ report found. verified (g.D.Disk.files c.args.disk.now) _ c.args.spec.now c.args.cert.now c.in_ok-source.source _ c.in_ok-source.ensures.same c.in_ok-source.ensures.read found) c.verify_file-verified.ensures.done
 
 pub returns-clause-refused : goal.returns-clause-refused
 returns-clause-refused g c =
     IfErr-weaker c.verify_file-verified.result _ _
     (λ refusal found. refused (g.D.Disk.files c.args.disk.now) c.args.spec.now c.args.cert.now c.in_ok-source.source refusal c.in_ok-source.ensures.read
-    (λ files told. found files (c.in_ok-source.ensures.same ∙ told))) c.verify_file-verified.ensures.refused
+    (found.0, λ files told. found.1 files (c.in_ok-source.ensures.same ∙ told))) c.verify_file-verified.ensures.refused
 
 pub returns-clause-line : goal.returns-clause-line
 returns-clause-line g c =

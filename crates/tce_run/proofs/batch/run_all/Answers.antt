@@ -52,7 +52,7 @@ returns-in_err-batch-clause-done g c = IfOk-from_err c.from_residual.result _ c.
 pub returns-in_err-batch-clause-refused : goal.returns-in_err-batch-clause-refused
 returns-in_err-batch-clause-refused g c =
     let p = err_from_is_err_and c.from_residual.result c.from_residual.ensures.1 in
-    rw (p.1, p.2) (λ files is. inl (c.in_err-batch.ensures.refused files is))
+    rw (p.1, p.2) (inl c.in_err-batch.ensures.refused.0, λ files is. inl (c.in_err-batch.ensures.refused.1 files is))
 
 pub returns-in_err-batch-clause-others : goal.returns-in_err-batch-clause-others
 returns-in_err-batch-clause-others g c = inl c.in_err-batch.ensures.same

@@ -1,17 +1,20 @@
-use Rattle.std.proofs.Common.{refl, sym, subst}
+use Rattle.std.proofs.Common.{◌≡◌, refl, sym, subst, List, Some, Result}
 use Rattle.std.proofs.lemmas.Result.{IfOk-from_err, err_from_is_err_and}
 use Rattle.tce_outside.specs.Files.{file}
 use Rattle.tce_command.proofs.Refused.{cause_for, told_for}
+use Rattle.tce_spec.specs.Faults.{Fault}
+use Rattle.tce_spec.specs.declared.fault.SpecFault.TheVariants.{Memory}
+use Rattle.tce_spec.specs.Specification.{Specification}
 use Rattle.tce_batch.specs.Outcome.{IsBatchOutcome}
 use Rattle.tce_command.proofs.Outcomes.{ok_no_disk}
 use Rattle.tce_command.proofs.Read.{memory_no_disk, text_no_disk, not_true}
-use Rattle.tce_run.proofs.BatchRead.{formulas_specified, formulas_faulty, unread_batch}
+use Rattle.tce_run.proofs.BatchRead.{formulas_specified, formulas_faulty, may_unread_batch, unread_batch}
 use Rattle.tce_run.proofs.batch_reading.read_batch_source.Goals as goal
 
 pub returns-in_err-text-clause-refused : goal.returns-in_err-text-clause-refused
 returns-in_err-text-clause-refused g c =
     let p = err_from_is_err_and c.from_residual.result c.from_residual.ensures.1 in
-    rw (p.1, p.2) (λ files told. unread_batch c.args.name.now (file files c.args.name.now) c.in_err-text.field-0.0 (c.in_err-text.ensures.refused files told))
+    rw (p.1, p.2) (may_unread_batch c.args.name.now c.in_err-text.field-0.0 c.in_err-text.ensures.refused.0, λ files told. unread_batch c.args.name.now (file files c.args.name.now) c.in_err-text.field-0.0 (c.in_err-text.ensures.refused.1 files told))
 
 pub returns-in-Ok-clause-read : goal.returns-in-Ok-clause-read
 returns-in-Ok-clause-read g c = λ files told.
@@ -19,10 +22,12 @@ returns-in-Ok-clause-read g c = λ files told.
     (λ outcome is. c.in-Ok.ensures outcome (subst (λ t. IsBatchOutcome t outcome) (sym c.deref.ensures.value) is))
 
 pub returns-clause-refused : goal.returns-clause-refused
-returns-clause-refused g c = λ files told.
-    formulas_faulty (file files c.args.name.now) c.in_ok-text.text.items c.in-Err.fault (c.in_ok-text.ensures.bytes files told)
-    (λ memory. not_true _ c.if-is_memory.false (c.is_memory.ensures.1 memory))
-    (λ outcome is. c.in-Err.ensures outcome (subst (λ t. IsBatchOutcome t outcome) (sym c.deref.ensures.value) is))
+returns-clause-refused g c =
+    let real = λ (memory : c.in-Err.fault ≡ Memory). not_true _ c.if-is_memory.false (c.is_memory.ensures.1 memory) in
+    let answers = λ (outcome : Result (List Specification) Fault) (is : IsBatchOutcome c.in_ok-text.text.items outcome). c.in-Err.ensures outcome (subst (λ t. IsBatchOutcome t outcome) (sym c.deref.ensures.value) is) in (
+      (c.in_ok-text.text.items, formulas_faulty (Some c.in_ok-text.text.items) c.in_ok-text.text.items c.in-Err.fault refl real answers),
+      λ files told. formulas_faulty (file files c.args.name.now) c.in_ok-text.text.items c.in-Err.fault (c.in_ok-text.ensures.bytes files told) real answers,
+    )
 
 pub returns-in_err-text-clause-read : goal.returns-in_err-text-clause-read
 returns-in_err-text-clause-read g c = IfOk-from_err c.from_residual.result _ c.from_residual.ensures.0

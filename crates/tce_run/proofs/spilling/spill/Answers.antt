@@ -56,7 +56,7 @@ returns-in_err-source-clause-done g c = IfOk-from_err c.from_residual.result _ c
 pub returns-in_err-source-clause-refused : goal.returns-in_err-source-clause-refused
 returns-in_err-source-clause-refused g c =
     let p = err_from_is_err_and c.from_residual.result c.from_residual.ensures.1 in
-    rw (p.1, p.2) (λ files is. inl (c.in_err-source.ensures.refused files is))
+    rw (p.1, p.2) (inl c.in_err-source.ensures.refused.0, λ files is. inl (c.in_err-source.ensures.refused.1 files is))
 
 pub returns-in_err-source-clause-others : goal.returns-in_err-source-clause-others
 returns-in_err-source-clause-others g c = inl c.in_err-source.ensures.same

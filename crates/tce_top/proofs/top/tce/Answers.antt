@@ -4,8 +4,8 @@ use Rattle.tce_command.specs.CommandCode.{command_of}
 use Rattle.tce_command.specs.Outcome.{Grew, GrewWithin}
 use Rattle.tce_command.specs.declared.status.Status.TheVariants.{Done, BadWords, CertRefused, DiskFault, SinkFault}
 use Rattle.tce_command.proofs.Commands.{one_command}
-use Rattle.tce_top.specs.Performed.{CanDo, IsCommandRefusal, IsDone, KeepsRoom, LeavesInTurn, LeavesNoHalf, MayTake, OthersStay}
-use Rattle.tce_top.proofs.Joined.{done_can, done_takes, done_cause, done_answers, refused_cause, refused_answers}
+use Rattle.tce_top.specs.Performed.{CanDo, IsCommandRefusal, IsDone, KeepsRoom, LeavesInTurn, LeavesNoHalf, MayRefuse, MayTake, OthersStay}
+use Rattle.tce_top.proofs.Joined.{done_can, done_takes, done_cause, done_answers, may_end, refused_cause, refused_answers}
 use Rattle.tce_top.proofs.Left as left
 use Rattle.tce_top.proofs.Endings.{words_end, report_ends, no_refusal_ends, report_line, refusal_ends}
 use Rattle.tce_top.proofs.top.tce.Goals as goal
@@ -15,6 +15,17 @@ returns-in_default-clause-line g c = λ has plain names of. c.refuse_words.ensur
 
 pub returns-in_default-clause-unchanged : goal.returns-in_default-clause-unchanged
 returns-in_default-clause-unchanged g c = λ refused. (refl, λ command is. left.keeps_same command _ _ _ refl)
+
+pub returns-in_default-clause-refused : goal.returns-in_default-clause-refused
+returns-in_default-clause-refused g c = λ refused command is. absurd (c.in_default.ensures command is)
+
+pub returns-in-Ok-clause-refused : goal.returns-in-Ok-clause-refused
+returns-in-Ok-clause-refused g c = λ refused. absurd (no_refusal_ends _ c.finish.ensures.cases refused)
+
+pub returns-in-Err-clause-refused : goal.returns-in-Err-clause-refused
+returns-in-Err-clause-refused g c = λ refused command is.
+    let same = one_command _ _ command c.in-Some.ensures is in
+    may_end command c.in-Err.refusal c.refuse.result c.refuse.ensures.kept refused (subst (λ k. MayRefuse k c.in-Err.refusal) (sym same) c.in-Err.ensures.refused.possible)
 
 pub returns-in-Ok-clause-cut_off : goal.returns-in-Ok-clause-cut_off
 returns-in-Ok-clause-cut_off g c = λ failed. left.not_cut_off c.finish.result _ c.finish.ensures.cases failed
@@ -120,7 +131,7 @@ returns-in-Err-clause-others g c = λ command is.
     subst (λ k. OthersStay k (g.D.Disk.files c.args.disk.now) (g.D.Disk.files c.perform.new.disk)) (sym same) c.in-Err.ensures.refused.others
 
 pub returns-in-Err-clause-line : goal.returns-in-Err-clause-line
-returns-in-Err-clause-line g c = λ has plain. left.plain_line _ _ _ c.in-Err.refusal c.refuse.result _ _ _ _ c.in-Some.ensures c.in-Err.ensures.refused.refused c.in-Err.ensures.refused.line c.refuse.ensures.line plain c.refuse.ensures.kept
+returns-in-Err-clause-line g c = λ has plain. left.plain_line _ _ _ c.in-Err.refusal c.refuse.result _ _ _ _ c.in-Some.ensures c.in-Err.ensures.refused.possible c.in-Err.ensures.refused.line c.refuse.ensures.line plain c.refuse.ensures.kept
 
 pub returns-in-Err-clause-cert_line : goal.returns-in-Err-clause-cert_line
 returns-in-Err-clause-cert_line g c = λ trouble e.
