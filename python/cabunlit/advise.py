@@ -7,10 +7,10 @@ from dataclasses import dataclass
 from math import prod
 
 from cabunlit.contraction import even_edge
-from cabunlit.errors import NotEnoughMemory
+from cabunlit.errors import FormulaError, NotEnoughMemory
 from cabunlit.memory import budget_of, bytes_of
 from cabunlit.plan import Plan, as_specification, plan
-from cabunlit.simulate import ORDER, Reads
+from cabunlit.simulate import Reads
 from cabunlit.specification import Range, Specification
 
 PathLike = str | os.PathLike[str]
@@ -62,7 +62,7 @@ class Advice:
 
 
 def advise(spec: Specification | str | PathLike, memory: int | str | None = None, *, fixed: Collection[str] = (),
-           order: str = ORDER, program: PathLike | None = None) -> Advice:
+           program: PathLike | None = None) -> Advice:
     """Finds edges and a budget with few reads.
 
     Parameters
@@ -73,8 +73,6 @@ def advise(spec: Specification | str | PathLike, memory: int | str | None = None
         Bytes for the tiles and the intermediates of a formula, as for `memory.bytes_of`.
     fixed : collection of str, optional
         Ranges whose edges are to stay.
-    order : str, optional
-        In which order loops go, as for `cabunlit.simulate`.
     program : path, optional
         Where `tce` is.
 
@@ -100,12 +98,14 @@ def advise(spec: Specification | str | PathLike, memory: int | str | None = None
     True
     """
     found = as_specification(spec, program)
+    unknown = set(fixed) - set(found.ranges)
+    if unknown:
+        raise FormulaError(f"fixed has {sorted(map(str, unknown))}, which are no ranges")
     plans = [plan(found.alone(k), program) for k in range(len(found.formulas))]
-    return advise_plans(found, plans, bytes_of(memory), fixed, order)
+    return advise_plans(found, plans, bytes_of(memory), fixed)
 
 
-def advise_plans(spec: Specification, plans: Sequence[Plan], memory: int, fixed: Collection[str] = (),
-                 order: str = ORDER) -> Advice:
+def advise_plans(spec: Specification, plans: Sequence[Plan], memory: int, fixed: Collection[str] = ()) -> Advice:
     """The advice for formulas whose plans are there."""
     free = [name for name, it in spec.ranges.items() if name not in fixed and it.extent > 1]
     limit = max(1000, FOLLOWED // len(plans))
@@ -114,7 +114,7 @@ def advise_plans(spec: Specification, plans: Sequence[Plan], memory: int, fixed:
     def of(edges: dict[str, int]) -> Advice | None:
         key = tuple(edges.values())
         if key not in tried:
-            tried[key] = _judged(spec, plans, edges, memory, order, limit)
+            tried[key] = _judged(spec, plans, edges, memory, limit)
         return tried[key]
 
     kept = {name: it.edge for name, it in spec.ranges.items()}
@@ -152,7 +152,7 @@ def neighbours(of: Range, edge: int) -> Iterator[int]:
         yield edge_near(of, max(2, round(edge * factor)))
 
 
-def _judged(spec: Specification, plans: Sequence[Plan], edges: dict[str, int], memory: int, order: str,
+def _judged(spec: Specification, plans: Sequence[Plan], edges: dict[str, int], memory: int,
             limit: int) -> Advice | None:
     """What edges cost, or None where tiles are too large."""
     made = spec.with_edges(edges)
@@ -164,7 +164,7 @@ def _judged(spec: Specification, plans: Sequence[Plan], edges: dict[str, int], m
     except NotEnoughMemory:
         return None
     budgets = [min(budget, it.full_budget) for budget, it in zip(budgets, cut)]
-    reads = tuple(it.reads(budget, order, limit) for it, budget in zip(cut, budgets))
+    reads = tuple(it.reads(budget, limit) for it, budget in zip(cut, budgets))
     return Advice(made, edges, max(budgets), tuple(cut), reads)
 
 

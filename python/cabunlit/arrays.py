@@ -92,6 +92,12 @@ class TiledArray:
             raise TypeError("an array without dimensions has no length")
         return self.shape[0]
 
+    def __int__(self) -> int:
+        """The element of an array that has one alone."""
+        if self.size != 1:
+            raise TypeError(f"an array of the shape {self.shape} is no number")
+        return int(self.__array__().reshape(()))
+
     def view(self, dtype: object) -> TiledArray:
         """The same file read as other numbers of as many bytes, as `"<u8"`.
 
@@ -291,7 +297,7 @@ def open_array(path: PathLike, dtype: object = None, shape: Sequence[int] | None
     return opened if dtype is None else opened.view(dtype)
 
 
-def create_array(path: PathLike, shape: Sequence[int], chunks: int | Sequence[int], dtype: object = "<i8",
+def create_array(path: PathLike, shape: int | Sequence[int], chunks: int | Sequence[int], dtype: object = "<i8",
                  flush: bool = True) -> ArrayWriter:
     """Begins an array file of zeros, whose regions are then set in any order.
 
@@ -299,7 +305,7 @@ def create_array(path: PathLike, shape: Sequence[int], chunks: int | Sequence[in
     ----------
     path : path
         Where it is to stand. What stands there stays until the new file is whole.
-    shape : sequence of int
+    shape : int or sequence of int
         The extents.
     chunks : int or sequence of int
         The edges of the tiles.
@@ -320,7 +326,8 @@ def create_array(path: PathLike, shape: Sequence[int], chunks: int | Sequence[in
     >>> int(numpy.asarray(open_array(path)).sum())
     8
     """
-    return ArrayWriter(path, tuple(shape), chunks, numpy.dtype(dtype), flush)  # type: ignore[call-overload]
+    extents = (shape,) if isinstance(shape, int) else tuple(shape)
+    return ArrayWriter(path, extents, chunks, numpy.dtype(dtype), flush)  # type: ignore[call-overload]
 
 
 def write_array(path: PathLike, array: Any, chunks: int | Sequence[int], *, shape: Sequence[int] | None = None,

@@ -299,7 +299,10 @@ def _path(operands: Sequence[Labels], output: Labels, extents: Mapping[str, int]
     """A path of items of one or two entries."""
     if optimize is None or isinstance(optimize, (str, bool)):
         text, arrays = _for_numpy(operands, output, extents)
-        found: Sequence[Any] = numpy.einsum_path(text, *arrays, optimize=optimize or False)[0]
+        try:
+            found: Sequence[Any] = numpy.einsum_path(text, *arrays, optimize=optimize or False)[0]
+        except KeyError:
+            raise FormulaError(f"optimize={optimize!r} is no path that numpy finds: give \"greedy\", \"optimal\", or a path") from None
     elif isinstance(optimize, (list, tuple)):
         found = optimize
     else:

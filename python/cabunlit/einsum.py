@@ -11,18 +11,17 @@ from cabunlit.errors import FormulaError
 from cabunlit.evaluate import run_choice
 from cabunlit.memory import bytes_of
 from cabunlit.progress import Progress
-from cabunlit.simulate import ORDER
 from cabunlit.specification import Specification
 from cabunlit.strategy import Choice, choose
 from cabunlit.tiles import Array
-from cabunlit.workspace import Narrowed, Out, Workspace, as_operand, check_out
+from cabunlit.workspace import Narrowed, Out, Workspace, as_operand, check_out, chosen_edges
 
 PathLike = str | os.PathLike[str]
 
 
 def einsum(subscripts: Any, *operands: Any, optimize: Any = "greedy", memory: int | str | None = None, chunks: Any = "auto",
            out: Out = None, disk: int | None = None, explain: bool = False, progress: bool = False,
-           program: PathLike | None = None, order: str = ORDER) -> TiledArray | Array:
+           program: PathLike | None = None) -> TiledArray | Array:
     """Contracts arrays along labels, modulo 2^64.
 
     Parameters
@@ -48,8 +47,6 @@ def einsum(subscripts: Any, *operands: Any, optimize: Any = "greedy", memory: in
         Whether contractions are told as they are done.
     program : path, optional
         Where `tce` is.
-    order : str, optional
-        In which order loops are simulated, as for `cabunlit.simulate`.
 
     Returns
     -------
@@ -87,7 +84,7 @@ def einsum(subscripts: Any, *operands: Any, optimize: Any = "greedy", memory: in
     ways = _ways(contraction, edges, names)
     free_ranges = {ways["whole"].indexes[contraction.names()[it]] for it in free}
     fixed_ranges = {ways["whole"].indexes[contraction.names()[it]] for it in contraction.labels if it not in free}
-    choice, said = choose(_possible(ways), bytes_of(memory), free_ranges - fixed_ranges, disk, program, order)
+    choice, said = choose(_possible(ways), bytes_of(memory), free_ranges - fixed_ranges, disk, program)
     if explain:
         print(explanation(contraction, choice, said))
     given = dict(zip(names, sources))
@@ -105,11 +102,7 @@ def _names(sources: Sequence[Any]) -> list[str]:
 
 def _edges(contraction: Contraction, sources: Sequence[Any], chunks: Any) -> tuple[dict[str, int], set[str]]:
     """The edge of each label, and the labels whose edges may be chosen: files keep theirs, the first one's where they differ."""
-    found: dict[str, int] = {}
-    if isinstance(chunks, Mapping):
-        found.update({it: int(edge) for it, edge in chunks.items()})
-    elif chunks != "auto":
-        found.update({it: chunks for it in contraction.labels})
+    found = chosen_edges(chunks, contraction.labels)
     for of, source in zip(contraction.operands, sources):
         if isinstance(source, TiledArray) and not isinstance(source, SymmetricArray):
             for label, edge in zip(of, source.chunks):

@@ -16,11 +16,10 @@ from cabunlit.language import Formula, Reference, parse_formula, references
 from cabunlit.memory import budget_of, bytes_of
 from cabunlit.plan import as_specification, plan
 from cabunlit.progress import Progress, watcher
-from cabunlit.simulate import ORDER
 from cabunlit.specification import Range, Specification, judge
 from cabunlit.strategy import Choice, candidates, choose
 from cabunlit.tiles import Array
-from cabunlit.workspace import Out, Workspace, as_operand, check_out, move
+from cabunlit.workspace import Out, Workspace, as_operand, check_out, chosen_edges, move
 
 PathLike = str | os.PathLike[str]
 CAN_BE_CUT = ("more than 32 operations", "limit of indexes", "limit of tensors", "limit of ranges")
@@ -28,7 +27,7 @@ CAN_BE_CUT = ("more than 32 operations", "limit of indexes", "limit of tensors",
 
 def evaluate(text: Specification | str | PathLike, arrays: Mapping[str, Any] | None = None, *, memory: int | str | None = None,
              chunks: Any = "auto", out: Out = None, strategy: str = "auto", disk: int | None = None, explain: bool = False,
-             progress: bool = False, program: PathLike | None = None, order: str = ORDER, **named: Any) -> TiledArray | Array:
+             progress: bool = False, program: PathLike | None = None, **named: Any) -> TiledArray | Array:
     """Evaluates a formula.
 
     Parameters
@@ -56,8 +55,6 @@ def evaluate(text: Specification | str | PathLike, arrays: Mapping[str, Any] | N
         Whether formulas are told as they are done.
     program : path, optional
         Where `tce` is.
-    order : str, optional
-        In which order loops are simulated, as for `cabunlit.simulate`.
 
     Returns
     -------
@@ -83,7 +80,7 @@ def evaluate(text: Specification | str | PathLike, arrays: Mapping[str, Any] | N
     target = check_out(out, spec.shape(formula.result.tensor))
     _judge(spec, strategy, program)
     ways = candidates(spec, strategy)
-    choice, said = choose(ways, bytes_of(memory), free, disk, program, order)
+    choice, said = choose(ways, bytes_of(memory), free, disk, program)
     if explain:
         print("\n".join(said))
         for it in choice.plans:
@@ -95,6 +92,7 @@ def evaluate(text: Specification | str | PathLike, arrays: Mapping[str, Any] | N
 def run_choice(place: Workspace, choice: Choice, sources: Mapping[str, Any], out: Out, shown: Progress) -> TiledArray | Array:
     """Runs the formulas of a choice in a workspace, and takes the last one's result."""
     spec, reports = choice.spec, []
+    place.refuse_without_room(spec, sources)
     for name in spec.inputs():
         place.put(name, sources[name], spec)
     for number, (part, budget) in enumerate(zip(choice.plans, choice.budgets)):
@@ -138,6 +136,8 @@ def _specified(text: Specification | str | PathLike, sources: Mapping[str, Any],
     alone = isinstance(text, str) and not text.endswith(".tce") and not any(
         it.split()[:1] and it.split()[0] in ("range", "index", "tensor") for it in text.splitlines())
     if not alone:
+        if not isinstance(chunks, str) or chunks != "auto":
+            raise FormulaError("a specification has its own tiles: leave chunks= out, or write them in its ranges")
         return as_specification(text, program), set()
     lines = [it for it in str(text).splitlines() if it.split("#")[0].strip()]
     return from_formulas([parse_formula(it.split("#")[0]) for it in lines], sources, chunks)
@@ -168,7 +168,7 @@ def from_formulas(formulas: Sequence[Formula], sources: Mapping[str, Any], chunk
         raise FormulaError(f"index {unknown[0]} stands in no operand, so its extent is not known: write a specification")
     rank = max([len(it.indexes) for it in uses] + [len(it.result.indexes) for it in formulas], default=0)
     usual = {0: 64, 1: 4096, 2: 64, 3: 32, 4: 16}.get(rank, 4)
-    given = dict(chunks) if isinstance(chunks, Mapping) else {it: chunks for it in names} if chunks != "auto" else {}
+    given = chosen_edges(chunks, names)
     spec, free = Specification(), set()
     of_key: dict[tuple[int, int, bool], str] = {}
     for it in names:

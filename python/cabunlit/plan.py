@@ -7,11 +7,12 @@ from dataclasses import dataclass
 from functools import cached_property
 from math import prod
 
+from cabunlit.errors import FormulaError, NotEnoughMemory
 from cabunlit.language import dims, loops
 from cabunlit.nest import Step, Tree, nest_of, nest_text
 from cabunlit.program import run_program
 from cabunlit.reports import Node, read_report
-from cabunlit.simulate import EXACT_TOUCHES, ORDER, Reads, Simulation
+from cabunlit.simulate import EXACT_TOUCHES, Reads, Simulation
 from cabunlit.specification import Specification
 
 PathLike = str | os.PathLike[str]
@@ -84,24 +85,29 @@ class Plan:
         """The bytes of all array files together."""
         return sum(map(self.spec.file_bytes, self.names))
 
-    def reads(self, budget: int | None = None, order: str = ORDER, limit: int = EXACT_TOUCHES) -> Reads:
+    def reads(self, budget: int | None = None, limit: int = EXACT_TOUCHES) -> Reads:
         """The tiles that a run reads.
 
         Parameters
         ----------
         budget : int, optional
             Words of 8 bytes for tiles; else those with which every tile is held.
-        order : str, optional
-            In which order loops go; see `cabunlit.simulate`.
         limit : int, optional
             How many touches are followed one by one.
 
         Returns
         -------
         Reads
+
+        Raises
+        ------
+        NotEnoughMemory
+            Where the budget is below three tiles, so that there is no run.
         """
         words = self.full_budget if budget is None else budget
-        return Simulation(self.spec, self.tree, self.nest, words, order, limit).run()
+        if words < self.least_budget:
+            raise NotEnoughMemory(f"{words} words are less than three of the largest tiles take: give {self.least_budget} or more")
+        return Simulation(self.spec, self.tree, self.nodes, words, limit).run()
 
     def with_edges(self, edges: dict[str, int]) -> Plan:
         """The same plan over other tiles, on which the fusion does not depend."""
@@ -147,14 +153,14 @@ def plan(spec: Specification | str | PathLike, program: PathLike | None = None, 
 
     Examples
     --------
-    >>> found = plan('''range N 100 tile 25
+    >>> found = plan('''range N 128 tile 32
     ... index N i j k
     ... tensor A[N,N]
     ... tensor B[N,N]
     ... tensor C[N,N]
     ... C[i,j] = sum{k}(A[i,k] * B[k,j])''')
-    >>> found.memory, found.turns(), found.reads(1875).tiles
-    (1, 2000000, 128)
+    >>> found.memory, found.turns(), found.reads(3072).tiles
+    (1, 4194304, 128)
     >>> print(found.nest_text(), end="")
     for i, j, k:
         node 0 = A[i,k] * B[k,j]
@@ -175,6 +181,8 @@ def as_specification(spec: Specification | str | PathLike, program: PathLike | N
     """A specification, of one, of a text, or of a file's name that ends in `.tce`."""
     if isinstance(spec, Specification):
         return spec
+    if not isinstance(spec, (str, os.PathLike)):
+        raise FormulaError(f"{spec!r} is no formula: give a text, a file's name that ends in .tce, or a Specification")
     text = os.fspath(spec)
     if text.endswith(".tce") and "\n" not in text:
         with open(text, encoding="utf-8", newline="") as file:

@@ -1,9 +1,9 @@
 """How many tiles a run reads, by its loops over tiles that are held in the order of their last use.
 
 The loops of a nest touch tiles; a touched tile is the last used; where no frame is free, the tile that was used longest ago goes.
-Two orders are known. `"element"`: loops round several operations go element by element, and the innermost loops round one
-operation tile by tile. `"block"`: loops that stand directly in one another go tile by tile, all elements of a block before the
-next, and a body without loops touches each of its tiles once a block, where the frames hold them all.
+Loops go in the orders that `cabunlit.orders` finds, and those that `cabunlit.walking` tells go block by block: all elements of a
+block of tiles come before the next block. Where a body's operations run over held tiles, each tile is touched once a block. Where
+`cabunlit.terms` finds terms, each block is computed term by term, and the body runs once behind all blocks.
 
 Elements of one tile touch the same tiles again, so a loop over them is run twice, and what the second turn reads is counted for
 all others: that is exact, since the tiles held after two turns are the same.
@@ -14,12 +14,15 @@ from collections.abc import Callable, Sequence
 from dataclasses import dataclass
 from math import prod
 
-from cabunlit.language import Constant, Reference, Sum, references
-from cabunlit.nest import Clear, Compute, Loop, Step, Tree
+from cabunlit.holes import ResultFile
+from cabunlit.language import Reference, Sum, references
+from cabunlit.nest import Clear, Compute, Loop, Step, Tree, nest_of
+from cabunlit.orders import running_orders
+from cabunlit.reports import Node
 from cabunlit.specification import Specification
+from cabunlit.terms import tensors_of, terms_of
+from cabunlit.walking import band_of, carrier_of, is_band, is_held, is_tail, straight
 
-ORDERS = ("element", "block")
-ORDER = "element"
 EXACT_TOUCHES = 1_000_000
 SAMPLES = 3
 
@@ -33,11 +36,13 @@ class Reads:
     tiles : int
         Tiles read, each as often as it is read.
     bytes : int
-        Their bytes.
+        Their bytes, in files of 8 bytes an element, without those parts of a result's tiles that are known to be zeros yet.
     written : int
         Bytes of tiles written.
     touches : int
         How often a tile is touched.
+    steps : int
+        Operations that are done one by one: those of bodies that run neither as one operation nor term by term.
     least : int
         The tiles of all operands: each read once.
     exact : bool
@@ -48,6 +53,7 @@ class Reads:
     bytes: int
     written: int
     touches: int
+    steps: int
     least: int
     exact: bool
 
@@ -67,71 +73,85 @@ class _Touch:
     result: bool
 
 
+# The loops of a term, and what each of their blocks touches.
+_Terms = list[tuple[list[Loop], list[_Touch]]]
+
+
+@dataclass(frozen=True)
+class _Band:
+    """Loops that run block by block, their body, and what it touches once a block, if it does not go element by element; or terms,
+    by which the blocks go."""
+
+    loops: list[Loop]
+    body: list[Step]
+    touches: list[_Touch] | None
+    terms: _Terms
+
+
 class _Frames:
     """The tiles that are held, and what was counted."""
 
-    def __init__(self, frames: int, tile_bytes: Sequence[int]) -> None:
-        self.frames, self.tile_bytes = frames, tile_bytes
-        self.held: dict[int, int] = {}
-        self.written_once: set[int] = set()
-        self.reads = [0] * len(tile_bytes)
-        self.writes = 0
-        self.touches = 0
+    def __init__(self, frames: int, tile_bytes: Sequence[int], result: ResultFile) -> None:
+        self.frames, self.tile_bytes, self.result = frames, tile_bytes, result
+        self.held: dict[int, bool] = {}
+        self.reads = self.bytes = self.writes = self.touches = self.steps = 0
 
     def touch(self, key: int, array: int, result: bool) -> None:
         self.touches += 1
         if self.held.pop(key, None) is None:
             if len(self.held) >= self.frames:
                 gone = next(iter(self.held))
-                if self.held.pop(gone) == 1:
+                if self.held.pop(gone):
                     self.writes += 1
-                    self.written_once.add(gone)
-            if not result or key in self.written_once:
-                self.reads[array] += 1
-        self.held[key] = 1 if result else 2
+                    self.result.write(gone)
+            size = self.result.read(key) if result else self.tile_bytes[array]
+            self.reads += size > 0
+            self.bytes += size
+        self.held[key] = result
 
     def counts(self) -> list[int]:
-        return [*self.reads, self.writes, self.touches]
+        return [self.reads, self.bytes, self.writes, self.touches, self.steps]
 
     def add(self, before: Sequence[int], times: int) -> None:
         """Counts what came since some counts so many times more."""
-        found = [now + times * (now - old) for now, old in zip(self.counts(), before)]
-        self.reads, self.writes, self.touches = found[:-2], found[-2], found[-1]
+        self.reads, self.bytes, self.writes, self.touches, self.steps = [
+            now + times * (now - old) for now, old in zip(self.counts(), before)]
 
 
 class Simulation:
-    """One run of a nest over tiles.
+    """One run of a plan over tiles.
 
     Parameters
     ----------
     spec : Specification
         Of one formula.
     tree : Tree
-    steps : sequence of Step
-        The nest.
+    nodes : sequence of Node
+        Those of a plan.
     budget : int
         Words of 8 bytes for tiles.
-    order : str, optional
-        `"element"` or `"block"`.
     limit : int, optional
         How many touches are followed one by one; beyond that outer loops are sampled.
     """
 
-    def __init__(self, spec: Specification, tree: Tree, steps: Sequence[Step], budget: int, order: str = ORDER,
-                 limit: int = EXACT_TOUCHES) -> None:
-        if order not in ORDERS:
-            raise ValueError(f"order={order!r} is none of {ORDERS}")
-        self.spec, self.tree, self.steps, self.by_block = spec, tree, steps, order == "block"
+    def __init__(self, spec: Specification, tree: Tree, nodes: Sequence[Node], budget: int, limit: int = EXACT_TOUCHES) -> None:
+        self.spec, self.tree = spec, tree
         self.names = (*tree.formula.operands(), tree.formula.result.tensor)
         largest = max(spec.tile_words(it) for it in self.names)
         frames = min(budget // largest, max(3, sum(spec.tiles(it) for it in self.names)))
-        self.frames = _Frames(frames, [8 * spec.tile_words(it) for it in self.names])
+        self.nodes = running_orders(spec, tree, nodes, frames)
+        self.steps = nest_of(tree, self.nodes)
+        self.bands: dict[int, _Band | None] = {}
+        self.at: dict[str, int] = dict.fromkeys(spec.indexes, 0)
         self.starts = [0]
         for name in self.names:
             self.starts.append(self.starts[-1] + spec.tiles(name))
-        self.at: dict[str, int] = dict.fromkeys(spec.indexes, 0)
-        self.sampled_above = 0
-        while self._cost(steps, 0) > limit and self.sampled_above < 64:
+        result, tile = self.names[-1], 8 * spec.tile_words(self.names[-1])
+        file = ResultFile(self.starts[-2], spec.file_bytes(result) - spec.tiles(result) * tile, tile, spec.tiles(result))
+        self.frames = _Frames(frames, [8 * spec.tile_words(it) for it in self.names], file)
+        self._find_bands(self.steps)
+        self.sampled_above, self.exact = 0, True
+        while self._cost(self.steps, 0) > limit and self.sampled_above < 64:
             self.sampled_above += 1
         if self.sampled_above:
             self.frames.frames = max(3, int(frames * self._followed()))
@@ -141,11 +161,9 @@ class Simulation:
         self._run(self.steps, 0)
         frames = self.frames
         result_bytes = frames.tile_bytes[-1]
-        dirty = sum(it == 1 for it in frames.held.values())
-        exact = not any(self._sampled(loop, depth) for loop, depth in _all_loops(self.steps, 0))
-        return Reads(sum(frames.reads), sum(n * size for n, size in zip(frames.reads, frames.tile_bytes)),
-                     (frames.writes + dirty) * result_bytes, frames.touches,
-                     sum(self.spec.tiles(it) for it in self.names[:-1]), exact)
+        dirty = sum(frames.held.values())
+        return Reads(frames.reads, frames.bytes, (frames.writes + dirty) * result_bytes, frames.touches, frames.steps,
+                     sum(self.spec.tiles(it) for it in self.names[:-1]), self.exact)
 
     # What stands in the loops.
 
@@ -169,26 +187,27 @@ class Simulation:
         own = self._writing(node)
         return [*self._reading(node), *(own if isinstance(self.tree.operations[node], Sum) else []), *own]
 
-    def _is_tail(self, body: Sequence[Step]) -> bool:
-        """Whether a body is one operation without a constant, or a product with the sum that takes it."""
-        nodes = [it.node for it in body if isinstance(it, Compute)]
-        if len(nodes) != len(body) or not 1 <= len(nodes) <= 2:
-            return False
-        if any(isinstance(it, Constant) for it in self.tree.operands[nodes[0]]):
-            return False
-        joined = len(nodes) == 2 and nodes[1] == self.tree.parent(nodes[0]) and \
-            isinstance(self.tree.operations[nodes[1]], Sum) and not isinstance(self.tree.operations[nodes[0]], Sum)
-        return len(nodes) == 1 or joined
+    def _find_bands(self, steps: Sequence[Step]) -> None:
+        """Finds the loops that run together, and what one block of them touches."""
+        for loop in steps:
+            if not isinstance(loop, Loop):
+                continue
+            loops, body = band_of(loop)
+            tail = is_tail(self.tree, body)
+            if not tail and not is_band(self.spec, self.tree, self.nodes, loop):
+                self.bands[id(loop)] = None
+                self._find_bands(loop.body)
+                continue
+            found = straight(body)
+            touches = [it for node in found for it in [*self._reading(node), *self._writing(node)]]
+            once = tail or (found and is_held(len(found), len(touches), self.frames.frames))
+            self.bands[id(loop)] = _Band(loops, body, touches if once else None, [] if tail else self._terms(loops, body))
+            self._find_bands(body)
 
-    def _block(self, body: Sequence[Step]) -> list[_Touch] | None:
-        """The touches of a body that runs block by block, or None where it goes element by element."""
-        nodes = [it.node for it in body if isinstance(it, Compute)]
-        touches = [it for node in nodes for it in [*self._reading(node), *self._writing(node)]]
-        if self._is_tail(body):
-            return touches
-        flat = not any(isinstance(it, Loop) for it in body)
-        once = list(dict.fromkeys(touches))
-        return once if self.by_block and flat and len(once) <= self.frames.frames else None
+    def _terms(self, loops: Sequence[Loop], body: Sequence[Step]) -> _Terms:
+        own = self._writing(carrier_of(body))
+        return [([Loop(i) for i in it.loops], [*map(self._touch_of, tensors_of(self.tree, it)), *own])
+                for it in terms_of(self.spec, self.tree, self.nodes, loops, body)]
 
     # The loops.
 
@@ -197,21 +216,39 @@ class Simulation:
             if isinstance(step, Loop):
                 self._run_loop(step, depth)
             elif isinstance(step, Compute):
-                self._do(self._touches(step.node))
+                self._do(self._touches(step.node), 1)
 
     def _run_loop(self, loop: Loop, depth: int) -> None:
-        band, body = _band(loop)
-        touches = self._block(body)
-        if touches is not None:
-            found = touches
-            self._each(band, depth, lambda _: self._do(found))
-        elif self.by_block:
-            self._each(band, depth, lambda turns: self._repeat(turns, body, depth + len(band)))
-        else:
+        band = self.bands[id(loop)]
+        if band is None:
             self._each([loop], depth, lambda turns: self._repeat(turns, loop.body, depth + 1))
+        elif band.terms:
+            self._run_terms(band, depth)
+        elif band.touches is not None:
+            touches, count = band.touches, 0 if is_tail(self.tree, band.body) else len(band.body)
+            self._each(band.loops, depth, lambda turns: self._do(touches, turns * count))
+        else:
+            loops, body = band.loops, band.body
+            self._each(loops, depth, lambda turns: self._repeat(turns, body, depth + len(loops)))
 
-    def _do(self, touches: Sequence[_Touch]) -> None:
+    def _run_terms(self, band: _Band, depth: int) -> None:
+        """Runs each block term by term, and then the body at the last elements."""
+        inner = depth + len(band.loops)
+
+        def run_block(_: int) -> None:
+            for loops, touches in band.terms:
+                self._each(loops, inner, lambda _: self._do(touches))
+
+        self._each(band.loops, depth, run_block)
+        for k, loop in enumerate(band.loops):
+            self.at[loop.index] = self._followed_tiles(loop, depth + k) - 1
+        self._run(band.body, inner)
+        for loop in band.loops:
+            self.at[loop.index] = 0
+
+    def _do(self, touches: Sequence[_Touch], steps: int = 0) -> None:
         at, touch = self.at, self.frames.touch
+        self.frames.steps += steps
         for it in touches:
             key = it.key
             for index, step in it.steps:
@@ -225,7 +262,7 @@ class Simulation:
         if turns == 1:
             return
         first = self.frames.counts()
-        if first[:-1] == before[:-1]:
+        if first[:3] == before[:3]:
             self.frames.add(before, turns - 1)
             return
         self._run(body, depth)
@@ -237,7 +274,8 @@ class Simulation:
             action(turns)
             return
         of = self.spec.range_of(band[0].index)
-        count = min(of.tiles, SAMPLES) if self._sampled(band[0], depth) else of.tiles
+        count = self._followed_tiles(band[0], depth)
+        self.exact &= count == of.tiles
         before = self.frames.counts()
         for tile in range(count):
             before = self.frames.counts() if tile == count - 1 else before
@@ -249,6 +287,12 @@ class Simulation:
 
     def _sampled(self, loop: Loop, depth: int) -> bool:
         return depth < self.sampled_above and self.spec.range_of(loop.index).tiles > SAMPLES
+
+    def _followed_tiles(self, loop: Loop, depth: int) -> int:
+        return SAMPLES if self._sampled(loop, depth) else self.spec.range_of(loop.index).tiles
+
+    def _followed_blocks(self, loops: Sequence[Loop], depth: int) -> int:
+        return prod(self._followed_tiles(loop, depth + k) for k, loop in enumerate(loops))
 
     def _followed(self) -> float:
         """The part of all tiles that is touched where loops are sampled: as large a part of the frames is there for them."""
@@ -267,19 +311,16 @@ class Simulation:
             if not isinstance(step, Loop):
                 cost += 0 if isinstance(step, Clear) else 3
                 continue
-            of = self.spec.range_of(step.index)
-            count = min(of.tiles, SAMPLES) if self._sampled(step, depth) else of.tiles
-            twice = 2 if of.edge > 1 and self._block(_band(step)[1]) is None else 1
-            cost += count * twice * self._cost(step.body, depth + 1)
+            band = self.bands[id(step)]
+            loops, body = ([step], step.body) if band is None else (band.loops, band.body)
+            count, inner = self._followed_blocks(loops, depth), depth + len(loops)
+            if band is not None and band.terms:
+                cost += count * sum(3 * self._followed_blocks(it, inner) for it, _ in band.terms) + self._cost(body, inner)
+                continue
+            once = band is not None and band.touches is not None
+            repeated = 1 if once or all(self.spec.range_of(it.index).edge == 1 for it in loops) else 2
+            cost += count * repeated * self._cost(body, inner)
         return cost
-
-
-def _band(loop: Loop) -> tuple[list[Loop], list[Step]]:
-    """Loops that stand directly in one another, and what stands in the last."""
-    found = [loop]
-    while len(found[-1].body) == 1 and isinstance(found[-1].body[0], Loop):
-        found.append(found[-1].body[0])
-    return found, found[-1].body
 
 
 def _all_loops(steps: Sequence[Step], depth: int) -> list[tuple[Loop, int]]:

@@ -251,6 +251,8 @@ class Specification:
 
     def with_edges(self, edges: Mapping[str, int]) -> Specification:
         """The same with other edges of ranges."""
+        if any(it < 1 for it in edges.values()):
+            raise FormulaError(f"{dict(edges)} are no edges of at least 1")
         made = Specification()
         made.ranges = {name: replace(it, edge=edges.get(name, it.edge)) for name, it in self.ranges.items()}
         made.indexes, made.tensors = dict(self.indexes), dict(self.tensors)

@@ -12,14 +12,14 @@ from cabunlit.errors import (CabunlitError, FormulaError, IntermediatesTooLarge,
                              SpecificationError)
 from cabunlit.memory import budget_of
 from cabunlit.plan import Plan, plan
-from cabunlit.simulate import ORDER, Reads
+from cabunlit.simulate import Reads
 from cabunlit.specification import Specification
 from cabunlit.splitting import singles, with_names
 
 PathLike = str | os.PathLike[str]
 STRATEGIES = ("auto", "whole", "named", "single")
-# Seconds of a run itself, a turn, a touch, a read of a tile, a byte read and a byte written, roughly.
-RUN, TURN, TOUCH, READ, BYTE_READ, BYTE_WRITTEN = 1e-2, 1e-9, 1e-7, 3e-6, 1e-9, 4e-9
+# Seconds of a run itself, a turn, an operation that is done alone, a touch, a read of a tile, a byte read and a byte written, roughly.
+RUN, TURN, STEP, TOUCH, READ, BYTE_READ, BYTE_WRITTEN = 1e-2, 1e-9, 2e-8, 1e-7, 3e-6, 1e-9, 4e-9
 FOLLOWED = 200_000
 # A way whose fusion is not found in so many seconds is none, where there are others.
 SEARCH_SECONDS = 20.0
@@ -53,8 +53,8 @@ class Choice:
     @property
     def seconds(self) -> float:
         """About how long it takes."""
-        return sum(RUN + TURN * it.turns() + TOUCH * of.touches + READ * of.tiles + BYTE_READ * of.bytes + BYTE_WRITTEN * of.written
-                   for it, of in zip(self.plans, self.reads))
+        return sum(RUN + TURN * it.turns() + STEP * of.steps + TOUCH * of.touches + READ * of.tiles + BYTE_READ * of.bytes
+                   + BYTE_WRITTEN * of.written for it, of in zip(self.plans, self.reads))
 
     def describe(self) -> str:
         """What it costs, as a line of text."""
@@ -90,7 +90,7 @@ def candidates(spec: Specification, strategy: str) -> dict[str, Specification]:
 
 
 def choose(ways: Mapping[str, Specification], memory: int, free: Collection[str] = (), disk: int | None = None,
-           program: PathLike | None = None, order: str = ORDER) -> tuple[Choice, list[str]]:
+           program: PathLike | None = None) -> tuple[Choice, list[str]]:
     """The way that costs least within a memory and a disk, and what was said of each.
 
     Parameters
@@ -114,7 +114,7 @@ def choose(ways: Mapping[str, Specification], memory: int, free: Collection[str]
     failed: CabunlitError | None = None
     for name, spec in ways.items():
         try:
-            made = _choice(name, spec, memory, free, program, order, SEARCH_SECONDS if len(ways) > 1 else None)
+            made = _choice(name, spec, memory, free, program, SEARCH_SECONDS if len(ways) > 1 else None)
         except (SpecificationError, IntermediatesTooLarge, NotEnoughMemory, ProgramKilled) as error:
             failed = failed or error
             said.append(f"{name}: not possible: {str(error).splitlines()[0]}")
@@ -132,14 +132,14 @@ def choose(ways: Mapping[str, Specification], memory: int, free: Collection[str]
 
 
 def _choice(name: str, spec: Specification, memory: int, free: Collection[str], program: PathLike | None,
-            order: str, seconds: float | None) -> Choice:
+            seconds: float | None) -> Choice:
     plans = tuple(plan(spec.alone(k), program, seconds) for k in range(len(spec.formulas)))
     if free and not _fits(plans, memory):
-        advice: Advice = advise_plans(spec, plans, memory, [it for it in spec.ranges if it not in free], order)
+        advice: Advice = advise_plans(spec, plans, memory, [it for it in spec.ranges if it not in free])
         spec, plans = advice.spec, advice.plans
     budgets = tuple(min(it.full_budget, budget_of(memory, it.memory, it.least_budget // 3)) for it in plans)
     limit = max(2000, FOLLOWED // len(plans))
-    reads = tuple(it.reads(budget, order, limit) for it, budget in zip(plans, budgets))
+    reads = tuple(it.reads(budget, limit) for it, budget in zip(plans, budgets))
     results = spec.results()
     disk = sum(spec.file_bytes(it) for it in results[:-1])
     return Choice(name, spec, plans, budgets, reads, disk)

@@ -12,7 +12,8 @@ import numpy.typing
 
 Array = numpy.typing.NDArray[Any]
 Region = tuple[slice, ...]
-BAND_BYTES = 1 << 20
+BAND_BYTES = 1 << 18
+RUN_BYTES = range(128, 2049)
 
 
 @dataclass(frozen=True)
@@ -75,16 +76,25 @@ def pairs(tiled: Array, edges: Sequence[int], starts: Sequence[int], rows: Array
         yield part, flat.reshape(part.shape)
 
 
+def copy(target: Array, source: Array) -> None:
+    """Copies elements of one type. Short runs of neighbours are moved as one item each, which takes less time."""
+    if target.ndim and target.dtype == source.dtype:
+        run = target.shape[-1] * target.itemsize
+        if run in RUN_BYTES and target.strides[-1] == source.strides[-1] == target.itemsize:
+            target, source = target.view(f"V{run}"), source.view(f"V{run}")
+    target[...] = source
+
+
 def read_rows(tiled: Array, edges: Sequence[int], starts: Sequence[int], rows: Array) -> None:
     """Copies elements that stand in tiles into rows, which begin at `starts`."""
     for part, flat in pairs(tiled, edges, starts, rows):
-        flat[...] = part
+        copy(flat, part)
 
 
 def write_rows(tiled: Array, edges: Sequence[int], starts: Sequence[int], rows: Array) -> None:
     """Copies rows, which begin at `starts`, into tiles."""
     for part, flat in pairs(tiled, edges, starts, rows):
-        part[...] = flat
+        copy(part, flat)
 
 
 def counts_of(shape: Sequence[int], edges: Sequence[int]) -> tuple[int, ...]:
@@ -107,28 +117,47 @@ def regions(shape: Sequence[int], edges: Sequence[int]) -> Iterator[Region]:
 
 @dataclass(frozen=True)
 class Band:
-    """Neighbouring tiles of a file: the first one's number, tile counts, and the region of their elements."""
+    """Elements that stand one after the other in a file: neighbouring tiles, or a part of one.
+
+    Attributes
+    ----------
+    first : int
+        The number of the first element in the file.
+    counts : tuple of int
+        How many tiles there are along each dimension.
+    edges : tuple of int
+        Their edges; of a part of a tile its own.
+    region : tuple of slices
+        The elements of the array among them.
+    """
 
     first: int
     counts: tuple[int, ...]
+    edges: tuple[int, ...]
     region: Region
 
 
 def bands(shape: Sequence[int], edges: Sequence[int], width: int, most: int = BAND_BYTES) -> Iterator[Band]:
-    """An array in bands of tiles that stand one after the other in its file, of at most so many bytes or one tile.
+    """An array in bands of at most so many bytes, or of one element. Parts of tiles that are padding alone are left out.
 
     Examples
     --------
     >>> [(it.first, it.counts) for it in bands((8, 8), (2, 4), 8, 256)]
-    [(0, (2, 2)), (4, (2, 2))]
+    [(0, (2, 2)), (32, (2, 2))]
+    >>> [(it.first, it.edges) for it in bands((3, 8), (4, 8), 8, 128)]
+    [(0, (2, 8)), (16, (2, 8))]
     """
-    counts, tile = counts_of(shape, edges), prod(edges) * width
+    counts, tile = counts_of(shape, edges), prod(edges)
+    most //= width
+    if tile > most:
+        yield from _parts(shape, edges, most)
+        return
     depth = len(shape)
     while depth and prod(counts[depth - 1:]) * tile <= most:
         depth -= 1
     depth = max(depth - 1, 0)
     inner = prod(counts[depth + 1:])
-    step = max(1, most // max(1, inner * tile))
+    step = max(1, most // (inner * tile))
     first = 0
     for outer in itertools.product(*map(range, counts[:depth])):
         for begin in range(0, counts[depth], step) if depth < len(counts) else [0]:
@@ -137,5 +166,24 @@ def bands(shape: Sequence[int], edges: Sequence[int], width: int, most: int = BA
             if depth < len(counts):
                 numbers += [(begin, begin + took), *((0, n) for n in counts[depth + 1:])]
             region = tuple(slice(a * e, min(n, b * e)) for (a, b), e, n in zip(numbers, edges, shape))
-            yield Band(first, tuple(b - a for a, b in numbers), region)
-            first += took * inner
+            yield Band(first, tuple(b - a for a, b in numbers), tuple(edges), region)
+            first += took * inner * tile
+
+
+def _parts(shape: Sequence[int], edges: Sequence[int], most: int) -> Iterator[Band]:
+    """The same where a tile is larger than a band."""
+    rank, depth = len(shape), len(shape) - 1
+    steps = [prod(edges[d + 1:]) for d in range(rank)]
+    while depth and steps[depth - 1] <= most:
+        depth -= 1
+    rows = max(1, most // steps[depth])
+    part = (*(1 for _ in range(depth)), min(rows, edges[depth]), *edges[depth + 1:])
+    for number, tile in enumerate(regions(shape, edges)):
+        for outer in itertools.product(*(range(it.stop - it.start) for it in tile[:depth])):
+            for begin in range(0, tile[depth].stop - tile[depth].start, rows):
+                inside = (*outer, begin)
+                took = (*part[:depth], min(rows, edges[depth] - begin), *part[depth + 1:])
+                starts = [it.start + at for it, at in zip(tile, (*inside, *(0 for _ in part[depth + 1:])))]
+                region = tuple(slice(at, min(at + n, it.stop)) for at, n, it in zip(starts, took, tile))
+                first = number * prod(edges) + sum(at * step for at, step in zip(inside, steps))
+                yield Band(first, (1,) * rank, took, region)

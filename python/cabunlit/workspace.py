@@ -2,22 +2,23 @@
 from __future__ import annotations
 
 import errno
+import operator
 import os
 import shutil
 import tempfile
-from collections.abc import Callable, Sequence
+from collections.abc import Callable, Collection, Mapping, Sequence
 from pathlib import Path
 from types import TracebackType
-from typing import Any
+from typing import Any, SupportsIndex
 
 import numpy
 
 from cabunlit.arrays import SymmetricArray, TiledArray, open_array, owned
-from cabunlit.errors import ArrayError, DiskFault, FileChanged
+from cabunlit.errors import ArrayError, DiskFault, FileChanged, FormulaError, NotEnoughDisk, TceError
 from cabunlit.program import run_program
 from cabunlit.specification import Specification
 from cabunlit.tiles import Array
-from cabunlit.writing import refuse_elements, write_source
+from cabunlit.writing import refuse_elements, refuse_mask, write_source
 
 PathLike = str | os.PathLike[str]
 Out = PathLike | Array | type | None
@@ -58,9 +59,36 @@ def as_operand(source: Any, name: str) -> Any:
     found = source if hasattr(source, "shape") and hasattr(source, "dtype") else numpy.asarray(source)
     try:
         refuse_elements(numpy.dtype(found.dtype))
+        refuse_mask(found)
     except ArrayError as error:
         raise ArrayError(f"operand {name}: {error}") from None
+    if any(not 1 <= n < 2**32 for n in found.shape):
+        none = "no elements: a sum over none is 0" if 0 in found.shape else "an extent above 2^32 - 1: take parts of it"
+        raise ArrayError(f"operand {name} of the shape {tuple(found.shape)} has {none}")
     return found
+
+
+def chosen_edges(chunks: Any, names: Collection[str]) -> dict[str, int]:
+    """The edges that are given: none by `"auto"`, one for all, or one for each of some labels or indexes.
+
+    Raises
+    ------
+    FormulaError
+
+    Examples
+    --------
+    >>> chosen_edges(4, "ij"), chosen_edges({"j": 2}, "ij")
+    ({'i': 4, 'j': 4}, {'j': 2})
+    """
+    if isinstance(chunks, str) and chunks == "auto":
+        return {}
+    given = dict(chunks) if isinstance(chunks, Mapping) else dict.fromkeys(names, chunks)
+    unknown = set(given) - set(names)
+    if unknown:
+        raise FormulaError(f"chunks has {sorted(map(str, unknown))}, which are no labels")
+    if any(not isinstance(it, SupportsIndex) or operator.index(it) < 1 for it in given.values()):
+        raise FormulaError(f"chunks={chunks!r} is neither \"auto\", nor an edge of at least 1, nor such edges by label")
+    return {it: operator.index(edge) for it, edge in given.items()}
 
 
 class Workspace:
@@ -79,7 +107,7 @@ class Workspace:
         try:
             self.folder = Path(tempfile.mkdtemp(prefix=".cabunlit-" if beside else "cabunlit-", dir=parent))
         except OSError as error:
-            raise DiskFault("disk fault", f"{parent or tempfile.gettempdir()}: {error.strerror}") from error
+            raise DiskFault("disk fault", f"{parent or os.environ.get('TMPDIR', 'TMPDIR')}: {error.strerror}") from error
         self.program = program
         self.opened: list[TiledArray] = []
 
@@ -88,6 +116,20 @@ class Workspace:
 
     def __exit__(self, kind: type[BaseException] | None, error: BaseException | None, trace: TracebackType | None) -> None:
         shutil.rmtree(self.folder, ignore_errors=True)
+
+    def refuse_without_room(self, spec: Specification, sources: Mapping[str, Any]) -> None:
+        """Looks whether the operands that are no files in these tiles, and the last result, fit on the disk.
+
+        Raises
+        ------
+        NotEnoughDisk
+        """
+        result = spec.formulas[-1].result.tensor
+        written = [it for it in spec.inputs() if not _is_linked(sources[it], spec.chunks(it))]
+        due, free = sum(map(spec.file_bytes, [*written, result])), shutil.disk_usage(self.folder).free
+        if due > free:
+            raise NotEnoughDisk(f"{', '.join([*written, result])} take {due} bytes as files, and the disk of {self.folder} has {free}: "
+                                "have out= or TMPDIR name a disk with more room")
 
     def put(self, name: str, source: Any, spec: Specification) -> None:
         """Has an operand's array file stand in the folder: by a link, where it is a file in these tiles already.
@@ -105,7 +147,7 @@ class Workspace:
         if isinstance(source, TiledArray):
             self.opened.append(source)
             source.refuse_change()
-            if not isinstance(source, SymmetricArray) and source.chunks == chunks:
+            if _is_linked(source, chunks):
                 place.symlink_to(source.path)
                 return
         plain = isinstance(source, numpy.ndarray)
@@ -115,11 +157,19 @@ class Workspace:
         """Runs the program on a specification: its words are a command's without SPEC, which comes second."""
         text = spec.text()
         (self.folder / "s.tce").write_text(text, encoding="ascii")
-        report = run_program([words[0], "s.tce", *words[1:]], self.folder, program=self.program, text=text, watch=watch)
+        try:
+            report = run_program([words[0], "s.tce", *words[1:]], self.folder, program=self.program, text=text, watch=watch)
+        except TceError as error:
+            self._refuse_change(error)
+            raise
+        self._refuse_change()
+        return report
+
+    def _refuse_change(self, cause: TceError | None = None) -> None:
+        """Raises where a file is no longer the one that was opened, whatever the program says of it."""
         changed = [it.path for it in self.opened if it.changed()]
         if changed:
-            raise FileChanged(f"{', '.join(changed)} was changed while the program read it: run again")
-        return report
+            raise FileChanged(f"{', '.join(changed)} was changed while the program read it: open it and run again") from cause
 
     def drop(self, name: str) -> None:
         """Removes an intermediate's file."""
@@ -150,6 +200,11 @@ class Workspace:
         found = open_array(target, dtype)
         found.report = report
         return found if keep else owned(found)
+
+
+def _is_linked(source: Any, chunks: Sequence[int]) -> bool:
+    """Whether an operand is a file in these tiles already."""
+    return isinstance(source, TiledArray) and not isinstance(source, SymmetricArray) and source.chunks == tuple(chunks)
 
 
 def _temporary(folder: Path) -> str:
@@ -194,5 +249,9 @@ def check_out(out: Out, shape: Sequence[int]) -> PathLike | None:
         refuse_elements(out.dtype)
         if tuple(out.shape) != tuple(shape) or out.dtype.itemsize != 8:
             raise ArrayError(f"out has the shape {out.shape} of {out.dtype}, and the result {tuple(shape)} of 8 bytes")
+        if not out.flags.writeable:
+            raise ArrayError("out cannot be written: give an array that can, or numpy.ndarray for a new one")
         return None
+    if out is not None and not isinstance(out, (str, os.PathLike)):
+        raise ArrayError(f"out={out!r}: give a path, an array, or numpy.ndarray")
     return out

@@ -3,12 +3,13 @@ from __future__ import annotations
 
 import errno
 import itertools
+import operator
 import os
 import tempfile
 from collections.abc import Iterator, Sequence
 from math import prod
 from types import TracebackType
-from typing import Any
+from typing import Any, SupportsIndex
 
 import numpy
 
@@ -17,19 +18,30 @@ from cabunlit.heads import head_bytes
 from cabunlit.tiles import Array, bands, counts_of, regions, write_rows
 
 PathLike = str | os.PathLike[str]
+# What is to be done with elements of another kind.
+MENDED = {"f": "scale them (fixed_point), or take astype(\"<i8\")", "b": "take astype(\"<i8\")",
+          "c": "take the real and the imaginary parts, scaled (fixed_point)", "O": "take numpy.asarray(.., dtype=\"<i8\")",
+          "U": "take an array, or open_array of a file's name", "S": "take an array, or open_array of a file's name",
+          "V": "take one of its fields"}
 
 
 def refuse_elements(dtype: numpy.dtype[Any]) -> None:
     """Raises where elements of a type cannot stand in an array file."""
     if dtype.kind not in "iu":
-        raise ArrayError(f"elements are whole numbers, not {dtype}: scale them (fixed_point), or take astype(\"<i8\")")
+        raise ArrayError(f"elements are whole numbers, not {dtype}: {MENDED.get(dtype.kind, 'take whole numbers')}")
     if dtype.newbyteorder("<") != dtype:
         raise ArrayError(f"elements of {dtype.str} have their highest byte first: take astype(\"<{dtype.str[1:]}\")")
     if dtype.str not in ("<i8", "<u8", "<i4"):
         raise ArrayError(f"elements have 8 bytes, or 4 with a sign, not {dtype}: take astype(\"<i8\")")
 
 
-def edges_of(shape: Sequence[int], chunks: int | Sequence[int]) -> tuple[int, ...]:
+def refuse_mask(array: Any) -> None:
+    """Raises where elements are masked: what stands under a mask is no number."""
+    if isinstance(array, numpy.ma.MaskedArray) and numpy.ma.is_masked(array):
+        raise ArrayError("elements are masked: take filled(0), or another number for them")
+
+
+def edges_of(shape: Sequence[int], chunks: SupportsIndex | Sequence[SupportsIndex]) -> tuple[int, ...]:
     """The edges of an array's tiles, at most its extents.
 
     Raises
@@ -42,10 +54,15 @@ def edges_of(shape: Sequence[int], chunks: int | Sequence[int]) -> tuple[int, ..
     >>> edges_of((100, 3), 8)
     (8, 3)
     """
-    wanted = [chunks] * len(shape) if isinstance(chunks, int) else list(chunks)
+    given: Any = chunks
+    try:
+        alone = isinstance(given, SupportsIndex) and not isinstance(given, numpy.ndarray)
+        wanted = [operator.index(it) for it in ([given] * len(shape) if alone else given)]
+    except TypeError:
+        wanted = []
     if len(wanted) != len(shape) or any(e < 1 for e in wanted):
-        raise ArrayError(f"chunks={chunks} is no edge of at least 1 for each of the {len(shape)} dimensions")
-    if len(shape) > 8 or any(not 1 <= n < 2**32 for n in shape):
+        raise ArrayError(f"chunks={chunks!r} is no edge of at least 1 for each of the {len(shape)} dimensions")
+    if len(shape) > 8 or any(not isinstance(n, SupportsIndex) or not 1 <= operator.index(n) < 2**32 for n in shape):
         raise ArrayError(f"an array has at most 8 dimensions of 1 to 2^32 - 1, not {tuple(shape)}")
     edges = tuple(int(min(e, n)) for e, n in zip(wanted, shape))
     if prod(edges) > 2**20:
@@ -68,6 +85,7 @@ class ArrayWriter:
         self.head = head_bytes(shape, self.chunks, dtype.itemsize)
         self.path, self.flush = os.path.realpath(path), flush
         self._tiles: Array | None = None
+        self._process = os.getpid()
         tile = prod(self.chunks) * dtype.itemsize
         self.length = len(self.head) + prod(counts_of(shape, self.chunks)) * tile
         try:
@@ -102,7 +120,10 @@ class ArrayWriter:
     def __setitem__(self, region: tuple[slice, ...] | slice, values: Array) -> None:
         """Sets a region, given by a slice with step 1 for each dimension."""
         keys = region if isinstance(region, tuple) else (region,)
-        found = [it.indices(n) for it, n in zip(keys, self.shape, strict=True)]
+        if len(keys) != len(self.shape) or not all(isinstance(it, slice) for it in keys):
+            raise ArrayError(f"{region!r} is no region: give a slice for each of the {len(self.shape)} dimensions")
+        found = [it.indices(n) for it, n in zip(keys, self.shape)]
+        refuse_mask(values)
         values = numpy.asarray(values)
         refuse_elements(values.dtype)
         due = tuple(max(0, stop - start) for start, stop, _ in found)
@@ -113,19 +134,18 @@ class ArrayWriter:
         write_rows(self.tiles(), self.chunks, [start for start, _, _ in found], values.view(self.dtype.str))
 
     def write_bands(self, source: Any) -> None:
-        """Writes all elements of something that gives regions, one band of tiles after the other."""
-        tile = prod(self.chunks)
+        """Writes all elements of something that gives regions, one band after the other. Padding is zeros already."""
         buffer = numpy.empty(0, self.dtype)
         for band in bands(self.shape, self.chunks, self.dtype.itemsize):
-            words = prod(band.counts) * tile
+            words = prod(band.counts) * prod(band.edges)
             if len(buffer) < words:
                 buffer = numpy.zeros(words, self.dtype)
-            part = buffer[:words].reshape((*band.counts, *self.chunks))
+            part = buffer[:words].reshape((*band.counts, *band.edges))
             rows = numpy.asarray(source[band.region])
             if rows.size != words:
                 part[...] = 0
-            write_rows(part, self.chunks, [0] * len(self.shape), rows)
-            self._put(buffer[:words], len(self.head) + band.first * tile * self.dtype.itemsize)
+            write_rows(part, band.edges, [0] * len(self.shape), rows)
+            self._put(buffer[:words], len(self.head) + band.first * self.dtype.itemsize)
 
     def _put(self, words: Array, at: int) -> None:
         rest = memoryview(words.data).cast("B")
@@ -147,12 +167,17 @@ class ArrayWriter:
             self.abandon()
             raise _fault(error, self.path) from error
         os.close(self._file)
-        self._tiles = None
+        self._tiles, self._file = None, -1
+
+    def __del__(self) -> None:
+        # (a process that was forked has a copy of the writer, and leaves the file alone)
+        if getattr(self, "_file", -1) >= 0 and self._process == os.getpid():
+            self.abandon()
 
     def abandon(self) -> None:
         """Removes what was written."""
-        self._tiles = None
         os.close(self._file)
+        self._tiles, self._file = None, -1
         try:
             os.unlink(self._name)
         except OSError:
@@ -179,6 +204,7 @@ def source_of(array: Any) -> tuple[tuple[int, ...], numpy.dtype[Any]]:
     if not hasattr(array, "shape") or not hasattr(array, "dtype"):
         raise ArrayError(f"{type(array).__name__} is no array: take numpy.asarray(.., dtype=\"<i8\")")
     refuse_elements(numpy.dtype(array.dtype))
+    refuse_mask(array)
     flags = getattr(array, "flags", None)
     if flags is not None and flags.f_contiguous and not flags.c_contiguous:
         raise ArrayError("the array is in Fortran order: take numpy.ascontiguousarray(..)")

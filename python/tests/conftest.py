@@ -1,6 +1,7 @@
 """Every test runs in a folder of its own; a missing program fails the whole run at once."""
 import os
 import shutil
+import signal
 import tempfile
 
 import pytest
@@ -15,6 +16,8 @@ settings.load_profile("cabunlit")
 
 
 def pytest_sessionstart(session):
+    # (a shell has what it runs in the background ignore interrupts)
+    signal.signal(signal.SIGINT, signal.default_int_handler)
     os.environ["CABUNLIT_TCE"] = str(find_program())
 
 

@@ -5,6 +5,7 @@ import pickle
 import resource
 import subprocess
 import sys
+from math import prod
 
 import numpy
 import pytest
@@ -13,6 +14,7 @@ from hypothesis import given, strategies as some
 from cabunlit import create_array, evaluate, open_array, write_array
 from cabunlit.errors import ArrayError, DiskFault, FileChanged
 from cabunlit.heads import head_bytes, is_whole
+from cabunlit.tiles import bands, counts_of, write_rows
 
 WORDS = some.integers(-2**63, 2**63 - 1)
 
@@ -98,7 +100,9 @@ def test_views_are_taken_as_they_are():
 @pytest.mark.parametrize("array, says", [
     (numpy.ones((2, 2)), "float64"), (numpy.ones(2, ">i8"), "highest byte first"), (numpy.ones(2, "i2"), "4 with a sign"),
     (numpy.asfortranarray(numpy.ones((2, 3), "<i8")), "ascontiguousarray"), (numpy.ones(2, bool), "bool"), ([[1, 2]], "list"),
-    (numpy.ones((2, 0), "<i8"), "1 to 2"), (numpy.ones(2, complex), "complex"),
+    (numpy.ones((2, 0), "<i8"), "1 to 2"), (numpy.ones(2, complex), "complex"), (numpy.ones(2, "u4"), "4 with a sign"),
+    (numpy.ma.masked_array(numpy.ones(2, "<i8"), [True, False]), "masked: take filled"), (numpy.array([1, None]), "object"),
+    (numpy.zeros(2, [("a", "<i8")]), "fields"), (numpy.array(["A.tca"]), "open_array"), (numpy.ones((1,) * 9, "<i8"), "8 dimensions"),
 ])
 def test_what_is_refused(array, says):
     with pytest.raises(ArrayError, match=says):
@@ -106,12 +110,36 @@ def test_what_is_refused(array, says):
     assert not os.path.exists("A.tca") and os.listdir(".") == []
 
 
-@pytest.mark.parametrize("chunks", [0, -1, (1,), (1, 2, 3)])
+@pytest.mark.parametrize("chunks", [0, -1, (1,), (1, 2, 3), 1.5, "auto", None, (1, 2.0), numpy.array([1, 0])])
 def test_edges_that_are_refused(chunks):
     with pytest.raises(ArrayError):
         write_array("A.tca", numpy.ones((2, 2), "<i8"), chunks)
     with pytest.raises(ArrayError, match="2.20"):
         create_array("A.tca", (2000, 2000), 2000)
+
+
+@pytest.mark.parametrize("chunks", [numpy.int64(2), [2, numpy.int32(2)], numpy.array([2, 2])])
+@pytest.mark.parametrize("array", [numpy.arange(9).reshape(3, 3).view(numpy.matrix), numpy.ma.masked_array(numpy.arange(9).reshape(3, 3)),
+                                   -numpy.arange(9, dtype="<i4").reshape(3, 3), numpy.arange(36).reshape(6, 6)[::-2, ::2],
+                                   numpy.broadcast_to(numpy.arange(3), (3, 3))])
+def test_arrays_of_other_kinds(array, chunks):
+    tiled = write_array("A.tca", array, chunks)
+    assert tiled.chunks == (2, 2) and type(numpy.asarray(tiled)) is numpy.ndarray and (numpy.asarray(tiled) == array).all()
+
+
+@given(arrays(), some.integers(8, 200))
+def test_bands_are_the_whole_but_for_padding(given_array, most):
+    array, edges = given_array
+    due = numpy.fromfile(write_array("A.tca", array, edges, flush=False).path, array.dtype)
+    due = due[-prod(edges) * prod(counts_of(array.shape, edges)):]
+    found = numpy.zeros_like(due)
+    for band in bands(array.shape, edges, array.itemsize, most):
+        rows = array[band.region]
+        part = numpy.zeros((*band.counts, *band.edges), array.dtype)
+        write_rows(part, band.edges, [0] * array.ndim, rows)
+        assert part.nbytes <= max(most, array.itemsize)
+        found[band.first:band.first + part.size] = part.ravel()
+    assert (found == due).all()
 
 
 def test_blocks_that_do_not_fit():
@@ -127,12 +155,35 @@ def test_blocks_that_do_not_fit():
 def test_regions_that_do_not_fit():
     with create_array("A.tca", (4, 4), 2) as writer:
         rows = (slice(0, 2), slice(0, 4))
-        for region, block in [(rows, numpy.ones((2, 4), "<i4")), (rows, numpy.ones((2, 2), "<i8")), (rows, numpy.ones((2, 4))),
+        for region, block in [(0, numpy.ones(4, "<i8")), (slice(0, 2), numpy.ones((2, 4), "<i8")),
+                              (rows, numpy.ma.masked_array(numpy.ones((2, 4), "<i8"), True)), (rows, numpy.ones((2, 4), bool)),
+                              (rows, numpy.ones((2, 4), "<i4")), (rows, numpy.ones((2, 2), "<i8")), (rows, numpy.ones((2, 4))),
                               ((slice(0, 4, 2), slice(0, 4)), numpy.ones((2, 4), "<i8"))]:
             with pytest.raises(ArrayError):
                 writer[region] = block
         writer[0:2, 2:4] = numpy.full((2, 2), 2**64 - 1, "<u8")
     assert (numpy.asarray(open_array("A.tca")) == [[0, 0, -1, -1]] * 2 + [[0] * 4] * 2).all()
+
+
+@pytest.mark.parametrize("shape", [(2, -2), (2.0,), (0,), ("2",), (2**32,)])
+def test_shapes_that_are_refused(shape):
+    with pytest.raises(ArrayError, match="dimensions of 1 to"):
+        create_array("A.tca", shape, 1)
+    assert os.listdir(".") == []
+
+
+def test_a_writer_that_is_given_up_leaves_nothing():
+    writer = create_array("A.tca", (4, 4), 2)
+    assert len(os.listdir(".")) == 1
+    del writer
+    gc.collect()
+    assert os.listdir(".") == []
+
+
+def test_a_shape_of_one_dimension():
+    with create_array("A.tca", 5, 2) as writer:
+        writer[1:3] = numpy.array([1, 2])
+    assert open_array("A.tca")[:].tolist() == [0, 1, 2, 0, 0]
 
 
 def test_an_old_file_stays_until_the_new_one_is_whole():

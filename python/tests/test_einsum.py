@@ -109,7 +109,7 @@ def test_operands_larger_than_the_memory(capsys):
     ("ij,jk", [A], FormulaError, "for 2 operands"), ("ij,jk", [A, A], FormulaError, "extent"), ("ij", [A[0]], FormulaError, "dimensions"),
     ("ij->iz", [A], FormulaError, "no operand"), ("ij->ii", [A], FormulaError, "twice"), ("i1", [A], FormulaError, "letters"),
     ("ij", [A * 0.5], ArrayError, "operand X0.*float64"), ("ij", [A.astype("<i2")], ArrayError, "8 bytes"),
-    ("...i->i", [A], FormulaError, "ellipsis"), ("ij", [A[:, :0]], FormulaError, "no elements"), ("ii", [A], FormulaError, "extent"),
+    ("...i->i", [A], FormulaError, "ellipsis"), ("ij", [A[:, :0]], ArrayError, "no elements"), ("ii", [A], FormulaError, "extent"),
 ])
 def test_what_is_refused(text, operands, error, says):
     with pytest.raises(error, match=says):
@@ -117,7 +117,46 @@ def test_what_is_refused(text, operands, error, says):
     assert os.listdir(".") == []
 
 
-@pytest.mark.parametrize("path", [[(0, 3), (0, 1)], [(0, 0), (0, 1)], [(0, 1)], [(0, 1), (0, 1), (0, 1)], 5, [()]])
+@pytest.mark.parametrize("operand, says", [
+    (A > 2, "bool"), (A.astype("u4"), "uint32"), (numpy.zeros(A.shape, [("a", "<i8")]), "fields"), ("A.tca", "open_array"),
+    (numpy.ma.masked_array(A, A > 2), "masked"), (None, "object"), (numpy.broadcast_to(numpy.int64(1), (2**33, 2)), "2.32"),
+    (A.astype(complex), "real and the imaginary"), (2**64, "object"),
+])
+def test_operands_that_are_refused(operand, says):
+    with pytest.raises(ArrayError, match=f"operand X0.*{says}"):
+        einsum("ij->i", operand)
+    assert os.listdir(".") == []
+
+
+@pytest.mark.parametrize("words, error, says", [
+    (dict(chunks=0), FormulaError, "at least 1"), (dict(chunks={"i": 1.5}), FormulaError, "at least 1"),
+    (dict(chunks="large"), FormulaError, "auto"), (dict(chunks={"z": 2}), FormulaError, "no labels"),
+    (dict(out=5), ArrayError, "out=5"), (dict(out=[1]), ArrayError, "give a path"),
+    (dict(out=numpy.broadcast_to(numpy.int64(0), A.shape)), ArrayError, "cannot be written"),
+    (dict(out=numpy.zeros(A.shape, ">i8")), ArrayError, "highest byte"), (dict(memory=-1), NotEnoughMemory, "give memory="),
+])
+def test_words_that_are_refused(words, error, says):
+    with pytest.raises(error, match=says):
+        einsum("ij->ij", A, **words)
+    assert os.listdir(".") == []
+
+
+@pytest.mark.parametrize("operand", [
+    A.view(numpy.matrix), numpy.ma.masked_array(A), -A.astype("<i4"), A[::-1, ::2], numpy.asfortranarray(A), A.astype("<u8"),
+    numpy.broadcast_to(A[0], (7, A.shape[1])), [[1, -2], [3, 4]],
+])
+def test_operands_of_other_kinds(operand):
+    due = numpy.einsum("ij->ji", numpy.asarray(operand))
+    found = einsum("ij->ji", operand, out=numpy.ndarray, chunks=numpy.int64(3))
+    assert type(found) is numpy.ndarray and (found == due).all()
+
+
+def test_numbers_as_operands():
+    assert einsum(",->", 3, numpy.array(-4), out=numpy.ndarray) == -12
+    assert (einsum(",ij->ij", -2, A, out=numpy.ndarray) == -2 * A).all()
+
+
+@pytest.mark.parametrize("path", [[(0, 3), (0, 1)], [(0, 0), (0, 1)], [(0, 1)], [(0, 1), (0, 1), (0, 1)], 5, [()], "quick"])
 def test_paths_that_do_not_fit(path):
     with pytest.raises(FormulaError, match="path"):
         einsum("ij,kj,kl->il", A, A, A, optimize=path)

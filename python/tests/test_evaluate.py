@@ -62,6 +62,12 @@ def test_files_are_linked_and_keep_their_tiles():
     assert (again == (A @ A).T - A).all()
 
 
+def test_a_number_is_one():
+    assert int(evaluate("E[] = sum{i,k}(A[i,k])", A=A)) == A.sum()
+    with pytest.raises(TypeError, match="no number"):
+        int(evaluate("C[i,k] = 2 * A[i,k]", A=A))
+
+
 def test_unsigned_words_stay_unsigned():
     found = evaluate("C[i] = 18446744073709551615 * A[i]", A=numpy.array([1, 2], "<u8"), out=numpy.ndarray)
     assert found.dtype == numpy.dtype("<u8") and found.tolist() == [2**64 - 1, 2**64 - 2]
@@ -73,6 +79,12 @@ def test_a_specification_with_its_declarations(own_folder):
     for it in (text, "s.tce", own_folder / "s.tce"):
         found = evaluate(it, A=A)
         assert found.chunks == (4, 4) and (numpy.asarray(found) == A @ A).all()
+
+
+def test_a_specification_has_its_own_tiles():
+    text = "range N 10 tile 4\nindex N i k\ntensor A[N,N]\ntensor C[N,N]\nC[i,k] = 2 * A[i,k]\n"
+    with pytest.raises(FormulaError, match="its own tiles"):
+        evaluate(text, A=A, chunks=2)
 
 
 def test_explain_says_which_and_why(capsys):
@@ -102,7 +114,9 @@ def test_a_transformation_is_not_run_whole_where_that_reads_a_hundred_times(caps
     (dict(A=A, B=A[0]), ArrayError, "1 dimensions"),
     (dict(A=A, B=A, memory=100), NotEnoughMemory, "give memory="),
     (dict(A=A, B=A, memory="much"), NotEnoughMemory, "64 MiB"),
-    (dict(A=A, B=A, strategy="quick"), FormulaError, "auto"),
+    (dict(A=A, B=A, strategy="quick"), FormulaError, "auto"), (dict(A=A, B=A, chunks=0), FormulaError, "at least 1"),
+    (dict(A=A, B=A, chunks={"z": 1}), FormulaError, "no labels"), (dict(A=A[:0], B=A), ArrayError, "no elements"),
+    (dict(A=A, B="B.tca"), ArrayError, "open_array"), (dict(A=A, B=numpy.ma.masked_array(A, A > 3)), ArrayError, "masked"),
     (dict(A=A, B=A, out=numpy.zeros((3, 3), "<i8")), ArrayError, "out has the shape"),
     (dict(A=A, B=A, out=numpy.zeros((10, 10))), ArrayError, "whole numbers"),
     (dict(A=A, B=A, out="nowhere/C.tca"), DiskFault, "nowhere"),
@@ -148,6 +162,35 @@ def test_a_file_that_another_process_changes():
     write_array("A.tca", A + 1, 5)
     with pytest.raises(FileChanged, match="open it again"):
         evaluate(PRODUCT, A=tiled, B=A)
+
+
+def shim(own_folder, does):
+    """A program that does something before a run."""
+    place = own_folder.parent / "shim"
+    place.mkdir(exist_ok=True)
+    program = place / "tce"
+    program.write_text(f"#!/bin/sh\ncase $1 in run) if [ \"$3\" != 0 ]; then {does}; fi;; esac\nexec \"$CABUNLIT_TCE\" \"$@\"\n")
+    program.chmod(0o755)
+    return program
+
+
+@pytest.mark.parametrize("words, error", [
+    (dict(memory=100), NotEnoughMemory), (dict(program="nowhere/tce"), ProgramNotFound), (dict(strategy="quick"), FormulaError),
+    (dict(does="kill -9 $$"), ProgramKilled), (dict(does="ulimit -f 0"), ProgramKilled), (dict(does="rm A.tca"), TceError),
+    (dict(does="trap '' XFSZ; ulimit -f 0"), DiskFault), (dict(does="echo x >> $HOME/B.tca"), FileChanged),
+    (dict(does="exit 3"), TceError), (dict(D=A), FormulaError), (dict(disk=-1, strategy="named"), NotEnoughDisk),
+])
+def test_what_goes_wrong_changes_no_file(words, error, own_folder, monkeypatch):
+    monkeypatch.setenv("HOME", str(own_folder))
+    files = {name: write_array(name, A + number, 4) for number, name in enumerate(["A.tca", "B.tca", "C.tca"])}
+    changed = {"B.tca"} if error is FileChanged else set()
+    before = {name: Path(name).read_bytes() for name in os.listdir(".") if name not in changed}
+    if "does" in words:
+        words = {"program": shim(own_folder, words["does"])}
+    formula = "C[i,j] = sum{k}(A[i,k] * sum{l}(B[k,l] * A[l,j]))"
+    with pytest.raises(error):
+        evaluate(formula, {"A": files["A.tca"], "B": files["B.tca"]}, out="C.tca", **words)
+    assert {name: Path(name).read_bytes() for name in os.listdir(".") if name not in changed} == before
 
 
 def test_a_program_that_is_killed(own_folder):
@@ -241,6 +284,17 @@ def test_two_results_of_a_run_are_apart():
     one, two = evaluate("C[i,j] = 2 * A[i,j]", A=A), evaluate("C[i,j] = 3 * A[i,j]", A=A)
     assert (numpy.asarray(one) == 2 * A).all() and (numpy.asarray(two) == 3 * A).all() and one.path != two.path
     assert open_array(one.path).shape == (10, 10)
+
+
+def test_a_result_that_is_larger_than_the_disk():
+    with pytest.raises(NotEnoughDisk, match="V, C take .* bytes"):
+        evaluate("C[i,j,k] = V[i] * V[j] * V[k]", V=numpy.broadcast_to(numpy.int64(1), 50_000))
+    assert os.listdir(".") == []
+
+
+def test_what_is_no_formula():
+    with pytest.raises(FormulaError, match="a text"):
+        evaluate(5, A=A)
 
 
 def test_a_disk_without_room_for_the_result(own_folder):
