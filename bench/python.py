@@ -1,9 +1,9 @@
 #!/usr/bin/env python3
 """Times the Python package beside numpy: python3 bench/python.py [FOLDER]
 
-Array files are written and read beside numpy.copyto between memory maps of as many bytes, on new files and on files that are in
-the system's cache, and products of matrices of 1,024 by 1,024 beside numpy's integer einsum, arrays in and out. Each figure is the
-least of three, in seconds of the clock; a busy machine makes all of them longer.
+Array files are written and read beside numpy.copyto of as many bytes into a new memory map and into new memory, with files in the
+system's cache, and products of matrices of 1,024 by 1,024 beside numpy's integer einsum, arrays in and out. What is compared runs in
+turn, and each figure is the least of five, in seconds of the clock; a busy machine makes all of them longer.
 """
 import os
 import resource
@@ -17,17 +17,18 @@ import numpy
 sys.path.insert(0, str(Path(__file__).resolve().parent.parent / "python"))
 import cabunlit  # noqa: E402
 
-SIDE, MATRIX, TIMES = 4096, 1024, 3
+SIDE, MATRIX, TIMES = 4096, 1024, 5
 
 
-def least(action):
-    """The least time of some."""
-    found = []
+def least(*actions):
+    """The least time of each of some that run in turn."""
+    found = [[] for _ in actions]
     for _ in range(TIMES):
-        begun = time.perf_counter()
-        action()
-        found.append(time.perf_counter() - begun)
-    return min(found)
+        for action, times in zip(actions, found):
+            begun = time.perf_counter()
+            action()
+            times.append(time.perf_counter() - begun)
+    return [min(it) for it in found]
 
 
 def fresh(name, source):
@@ -48,28 +49,25 @@ def files():
     source[:] = numpy.arange(SIDE)
     target = numpy.memmap("b.raw", "<i8", "w+", shape=(SIDE, SIDE))
     target[:] = 1
-    print(f"copyto, memory maps in the cache: {least(lambda: numpy.copyto(target, source)):.3f}")
-    new = least(lambda: fresh("c.raw", source))
-    print(f"copyto into a new memory map: {new:.3f}")
-    memory = least(lambda: numpy.copyto(numpy.empty((SIDE, SIDE), "<i8"), source))
-    print(f"copyto from a memory map into new memory: {memory:.3f}")
+    print(f"copyto, memory maps in the cache: {least(lambda: numpy.copyto(target, source))[0]:.3f}")
     for chunks in (8, 16, 64, 256, 1000):
         before = resource.getrusage(resource.RUSAGE_SELF).ru_maxrss
-        write = least(lambda: written(source, chunks))
+        written(source, chunks)
         more = resource.getrusage(resource.RUSAGE_SELF).ru_maxrss - before
+        new, write = least(lambda: fresh("c.raw", source), lambda: written(source, chunks))
         tiled = cabunlit.open_array("x.tca")
-        read = least(lambda: numpy.asarray(tiled))
-        print(f"chunks {chunks}: write_array {write:.3f} ({new / write:.2f} of the bandwidth, {more / 1024:.0f} MiB more), "
-              f"read {read:.3f} ({memory / read:.2f})")
+        memory, read = least(lambda: numpy.copyto(numpy.empty((SIDE, SIDE), "<i8"), source), lambda: numpy.asarray(tiled))
+        print(f"chunks {chunks}: write_array {write:.3f}, copyto into a new memory map {new:.3f} ({new / write:.2f} of its bandwidth, "
+              f"{more / 1024:.0f} MiB more); read {read:.3f}, copyto into new memory {memory:.3f} ({memory / read:.2f})")
 
 
 def products():
     draw = numpy.random.default_rng(1)
     a, b, c = (draw.integers(-2**63, 2**63 - 1, (MATRIX, MATRIX)) for _ in range(3))
     for text, operands in (("ij,jk->ik", (a, b)), ("ij,jk,kl->il", (a, b, c))):
-        by_numpy = least(lambda: chained(operands))
-        here = least(lambda: cabunlit.einsum(text, *operands, out=numpy.ndarray))
-        small = least(lambda: cabunlit.einsum(text, *operands, out=numpy.ndarray, memory="4 MiB"))
+        by_numpy, here, small = least(
+            lambda: chained(operands), lambda: cabunlit.einsum(text, *operands, out=numpy.ndarray),
+            lambda: cabunlit.einsum(text, *operands, out=numpy.ndarray, memory="4 MiB"))
         print(f"{text}: numpy {by_numpy:.2f}, cabunlit {here:.2f} ({here / by_numpy:.2f} times), within 4 MiB {small:.2f}")
 
 
