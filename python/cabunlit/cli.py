@@ -131,16 +131,21 @@ def _pieces(words: argparse.Namespace) -> str:
     return "\n".join(f"piece {it} is done" for it in numbers) or "all pieces are done"
 
 
+def _put(text: str) -> None:
+    """Writes lines to standard output in one call, so that those of processes that run side by side stay whole."""
+    sys.stdout.write(f"{text}\n")
+
+
 def main(words: Sequence[str] | None = None) -> int:
     """Runs a command and returns its exit status: 0, or 1 with a line on standard error."""
     found = _parser().parse_args(words)
     try:
         if found.verb == "info":
-            print("\n\n".join(map(info, found.file)))
+            _put("\n\n".join(map(info, found.file)))
         elif found.verb == "report":
             print(report_page(plan(found.spec), found.budget), end="")
         else:
-            print(_pieces(found))
+            _put(_pieces(found))
     except (CabunlitError, OSError) as error:
         print(f"cabunlit: {error}", file=sys.stderr)
         return 1

@@ -62,7 +62,9 @@ class Progress:
         if self.total is not None and self.count < self.total:
             left = f", about {took / self.count * (self.total - self.count):.1f} s left"
         kept = " (kept)" if again else ""
-        print(f"{self.what}: {self.count}{of}, {name}{kept}, {took:.1f} s{left}", file=self.stream, flush=True)
+        # (in one call, so that lines of processes that run side by side stay whole)
+        self.stream.write(f"{self.what}: {self.count}{of}, {name}{kept}, {took:.1f} s{left}\n")
+        self.stream.flush()
 
 
 def _bar(what: str, total: int | None, stream: TextIO) -> Any:
