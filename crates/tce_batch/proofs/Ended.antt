@@ -15,12 +15,12 @@ use Rattle.tce_job.specs.Opened.{operand, operand_count, HasOperands}
 use Rattle.tce_job.specs.declared.fault.JobFault.{JobFault}
 use Rattle.tce_job.specs.declared.fault.JobFault.TheVariants.{BudgetTooSmall, IntermediatesTooLarge, Array, Disk, Memory}
 use Rattle.tce_job.specs.Refusals.{IsAffordable, IsCause, MayBeRefused, IsFree}
-use Rattle.tce_job.specs.Prepared.{IsRoomLeft as IsRoomLeftByOne}
+use Rattle.tce_job.specs.Prepared.{HasTaken, IsRoomLeft as IsRoomLeftByOne}
 use Rattle.tce_job.proofs.Causes.{granted}
 use Rattle.tce_batch.specs.BatchCode.{IsBatch}
 use Rattle.tce_job.specs.Several.{files_after, HasTakenEach}
 use Rattle.tce_batch.specs.Refusals.{AffordableBelow, SourcesBelow, IsCauseAt}
-use Rattle.tce_batch.specs.Left.{files_at, IsLeftAt, IsRoomLeftAt}
+use Rattle.tce_batch.specs.Left.{files_at, HasTakenTo, IsLeftAt}
 use Rattle.tce_batch.proofs.Afforded.{some_at}
 use Rattle.tce_batch.proofs.Files.{has_after, none_after}
 use Rattle.tce_batch.proofs.Reports.{taken_more, none_taken}
@@ -85,49 +85,68 @@ untold : (start now after : Option Files) (batch : List Specification) (number :
 untold None now after batch number is same none = same ∙ is
 untold (Some files) now after batch number is same none = absurd (none files refl)
 
-pub failed_left : (start now after : Option Files) (batch : List Specification) (budget number : ℕ) (s : Specification) (fault : JobFault) → HasFailed start now batch budget number s fault
-    → (fault ≡ Disk) ⊎ (after ≡ now) → others (file_of s s.result) after ≡ others (file_of s s.result) now → LeavesNoHalfResult s now after → IsLeftAt start after batch (number + 1) fault
-failed_left start now after batch budget number s (BudgetTooSmall n) h same rest half = within_budget s budget n (MayBeRefused now s) (able_at start now batch budget number s (BudgetTooSmall n) h) h.why
-failed_left start now after batch budget number s (IntermediatesTooLarge n) h same rest half = within_memory s budget n (MayBeRefused now s) (able_at start now batch budget number s (IntermediatesTooLarge n) h) h.why
-failed_left start now after batch budget number s (Array t u) h (inl is) rest half = absurd (cc)
-failed_left start now after batch budget number s (Array t u) h (inr same) rest half = untold start now after batch number h.is same h.free
-failed_left start now after batch budget number s Disk h same rest half =
-    record { number = number; specification = s; counted = refl; at = h.at; here = (rest ∙ ap (others (file_of s s.result)) h.is, subst (λ o. LeavesNoHalfResult s o after) h.is half) }
-failed_left start now after batch budget number s Memory h (inl is) rest half = absurd (cc)
-failed_left start now after batch budget number s Memory h (inr same) rest half = record { number = number; specification = s; counted = refl; at = h.at; here = inl (same ∙ h.is) }
+-- the takings of the formulas in front, or of this one too
+taken_to : (batch : List Specification) (budget number : ℕ) (s : Specification) (before then after : List (ℕ × ℕ)) → slice_get batch number ≡ Some s → HasTakenEach (take number batch) budget before then
+    → (after ≡ then) ⊎ HasTaken s budget then after → HasTakenTo before after batch budget number
+taken_to batch budget number s before then after at front (inl same) = inl (subst (HasTakenEach (take number batch) budget before) (sym same) front)
+taken_to batch budget number s before then after at front (inr one) = inr (taken_more budget batch number s before then after at front one)
 
-pub failed_takings : (start now : Option Files) (batch : List Specification) (budget number : ℕ) (s : Specification) (fault : JobFault) (before then after : List (ℕ × ℕ)) → HasFailed start now batch budget number s fault
-    → HasTakenEach (take number batch) budget before then → IsRoomLeftByOne fault s budget then after → IsRoomLeftAt before after batch budget (number + 1) fault
-failed_takings start now batch budget number s (BudgetTooSmall n) before then after h front left = within_budget s budget n (MayBeRefused now s) (able_at start now batch budget number s (BudgetTooSmall n) h) h.why
-failed_takings start now batch budget number s (IntermediatesTooLarge n) before then after h front left = within_memory s budget n (MayBeRefused now s) (able_at start now batch budget number s (IntermediatesTooLarge n) h) h.why
-failed_takings start now batch budget number s (Array t u) before then after h front left =
-    record { number = number; specification = s; counted = refl; at = h.at; here = inr (subst (HasTakenEach (take number batch) budget before) (sym left) front) }
-failed_takings start now batch budget number s Disk before then after h front (inl same) =
-    record { number = number; specification = s; counted = refl; at = h.at; here = inl (subst (HasTakenEach (take number batch) budget before) (sym same) front) }
-failed_takings start now batch budget number s Disk before then after h front (inr one) = record { number = number; specification = s; counted = refl; at = h.at; here = inr (taken_more budget batch number s before then after h.at front one) }
-failed_takings start now batch budget number s Memory before then after h front (inl same) =
-    record { number = number; specification = s; counted = refl; at = h.at; here = inl (subst (HasTakenEach (take number batch) budget before) (sym same) front) }
-failed_takings start now batch budget number s Memory before then after h front (inr one) = record { number = number; specification = s; counted = refl; at = h.at; here = inr (taken_more budget batch number s before then after h.at front one) }
+-- what one formula does to files and room where it fails
+pub record Fails (now after : Option Files) (then taken_after : List (ℕ × ℕ)) (budget : ℕ) (s : Specification) (fault : JobFault) : Type 0 where
+  pub same : (fault ≡ Disk) ⊎ (after ≡ now)
+  pub others_are : others (file_of s s.result) after ≡ others (file_of s s.result) now
+  pub no_half : LeavesNoHalfResult s now after
+  pub room : IsRoomLeftByOne fault s budget then taken_after
+
+same_files : (fault : JobFault) (A : Type 0) → (fault ≡ Disk) ⊎ A → (fault ≡ Disk → ⊥) → A
+same_files fault A (inl failed) other = absurd (other failed)
+same_files fault A (inr same) other = same
+
+pub failed_left : (start now after : Option Files) (batch : List Specification) (budget number : ℕ) (s : Specification) (fault : JobFault) (before then taken_after : List (ℕ × ℕ)) → HasFailed start now batch budget number s fault
+    → HasTakenEach (take number batch) budget before then → Fails now after then taken_after budget s fault → IsLeftAt start after before taken_after batch budget (number + 1) fault
+failed_left start now after batch budget number s (BudgetTooSmall n) before then taken_after h front left = within_budget s budget n (MayBeRefused now s) (able_at start now batch budget number s (BudgetTooSmall n) h) h.why
+failed_left start now after batch budget number s (IntermediatesTooLarge n) before then taken_after h front left =
+    within_memory s budget n (MayBeRefused now s) (able_at start now batch budget number s (IntermediatesTooLarge n) h) h.why
+failed_left start now after batch budget number s (Array t u) before then taken_after h front left = (
+  untold start now after batch number h.is (same_files (Array t u) (after ≡ now) left.same (λ failed. absurd (cc))) h.free,
+  λ files told. absurd (h.free files told),
+  record { number = number; specification = s; counted = refl; at = h.at; here = inr (subst (HasTakenEach (take number batch) budget before) (sym left.room) front) },
+)
+failed_left start now after batch budget number s Disk before then taken_after h front left = record {
+  number = number;
+  specification = s;
+  counted = refl;
+  at = h.at;
+  here = (
+    record { others_are = left.others_are ∙ ap (others (file_of s s.result)) h.is; no_half = subst (λ o. LeavesNoHalfResult s o after) h.is left.no_half },
+    taken_to batch budget number s before then taken_after h.at front left.room,
+  );
+}
+failed_left start now after batch budget number s Memory before then taken_after h front left = record {
+  number = number;
+  specification = s;
+  counted = refl;
+  at = h.at;
+  here = inl (same_files Memory (after ≡ now) left.same (λ failed. absurd (cc)) ∙ h.is, taken_to batch budget number s before then taken_after h.at front left.room);
+}
 
 -- where a batch is refused before any formula is run, all is as it was
-pub left_before : (start after : Option Files) (batch : List Specification) (budget formula : ℕ) (fault : JobFault) → after ≡ start → (IsFree fault → formula ≡ 1) → IsCauseAt start batch budget formula fault
-    → IsLeftAt start after batch formula fault
-left_before start after batch budget formula (BudgetTooSmall n) same first why = same
-left_before start after batch budget formula (IntermediatesTooLarge n) same first why = same
-left_before start after batch budget formula (Array t u) same first why = same
-left_before start after batch budget formula Disk same first why =
+pub left_before : (start after : Option Files) (batch : List Specification) (budget formula : ℕ) (fault : JobFault) (taken : List (ℕ × ℕ)) → after ≡ start → (IsFree fault → formula ≡ 1) → IsCauseAt start batch budget formula fault
+    → IsLeftAt start after taken taken batch budget formula fault
+left_before start after batch budget formula (BudgetTooSmall n) taken same first why = (same, refl)
+left_before start after batch budget formula (IntermediatesTooLarge n) taken same first why = (same, refl)
+left_before start after batch budget formula (Array t u) taken same first why =
+    (same, λ files told. refl, record { number = why.number; specification = why.specification; counted = why.counted; at = why.at; here = inl refl })
+left_before start after batch budget formula Disk taken same first why =
     let (s, at) = some_at batch 0 (omega (arith, why.some, why.within)) in
-    record { number = 0; specification = s; counted = first tt; at = at; here = (ap (others (file_of s s.result)) (same ∙ none_after start batch), same_is_no_half s (files_at start batch 0) after (same ∙ none_after start batch)) }
-left_before start after batch budget formula Memory same first why =
+    let none = same ∙ none_after start batch in
+    record {
+      number = 0;
+      specification = s;
+      counted = first tt;
+      at = at;
+      here = (record { others_are = ap (others (file_of s s.result)) none; no_half = same_is_no_half s (files_at start batch 0) after none }, inl (none_taken batch budget taken));
+    }
+left_before start after batch budget formula Memory taken same first why =
     let (s, at) = some_at batch 0 (omega (arith, why.some, why.within)) in
-    record { number = 0; specification = s; counted = first tt; at = at; here = inl (same ∙ none_after start batch) }
-
-pub takings_before : (start : Option Files) (batch : List Specification) (budget formula : ℕ) (fault : JobFault) (before : List (ℕ × ℕ)) → (IsFree fault → formula ≡ 1) → IsCauseAt start batch budget formula fault
-    → IsRoomLeftAt before before batch budget formula fault
-takings_before start batch budget formula (BudgetTooSmall n) before first why = refl
-takings_before start batch budget formula (IntermediatesTooLarge n) before first why = refl
-takings_before start batch budget formula (Array t u) before first why = record { number = why.number; specification = why.specification; counted = why.counted; at = why.at; here = inl refl }
-takings_before start batch budget formula Disk before first why =
-    let (s, at) = some_at batch 0 (omega (arith, why.some, why.within)) in record { number = 0; specification = s; counted = first tt; at = at; here = inl (none_taken batch budget before) }
-takings_before start batch budget formula Memory before first why =
-    let (s, at) = some_at batch 0 (omega (arith, why.some, why.within)) in record { number = 0; specification = s; counted = first tt; at = at; here = inl (none_taken batch budget before) }
+    record { number = 0; specification = s; counted = first tt; at = at; here = inl (same ∙ none_after start batch, inl (none_taken batch budget taken)) }

@@ -12,7 +12,7 @@ use Rattle.tce_job.specs.declared.fault.JobFault.{JobFault}
 use Rattle.tce_job.specs.declared.fault.JobFault.TheVariants.{BudgetTooSmall, IntermediatesTooLarge, Array, Disk, Memory}
 use Rattle.tce_job.specs.Several.{files_after, OnlyResultsDiffer}
 use Rattle.tce_job.proofs.Several.{found, IsApart, one_other}
-use Rattle.tce_batch.specs.Left.{files_at, IsLeftAt}
+use Rattle.tce_batch.specs.Left.{files_at, HasEndedAt, IsLeftAt}
 use Rattle.tce_batch.proofs.Files.{all_first, all_rest}
 use Rattle.tce_batch.proofs.Ended.{at_all}
 
@@ -34,15 +34,16 @@ pub same_others : (batch : List Specification) (before after : Option Files) →
 same_others batch before after is = λ name none. ap (found name) is
 
 -- what is left where a formula fails
-pub left_others : (before after : Option Files) (batch : List Specification) (formula : ℕ) (fault : JobFault) → IsLeftAt before after batch formula fault → OnlyResultsDiffer batch before after
-left_others before after batch formula (BudgetTooSmall n) left = same_others batch before after left
-left_others before after batch formula (IntermediatesTooLarge n) left = same_others batch before after left
-left_others before after batch formula (Array t fault) left = same_others batch before after left
-left_others before after batch formula Disk left = λ name none.
+pub left_others : (before after : Option Files) (taken taken_after : List (ℕ × ℕ)) (batch : List Specification) (budget formula : ℕ) (fault : JobFault) → IsLeftAt before after taken taken_after batch budget formula fault
+    → OnlyResultsDiffer batch before after
+left_others before after taken taken_after batch budget formula (BudgetTooSmall n) left = same_others batch before after left.0
+left_others before after taken taken_after batch budget formula (IntermediatesTooLarge n) left = same_others batch before after left.0
+left_others before after taken taken_after batch budget formula (Array t fault) left = same_others batch before after left.0
+left_others before after taken taken_after batch budget formula Disk left = λ name none.
     let s = left.specification in
-    one_other name (file_of s s.result) (files_at before batch left.number) after (at_all (IsApart name) batch left.number s none left.at) left.here.0 ∙ at_others batch before left.number name none
-left_others before after batch formula Memory left = λ name none. by_end name none left.here
+    one_other name (file_of s s.result) (files_at before batch left.number) after (at_all (IsApart name) batch left.number s none left.at) left.here.0.others_are ∙ at_others batch before left.number name none
+left_others before after taken taken_after batch budget formula Memory left = λ name none. by_end name none left.here
   where
-    by_end : (name : List ℕ) → All (IsApart name) batch → (after ≡ files_at before batch left.number) ⊎ (after ≡ files_at before batch (left.number + 1)) → found name after ≡ found name before
-    by_end name none (inl is) = ap (found name) is ∙ at_others batch before left.number name none
-    by_end name none (inr is) = ap (found name) is ∙ at_others batch before (left.number + 1) name none
+    by_end : (name : List ℕ) → All (IsApart name) batch → HasEndedAt before after taken taken_after batch budget left.number → found name after ≡ found name before
+    by_end name none (inl is) = ap (found name) is.0 ∙ at_others batch before left.number name none
+    by_end name none (inr is) = ap (found name) is.0 ∙ at_others batch before (left.number + 1) name none

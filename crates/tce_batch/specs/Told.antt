@@ -1,5 +1,5 @@
 -- What formulas that are run in turn are given and leave where the disk tells its files.
-use Rattle.std.specs.Prelude.{◌≡◌, ℕ, List, length, Option, Some, Result, IfErr, IsErrAnd, slice_get}
+use Rattle.std.specs.Prelude.{◌≡◌, ℕ, List, length, Option, Some, Result, IsErrAnd, slice_get}
 use Rattle.std.specs.Option.{ForSome, option_map}
 use Rattle.tce_outside.specs.Files.{Files}
 use Rattle.tce_spec.specs.Specification.{Specification}
@@ -10,7 +10,6 @@ use Rattle.tce_job.specs.Refusals.{IsFree}
 use Rattle.tce_batch.specs.BatchCode.{results_before}
 use Rattle.tce_batch.specs.declared.fault.BatchFault.{BatchFault}
 use Rattle.tce_job.specs.Several.{files_after}
-use Rattle.tce_batch.specs.Left.{IsRoomLeft}
 use Rattle.tce_batch.specs.Refusals.{IsSource, HasSources, SourcesBelow, IsSourceFault}
 
 -- this holds of the formula with this number, from 0
@@ -42,10 +41,3 @@ IsFreeIn told refused = ForSome told (λ _. IsFree refused.fault)
 -- a formula is refused for a failure of the disk
 abbrev pub HasDiskFault : {A : Type 0} → Result A BatchFault → Type 0
 HasDiskFault result = IsErrAnd result (λ refused. refused.fault ≡ Disk)
-
--- what refused formulas leave of the room; where the disk tells its files, any other refusal than a failure or want of memory leaves it as it was
-abbrev pub LeavesRoom : {A : Type 0} → Result A BatchFault → List (ℕ × ℕ) → List (ℕ × ℕ) → List Specification → ℕ → Type 0
-LeavesRoom result before after batch budget = IfErr result (λ refused. IsRoomLeft before after batch budget refused)
-
-abbrev pub TakesTested : {A : Type 0} → Result A BatchFault → Option Files → List (ℕ × ℕ) → List (ℕ × ℕ) → Type 0
-TakesTested result told before after = IfErr result (λ refused. ForSome told (λ _. (IsFree refused.fault → ⊥) → after ≡ before))

@@ -14,7 +14,7 @@ ghost use Rattle.tce_job.specs.Several.{OnlyResultsDiffer};
 ghost use Rattle.tce_batch.specs.Plans.{AreKept, IsKeptFor, IsKeptIn};
 ghost use Rattle.tce_batch.specs.Refusals.{AffordableBelow, IsBatchCause, IsExact};
 ghost use Rattle.tce_batch.specs.Left.{IsLeft};
-ghost use Rattle.tce_batch.specs.Told.{HoldsOf, HasAllSources, WritesResults, IsFreeIn, HasDiskFault, TakesTested, LeavesRoom};
+ghost use Rattle.tce_batch.specs.Told.{HoldsOf, HasAllSources, WritesResults, IsFreeIn, HasDiskFault};
 
 use crate::batch::Batch;
 use crate::fault::BatchFault;
@@ -122,8 +122,8 @@ fn run_all<D: Disk, R: Room>(
         (λ text. HasRun batch.now budget (R.takings room.old) (R.takings room.new) text.items) }
     ensures refused { IfErr result (IsBatchCause (D.files disk.old) batch.now budget) }
     ensures free { IfErr result (IsFreeIn (D.files disk.old)) }
-    ensures left { IfErr result (IsLeft (D.files disk.old) (D.files disk.new) batch.now) }
-    ensures takings { LeavesRoom result (R.takings room.old) (R.takings room.new) batch.now budget }
+    ensures left { IfErr result (IsLeft (D.files disk.old) (D.files disk.new)
+        (R.takings room.old) (R.takings room.new) batch.now budget) }
     ensures cause { HasCause (D.faults disk.old) (D.faults disk.new) (HasDiskFault result) }
     ensures quiet { TellsFaults (D.faults disk.old) (D.faults disk.new) (HasDiskFault result) }
 {
@@ -171,10 +171,8 @@ fn run_planned<D: Disk, R: Room>(
     ensures sources { OnOk result (HasAllSources (D.files disk.old) batch.now) }
     ensures refused { IfErr result (IsBatchCause (D.files disk.old) batch.now budget) }
     ensures exactly { IsExact (D.files disk.old) batch.now budget result }
-    ensures left { IfErr result (IsLeft (D.files disk.old) (D.files disk.new) batch.now) }
-    ensures takings { LeavesRoom result (R.takings room.old) (R.takings room.new) batch.now budget }
-    ensures tested { TakesTested result (D.files disk.old)
-        (R.takings room.old) (R.takings room.new) }
+    ensures left { IfErr result (IsLeft (D.files disk.old) (D.files disk.new)
+        (R.takings room.old) (R.takings room.new) batch.now budget) }
     ensures others { OnlyResultsDiffer batch.now (D.files disk.old) (D.files disk.new) }
     ensures cause { HasCause (D.faults disk.old) (D.faults disk.new) (HasDiskFault result) }
     ensures quiet { TellsFaults (D.faults disk.old) (D.faults disk.new) (HasDiskFault result) }
@@ -210,10 +208,8 @@ pub fn run_batch<D: Disk, R: Room>(
     ensures sources { OnOk result (HasAllSources (D.files disk.old) batch.now) }
     ensures refused { IfErr result (IsBatchCause (D.files disk.old) batch.now budget) }
     ensures exactly { IsExact (D.files disk.old) batch.now budget result }
-    ensures left { IfErr result (IsLeft (D.files disk.old) (D.files disk.new) batch.now) }
-    ensures takings { LeavesRoom result (R.takings room.old) (R.takings room.new) batch.now budget }
-    ensures tested { TakesTested result (D.files disk.old)
-        (R.takings room.old) (R.takings room.new) }
+    ensures left { IfErr result (IsLeft (D.files disk.old) (D.files disk.new)
+        (R.takings room.old) (R.takings room.new) batch.now budget) }
     ensures others { OnlyResultsDiffer batch.now (D.files disk.old) (D.files disk.new) }
     ensures cause { HasCause (D.faults disk.old) (D.faults disk.new) (HasDiskFault result) }
     ensures quiet { TellsFaults (D.faults disk.old) (D.faults disk.new) (HasDiskFault result) }

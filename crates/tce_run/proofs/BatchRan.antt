@@ -1,5 +1,5 @@
 -- What the command leaves that runs several formulas, by what their runs leave.
-use Rattle.std.proofs.Common.{◌≡◌, ◌⊎◌, ℕ, ◌+◌, ◌-◌, ◌≤◌, List, All, get_or, Option, Some, inl, inr, refl, sym, subst, ap, ◌∙◌, arith}
+use Rattle.std.proofs.Common.{◌≡◌, ◌⊎◌, ℕ, ◌+◌, ◌-◌, ◌≤◌, List, All, get_or, length, take, Option, Some, None, inl, inr, refl, sym, subst, ap, ◌∙◌, arith}
 use Rattle.std.specs.Prelude.{slice_get}
 use Rattle.std.specs.Option.{ForSome, option_map}
 use Rattle.std.proofs.lemmas.Option.{slice_get_within}
@@ -10,15 +10,15 @@ use Rattle.tce_job.specs.declared.fault.JobFault.{JobFault}
 use Rattle.tce_job.specs.declared.fault.JobFault.TheVariants as faults
 use Rattle.tce_job.specs.Refusals.{NamesDeclared, IsFree as IsFreeFault}
 use Rattle.tce_batch.specs.declared.fault.BatchFault.{BatchFault}
-use Rattle.tce_job.specs.Several.{files_after, OnlyResultsDiffer}
+use Rattle.tce_job.specs.Several.{files_after, HasTakenEach, OnlyResultsDiffer}
 use Rattle.tce_batch.specs.Refusals.{IsAt, IsOneOf, IsCauseAt}
-use Rattle.tce_batch.specs.Left.{IsLeftAt, IsRoomLeftAt}
+use Rattle.tce_batch.specs.Left.{IsLeftAt}
 use Rattle.tce_command.specs.Refusals.{IsFree}
 use Rattle.tce_command.specs.declared.refusal.Refusal.{Refusal}
 use Rattle.tce_command.specs.declared.refusal.Refusal.TheVariants.{Disk, Memory}
 use Rattle.tce_run.specs.BatchSource.{HasBatch}
 use Rattle.tce_run.specs.Told.{IsOfFiles, IsToldAs}
-use Rattle.tce_run.specs.BatchDone.{IsBatchLeft, IsBatchRoomLeft, IsBatchRun, IsBatchTaking, OnlyBatchDiffers}
+use Rattle.tce_run.specs.BatchDone.{IsBatchLeft, IsBatchPrefix, IsBatchRoomLeft, IsBatchRun, OnlyBatchDiffers}
 use Rattle.tce_run.specs.BatchOfFormulas.{AreRun, IsFormulaFault}
 use Rattle.tce_run.specs.BatchRefusals.{IsBatchRefusalOn, IsFormulaRefusal, IsToldAt, IsToldWithout}
 use Rattle.tce_run.proofs.May.{untold_at}
@@ -118,60 +118,81 @@ unchanged_left before after spec Disk same = inl same
 unchanged_left before after spec Memory same = inl same
 unchanged_left before after spec a same = same
 
-files_left : (before after : Option Files) (spec : List ℕ) (formulas : List Specification) (formula : ℕ) (f : JobFault) (a : Refusal) → ForSome before (λ files. HasBatch files spec formulas)
-    → IsToldWithout f a ⊎ IsAt formulas formula (λ number s. IsToldAs s f a) → IsLeftAt before after formulas formula f → IsBatchLeft a before after spec
-files_left before after spec formulas formula (faults.BudgetTooSmall n) a specified told left = unchanged_left before after spec a left
-files_left before after spec formulas formula (faults.IntermediatesTooLarge n) a specified told left = unchanged_left before after spec a left
-files_left before after spec formulas formula (faults.Array t u) a specified told left = unchanged_left before after spec a left
-files_left before after spec formulas formula faults.Disk a specified told left =
+files_left : (before after : Option Files) (taken taken_after : List (ℕ × ℕ)) (spec : List ℕ) (budget : ℕ) (formulas : List Specification) (formula : ℕ) (f : JobFault) (a : Refusal)
+    → ForSome before (λ files. HasBatch files spec formulas) → IsToldWithout f a ⊎ IsAt formulas formula (λ number s. IsToldAs s f a)
+    → IsLeftAt before after taken taken_after formulas budget formula f → IsBatchLeft a before after spec
+files_left before after taken taken_after spec budget formulas formula (faults.BudgetTooSmall n) a specified told left = unchanged_left before after spec a left.0
+files_left before after taken taken_after spec budget formulas formula (faults.IntermediatesTooLarge n) a specified told left = unchanged_left before after spec a left.0
+files_left before after taken taken_after spec budget formulas formula (faults.Array t u) a specified told left = unchanged_left before after spec a left.0
+files_left before after taken taken_after spec budget formulas formula faults.Disk a specified told left =
     subst (λ r. IsBatchLeft r before after spec) (sym (told_of_disk formulas formula a told))
-    (inr (record { formulas = formulas; specified = specified; number = left.number; formula = left.specification; at = left.at; others_are = left.here.0; no_half = left.here.1 }))
-files_left before after spec formulas formula faults.Memory a specified told left =
+    (inr (record { formulas = formulas; specified = specified; number = left.number; formula = left.specification; at = left.at; others_are = left.here.0.others_are; no_half = left.here.0.no_half }))
+files_left before after taken taken_after spec budget formulas formula faults.Memory a specified told left =
     let w = slice_get_within formulas left.number left.specification left.at in
     subst (λ r. IsBatchLeft r before after spec) (sym (told_of_memory formulas formula a told))
     (inr (elim left.here [
-      | inl is ↦ record { formulas = formulas; specified = specified; count = left.number; within = omega (arith, w); files_are = is }
-      | inr is ↦ record { formulas = formulas; specified = specified; count = left.number + 1; within = omega (arith, w); files_are = is }
+      | inl is ↦ record { formulas = formulas; specified = specified; count = left.number; within = omega (arith, w); files_are = is.0 }
+      | inr is ↦ record { formulas = formulas; specified = specified; count = left.number + 1; within = omega (arith, w); files_are = is.0 }
     ]))
 
 pub batch_left : (before middle after : Option Files) (taken taken_after : List (ℕ × ℕ)) (spec : List ℕ) (budget : ℕ) (formulas : List Specification) (a : Refusal) → middle ≡ before
     → ForSome before (λ files. HasBatch files spec formulas) → IsFormulaFault middle after taken taken_after formulas budget a → IsBatchLeft a before after spec
 batch_left before middle after taken taken_after spec budget formulas a same specified left =
-    files_left before after spec formulas left.refused.formula left.refused.fault a specified left.told
-    (subst (λ (o : Option Files). IsLeftAt o after formulas left.refused.formula left.refused.fault) same left.left)
+    files_left before after taken taken_after spec budget formulas left.refused.formula left.refused.fault a specified left.told
+    (subst (λ (o : Option Files). IsLeftAt o after taken taken_after formulas budget left.refused.formula left.refused.fault) same left.left)
 
-taken_in_turn : (before : Option Files) (spec : List ℕ) (budget : ℕ) (formulas : List Specification) (formula : ℕ) (f : JobFault) (taken after : List (ℕ × ℕ)) → ForSome before (λ files. HasBatch files spec formulas)
-    → IsRoomLeftAt taken after formulas budget formula f → (after ≡ taken) ⊎ IsBatchTaking before taken after spec budget
-taken_in_turn before spec budget formulas formula (faults.BudgetTooSmall n) taken after specified left = inl left
-taken_in_turn before spec budget formulas formula (faults.IntermediatesTooLarge n) taken after specified left = inl left
-taken_in_turn before spec budget formulas formula (faults.Array t u) taken after specified left =
+-- where the disk tells its files, nothing was taken for an operand that is refused
+untold_taken : (before after : Option Files) (taken taken_after : List (ℕ × ℕ)) (spec : List ℕ) (budget : ℕ) (formulas : List Specification) (number : ℕ) → number ≤ length formulas
+    → ForSome before (λ files. HasBatch files spec formulas) → after ≡ before → ForSome before (λ _. taken_after ≡ taken) → (taken_after ≡ taken) ⊎ HasTakenEach (take number formulas) budget taken taken_after
+    → ((after ≡ before) × (taken_after ≡ taken)) ⊎ IsBatchPrefix before after taken taken_after spec budget
+untold_taken before after taken taken_after spec budget formulas number within specified same untaken (inl kept) = inl (same, kept)
+untold_taken (Some files) after taken taken_after spec budget formulas number within specified same untaken (inr some) = inl (same, untaken files refl)
+untold_taken None after taken taken_after spec budget formulas number within specified same untaken (inr some) =
+    inr (record { formulas = formulas; specified = specified; run = record { count = number; within = within; files_are = inl same; takings = inl some } })
+
+taken_in_turn : (before after : Option Files) (taken taken_after : List (ℕ × ℕ)) (spec : List ℕ) (budget : ℕ) (formulas : List Specification) (formula : ℕ) (f : JobFault)
+    → ForSome before (λ files. HasBatch files spec formulas) → IsLeftAt before after taken taken_after formulas budget formula f
+    → ((after ≡ before) × (taken_after ≡ taken)) ⊎ IsBatchPrefix before after taken taken_after spec budget
+taken_in_turn before after taken taken_after spec budget formulas formula (faults.BudgetTooSmall n) specified left = inl left
+taken_in_turn before after taken taken_after spec budget formulas formula (faults.IntermediatesTooLarge n) specified left = inl left
+taken_in_turn before after taken taken_after spec budget formulas formula (faults.Array t u) specified left =
+    let w = slice_get_within formulas left.2.number left.2.specification left.2.at in
+    untold_taken before after taken taken_after spec budget formulas left.2.number (omega (arith, w)) specified left.0 left.1 left.2.here
+taken_in_turn before after taken taken_after spec budget formulas formula faults.Disk specified left =
+    let w = slice_get_within formulas left.number left.specification left.at in
+    inr (record {
+      formulas = formulas;
+      specified = specified;
+      run = record { count = left.number; within = omega (arith, w); files_are = inr (left.specification, left.at, left.here.0); takings = left.here.1 };
+    })
+taken_in_turn before after taken taken_after spec budget formulas formula faults.Memory specified left =
     let w = slice_get_within formulas left.number left.specification left.at in
     elim left.here [
-      | inl same ↦ inl same
-      | inr some ↦ inr (record { formulas = formulas; specified = specified; count = left.number; within = omega (arith, w); taking = some })
+      | inl is ↦ inr (record { formulas = formulas; specified = specified; run = record { count = left.number; within = omega (arith, w); files_are = inl is.0; takings = is.1 } })
+      | inr is ↦ inr (record { formulas = formulas; specified = specified; run = record { count = left.number + 1; within = omega (arith, w); files_are = inl is.0; takings = inl is.1 } })
     ]
-taken_in_turn before spec budget formulas formula faults.Disk taken after specified left =
-    let w = slice_get_within formulas left.number left.specification left.at in
-    elim left.here [
-      | inl some ↦ inr (record { formulas = formulas; specified = specified; count = left.number; within = omega (arith, w); taking = some })
-      | inr some ↦ inr (record { formulas = formulas; specified = specified; count = left.number + 1; within = omega (arith, w); taking = some })
-    ]
-taken_in_turn before spec budget formulas formula faults.Memory taken after specified left =
-    let w = slice_get_within formulas left.number left.specification left.at in
-    elim left.here [
-      | inl some ↦ inr (record { formulas = formulas; specified = specified; count = left.number; within = omega (arith, w); taking = some })
-      | inr some ↦ inr (record { formulas = formulas; specified = specified; count = left.number + 1; within = omega (arith, w); taking = some })
-    ]
+
+-- a refusal for a cause, where the disk tells its files, comes before any words are taken
+untaken_at : (before after : Option Files) (taken taken_after : List (ℕ × ℕ)) (budget : ℕ) (formulas : List Specification) (formula : ℕ) (f : JobFault) → IsLeftAt before after taken taken_after formulas budget formula f
+    → (IsFreeFault f → ⊥) → ForSome before (λ _. taken_after ≡ taken)
+untaken_at before after taken taken_after budget formulas formula (faults.BudgetTooSmall n) left free = λ files is. left.1
+untaken_at before after taken taken_after budget formulas formula (faults.IntermediatesTooLarge n) left free = λ files is. left.1
+untaken_at before after taken taken_after budget formulas formula (faults.Array t u) left free = left.1
+untaken_at before after taken taken_after budget formulas formula faults.Disk left free = absurd (free tt)
+untaken_at before after taken taken_after budget formulas formula faults.Memory left free = absurd (free tt)
 
 pub batch_room : (before middle after : Option Files) (taken taken_after : List (ℕ × ℕ)) (spec : List ℕ) (budget : ℕ) (formulas : List Specification) (a : Refusal) → middle ≡ before
-    → ForSome before (λ files. HasBatch files spec formulas) → IsFormulaFault middle after taken taken_after formulas budget a → IsBatchRoomLeft a before taken taken_after spec budget
-batch_room before middle after taken taken_after spec budget formulas a same specified left = record {
-  takings = taken_in_turn before spec budget formulas left.refused.formula left.refused.fault taken taken_after specified left.takings;
-  untaken = λ free files is. left.tested files (same ∙ is) (λ fault. free (free_told formulas left.refused a left.told fault));
-}
+    → ForSome before (λ files. HasBatch files spec formulas) → IsFormulaFault middle after taken taken_after formulas budget a → IsBatchRoomLeft a before after taken taken_after spec budget
+batch_room before middle after taken taken_after spec budget formulas a same specified left =
+    let here = subst (λ (o : Option Files). IsLeftAt o after taken taken_after formulas budget left.refused.formula left.refused.fault) same left.left in
+    record {
+      takings = taken_in_turn before after taken taken_after spec budget formulas left.refused.formula left.refused.fault specified here;
+      untaken = λ free. untaken_at before after taken taken_after budget formulas left.refused.formula left.refused.fault here (λ fault. free (free_told formulas left.refused a left.told fault));
+    }
 
-pub same_room : (a : Refusal) (before : Option Files) (spec : List ℕ) (budget : ℕ) (taken after : List (ℕ × ℕ)) → after ≡ taken → IsBatchRoomLeft a before taken after spec budget
-same_room a before spec budget taken after same = record { takings = inl same; untaken = λ free files is. same }
+pub same_room : (a : Refusal) (before after : Option Files) (spec : List ℕ) (budget : ℕ) (taken taken_after : List (ℕ × ℕ)) → after ≡ before → taken_after ≡ taken
+    → IsBatchRoomLeft a before after taken taken_after spec budget
+same_room a before after spec budget taken taken_after files same = record { takings = inl (files, same); untaken = λ free told is. same }
 
 pub batch_others : (before middle after : Option Files) (spec : List ℕ) (formulas : List Specification) → middle ≡ before → ForSome before (λ files. HasBatch files spec formulas) → OnlyResultsDiffer formulas middle after
     → OnlyBatchDiffers spec before after

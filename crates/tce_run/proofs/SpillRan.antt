@@ -1,23 +1,26 @@
 -- What the command leaves that runs a tree in pieces, by what the runs of the pieces leave.
-use Rattle.std.proofs.Common.{◌≡◌, ◌⊎◌, inl, inr, ℕ, List, Option, Result, Err, refl, sym, subst, ◌∙◌, ap}
+use Rattle.std.proofs.Common.{◌≡◌, ◌⊎◌, inl, inr, ℕ, ◌≤◌, List, Option, Some, None, Result, Err, refl, sym, subst, ◌∙◌, ap}
 use Rattle.std.specs.Option.{ForSome}
 use Rattle.tce_outside.specs.Files.{Files}
 use Rattle.tce_array.specs.declared.fault.ArrayFault.{ArrayFault}
 use Rattle.tce_array.specs.declared.fault.ArrayFault.TheVariants as array_fault
+use Rattle.tce_tree.specs.ContractionTree.{operations}
+use Rattle.tce_spec.specs.Pieces.{Cuts}
 use Rattle.tce_spec.specs.Specification.{Specification}
 use Rattle.tce_job.specs.Several.{OnlyResultsDiffer}
 use Rattle.tce_spill.specs.declared.fault.SpillFault.{SpillFault}
 use Rattle.tce_spill.specs.declared.fault.SpillFault.TheVariants as faults
 use Rattle.tce_spill.specs.PieceRuns.{pieces_of}
-use Rattle.tce_spill.specs.RunRefusals.{IsSpillCause, WithCuts}
-use Rattle.tce_spill.specs.Left.{HasSpilled, IsLeft, IsRoomLeft, OnlyPiecesDiffer as OnlyFilesOfPiecesDiffer}
+use Rattle.tce_spill.specs.CutRefusals.{IsFree as IsFreeFault}
+use Rattle.tce_spill.specs.RunRefusals.{AreCut, IsSpillCause, WithCuts}
+use Rattle.tce_spill.specs.Left.{HasSpilled, HasTakenTo, IsLeft, OnlyPiecesDiffer as OnlyFilesOfPiecesDiffer}
 use Rattle.tce_command.specs.declared.refusal.Refusal.{Refusal}
 use Rattle.tce_command.specs.declared.refusal.Refusal.TheVariants.{Disk, Memory}
 use Rattle.tce_command.specs.Source.{HasSpecification}
 use Rattle.tce_run.specs.Told.{TellsArray}
 use Rattle.tce_run.proofs.Ran.{within}
 use Rattle.tce_run.proofs.Told.{refusal_in}
-use Rattle.tce_run.specs.SpillDone.{IsSpillLeft, IsSpillRoomLeft, IsSpillRun, IsSpillTaking, OnlyPiecesDiffer}
+use Rattle.tce_run.specs.SpillDone.{IsSpillLeft, IsSpillPrefix, IsSpillRoomLeft, IsSpillRun, OnlyPiecesDiffer}
 use Rattle.tce_run.specs.SpillOfSource.{ArePiecesRun, IsPieceFault}
 use Rattle.tce_run.specs.SpillRefusals.{IsOfFiles, IsSpillRefusalOn, IsToldAs}
 use Rattle.tce_run.proofs.May.{untold_pieces}
@@ -74,40 +77,77 @@ unchanged_left before after spec limit Disk same = inl same
 unchanged_left before after spec limit Memory same = inl same
 unchanged_left before after spec limit a same = same
 
-files_left : (before after : Option Files) (spec : List ℕ) (limit : ℕ) (s : Specification) (f : SpillFault) (a : Refusal) → ForSome before (λ files. HasSpecification files spec s) → IsToldAs f a → IsLeft before after s limit f
-    → IsSpillLeft a before after spec limit
-files_left before after spec limit s f a specified told (inl same) = unchanged_left before after spec limit a same
-files_left before after spec limit s faults.Disk a specified told (inr some) =
-    subst (λ r. IsSpillLeft r before after spec limit) (sym told) (inr (record { specification = s; specified = specified; piece = some }))
-files_left before after spec limit s faults.Memory a specified told (inr some) =
-    subst (λ r. IsSpillLeft r before after spec limit) (sym told) (inr (record { specification = s; specified = specified; pieces = some }))
-files_left before after spec limit s faults.TooManyTensors a specified told (inr some) = unchanged_left before after spec limit a some.here
-files_left before after spec limit s (faults.LimitTooSmall v n) a specified told (inr some) = unchanged_left before after spec limit a some.here
-files_left before after spec limit s (faults.BudgetTooSmall n) a specified told (inr some) = unchanged_left before after spec limit a some.here
-files_left before after spec limit s (faults.Array name u) a specified told (inr some) = unchanged_left before after spec limit a some.here
+files_left : (before after : Option Files) (taken taken_after : List (ℕ × ℕ)) (spec : List ℕ) (budget limit : ℕ) (s : Specification) (f : SpillFault) (a : Refusal) → ForSome before (λ files. HasSpecification files spec s)
+    → IsToldAs f a → IsLeft before after taken taken_after s budget limit f → IsSpillLeft a before after spec limit
+files_left before after taken taken_after spec budget limit s f a specified told (inl same) = unchanged_left before after spec limit a same.0
+files_left before after taken taken_after spec budget limit s faults.Disk a specified told (inr some) =
+    subst (λ r. IsSpillLeft r before after spec limit) (sym told)
+    (inr (record { specification = s; specified = specified; piece = record { cut = some.cut; are_cut = some.are_cut; here = (some.here.0, some.here.1) } }))
+files_left before after taken taken_after spec budget limit s faults.Memory a specified told (inr some) =
+    subst (λ r. IsSpillLeft r before after spec limit) (sym told)
+    (inr (record { specification = s; specified = specified; pieces = record { cut = some.cut; are_cut = some.are_cut; here = (some.here.0, some.here.1) } }))
+files_left before after taken taken_after spec budget limit s faults.TooManyTensors a specified told (inr some) = unchanged_left before after spec limit a some.here.0
+files_left before after taken taken_after spec budget limit s (faults.LimitTooSmall v n) a specified told (inr some) = unchanged_left before after spec limit a some.here.0
+files_left before after taken taken_after spec budget limit s (faults.BudgetTooSmall n) a specified told (inr some) = unchanged_left before after spec limit a some.here.0
+files_left before after taken taken_after spec budget limit s (faults.Array name u) a specified told (inr some) = unchanged_left before after spec limit a some.here.2
 
 pub spill_left : (before middle after : Option Files) (taken taken_after : List (ℕ × ℕ)) (spec : List ℕ) (budget limit : ℕ) (s : Specification) (a : Refusal) → middle ≡ before
     → ForSome before (λ files. HasSpecification files spec s) → IsPieceFault middle after taken taken_after s budget limit a → IsSpillLeft a before after spec limit
 spill_left before middle after taken taken_after spec budget limit s a same specified left =
-    files_left before after spec limit s left.fault a specified left.told (subst (λ (o : Option Files). IsLeft o after s limit left.fault) same left.left)
+    files_left before after taken taken_after spec budget limit s left.fault a specified left.told (subst (λ (o : Option Files). IsLeft o after taken taken_after s budget limit left.fault) same left.left)
 
-taken_in_turn : (before : Option Files) (spec : List ℕ) (budget limit : ℕ) (s : Specification) (f : SpillFault) (taken after : List (ℕ × ℕ)) → ForSome before (λ files. HasSpecification files spec s)
-    → IsRoomLeft taken after s budget limit f → (after ≡ taken) ⊎ IsSpillTaking before taken after spec budget limit
-taken_in_turn before spec budget limit s faults.TooManyTensors taken after specified left = inl left
-taken_in_turn before spec budget limit s (faults.LimitTooSmall v n) taken after specified left = inl left
-taken_in_turn before spec budget limit s (faults.BudgetTooSmall n) taken after specified left = inl left
-taken_in_turn before spec budget limit s f taken after specified (inl same) = inl same
-taken_in_turn before spec budget limit s f taken after specified (inr some) = inr (record { specification = s; specified = specified; taking = some })
+-- where the disk tells its files, nothing was taken for an array that is refused
+untold_taken : (before after : Option Files) (taken taken_after : List (ℕ × ℕ)) (spec : List ℕ) (budget limit : ℕ) (s : Specification) (cut : Cuts) (n : ℕ) → n ≤ operations s.tree → AreCut s limit cut
+    → ForSome before (λ files. HasSpecification files spec s) → after ≡ before → ForSome before (λ _. taken_after ≡ taken) → HasTakenTo taken taken_after s cut budget n
+    → ((after ≡ before) × (taken_after ≡ taken)) ⊎ IsSpillPrefix before after taken taken_after spec budget limit
+untold_taken (Some files) after taken taken_after spec budget limit s cut n inside are specified same untaken some = inl (same, untaken files refl)
+untold_taken None after taken taken_after spec budget limit s cut n inside are specified same untaken some =
+    inr (record { specification = s; specified = specified; run = record { cut = cut; are_cut = are; here = record { end = n; files_are = inl (record { inside = inside; files = same }); takings = some } } })
+
+taken_in_turn : (before after : Option Files) (taken taken_after : List (ℕ × ℕ)) (spec : List ℕ) (budget limit : ℕ) (s : Specification) (f : SpillFault) → ForSome before (λ files. HasSpecification files spec s)
+    → IsLeft before after taken taken_after s budget limit f → ((after ≡ before) × (taken_after ≡ taken)) ⊎ IsSpillPrefix before after taken taken_after spec budget limit
+taken_in_turn before after taken taken_after spec budget limit s f specified (inl same) = inl same
+taken_in_turn before after taken taken_after spec budget limit s faults.Disk specified (inr some) =
+    inr (record {
+      specification = s;
+      specified = specified;
+      run = record { cut = some.cut; are_cut = some.are_cut; here = record { end = some.here.0; files_are = inr some.here.1; takings = some.here.2 } };
+    })
+taken_in_turn before after taken taken_after spec budget limit s faults.Memory specified (inr some) =
+    inr (record {
+      specification = s;
+      specified = specified;
+      run = record { cut = some.cut; are_cut = some.are_cut; here = record { end = some.here.0; files_are = inl some.here.1; takings = some.here.2 } };
+    })
+taken_in_turn before after taken taken_after spec budget limit s (faults.Array name u) specified (inr some) =
+    untold_taken before after taken taken_after spec budget limit s some.cut some.here.0 some.here.1 some.are_cut specified some.here.2 some.here.3 some.here.4
+taken_in_turn before after taken taken_after spec budget limit s faults.TooManyTensors specified (inr some) = inl some.here
+taken_in_turn before after taken taken_after spec budget limit s (faults.LimitTooSmall v n) specified (inr some) = inl some.here
+taken_in_turn before after taken taken_after spec budget limit s (faults.BudgetTooSmall n) specified (inr some) = inl some.here
+
+-- a refusal for a cause, where the disk tells its files, comes before any words are taken
+untaken_at : (before after : Option Files) (taken taken_after : List (ℕ × ℕ)) (budget limit : ℕ) (s : Specification) (f : SpillFault) → IsLeft before after taken taken_after s budget limit f → (IsFreeFault f → ⊥)
+    → ForSome before (λ _. taken_after ≡ taken)
+untaken_at before after taken taken_after budget limit s f (inl same) free = λ files is. same.1
+untaken_at before after taken taken_after budget limit s faults.Disk (inr some) free = absurd (free tt)
+untaken_at before after taken taken_after budget limit s faults.Memory (inr some) free = absurd (free tt)
+untaken_at before after taken taken_after budget limit s (faults.Array name u) (inr some) free = some.here.3
+untaken_at before after taken taken_after budget limit s faults.TooManyTensors (inr some) free = λ files is. some.here.1
+untaken_at before after taken taken_after budget limit s (faults.LimitTooSmall v n) (inr some) free = λ files is. some.here.1
+untaken_at before after taken taken_after budget limit s (faults.BudgetTooSmall n) (inr some) free = λ files is. some.here.1
 
 pub spill_room : (before middle after : Option Files) (taken taken_after : List (ℕ × ℕ)) (spec : List ℕ) (budget limit : ℕ) (s : Specification) (a : Refusal) → middle ≡ before
-    → ForSome before (λ files. HasSpecification files spec s) → IsPieceFault middle after taken taken_after s budget limit a → IsSpillRoomLeft a before taken taken_after spec budget limit
-spill_room before middle after taken taken_after spec budget limit s a same specified left = record {
-  takings = taken_in_turn before spec budget limit s left.fault taken taken_after specified left.takings;
-  untaken = λ free files is. left.tested files (same ∙ is) (λ fault. free (told_free left.fault a left.told fault));
-}
+    → ForSome before (λ files. HasSpecification files spec s) → IsPieceFault middle after taken taken_after s budget limit a → IsSpillRoomLeft a before after taken taken_after spec budget limit
+spill_room before middle after taken taken_after spec budget limit s a same specified left =
+    let here = subst (λ (o : Option Files). IsLeft o after taken taken_after s budget limit left.fault) same left.left in
+    record {
+      takings = taken_in_turn before after taken taken_after spec budget limit s left.fault specified here;
+      untaken = λ free. untaken_at before after taken taken_after budget limit s left.fault here (λ fault. free (told_free left.fault a left.told fault));
+    }
 
-pub same_room : (a : Refusal) (before : Option Files) (spec : List ℕ) (budget limit : ℕ) (taken after : List (ℕ × ℕ)) → after ≡ taken → IsSpillRoomLeft a before taken after spec budget limit
-same_room a before spec budget limit taken after same = record { takings = inl same; untaken = λ free files is. same }
+pub same_room : (a : Refusal) (before after : Option Files) (spec : List ℕ) (budget limit : ℕ) (taken taken_after : List (ℕ × ℕ)) → after ≡ before → taken_after ≡ taken
+    → IsSpillRoomLeft a before after taken taken_after spec budget limit
+same_room a before after spec budget limit taken taken_after files same = record { takings = inl (files, same); untaken = λ free told is. same }
 
 pub spill_others : (before middle after : Option Files) (spec : List ℕ) (limit : ℕ) (s : Specification) → middle ≡ before → ForSome before (λ files. HasSpecification files spec s) → OnlyFilesOfPiecesDiffer middle after s limit
     → OnlyPiecesDiffer spec limit before after
@@ -125,7 +165,6 @@ spill_ran before middle after taken taken_after spec budget limit s report same 
   specification = s;
   specified = specified;
   able = λ files told. are.able files (same ∙ told);
-  spilled = subst (λ (o : Option Files). HasSpilled o after s limit) same are.spilled;
-  run = are.run;
+  run = subst (λ (o : Option Files). HasSpilled o after taken taken_after s budget limit report) same are.run;
   within = within_each (pieces_of s are.run.cut) budget;
 }

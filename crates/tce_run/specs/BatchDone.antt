@@ -1,15 +1,15 @@
 -- What the command leaves and reports that runs several formulas.
-use Rattle.std.specs.Prelude.{◌≡◌, ◌⊎◌, ℕ, ◌≤◌, List, length, take, slice_get, All, Option, Some}
+use Rattle.std.specs.Prelude.{◌≡◌, ◌⊎◌, ℕ, ◌≤◌, List, length, slice_get, All, Option, Some}
 use Rattle.std.specs.Option.{ForSome, option_map}
 use Rattle.tce_outside.specs.Files.{Files, others}
 use Rattle.tce_spec.specs.Specification.{Specification}
 use Rattle.tce_job.specs.TensorFiles.{file_of}
 use Rattle.tce_job.specs.Laws.{LeavesNoHalfResult}
 use Rattle.tce_job.specs.Takings.{tile_take}
-use Rattle.tce_job.specs.Several.{files_after, OnlyResultsDiffer, HasTakenEach}
+use Rattle.tce_job.specs.Several.{files_after, OnlyResultsDiffer}
 use Rattle.tce_batch.specs.Reports.{HasRun}
 use Rattle.tce_batch.specs.Refusals.{AffordableBelow, SourcesBelow}
-use Rattle.tce_batch.specs.Left.{files_at}
+use Rattle.tce_batch.specs.Left.{files_at, HaveRunTo}
 use Rattle.tce_command.specs.Refusals.{IsFree}
 use Rattle.tce_command.specs.declared.refusal.Refusal.{Refusal}
 use Rattle.tce_command.specs.declared.refusal.Refusal.TheVariants.{Disk, Memory}
@@ -29,17 +29,15 @@ pub record IsBatchRun (before after : Option Files) (taken taken_after : List (�
   pub within : All (λ (s : Specification). tile_take s budget ≤ budget) formulas
   pub run : HasRun formulas budget taken taken_after report
 
--- the room gave for the first formulas in turn
-pub record IsBatchTaking (before : Option Files) (taken taken_after : List (ℕ × ℕ)) (spec : List ℕ) (budget : ℕ) : Type 0 where
+-- files and takings are those of the first formulas of the file, in turn
+pub record IsBatchPrefix (before after : Option Files) (taken taken_after : List (ℕ × ℕ)) (spec : List ℕ) (budget : ℕ) : Type 0 where
   pub formulas : List Specification
   pub specified : ForSome before (λ files. HasBatch files spec formulas)
-  pub count : ℕ
-  pub within : count ≤ length formulas
-  pub taking : HasTakenEach (take count formulas) budget taken taken_after
+  pub run : HaveRunTo before after taken taken_after formulas budget
 
--- what is left of the room: its takings as they were, or those of the first formulas besides; the latter only after a failure or want of memory, where the disk tells its files
-pub record IsBatchRoomLeft (refusal : Refusal) (before : Option Files) (taken taken_after : List (ℕ × ℕ)) (spec : List ℕ) (budget : ℕ) : Type 0 where
-  pub takings : (taken_after ≡ taken) ⊎ IsBatchTaking before taken taken_after spec budget
+-- all is as it was, or the first formulas were run; the takings grew only after a failure or want of memory, where the disk tells its files
+pub record IsBatchRoomLeft (refusal : Refusal) (before after : Option Files) (taken taken_after : List (ℕ × ℕ)) (spec : List ℕ) (budget : ℕ) : Type 0 where
+  pub takings : ((after ≡ before) × (taken_after ≡ taken)) ⊎ IsBatchPrefix before after taken taken_after spec budget
   pub untaken : (IsFree refusal → ⊥) → ForSome before (λ _. taken_after ≡ taken)
 
 -- the files are those that the first formulas leave

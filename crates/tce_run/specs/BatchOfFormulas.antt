@@ -1,13 +1,11 @@
 -- What runs of formulas that were read leave and report, and how a fault of them is told.
-use Rattle.std.specs.Prelude.{◌≡◌, ℕ, List, length, Option}
-use Rattle.std.specs.Option.{ForSome}
+use Rattle.std.specs.Prelude.{ℕ, List, length, Option}
 use Rattle.tce_outside.specs.Files.{Files}
 use Rattle.tce_spec.specs.Specification.{Specification}
-use Rattle.tce_job.specs.Refusals.{IsFree}
 use Rattle.tce_batch.specs.declared.fault.BatchFault.{BatchFault}
 use Rattle.tce_batch.specs.Refusals.{AffordableBelow, IsBatchCause}
 use Rattle.tce_batch.specs.Reports.{HasRun}
-use Rattle.tce_batch.specs.Left.{IsLeft, IsRoomLeft}
+use Rattle.tce_batch.specs.Left.{IsLeft}
 use Rattle.tce_batch.specs.Told.{HasAllSources, WritesResults}
 use Rattle.tce_command.specs.declared.refusal.Refusal.{Refusal}
 use Rattle.tce_run.specs.BatchRefusals.{IsToldAt}
@@ -24,6 +22,4 @@ pub record IsFormulaFault (before after : Option Files) (taken taken_after : Lis
   pub refused : BatchFault
   pub told : IsToldAt formulas refused refusal
   pub cause : IsBatchCause before formulas budget refused
-  pub left : IsLeft before after formulas refused
-  pub takings : IsRoomLeft taken taken_after formulas budget refused
-  pub tested : ForSome before (λ _. (IsFree refused.fault → ⊥) → taken_after ≡ taken)
+  pub left : IsLeft before after taken taken_after formulas budget refused

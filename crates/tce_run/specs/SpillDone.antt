@@ -7,8 +7,7 @@ use Rattle.tce_job.specs.Takings.{tile_take}
 use Rattle.tce_job.specs.Several.{OnlyResultsDiffer}
 use Rattle.tce_spill.specs.PieceRuns.{pieces_of}
 use Rattle.tce_spill.specs.RunRefusals.{WithCuts}
-use Rattle.tce_spill.specs.Reports.{IsReportedFor}
-use Rattle.tce_spill.specs.Left.{HasEndedAt, HasFailedAt, HasSpilled, HasTakenTo}
+use Rattle.tce_spill.specs.Left.{HasEndedAt, HasFailedAt, HasSpilled, HaveRunTo}
 use Rattle.tce_command.specs.Refusals.{IsFree}
 use Rattle.tce_command.specs.declared.refusal.Refusal.{Refusal}
 use Rattle.tce_command.specs.declared.refusal.Refusal.TheVariants.{Disk, Memory}
@@ -20,19 +19,18 @@ pub record IsSpillRun (before after : Option Files) (taken taken_after : List (�
   pub specification : Specification
   pub specified : ForSome before (λ files. HasSpecification files spec specification)
   pub able : ForSome before (λ files. CanRunPieces files specification budget limit)
-  pub spilled : HasSpilled before after specification limit
-  pub run : IsReportedFor specification budget limit taken taken_after report
+  pub run : HasSpilled before after taken taken_after specification budget limit report
   pub within : All (λ (p : Specification). tile_take p budget ≤ budget) (pieces_of specification run.cut)
 
--- the room gave for the first pieces in turn
-pub record IsSpillTaking (before : Option Files) (taken taken_after : List (ℕ × ℕ)) (spec : List ℕ) (budget limit : ℕ) : Type 0 where
+-- files and takings are those of the first pieces of the tree in the file, in turn
+pub record IsSpillPrefix (before after : Option Files) (taken taken_after : List (ℕ × ℕ)) (spec : List ℕ) (budget limit : ℕ) : Type 0 where
   pub specification : Specification
   pub specified : ForSome before (λ files. HasSpecification files spec specification)
-  pub taking : WithCuts specification limit (λ cut. HasTakenTo specification cut budget taken taken_after)
+  pub run : WithCuts specification limit (λ cut. HaveRunTo before after taken taken_after specification cut budget)
 
--- what is left of the room: its takings as they were, or those of the first pieces besides; the latter only after a failure or want of memory, where the disk tells its files
-pub record IsSpillRoomLeft (refusal : Refusal) (before : Option Files) (taken taken_after : List (ℕ × ℕ)) (spec : List ℕ) (budget limit : ℕ) : Type 0 where
-  pub takings : (taken_after ≡ taken) ⊎ IsSpillTaking before taken taken_after spec budget limit
+-- all is as it was, or the first pieces were run; the takings grew only after a failure or want of memory, where the disk tells its files
+pub record IsSpillRoomLeft (refusal : Refusal) (before after : Option Files) (taken taken_after : List (ℕ × ℕ)) (spec : List ℕ) (budget limit : ℕ) : Type 0 where
+  pub takings : ((after ≡ before) × (taken_after ≡ taken)) ⊎ IsSpillPrefix before after taken taken_after spec budget limit
   pub untaken : (IsFree refusal → ⊥) → ForSome before (λ _. taken_after ≡ taken)
 
 -- the files are those that the first pieces leave

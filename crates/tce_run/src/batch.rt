@@ -37,7 +37,7 @@ pub fn run_all<D: Disk, R: Room>(
     ensures done { IfOk result (λ report. IsBatchRun (D.files disk.old) (D.files disk.new) (R.takings room.old) (R.takings room.new) spec.now budget report.items) }
     ensures refused { IfErr result (IsBatchRefusalOn (D.files disk.old) spec.now budget) }
     ensures left { IfErr result (λ refusal. IsBatchLeft refusal (D.files disk.old) (D.files disk.new) spec.now) }
-    ensures takings { IfErr result (λ refusal. IsBatchRoomLeft refusal (D.files disk.old) (R.takings room.old) (R.takings room.new) spec.now budget) }
+    ensures takings { IfErr result (λ refusal. IsBatchRoomLeft refusal (D.files disk.old) (D.files disk.new) (R.takings room.old) (R.takings room.new) spec.now budget) }
     ensures others { OnlyBatchDiffers spec.now (D.files disk.old) (D.files disk.new) }
     ensures cause { HasCause (D.faults disk.old) (D.faults disk.new) (result ≡ Err Refusal.Disk) }
     ensures told { TellsFaults (D.faults disk.old) (D.faults disk.new) (result ≡ Err Refusal.Disk) }

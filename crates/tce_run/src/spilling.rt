@@ -40,7 +40,7 @@ pub fn spill<D: Disk, R: Room>(
     ensures done { IfOk result (λ report. IsSpillRun (D.files disk.old) (D.files disk.new) (R.takings room.old) (R.takings room.new) spec.now budget limit report.items) }
     ensures refused { IfErr result (IsSpillRefusalOn (D.files disk.old) spec.now budget limit) }
     ensures left { IfErr result (λ refusal. IsSpillLeft refusal (D.files disk.old) (D.files disk.new) spec.now limit) }
-    ensures takings { IfErr result (λ refusal. IsSpillRoomLeft refusal (D.files disk.old) (R.takings room.old) (R.takings room.new) spec.now budget limit) }
+    ensures takings { IfErr result (λ refusal. IsSpillRoomLeft refusal (D.files disk.old) (D.files disk.new) (R.takings room.old) (R.takings room.new) spec.now budget limit) }
     ensures others { OnlyPiecesDiffer spec.now limit (D.files disk.old) (D.files disk.new) }
     ensures cause { HasCause (D.faults disk.old) (D.faults disk.new) (result ≡ Err Refusal.Disk) }
     ensures told { TellsFaults (D.faults disk.old) (D.faults disk.new) (result ≡ Err Refusal.Disk) }

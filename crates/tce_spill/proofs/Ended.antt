@@ -28,25 +28,51 @@ untold : (before now after : Option Files) (s : Specification) (cut : Cuts) (n :
 untold None now after s cut n is same none = same ∙ is
 untold (Some files) now after s cut n is same none = absurd (none (files_after (pieces_below s cut n) files) is)
 
-pub failed_left : (before now after : Option Files) (s : Specification) (cut : Cuts) (v : ℕ) (fault : SpillFault) → v < operations s.tree → is_root s.tree cut v ≡ true → now ≡ files_at before s cut v
-    → (fault ≡ Disk) ⊎ (after ≡ now) → others (file_of (piece_of s cut v) (piece_of s cut v).result) after ≡ others (file_of (piece_of s cut v) (piece_of s cut v).result) now
-    → LeavesNoHalfResult (piece_of s cut v) now after → IsRunFault now (piece_of s cut v) fault → IsLeftBy before after s cut fault
-failed_left before now after s cut v Disk inside root is same rest half why = (
+-- the takings of the pieces in front, or of this one too
+taken_to : (s : Specification) (cut : Cuts) (v budget : ℕ) (before then after : List (ℕ × ℕ)) → v < operations s.tree → is_root s.tree cut v ≡ true → HasTakenEach (pieces_below s cut v) budget before then
+    → (after ≡ then) ⊎ HasTakenOne (piece_of s cut v) budget then after → HasTakenTo before after s cut budget v
+taken_to s cut v budget before then after inside root front (inl same) = inl (subst (HasTakenEach (pieces_below s cut v) budget before) (sym same) front)
+taken_to s cut v budget before then after inside root front (inr one) = inr (inside, taken_more s cut v budget before then after root front one)
+
+-- what one piece does to files and room where it fails
+pub record Fails (now after : Option Files) (then taken_after : List (ℕ × ℕ)) (budget : ℕ) (p : Specification) (fault : SpillFault) : Type 0 where
+  pub same : (fault ≡ Disk) ⊎ (after ≡ now)
+  pub others_are : others (file_of p p.result) after ≡ others (file_of p p.result) now
+  pub no_half : LeavesNoHalfResult p now after
+  pub room : (taken_after ≡ then) ⊎ HasTakenOne p budget then taken_after
+
+same_files : (fault : SpillFault) (A : Type 0) → (fault ≡ Disk) ⊎ A → (fault ≡ Disk → ⊥) → A
+same_files fault A (inl failed) other = absurd (other failed)
+same_files fault A (inr same) other = same
+
+pub failed_left : (before now after : Option Files) (s : Specification) (cut : Cuts) (v budget : ℕ) (fault : SpillFault) (taken then taken_after : List (ℕ × ℕ)) → v < operations s.tree → is_root s.tree cut v ≡ true
+    → now ≡ files_at before s cut v → HasTakenEach (pieces_below s cut v) budget taken then → Fails now after then taken_after budget (piece_of s cut v) fault → IsRunFault now (piece_of s cut v) fault
+    → IsLeftBy before after taken taken_after s cut budget fault
+failed_left before now after s cut v budget Disk taken then taken_after inside root is front left why = (
   v,
   record {
     inside = inside;
     root = root;
-    others = rest ∙ ap (others (file_of (piece_of s cut v) (piece_of s cut v).result)) is;
-    no_half = subst (λ o. LeavesNoHalfResult (piece_of s cut v) o after) is half;
+    others = left.others_are ∙ ap (others (file_of (piece_of s cut v) (piece_of s cut v).result)) is;
+    no_half = subst (λ o. LeavesNoHalfResult (piece_of s cut v) o after) is left.no_half;
   },
+  taken_to s cut v budget taken then taken_after inside root front left.room,
 )
-failed_left before now after s cut v Memory inside root is (inl same) rest half why = absurd (cc)
-failed_left before now after s cut v Memory inside root is (inr same) rest half why = (v, record { inside = omega (arith, inside); files = same ∙ is })
-failed_left before now after s cut v (Array name fault) inside root is (inl same) rest half why = absurd (cc)
-failed_left before now after s cut v (Array name fault) inside root is (inr same) rest half why = untold before now after s cut v is same why.refused
-failed_left before now after s cut v TooManyTensors inside root is same rest half why = absurd why
-failed_left before now after s cut v (LimitTooSmall u n) inside root is same rest half why = absurd why
-failed_left before now after s cut v (BudgetTooSmall n) inside root is same rest half why = absurd why
+failed_left before now after s cut v budget Memory taken then taken_after inside root is front left why = (
+  v,
+  record { inside = omega (arith, inside); files = same_files Memory (after ≡ now) left.same (λ failed. absurd (cc)) ∙ is },
+  taken_to s cut v budget taken then taken_after inside root front left.room,
+)
+failed_left before now after s cut v budget (Array name fault) taken then taken_after inside root is front left why = (
+  v,
+  omega (arith, inside),
+  untold before now after s cut v is (same_files (Array name fault) (after ≡ now) left.same (λ failed. absurd (cc))) why.refused,
+  λ files told. absurd (why.refused (files_after (pieces_below s cut v) files) (is ∙ ap (λ o. files_at o s cut v) told)),
+  taken_to s cut v budget taken then taken_after inside root front left.room,
+)
+failed_left before now after s cut v budget TooManyTensors taken then taken_after inside root is front left why = absurd why
+failed_left before now after s cut v budget (LimitTooSmall u n) taken then taken_after inside root is front left why = absurd why
+failed_left before now after s cut v budget (BudgetTooSmall n) taken then taken_after inside root is front left why = absurd why
 
 -- what a piece reads is a tensor or the array of a cut node
 known_read : (s : Specification) (cut : Cuts) (v t : ℕ) → IsSpecification s → IsReadOf s cut v t → (t < length s.declarations.tensors) ⊎ ((32 ≤ t) × (cut (t - 32) ≡ true))
@@ -104,11 +130,3 @@ late_fault before now s cut v Memory rules inside root is why = tt
 late_fault before now s cut v TooManyTensors rules inside root is why = absurd why
 late_fault before now s cut v (LimitTooSmall u n) rules inside root is why = absurd why
 late_fault before now s cut v (BudgetTooSmall n) rules inside root is why = absurd why
-
--- the takings of the pieces in front, or of this one too
-pub failed_takings : (s : Specification) (cut : Cuts) (v budget : ℕ) (before now after : List (ℕ × ℕ)) → v < operations s.tree → is_root s.tree cut v ≡ true → HasTakenEach (pieces_below s cut v) budget before now
-    → (after ≡ now) ⊎ HasTakenOne (piece_of s cut v) budget now after → HasTakenTo s cut budget before after
-failed_takings s cut v budget before now after inside root front (inl same) =
-    record { end = v; inside = omega (arith, inside); taken = subst (HasTakenEach (pieces_below s cut v) budget before) (sym same) front }
-failed_takings s cut v budget before now after inside root front (inr one) =
-    record { end = v + 1; inside = omega (arith, inside); taken = taken_more s cut v budget before now after root front one }

@@ -67,13 +67,14 @@ pub told_others : (before after : Option Files) (s : Specification) (cut : Cuts)
 told_others before after s cut n within is = λ name none.
     ap (found name) is ∙ at_others before s cut n name (front_all (IsApart name) s cut n (operations s.tree) within (recursion_from_All (IsApart name) (pieces_of s cut) none))
 
-pub left_others : (before after : Option Files) (s : Specification) (cut : Cuts) (f : SpillFault) → IsLeftBy before after s cut f → OnlyResultsDiffer (pieces_of s cut) before after
-left_others before after s cut Disk (v, h) = λ name none.
+pub left_others : (before after : Option Files) (taken taken_after : List (ℕ × ℕ)) (s : Specification) (cut : Cuts) (budget : ℕ) (f : SpillFault) → IsLeftBy before after taken taken_after s cut budget f
+    → OnlyResultsDiffer (pieces_of s cut) before after
+left_others before after taken taken_after s cut budget Disk (v, h, room) = λ name none.
     let all = recursion_from_All (IsApart name) (pieces_of s cut) none in
     one_other name (file_of (piece_of s cut v) (piece_of s cut v).result) (files_at before s cut v) after (root_all (IsApart name) s cut v (operations s.tree) h.inside h.root all) h.others
     ∙ at_others before s cut v name (front_all (IsApart name) s cut v (operations s.tree) (omega (arith, h.inside)) all)
-left_others before after s cut Memory (n, h) = told_others before after s cut n h.inside h.files
-left_others before after s cut (Array name fault) left = λ other none. ap (found other) left
-left_others before after s cut TooManyTensors left = λ other none. ap (found other) left
-left_others before after s cut (LimitTooSmall v n) left = λ other none. ap (found other) left
-left_others before after s cut (BudgetTooSmall n) left = λ other none. ap (found other) left
+left_others before after taken taken_after s cut budget Memory (n, h, room) = told_others before after s cut n h.inside h.files
+left_others before after taken taken_after s cut budget (Array name fault) left = λ other none. ap (found other) left.2
+left_others before after taken taken_after s cut budget TooManyTensors left = λ other none. ap (found other) left.0
+left_others before after taken taken_after s cut budget (LimitTooSmall v n) left = λ other none. ap (found other) left.0
+left_others before after taken taken_after s cut budget (BudgetTooSmall n) left = λ other none. ap (found other) left.0

@@ -13,7 +13,7 @@ use Rattle.tce_spill.specs.declared.fault.SpillFault.{SpillFault}
 use Rattle.tce_spill.specs.declared.fault.SpillFault.TheVariants.{TooManyTensors}
 use Rattle.tce_spill.specs.PieceRuns.{largest_of}
 use Rattle.tce_spill.specs.Values.{IsSpilled}
-use Rattle.tce_spill.specs.Reports.{HasRunAll, IsReportedFor}
+use Rattle.tce_spill.specs.Reports.{HasRunAll, IsReported}
 use Rattle.tce_spill.specs.RunRefusals.{AreCut, CanSpill}
 use Rattle.tce_spill.specs.Left.{files_at, HasSpilled, OnlyPiecesDiffer}
 use Rattle.tce_spill.proofs.Reports.{is_reported}
@@ -41,19 +41,16 @@ can_spill s cut budget limit names small low none cuts meet nodes enough = recor
   meet = λ r inside root. let fits = meet r inside root in record { fusion = fits.fusion; fits = fits.fits; legal = fits.legal; cheap = omega (arith, fits.cheap, low) };
 }
 
-pub has_spilled : (before now after : Option Files) (s : Specification) (limit : ℕ) (cut : Cuts) → AreCut s limit cut → now ≡ before → after ≡ files_at now s cut (operations s.tree)
-    → ForSome now (λ start. ForSome after (λ files. IsSpilled start files s cut)) → HasSpilled before after s limit
-has_spilled before now after s limit cut are same files values = record {
+pub has_spilled : (before now after : Option Files) (taken taken_after : List (ℕ × ℕ)) (s : Specification) (budget limit : ℕ) (cut : Cuts) (text told : List ℕ) → AreCut s limit cut
+    → MeetLimit s.declarations.space s.tree cut limit → now ≡ before → after ≡ files_at now s cut (operations s.tree) → ForSome now (λ start. ForSome after (λ files. IsSpilled start files s cut))
+    → HasRunAll s cut budget taken taken_after text → told ≡ text → HasSpilled before after taken taken_after s budget limit told
+has_spilled before now after taken taken_after s budget limit cut text told are meet same files values run is = record {
   cut = cut;
   are_cut = are;
   files = files ∙ ap (λ o. files_at o s cut (operations s.tree)) same;
   values = subst (λ (o : Option Files). ForSome o (λ start. ForSome after (λ files. IsSpilled start files s cut))) same values;
+  reported = subst (IsReported s cut budget limit taken taken_after) (sym is) (is_reported s cut budget limit taken taken_after text meet run);
 }
-
-pub reported_for : (s : Specification) (cut : Cuts) (budget limit : ℕ) (before after : List (ℕ × ℕ)) (text told : List ℕ) → AreCutsFor s.declarations.space s.tree limit cut → MeetLimit s.declarations.space s.tree cut limit
-    → HasRunAll s cut budget before after text → told ≡ text → IsReportedFor s budget limit before after told
-reported_for s cut budget limit before after text told cuts meet run same =
-    subst (IsReportedFor s budget limit before after) (sym same) (record { cut = cut; are_cut = cuts; reported = is_reported s cut budget limit before after text meet run })
 
 pub only_pieces : (before now after : Option Files) (s : Specification) (limit : ℕ) (cut : Cuts) → AreCut s limit cut → now ≡ before → after ≡ files_at now s cut (operations s.tree) → OnlyPiecesDiffer before after s limit
 only_pieces before now after s limit cut are same files =

@@ -87,8 +87,8 @@ run_same s cut n budget before now text root front = record {
 pub run_taken : (s : Specification) (cut : Cuts) (n budget : ℕ) (before after : List (ℕ × ℕ)) (text : List ℕ) → HasRun s cut n budget before after text → HasTakenEach (pieces_below s cut n) budget before after
 run_taken s cut n budget before after text run = record { plans = run.plans; least = run.least; taken = run.taken }
 
-pub none_taken : (s : Specification) (cut : Cuts) (budget : ℕ) (before : List (ℕ × ℕ)) → HasTakenTo s cut budget before before
-none_taken s cut budget before = record { end = 0; inside = omega arith; taken = record { plans = []; least = tt; taken = sym (append-nil before) } }
+pub none_taken : (s : Specification) (cut : Cuts) (budget : ℕ) (before : List (ℕ × ℕ)) → HasTakenTo before before s cut budget 0
+none_taken s cut budget before = inl (record { plans = []; least = tt; taken = sym (append-nil before) })
 
 pub all_reported : (s : Specification) (cut : Cuts) (budget : ℕ) (before after : List (ℕ × ℕ)) (text new : List ℕ) → HasRun s cut (operations s.tree) budget before after text → new ≡ text ++ wrote_line s
     → HasRunAll s cut budget before after new

@@ -33,6 +33,10 @@ pieces_more s cut n is = ap (map (piece_of s cut)) (roots_more s.tree cut n is) 
 pub pieces_same : (s : Specification) (cut : Cuts) (n : ℕ) → is_root s.tree cut n ≡ false → pieces_below s cut (n + 1) ≡ pieces_below s cut n
 pieces_same s cut n is = ap (map (piece_of s cut)) (roots_same s.tree cut n is)
 
+pub none_left : (before : Option Files) (s : Specification) (cut : Cuts) → before ≡ files_at before s cut 0
+none_left None s cut = refl
+none_left (Some files) s cut = refl
+
 pub told_more : (before now after : Option Files) (s : Specification) (cut : Cuts) (n : ℕ) → is_root s.tree cut n ≡ true
     → now ≡ files_at before s cut n → after ≡ option_map (with_result (piece_of s cut n)) now → after ≡ files_at before s cut (n + 1)
 told_more before now after s cut n root is then = then ∙ ap (option_map (with_result (piece_of s cut n))) is ∙ by_told before

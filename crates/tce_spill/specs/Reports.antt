@@ -14,7 +14,6 @@ use Rattle.tce_spec.specs.PieceSpecification.{piece_of}
 use Rattle.tce_job.specs.TensorFiles.{file_of}
 use Rattle.tce_job.specs.Takings.{tile_take}
 use Rattle.tce_job.specs.Several.{takings_of}
-use Rattle.tce_spill.specs.CutsFor.{AreCutsFor}
 use Rattle.tce_spill.specs.PieceRuns.{roots_below, pieces_below}
 
 -- the line of a piece: its root, the memory of a least fusion, and the words that its run takes for tiles
@@ -56,9 +55,3 @@ pub record IsReported (s : Specification) (cut : Cuts) (budget limit : ℕ) (bef
   pub within : All (λ (plan : Plan). plan.memory ≤ limit) plans
   pub taken : after ≡ before ++ takings_of budget (pieces_below s cut (operations s.tree)) plans
   pub told : text ≡ codes "tce spill 1\n" ++ (lines_of s cut budget (roots_below s.tree cut (operations s.tree)) plans ++ wrote_line s)
-
--- with the cuts for the limit
-pub record IsReportedFor (s : Specification) (budget limit : ℕ) (before after : List (ℕ × ℕ)) (text : List ℕ) : Type 0 where
-  pub cut : Cuts
-  pub are_cut : AreCutsFor s.declarations.space s.tree limit cut
-  pub reported : IsReported s cut budget limit before after text

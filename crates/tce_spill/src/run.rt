@@ -17,14 +17,13 @@ ghost use Rattle.tce_job.specs.Refusals.{IsAffordable};
 ghost use Rattle.tce_job.specs.Prepared.{HasTaken};
 ghost use Rattle.tce_job.specs.Run.{IsReported as IsRunReported};
 ghost use Rattle.tce_spill.specs.Planned.{IsLeastButRows, IsPlanOfPiece, HavePlans};
-ghost use Rattle.tce_spill.specs.CutRefusals.{IsFree};
 ghost use Rattle.tce_spill.specs.declared.fault.SpillFault.{SpillFault as Fault};
 ghost use Rattle.tce_spec.specs.Storable.{storable};
 ghost use Rattle.tce_spill.specs.PieceRuns.{largest_of};
 ghost use Rattle.tce_spill.specs.Values.{IsSpilled};
-ghost use Rattle.tce_spill.specs.Reports.{HasRunAll, IsReportedFor};
+ghost use Rattle.tce_spill.specs.Reports.{HasRunAll};
 ghost use Rattle.tce_spill.specs.RunRefusals.{CanSpill, IsRunFault, IsLateFault, IsTestFault, IsSpillCause, IsExact};
-ghost use Rattle.tce_spill.specs.Left.{files_at, HasSpilled, IsLeftBy, IsLeft, HasTakenTo, IsRoomLeft, OnlyPiecesDiffer};
+ghost use Rattle.tce_spill.specs.Left.{files_at, HasSpilled, IsLeftBy, IsLeft, OnlyPiecesDiffer};
 
 use crate::cutting::planned_cuts;
 use crate::fault::SpillFault;
@@ -129,8 +128,8 @@ fn run_all<D: Disk, R: Room>(
     ensures spilled { OnOk result (ForSome (D.files disk.old) (λ start. ForSome (D.files disk.new) (λ after. IsSpilled start after spec.now (has spilling.cuts)))) }
     ensures reported { IfOk result (λ text. HasRunAll spec.now (has spilling.cuts) spilling.budget (R.takings room.old) (R.takings room.new) text.items) }
     ensures refused { IfErr result (IsLateFault (D.files disk.old) spec.now (has spilling.cuts)) }
-    ensures left { IfErr result (IsLeftBy (D.files disk.old) (D.files disk.new) spec.now (has spilling.cuts)) }
-    ensures takings { IfErr result (λ _. HasTakenTo spec.now (has spilling.cuts) spilling.budget (R.takings room.old) (R.takings room.new)) }
+    ensures left { IfErr result (IsLeftBy (D.files disk.old) (D.files disk.new)
+        (R.takings room.old) (R.takings room.new) spec.now (has spilling.cuts) spilling.budget) }
     ensures cause { HasCause (D.faults disk.old) (D.faults disk.new) (result ≡ Err Fault.Disk) }
     ensures quiet { TellsFaults (D.faults disk.old) (D.faults disk.new) (result ≡ Err Fault.Disk) }
 {
@@ -206,13 +205,12 @@ pub fn run_spill<D: Disk, R: Room>(
     requires names { HaveNames spec.now.declarations.tensors }
     requires budget { budget ≤ max_memory }
     requires limit { limit ≤ max_memory }
-    ensures told { OnOk result (HasSpilled (D.files disk.old) (D.files disk.new) spec.now limit) }
-    ensures reported { IfOk result (λ report. IsReportedFor spec.now budget limit (R.takings room.old) (R.takings room.new) report.text) }
+    ensures done { IfOk result (λ report. HasSpilled (D.files disk.old) (D.files disk.new)
+        (R.takings room.old) (R.takings room.new) spec.now budget limit report.text) }
     ensures refused { IfErr result (IsSpillCause (D.files disk.old) spec.now budget limit) }
     ensures exactly { IsExact (D.files disk.old) spec.now budget limit result }
-    ensures left { IfErr result (IsLeft (D.files disk.old) (D.files disk.new) spec.now limit) }
-    ensures takings { IfErr result (IsRoomLeft (R.takings room.old) (R.takings room.new) spec.now budget limit) }
-    ensures tested { IfErr result (λ fault. ForSome (D.files disk.old) (λ _. (IsFree fault → ⊥) → R.takings room.new ≡ R.takings room.old)) }
+    ensures left { IfErr result (IsLeft (D.files disk.old) (D.files disk.new)
+        (R.takings room.old) (R.takings room.new) spec.now budget limit) }
     ensures others { OnlyPiecesDiffer (D.files disk.old) (D.files disk.new) spec.now limit }
     ensures cause { HasCause (D.faults disk.old) (D.faults disk.new) (result ≡ Err Fault.Disk) }
     ensures quiet { TellsFaults (D.faults disk.old) (D.faults disk.new) (result ≡ Err Fault.Disk) }

@@ -20,29 +20,29 @@ use Rattle.tce_top.proofs.Carried.{Performs, carried, cause_as, disk_or_same, of
 pub record Quiet (command : Command) : Type 0 where
   pub leaves : (r : CommandRefusal) → r ≡ Common Disk → MayLeaveOther command r
   pub in_turn : (r : CommandRefusal) (before after : Option Files) → LeavesInTurn command r before after
-  pub takes : (before : Option Files) (taken taken_after : List (ℕ × ℕ)) → taken_after ≡ taken → MayTake command before taken taken_after
+  pub takes : (before after : Option Files) (taken taken_after : List (ℕ × ℕ)) → taken_after ≡ taken → MayTake command before after taken taken_after
   pub keeps : (told : Option Files) (taken taken_after : List (ℕ × ℕ)) → taken_after ≡ taken → KeepsRoom command told taken taken_after
 
 pub quiet_plan : (spec : List ℕ) → Quiet (plan spec)
-quiet_plan spec = record { leaves = λ r e. e; in_turn = λ r before after. tt; takes = λ before taken taken_after e. e; keeps = λ told taken taken_after e. e }
+quiet_plan spec = record { leaves = λ r e. e; in_turn = λ r before after. tt; takes = λ before after taken taken_after e. e; keeps = λ told taken taken_after e. e }
 
 pub quiet_cert : (spec file : List ℕ) → Quiet (cert spec file)
-quiet_cert spec file = record { leaves = λ r e. e; in_turn = λ r before after. tt; takes = λ before taken taken_after e. e; keeps = λ told taken taken_after e. e }
+quiet_cert spec file = record { leaves = λ r e. e; in_turn = λ r before after. tt; takes = λ before after taken taken_after e. e; keeps = λ told taken taken_after e. e }
 
 pub quiet_pack : (spec tensor flat : List ℕ) → Quiet (pack spec tensor flat)
-quiet_pack spec tensor flat = record { leaves = λ r e. e; in_turn = λ r before after. tt; takes = λ before taken taken_after e. e; keeps = λ told taken taken_after e. e }
+quiet_pack spec tensor flat = record { leaves = λ r e. e; in_turn = λ r before after. tt; takes = λ before after taken taken_after e. e; keeps = λ told taken taken_after e. e }
 
 pub quiet_unpack : (spec tensor flat : List ℕ) → Quiet (unpack spec tensor flat)
-quiet_unpack spec tensor flat = record { leaves = λ r e. e; in_turn = λ r before after. tt; takes = λ before taken taken_after e. e; keeps = λ told taken taken_after e. e }
+quiet_unpack spec tensor flat = record { leaves = λ r e. e; in_turn = λ r before after. tt; takes = λ before after taken taken_after e. e; keeps = λ told taken taken_after e. e }
 
 pub quiet_convert : (spec tensor : List ℕ) (form : Form) → Quiet (convert spec tensor form)
-quiet_convert spec tensor form = record { leaves = λ r e. e; in_turn = λ r before after. tt; takes = λ before taken taken_after e. e; keeps = λ told taken taken_after e. e }
+quiet_convert spec tensor form = record { leaves = λ r e. e; in_turn = λ r before after. tt; takes = λ before after taken taken_after e. e; keeps = λ told taken taken_after e. e }
 
 pub quiet_expand : (spec tensor : List ℕ) → Quiet (expand spec tensor)
-quiet_expand spec tensor = record { leaves = λ r e. e; in_turn = λ r before after. tt; takes = λ before taken taken_after e. e; keeps = λ told taken taken_after e. e }
+quiet_expand spec tensor = record { leaves = λ r e. e; in_turn = λ r before after. tt; takes = λ before after taken taken_after e. e; keeps = λ told taken taken_after e. e }
 
 pub quiet_einsum : (text path spec : List ℕ) → Quiet (einsum text path spec)
-quiet_einsum text path spec = record { leaves = λ r e. e; in_turn = λ r before after. tt; takes = λ before taken taken_after e. e; keeps = λ told taken taken_after e. e }
+quiet_einsum text path spec = record { leaves = λ r e. e; in_turn = λ r before after. tt; takes = λ before after taken taken_after e. e; keeps = λ told taken taken_after e. e }
 
 quiet_leaves : (command : Command) (r : CommandRefusal) (A : Type 0) → Quiet command → (r ≡ Common Disk) ⊎ A → MayLeaveOther command r ⊎ A
 quiet_leaves command r A quiet (inl failed) = inl (quiet.leaves r failed)
@@ -77,7 +77,7 @@ calls bytes items command this before after given answer Done Refused is quiet s
       line = tt;
       unchanged = quiet_leaves this (Common cause) (after.files ≡ before.files) quiet (disk_or_same (after.files ≡ before.files) cause (of_err _ given cause err called.unchanged));
       left = quiet.in_turn (Common cause) before.files after.files;
-      takings = quiet.takes before.files before.takings after.takings called.untaken;
+      takings = quiet.takes before.files after.files before.takings after.takings called.untaken;
       untaken = inr (quiet.keeps before.files before.takings after.takings called.untaken);
       no_half = called.no_half;
       others = called.others;

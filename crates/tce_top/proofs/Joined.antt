@@ -1,7 +1,7 @@
 -- The answers of the commands, joined.
 use Rattle.std.proofs.Common.{◌≡◌, refl, sym, ap, subst, ◌∙◌, ◌⊎◌, inl, inr, ℕ, Bool, true, false, if◌then◌else◌, List, length, take, Option, arith}
 use Rattle.std.proofs.Math.Seq.{take-length}
-use Rattle.std.specs.Option.{ForSome}
+use Rattle.std.specs.Option.{ForSome, option_map}
 use Rattle.tce_outside.specs.Files.{Files, file}
 use Rattle.tce_spec.specs.declared.fault.SpecFault.{SpecFault}
 use Rattle.tce_command.specs.Command.{Command, run, batch, spill, plan, cert, check, pack, unpack, convert, expand, einsum, demo, KeepsRules}
@@ -18,10 +18,10 @@ use Rattle.tce_command.specs.declared.trouble.EinsumTrouble.TheVariants as einsu
 use Rattle.tce_command.specs.declared.status.Status.{Status}
 use Rattle.tce_command.specs.declared.status.Status.TheVariants.{Done, SpecRefused, EinsumRefused, DiskFault, SinkFault, WantOfMemory}
 use Rattle.tce_spec.specs.Specification.{Specification as Specified}
-use Rattle.tce_batch.specs.Reports.{HasRun}
-use Rattle.tce_job.specs.Several.{HasTakenEach}
+use Rattle.tce_job.specs.Several.{files_after, HasTakenEach}
 use Rattle.tce_tree.specs.ContractionTree.{operations}
-use Rattle.tce_run.specs.SpillDone.{IsSpillRun, IsSpillTaking}
+use Rattle.tce_run.specs.BatchDone.{IsBatchPrefix, IsBatchRun}
+use Rattle.tce_run.specs.SpillDone.{IsSpillPrefix, IsSpillRun}
 use Rattle.tce_command.proofs.Outcomes.{not_both, one_refusal as one_source_refusal}
 use Rattle.tce_run.proofs.Reasons as runs
 use Rattle.tce_run.proofs.BatchReasons as batches
@@ -104,35 +104,46 @@ done_can (expand spec tensor) before after taken taken_after report done =
 done_can (einsum text path spec) before after taken taken_after report done = λ files told. (done.0.specification, done.0.produced)
 done_can (demo seed v o) before after taken taken_after report done = λ files told. tt
 
--- all formulas took in turn
-all_taken : (formulas : List Specified) (budget : ℕ) (taken taken_after : List (ℕ × ℕ)) (report : List ℕ) → HasRun formulas budget taken taken_after report → HasTakenEach (take (length formulas) formulas) budget taken taken_after
-all_taken formulas budget taken taken_after report h =
-    subst (λ (ss : List Specified). HasTakenEach ss budget taken taken_after) (sym (take-length formulas)) (record { plans = h.plans; least = h.least; taken = h.taken })
+-- all formulas were run in turn
+all_formulas : (before after : Option Files) (taken taken_after : List (ℕ × ℕ)) (spec : List ℕ) (budget : ℕ) (report : List ℕ) → IsBatchRun before after taken taken_after spec budget report
+    → IsBatchPrefix before after taken taken_after spec budget
+all_formulas before after taken taken_after spec budget report done =
+    let all : take (length done.formulas) done.formulas ≡ done.formulas = take-length done.formulas in
+    let given : HasTakenEach done.formulas budget taken taken_after = record { plans = done.run.plans; least = done.run.least; taken = done.run.taken } in
+    record {
+      formulas = done.formulas;
+      specified = done.specified;
+      run = record {
+        count = length done.formulas;
+        within = omega arith;
+        files_are = inl (done.written ∙ ap (λ (ss : List Specified). option_map (files_after ss) before) (sym all));
+        takings = inl (subst (λ (ss : List Specified). HasTakenEach ss budget taken taken_after) (sym all) given);
+      };
+    }
 
--- and so did all pieces
-all_pieces_taken : (before after : Option Files) (taken taken_after : List (ℕ × ℕ)) (spec : List ℕ) (budget limit : ℕ) (report : List ℕ) → IsSpillRun before after taken taken_after spec budget limit report
-    → IsSpillTaking before taken taken_after spec budget limit
-all_pieces_taken before after taken taken_after spec budget limit report done = record {
+-- and so were all pieces
+all_pieces : (before after : Option Files) (taken taken_after : List (ℕ × ℕ)) (spec : List ℕ) (budget limit : ℕ) (report : List ℕ) → IsSpillRun before after taken taken_after spec budget limit report
+    → IsSpillPrefix before after taken taken_after spec budget limit
+all_pieces before after taken taken_after spec budget limit report done = record {
   specification = done.specification;
   specified = done.specified;
-  taking = record {
+  run = record {
     cut = done.run.cut;
-    are_cut = record { none = done.spilled.are_cut.none; cuts = done.run.are_cut };
+    are_cut = done.run.are_cut;
     here = record {
       end = operations done.specification.tree;
-      inside = omega arith;
-      taken = record { plans = done.run.reported.plans; least = done.run.reported.least; taken = done.run.reported.taken };
+      files_are = inl (record { inside = omega arith; files = done.run.files });
+      takings = inl (record { plans = done.run.reported.plans; least = done.run.reported.least; taken = done.run.reported.taken });
     };
   };
 }
 
 pub done_takes : (command : Command) (before after : Option Files) (taken taken_after : List (ℕ × ℕ)) (report : List ℕ) → IsDone command before after taken taken_after report
-    → MayTake command before taken taken_after
+    → MayTake command before after taken taken_after
 done_takes (run spec budget) before after taken taken_after report done =
     inr (record { specification = done.specification; specified = done.specified; able = done.able; plan = done.plan; least = done.least; taking = done.taking })
-done_takes (batch spec budget) before after taken taken_after report done =
-    inr (record { formulas = done.formulas; specified = done.specified; count = length done.formulas; within = omega arith; taking = all_taken done.formulas budget taken taken_after report done.run })
-done_takes (spill spec budget limit) before after taken taken_after report done = inr (all_pieces_taken before after taken taken_after spec budget limit report done)
+done_takes (batch spec budget) before after taken taken_after report done = inr (all_formulas before after taken taken_after spec budget report done)
+done_takes (spill spec budget limit) before after taken taken_after report done = inr (all_pieces before after taken taken_after spec budget limit report done)
 done_takes (plan spec) before after taken taken_after report done = done.2
 done_takes (cert spec name) before after taken taken_after report done = done.1
 done_takes (check spec name) before after taken taken_after report done = done.2

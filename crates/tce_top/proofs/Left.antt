@@ -321,8 +321,8 @@ pub whole_spill : (spec : List ℕ) (budget limit : ℕ) (files : Files) (put : 
     → IsDone (spill spec budget limit) before after taken taken_after report → Grew report out out_after → before ≡ Some files → out ≡ Some put
     → (left : Files) × (put_after : List ℕ) × (after ≡ Some left) × (out_after ≡ Some put_after) × IsWholeSpill spec budget limit files left taken taken_after put put_after
 whole_spill spec budget limit files put before after taken taken_after report out out_after done grew told sink =
-    let left : Files = files_after (pieces_below done.specification done.spilled.cut (operations done.specification.tree)) files in
-    let at : after ≡ Some left = done.spilled.files ∙ ap (option_map _) told in (
+    let left : Files = files_after (pieces_below done.specification done.run.cut (operations done.specification.tree)) files in
+    let at : after ≡ Some left = done.run.files ∙ ap (option_map _) told in (
       left,
       put ++ report,
       at,
@@ -330,11 +330,11 @@ whole_spill spec budget limit files put before after taken taken_after report ou
       record {
         specification = done.specification;
         specified = done.specified files told;
-        cut = done.spilled.cut;
-        are_cut = done.spilled.are_cut.cuts;
-        values = done.spilled.values files told left at;
+        cut = done.run.cut;
+        are_cut = done.run.are_cut.cuts;
+        values = done.run.values files told left at;
         report = report;
-        run_are = done.run;
+        run_are = done.run.reported;
         reported = refl;
         within = done.within;
       },

@@ -98,7 +98,7 @@ pub batches : {T S : Type 0} (bytes : T → List ℕ) (items : S → List ℕ) (
     → command ≡ batch spec budget → Carries bytes items Common given answer
     → IfOk given (λ report. IsBatchRun before.files after.files before.takings after.takings spec budget (bytes report))
     → IfErr given (IsBatchRefusalOn before.files spec budget) → IfErr given (λ r. IsBatchLeft r before.files after.files spec)
-    → IfErr given (λ r. IsBatchRoomLeft r before.files before.takings after.takings spec budget) → OnlyBatchDiffers spec before.files after.files → Fails given before after
+    → IfErr given (λ r. IsBatchRoomLeft r before.files after.files before.takings after.takings spec budget) → OnlyBatchDiffers spec before.files after.files → Fails given before after
     → Performs items command before after answer
 batches bytes items command before after given answer spec budget is same done refused left takings others fails =
     carried bytes items Common command (batch spec budget) before after given answer is same
@@ -111,7 +111,7 @@ batches bytes items command before after given answer spec budget is same done r
     (λ r err.
     let why : IsBatchRefusalOn before.files spec budget r = of_err _ given r err refused in
     let files_left : IsBatchLeft r before.files after.files spec = of_err (λ k. IsBatchLeft k before.files after.files spec) given r err left in
-    let room : IsBatchRoomLeft r before.files before.takings after.takings spec budget = of_err (λ k. IsBatchRoomLeft k before.files before.takings after.takings spec budget) given r err takings in
+    let room : IsBatchRoomLeft r before.files after.files before.takings after.takings spec budget = of_err (λ k. IsBatchRoomLeft k before.files after.files before.takings after.takings spec budget) given r err takings in
     record {
       possible = why.0;
       refused = why.1;
@@ -137,7 +137,7 @@ pub spills : {T S : Type 0} (bytes : T → List ℕ) (items : S → List ℕ) (c
     → command ≡ spill spec budget limit → Carries bytes items Common given answer
     → IfOk given (λ report. IsSpillRun before.files after.files before.takings after.takings spec budget limit (bytes report))
     → IfErr given (IsSpillRefusalOn before.files spec budget limit) → IfErr given (λ r. IsSpillLeft r before.files after.files spec limit)
-    → IfErr given (λ r. IsSpillRoomLeft r before.files before.takings after.takings spec budget limit) → OnlyPiecesDiffer spec limit before.files after.files → Fails given before after
+    → IfErr given (λ r. IsSpillRoomLeft r before.files after.files before.takings after.takings spec budget limit) → OnlyPiecesDiffer spec limit before.files after.files → Fails given before after
     → Performs items command before after answer
 spills bytes items command before after given answer spec budget limit is same done refused left takings others fails =
     carried bytes items Common command (spill spec budget limit) before after given answer is same
@@ -150,7 +150,7 @@ spills bytes items command before after given answer spec budget limit is same d
     (λ r err.
     let why : IsSpillRefusalOn before.files spec budget limit r = of_err _ given r err refused in
     let files_left : IsSpillLeft r before.files after.files spec limit = of_err (λ k. IsSpillLeft k before.files after.files spec limit) given r err left in
-    let room : IsSpillRoomLeft r before.files before.takings after.takings spec budget limit = of_err (λ k. IsSpillRoomLeft k before.files before.takings after.takings spec budget limit) given r err takings in
+    let room : IsSpillRoomLeft r before.files after.files before.takings after.takings spec budget limit = of_err (λ k. IsSpillRoomLeft k before.files after.files before.takings after.takings spec budget limit) given r err takings in
     record {
       possible = why.0;
       refused = why.1;

@@ -23,7 +23,7 @@ use Rattle.tce_spec.specs.Pieces.{Cuts}
 use Rattle.tce_spill.specs.CutsFor.{AreCutsFor}
 use Rattle.tce_spill.specs.PieceRuns.{pieces_of}
 use Rattle.tce_spill.specs.Values.{IsSpilled}
-use Rattle.tce_spill.specs.Reports.{IsReportedFor}
+use Rattle.tce_spill.specs.Reports.{IsReported}
 use Rattle.tce_command.specs.Source.{HasSpecification}
 use Rattle.tce_run.specs.BatchSource.{HasBatch}
 use Rattle.tce_run.specs.BatchDone.{AreFirstRun}
@@ -70,9 +70,9 @@ pub record IsWholeSpill (spec : List ℕ) (budget limit : ℕ) (files after : Fi
   pub are_cut : AreCutsFor specification.declarations.space specification.tree limit cut
   pub values : IsSpilled files after specification cut
   pub report : List ℕ
-  pub run_are : IsReportedFor specification budget limit taken taken_after report
+  pub run_are : IsReported specification cut budget limit taken taken_after report
   pub reported : put_after ≡ put ++ report
-  pub within : All (λ (p : Specification). tile_take p budget ≤ budget) (pieces_of specification run_are.cut)
+  pub within : All (λ (p : Specification). tile_take p budget ≤ budget) (pieces_of specification cut)
 
 -- an einsum whose disk tells: its file holds the canonical text of the specification that the text and the path produce, and specifies it; all other files are the old ones; and the value of the specification, at each assignment of the output's labels, is the sum over all assignments of the other labels of the product of the operands
 pub record IsWholeEinsum (text path spec : List ℕ) (files after : Files) : Type 0 where

@@ -15,9 +15,9 @@ use Rattle.tce_command.specs.declared.command_refusal.CommandRefusal.{CommandRef
 use Rattle.tce_command.specs.declared.command_refusal.CommandRefusal.TheVariants.{Common, Certificate}
 use Rattle.tce_run.specs.Done.{IsRun, IsTaking, OnlyResultDiffers}
 use Rattle.tce_run.specs.Refusals.{CanRunFile, IsRunRefusal, MayRefuseRun}
-use Rattle.tce_run.specs.BatchDone.{IsBatchLeft, IsBatchRun, IsBatchTaking, IsCutOff, OnlyBatchDiffers}
+use Rattle.tce_run.specs.BatchDone.{IsBatchLeft, IsBatchPrefix, IsBatchRun, IsCutOff, OnlyBatchDiffers}
 use Rattle.tce_run.specs.BatchRefusals.{CanRunBatch, IsBatchRefusal, MayRefuseBatch}
-use Rattle.tce_run.specs.SpillDone.{IsCutOffInPiece, IsSpillLeft, IsSpillRun, IsSpillTaking, OnlyPiecesDiffer}
+use Rattle.tce_run.specs.SpillDone.{IsCutOffInPiece, IsSpillLeft, IsSpillPrefix, IsSpillRun, OnlyPiecesDiffer}
 use Rattle.tce_run.specs.SpillRefusals.{CanSpill, IsSpillRefusal, MayRefuseSpill}
 use Rattle.tce_plan.specs.Done.{IsPlanned}
 use Rattle.tce_plan.specs.Refusals.{CanPlan, IsPlanRefusal}
@@ -124,13 +124,13 @@ LeavesNoHalf (expand spec tensor) before after = LeavesFor (LeavesExpanding tens
 LeavesNoHalf (demo seed v o) before after = LeavesDemonstration seed v o before after
 LeavesNoHalf command before after = ⊤
 
--- the takings are as they were, or a run or a demonstration took once, or the first of several formulas or pieces did in turn
-abbrev pub MayTake : Command → Option Files → List (ℕ × ℕ) → List (ℕ × ℕ) → Type 0
-MayTake (run spec budget) before taken taken_after = (taken_after ≡ taken) ⊎ IsTaking before taken taken_after spec budget
-MayTake (batch spec budget) before taken taken_after = (taken_after ≡ taken) ⊎ IsBatchTaking before taken taken_after spec budget
-MayTake (spill spec budget limit) before taken taken_after = (taken_after ≡ taken) ⊎ IsSpillTaking before taken taken_after spec budget limit
-MayTake (demo seed v o) before taken taken_after = (taken_after ≡ taken) ⊎ IsDemoTaking v o taken taken_after
-MayTake command before taken taken_after = taken_after ≡ taken
+-- the takings are as they were, or a run or a demonstration took once; of several formulas or pieces takings and files are as they were, or those of the first ones in turn
+abbrev pub MayTake : Command → Option Files → Option Files → List (ℕ × ℕ) → List (ℕ × ℕ) → Type 0
+MayTake (run spec budget) before after taken taken_after = (taken_after ≡ taken) ⊎ IsTaking before taken taken_after spec budget
+MayTake (batch spec budget) before after taken taken_after = ((after ≡ before) × (taken_after ≡ taken)) ⊎ IsBatchPrefix before after taken taken_after spec budget
+MayTake (spill spec budget limit) before after taken taken_after = ((after ≡ before) × (taken_after ≡ taken)) ⊎ IsSpillPrefix before after taken taken_after spec budget limit
+MayTake (demo seed v o) before after taken taken_after = (taken_after ≡ taken) ⊎ IsDemoTaking v o taken taken_after
+MayTake command before after taken taken_after = taken_after ≡ taken
 
 -- a refused command leaves the takings as they were; so do several formulas and pieces where the disk tells its files
 abbrev pub KeepsRoom : Command → Option Files → List (ℕ × ℕ) → List (ℕ × ℕ) → Type 0
@@ -191,7 +191,7 @@ pub record Refuses (command : Command) (before after : Seen) (refusal : CommandR
   pub line : NamesItsIndexes command before.files refusal
   pub unchanged : MayLeaveOther command refusal ⊎ (after.files ≡ before.files)
   pub left : LeavesInTurn command refusal before.files after.files
-  pub takings : MayTake command before.files before.takings after.takings
+  pub takings : MayTake command before.files after.files before.takings after.takings
   pub untaken : MayReplace refusal ⊎ KeepsRoom command before.files before.takings after.takings
   pub no_half : LeavesNoHalf command before.files after.files
   pub others : OthersStay command before.files after.files

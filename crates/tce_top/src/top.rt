@@ -85,7 +85,7 @@ pub fn tce<D: Disk, K: Sink, R: Room>(
         ⊎ IsPartOfSpill (map string_bytes words.now) (D.files disk.old) (D.files disk.new) }
     ensures cut_off { result ≡ Status.DiskFault → OfCommand (map string_bytes words.now) (λ command. LeavesCutOff command (D.files disk.old) (D.files disk.new)) }
     ensures no_half { OfCommand (map string_bytes words.now) (λ command. LeavesNoHalf command (D.files disk.old) (D.files disk.new)) }
-    ensures takings { OfCommand (map string_bytes words.now) (λ command. MayTake command (D.files disk.old) (R.takings room.old) (R.takings room.new)) }
+    ensures takings { OfCommand (map string_bytes words.now) (λ command. MayTake command (D.files disk.old) (D.files disk.new) (R.takings room.old) (R.takings room.new)) }
     ensures others { OfCommand (map string_bytes words.now) (λ command. OthersStay command (D.files disk.old) (D.files disk.new)) }
 {
     let Some(command) = read_command(words) else {

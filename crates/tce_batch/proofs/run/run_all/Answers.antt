@@ -10,7 +10,7 @@ use Rattle.tce_batch.proofs.Afforded.{some_at}
 use Rattle.tce_batch.proofs.KeptPlans.{kept_place}
 use Rattle.tce_batch.proofs.Files.{none_after, told_more}
 use Rattle.tce_batch.proofs.Reports.{none_taken, none_run, run_taken, taken_more, run_more}
-use Rattle.tce_batch.proofs.Ended.{has_failed, failed_cause, failed_left, failed_takings}
+use Rattle.tce_batch.proofs.Ended.{has_failed, failed_cause, failed_left}
 use Rattle.tce_batch.proofs.Counted.{fault_of, fault_is}
 use Rattle.tce_batch.proofs.run.run_all.Goals as goal
 
@@ -56,27 +56,16 @@ returns-clause-reported g c =
 pub returns-in_default-clause-left : goal.returns-in_default-clause-left
 returns-in_default-clause-left g c =
     let (s, at) = some_at c.args.batch.now 0 c.len-count.ensures.rules.some in
-    record { number = 0; specification = s; counted = refl; at = at; here = inl (none_after (g.D.Disk.files c.args.disk.now) c.args.batch.now) }
-
-pub returns-in_default-clause-takings : goal.returns-in_default-clause-takings
-returns-in_default-clause-takings g c =
-    let (s, at) = some_at c.args.batch.now 0 c.len-count.ensures.rules.some in
-    record { number = 0; specification = s; counted = refl; at = at; here = inl (none_taken c.args.batch.now c.args.budget (g.R.Room.takings c.args.room.now)) }
-
-pub returns-in_default-pushed-clause-left : goal.returns-in_default-pushed-clause-left
-returns-in_default-pushed-clause-left g c =
-    let number = c.loop-number.number in
-    let (s, at) = some_at c.args.batch.now number (omega (arith, c.loop-number-test.true, c.len-count.ensures.count)) in
-    let here = kept_place c.args.batch.now c.args.plans.now number c.index-plans-number.result s c.requires.kept (omega (arith, c.loop-number-test.true, c.len-count.ensures.count)) c.index-plans-number.is at in record {
-      number = number;
+    record {
+      number = 0;
       specification = s;
       counted = refl;
       at = at;
-      here = inr (told_more (g.D.Disk.files c.args.disk.now) (g.D.Disk.files c.loop-number.disk) (g.D.Disk.files c.run_formula.new.disk) c.args.batch.now number s at c.loop-number.invariant.told (c.in-Ok-run_formula.ensures.told s here));
+      here = inl (none_after (g.D.Disk.files c.args.disk.now) c.args.batch.now, inl (none_taken c.args.batch.now c.args.budget (g.R.Room.takings c.args.room.now)));
     }
 
-pub returns-in_default-pushed-clause-takings : goal.returns-in_default-pushed-clause-takings
-returns-in_default-pushed-clause-takings g c =
+pub returns-in_default-pushed-clause-left : goal.returns-in_default-pushed-clause-left
+returns-in_default-pushed-clause-left g c =
     let number = c.loop-number.number in
     let before = g.R.Room.takings c.args.room.now in
     let now = g.R.Room.takings c.loop-number.room in
@@ -87,8 +76,11 @@ returns-in_default-pushed-clause-takings g c =
       specification = s;
       counted = refl;
       at = at;
-      here = inr (taken_more c.args.budget c.args.batch.now number s before now (g.R.Room.takings c.run_formula.new.room) at (run_taken _ c.args.budget before now c.loop-number.text.items c.loop-number.invariant.run)
-          (record { plan = one.plan; least = one.least; taken = one.taken }));
+      here = inr (
+        told_more (g.D.Disk.files c.args.disk.now) (g.D.Disk.files c.loop-number.disk) (g.D.Disk.files c.run_formula.new.disk) c.args.batch.now number s at c.loop-number.invariant.told (c.in-Ok-run_formula.ensures.told s here),
+        taken_more c.args.budget c.args.batch.now number s before now (g.R.Room.takings c.run_formula.new.room) at (run_taken _ c.args.budget before now c.loop-number.text.items c.loop-number.invariant.run)
+            (record { plan = one.plan; least = one.least; taken = one.taken }),
+      );
     }
 
 pub returns-in-Err-clause-refused : goal.returns-in-Err-clause-refused
@@ -118,21 +110,12 @@ returns-in-Err-clause-left g c =
     let here = kept_place c.args.batch.now c.args.plans.now number c.index-plans-number.result s c.requires.kept (omega (arith, c.loop-number-test.true, c.len-count.ensures.count)) c.index-plans-number.is at in
     let start = g.D.Disk.files c.args.disk.now in
     let now = g.D.Disk.files c.loop-number.disk in
-    let h = has_failed start now c.args.batch.now c.args.budget number s c.in-Err.fault c.len-count.ensures.rules at c.requires.affordable c.requires.sources c.loop-number.invariant.told (c.in-Err.ensures.refused s here) in
-    failed_left start now (g.D.Disk.files c.run_formula.new.disk) c.args.batch.now c.args.budget number s c.in-Err.fault h c.in-Err.ensures.unchanged (c.in-Err.ensures.others s here) (c.in-Err.ensures.no_half s here)
-
-pub returns-in-Err-clause-takings : goal.returns-in-Err-clause-takings
-returns-in-Err-clause-takings g c =
-    let number = c.loop-number.number in
-    let (s, at) = some_at c.args.batch.now number (omega (arith, c.loop-number-test.true, c.len-count.ensures.count)) in
-    let here = kept_place c.args.batch.now c.args.plans.now number c.index-plans-number.result s c.requires.kept (omega (arith, c.loop-number-test.true, c.len-count.ensures.count)) c.index-plans-number.is at in
-    let start = g.D.Disk.files c.args.disk.now in
-    let now = g.D.Disk.files c.loop-number.disk in
     let before = g.R.Room.takings c.args.room.now in
     let then = g.R.Room.takings c.loop-number.room in
     let h = has_failed start now c.args.batch.now c.args.budget number s c.in-Err.fault c.len-count.ensures.rules at c.requires.affordable c.requires.sources c.loop-number.invariant.told (c.in-Err.ensures.refused s here) in
-    failed_takings start now c.args.batch.now c.args.budget number s c.in-Err.fault before then (g.R.Room.takings c.run_formula.new.room) h
-    (run_taken _ c.args.budget before then c.loop-number.text.items c.loop-number.invariant.run) (c.in-Err.ensures.takings s here)
+    failed_left start now (g.D.Disk.files c.run_formula.new.disk) c.args.batch.now c.args.budget number s c.in-Err.fault before then (g.R.Room.takings c.run_formula.new.room) h
+    (run_taken _ c.args.budget before then c.loop-number.text.items c.loop-number.invariant.run)
+    (record { same = c.in-Err.ensures.unchanged; others_are = c.in-Err.ensures.others s here; no_half = c.in-Err.ensures.no_half s here; room = c.in-Err.ensures.takings s here })
 
 pub loop-number-preserved : goal.loop-number-preserved
 loop-number-preserved g c =

@@ -2,7 +2,7 @@ use Rattle.std.proofs.Common.{refl, arith}
 use Rattle.std.proofs.lemmas.Result.{IfOk-from_err, err_from_is_err_and}
 use Rattle.tce_batch.proofs.Afforded.{on_ok_as}
 use Rattle.tce_batch.proofs.Causes.{one_cause}
-use Rattle.tce_batch.proofs.Ended.{left_before, takings_before}
+use Rattle.tce_batch.proofs.Ended.{left_before}
 use Rattle.tce_batch.proofs.Others.{same_others}
 use Rattle.tce_batch.proofs.run.run_batch.Goals as goal
 
@@ -17,14 +17,7 @@ returns-in_err-plans-clause-left g c =
     let r = c.in_err-plans.field-0.0 in
     let why = c.in_err-plans.ensures.refused (g.D.Disk.files c.args.disk.now) in
     let p = err_from_is_err_and c.from_residual.result c.from_residual.ensures.1 in
-    rw (p.1, p.2) (left_before (g.D.Disk.files c.args.disk.now) (g.D.Disk.files c.args.disk.now) c.args.batch.now c.args.budget r.formula r.fault refl why.1 why.2)
-
-pub returns-in_err-plans-clause-takings : goal.returns-in_err-plans-clause-takings
-returns-in_err-plans-clause-takings g c =
-    let r = c.in_err-plans.field-0.0 in
-    let why = c.in_err-plans.ensures.refused (g.D.Disk.files c.args.disk.now) in
-    let p = err_from_is_err_and c.from_residual.result c.from_residual.ensures.1 in
-    rw (p.1, p.2) (takings_before (g.D.Disk.files c.args.disk.now) c.args.batch.now c.args.budget r.formula r.fault (g.R.Room.takings c.args.room.now) why.1 why.2)
+    rw (p.1, p.2) (left_before (g.D.Disk.files c.args.disk.now) (g.D.Disk.files c.args.disk.now) c.args.batch.now c.args.budget r.formula r.fault (g.R.Room.takings c.args.room.now) refl why.1 why.2)
 
 pub returns-in_err-plans-clause-cause : goal.returns-in_err-plans-clause-cause
 returns-in_err-plans-clause-cause g c =
@@ -60,12 +53,6 @@ returns-clause-exactly g c = c.run_planned-ran.ensures.exactly
 pub returns-clause-left : goal.returns-clause-left
 returns-clause-left g c = c.run_planned-ran.ensures.left
 
-pub returns-clause-takings : goal.returns-clause-takings
-returns-clause-takings g c = c.run_planned-ran.ensures.takings
-
-pub returns-clause-tested : goal.returns-clause-tested
-returns-clause-tested g c = c.run_planned-ran.ensures.tested
-
 pub returns-clause-others : goal.returns-clause-others
 returns-clause-others g c = c.run_planned-ran.ensures.others
 
@@ -89,11 +76,6 @@ returns-in_err-plans-clause-affordable g c = IfOk-from_err c.from_residual.resul
 
 pub returns-in_err-plans-clause-sources : goal.returns-in_err-plans-clause-sources
 returns-in_err-plans-clause-sources g c = IfOk-from_err c.from_residual.result _ c.from_residual.ensures.0
-
-pub returns-in_err-plans-clause-tested : goal.returns-in_err-plans-clause-tested
-returns-in_err-plans-clause-tested g c =
-    let p = err_from_is_err_and c.from_residual.result c.from_residual.ensures.1 in
-    rw (p.1, p.2) (λ files eq real. refl)
 
 pub returns-in_err-plans-clause-quiet : goal.returns-in_err-plans-clause-quiet
 returns-in_err-plans-clause-quiet g c = λ none. refl

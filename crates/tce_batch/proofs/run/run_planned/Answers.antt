@@ -9,7 +9,7 @@ use Rattle.tce_batch.specs.Left.{IsLeftAt}
 use Rattle.tce_batch.specs.Reports.{HasRun}
 use Rattle.tce_batch.specs.Told.{HasAllSources}
 use Rattle.tce_batch.proofs.Causes.{one_cause, no_cause}
-use Rattle.tce_batch.proofs.Ended.{left_before, takings_before}
+use Rattle.tce_batch.proofs.Ended.{left_before}
 use Rattle.tce_batch.proofs.Others.{left_others, same_others, told_others}
 use Rattle.tce_batch.proofs.run.run_planned.Goals as goal
 
@@ -18,14 +18,8 @@ returns-in_err-open_sources-clause-left g c =
     let r = c.in_err-open_sources.field-0.0 in
     let why = c.in_err-open_sources.ensures.refused c.args.budget c.requires.affordable in
     let p = err_from_is_err_and c.from_residual.result c.from_residual.ensures.1 in
-    rw (p.1, p.2) (left_before (g.D.Disk.files c.args.disk.now) (g.D.Disk.files c.open_sources.new.disk) c.args.batch.now c.args.budget r.formula r.fault c.in_err-open_sources.ensures.same why.0 why.1)
-
-pub returns-in_err-open_sources-clause-takings : goal.returns-in_err-open_sources-clause-takings
-returns-in_err-open_sources-clause-takings g c =
-    let r = c.in_err-open_sources.field-0.0 in
-    let why = c.in_err-open_sources.ensures.refused c.args.budget c.requires.affordable in
-    let p = err_from_is_err_and c.from_residual.result c.from_residual.ensures.1 in
-    rw (p.1, p.2) (takings_before (g.D.Disk.files c.args.disk.now) c.args.batch.now c.args.budget r.formula r.fault (g.R.Room.takings c.args.room.now) why.0 why.1)
+    rw (p.1, p.2) (left_before (g.D.Disk.files c.args.disk.now) (g.D.Disk.files c.open_sources.new.disk) c.args.batch.now c.args.budget r.formula r.fault (g.R.Room.takings c.args.room.now) c.in_err-open_sources.ensures.same why.0
+    why.1)
 
 pub returns-in_err-open_sources-clause-exactly : goal.returns-in_err-open_sources-clause-exactly
 returns-in_err-open_sources-clause-exactly g c =
@@ -52,7 +46,7 @@ pub returns-in_err-text-clause-others : goal.returns-in_err-text-clause-others
 returns-in_err-text-clause-others g c =
     let r = c.in_err-text.field-0.0 in
     subst (λ (told : Option Files). OnlyResultsDiffer c.args.batch.now told (g.D.Disk.files c.run_all.new.disk)) c.in_ok-open_sources.ensures.same
-    (left_others (g.D.Disk.files c.open_sources.new.disk) (g.D.Disk.files c.run_all.new.disk) c.args.batch.now r.formula r.fault c.in_err-text.ensures.left)
+    (left_others (g.D.Disk.files c.open_sources.new.disk) (g.D.Disk.files c.run_all.new.disk) (g.R.Room.takings c.args.room.now) (g.R.Room.takings c.run_all.new.room) c.args.batch.now c.args.budget r.formula r.fault c.in_err-text.ensures.left)
 
 pub returns-clause-others : goal.returns-clause-others
 returns-clause-others g c =
@@ -65,11 +59,6 @@ returns-in_err-open_sources-clause-refused g c =
     let p = err_from_is_err_and c.from_residual.result c.from_residual.ensures.1 in
     rw (p.1, p.2) why.1
 
-pub returns-in_err-open_sources-clause-tested : goal.returns-in_err-open_sources-clause-tested
-returns-in_err-open_sources-clause-tested g c =
-    let p = err_from_is_err_and c.from_residual.result c.from_residual.ensures.1 in
-    rw (p.1, p.2) (λ files eq real. refl)
-
 pub returns-in_err-text-clause-refused : goal.returns-in_err-text-clause-refused
 returns-in_err-text-clause-refused g c =
     let r = c.in_err-text.field-0.0 in
@@ -80,17 +69,8 @@ pub returns-in_err-text-clause-left : goal.returns-in_err-text-clause-left
 returns-in_err-text-clause-left g c =
     let r = c.in_err-text.field-0.0 in
     let p = err_from_is_err_and c.from_residual-in_err-text.result c.from_residual-in_err-text.ensures.1 in
-    rw (p.1, p.2) (subst (λ (told : Option Files). IsLeftAt told (g.D.Disk.files c.run_all.new.disk) c.args.batch.now r.formula r.fault) c.in_ok-open_sources.ensures.same c.in_err-text.ensures.left)
-
-pub returns-in_err-text-clause-takings : goal.returns-in_err-text-clause-takings
-returns-in_err-text-clause-takings g c =
-    let p = err_from_is_err_and c.from_residual-in_err-text.result c.from_residual-in_err-text.ensures.1 in
-    rw (p.1, p.2) c.in_err-text.ensures.takings
-
-pub returns-in_err-text-clause-tested : goal.returns-in_err-text-clause-tested
-returns-in_err-text-clause-tested g c =
-    let p = err_from_is_err_and c.from_residual-in_err-text.result c.from_residual-in_err-text.ensures.1 in
-    rw (p.1, p.2) (λ files eq real. absurd (real (c.in_err-text.ensures.free files (c.in_ok-open_sources.ensures.same ∙ eq))))
+    rw (p.1, p.2) (subst (λ (told : Option Files). IsLeftAt told (g.D.Disk.files c.run_all.new.disk) (g.R.Room.takings c.args.room.now) (g.R.Room.takings c.run_all.new.room) c.args.batch.now c.args.budget r.formula r.fault)
+    c.in_ok-open_sources.ensures.same c.in_err-text.ensures.left)
 
 pub returns-clause-told : goal.returns-clause-told
 returns-clause-told g c = c.in_ok-text.ensures.told ∙ ap (option_map (files_after c.args.batch.now)) c.in_ok-open_sources.ensures.same

@@ -13,7 +13,9 @@ returns-in_err-batch-clause-left g c =
 pub returns-in_err-batch-clause-takings : goal.returns-in_err-batch-clause-takings
 returns-in_err-batch-clause-takings g c =
     let p = err_from_is_err_and c.from_residual.result c.from_residual.ensures.1 in
-    rw (p.1, p.2) (same_room c.in_err-batch.field-0.0 (g.D.Disk.files c.args.disk.now) c.args.spec.now c.args.budget (g.R.Room.takings c.args.room.now) (g.R.Room.takings c.args.room.now) refl)
+    rw (p.1, p.2)
+    (same_room c.in_err-batch.field-0.0 (g.D.Disk.files c.args.disk.now) (g.D.Disk.files c.read_batch_source.new.disk) c.args.spec.now c.args.budget (g.R.Room.takings c.args.room.now) (g.R.Room.takings c.args.room.now)
+    c.in_err-batch.ensures.same refl)
 
 pub returns-clause-done : goal.returns-clause-done
 returns-clause-done g c =

@@ -40,8 +40,6 @@ returns-in-Err-clause-refused g c = record {
   told = c.refusal_at.ensures;
   cause = c.in-Err.ensures.refused;
   left = c.in-Err.ensures.left;
-  takings = c.in-Err.ensures.takings;
-  tested = c.in-Err.ensures.tested;
 }
 
 pub returns-in-Err-clause-others : goal.returns-in-Err-clause-others

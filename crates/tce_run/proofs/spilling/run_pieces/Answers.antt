@@ -1,6 +1,6 @@
 use Rattle.std.proofs.Common.{List, ℕ, refl, sym, subst}
 use Rattle.tce_outside.proofs.Causes.{cause_as, answered_quiet}
-use Rattle.tce_spill.specs.Reports.{IsReportedFor}
+use Rattle.tce_spill.specs.Left.{HasSpilled}
 use Rattle.tce_run.proofs.Told.{answered}
 use Rattle.tce_run.proofs.SpillReasons.{could_run}
 use Rattle.tce_run.proofs.SpillRan.{of_files, told_failure, told_no_failure}
@@ -8,10 +8,10 @@ use Rattle.tce_run.proofs.spilling.run_pieces.Goals as goal
 
 pub returns-in-Ok-clause-done : goal.returns-in-Ok-clause-done
 returns-in-Ok-clause-done g c = record {
-  able = could_run (g.D.Disk.files c.args.disk.now) (g.D.Disk.files c.args.disk.now) c.args.source.now c.args.budget c.args.limit c.in-Ok.ensures.told.cut c.in-Ok.report refl c.space-space.ensures.rules
-      c.in-Ok.ensures.told.are_cut c.in-Ok.ensures.exactly;
-  spilled = c.in-Ok.ensures.told;
-  run = subst (λ (text : List ℕ). IsReportedFor c.args.source.now c.args.budget c.args.limit (g.R.Room.takings c.args.room.now) (g.R.Room.takings c.run_spill.new.room) text) (sym c.into_vec.ensures) c.in-Ok.ensures.reported;
+  able = could_run (g.D.Disk.files c.args.disk.now) (g.D.Disk.files c.args.disk.now) c.args.source.now c.args.budget c.args.limit c.in-Ok.ensures.done.cut c.in-Ok.report refl c.space-space.ensures.rules
+      c.in-Ok.ensures.done.are_cut c.in-Ok.ensures.exactly;
+  run = subst (λ (text : List ℕ). HasSpilled (g.D.Disk.files c.args.disk.now) (g.D.Disk.files c.run_spill.new.disk) (g.R.Room.takings c.args.room.now) (g.R.Room.takings c.run_spill.new.room) c.args.source.now c.args.budget c.args.limit text)
+      (sym c.into_vec.ensures) c.in-Ok.ensures.done;
 }
 
 pub returns-in-Ok-clause-others : goal.returns-in-Ok-clause-others
@@ -32,8 +32,6 @@ returns-in-Err-clause-refused g c = record {
   told = c.refusal_of_pieces.ensures;
   cause = c.in-Err.ensures.refused;
   left = c.in-Err.ensures.left;
-  takings = c.in-Err.ensures.takings;
-  tested = c.in-Err.ensures.tested;
 }
 
 pub returns-in-Err-clause-others : goal.returns-in-Err-clause-others

@@ -14,7 +14,8 @@ pub returns-in_err-source-clause-takings : goal.returns-in_err-source-clause-tak
 returns-in_err-source-clause-takings g c =
     let p = err_from_is_err_and c.from_residual.result c.from_residual.ensures.1 in
     rw (p.1, p.2)
-    (same_room c.in_err-source.field-0.0 (g.D.Disk.files c.args.disk.now) c.args.spec.now c.args.budget c.args.limit (g.R.Room.takings c.args.room.now) (g.R.Room.takings c.args.room.now) refl)
+    (same_room c.in_err-source.field-0.0 (g.D.Disk.files c.args.disk.now) (g.D.Disk.files c.read_source.new.disk) c.args.spec.now c.args.budget c.args.limit (g.R.Room.takings c.args.room.now) (g.R.Room.takings c.args.room.now)
+    c.in_err-source.ensures.same refl)
 
 pub returns-clause-done : goal.returns-clause-done
 returns-clause-done g c =

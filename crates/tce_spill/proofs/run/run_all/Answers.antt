@@ -1,15 +1,15 @@
-use Rattle.std.proofs.Common.{ℕ, ◌≡◌, ◌+◌, List, refl, sym, subst, ap, ◌∙◌, arith}
+use Rattle.std.proofs.Common.{inl, ℕ, ◌≡◌, ◌+◌, List, refl, sym, subst, ap, ◌∙◌, arith}
 use Rattle.tce_outside.proofs.Causes.{cause_as, no_cause, answered_quiet, cause_after}
 use Rattle.tce_space.specs.IndexSet.{has}
 use Rattle.tce_tree.specs.ContractionTree.{operations}
 use Rattle.tce_spill.specs.Planned.{HavePlansFrom}
 use Rattle.tce_spill.specs.Reports.{HasRun}
-use Rattle.tce_spill.proofs.Roots.{as_tested, told_more, told_same}
+use Rattle.tce_spill.proofs.Roots.{as_tested, none_left, told_more, told_same}
 use Rattle.tce_job.proofs.Answered.{answered, same_fault}
 use Rattle.tce_spill.specs.Left.{files_at}
 use Rattle.tce_spill.proofs.Reports.{taken_more, run_taken, run_more, run_same, none_taken, all_reported}
 use Rattle.tce_spill.proofs.Causes.{wanting}
-use Rattle.tce_spill.proofs.Ended.{late_fault, failed_left, failed_takings}
+use Rattle.tce_spill.proofs.Ended.{late_fault, failed_left}
 use Rattle.tce_spill.proofs.PlannedRuns.{plan_place, some_plan, taken_plan, plans_on, plans_after}
 use Rattle.tce_spill.proofs.RunTurns.{operands_there, held_more, held_same, all_spilled}
 use Rattle.tce_spill.proofs.run.run_all.Goals as goal
@@ -41,28 +41,20 @@ run_piece-requires-clause-operands g c =
 
 pub returns-in_default-pushed-clause-left : goal.returns-in_default-pushed-clause-left
 returns-in_default-pushed-clause-left g c =
-    let size = c.count-count.ensures.value ∙ ap operations c.tree.ensures.tree in (
+    let size = c.count-count.ensures.value ∙ ap operations c.tree.ensures.tree in
+    let before = g.R.Room.takings c.args.room.now in
+    let now = g.R.Room.takings c.loop-root.room in
+    let one = c.in-Ok-run_piece.ensures.reported in (
       c.loop-root.root + 1,
       record {
         inside = omega (arith, c.loop-root-test.true, size);
         files = told_more (g.D.Disk.files c.args.disk.now) (g.D.Disk.files c.loop-root.disk) (g.D.Disk.files c.run_piece.new.disk) c.args.spec.now (has c.args.spilling.cuts) c.loop-root.root
             (as_tested c.args.spec.now (has c.args.spilling.cuts) c.loop-root.root _ _ c.has_root.ensures c.if-has_root.true) c.loop-root.invariant.told c.in-Ok-run_piece.ensures.told;
       },
-    )
-
-pub returns-in_default-pushed-clause-takings : goal.returns-in_default-pushed-clause-takings
-returns-in_default-pushed-clause-takings g c =
-    let size = c.count-count.ensures.value ∙ ap operations c.tree.ensures.tree in
-    let before = g.R.Room.takings c.args.room.now in
-    let now = g.R.Room.takings c.loop-root.room in
-    let one = c.in-Ok-run_piece.ensures.reported in
-    record {
-      end = c.loop-root.root + 1;
-      inside = omega (arith, c.loop-root-test.true, size);
-      taken = taken_more c.args.spec.now (has c.args.spilling.cuts) c.loop-root.root c.args.spilling.budget before now (g.R.Room.takings c.run_piece.new.room) (as_tested c.args.spec.now (has c.args.spilling.cuts) c.loop-root.root _ _ c.has_root.ensures c.if-has_root.true)
+      inl (taken_more c.args.spec.now (has c.args.spilling.cuts) c.loop-root.root c.args.spilling.budget before now (g.R.Room.takings c.run_piece.new.room) (as_tested c.args.spec.now (has c.args.spilling.cuts) c.loop-root.root _ _ c.has_root.ensures c.if-has_root.true)
           (run_taken c.args.spec.now (has c.args.spilling.cuts) c.loop-root.root c.args.spilling.budget before now c.loop-root.text.items c.loop-root.invariant.run)
-          (record { plan = one.plan; least = one.least; taken = one.taken });
-    }
+          (record { plan = one.plan; least = one.least; taken = one.taken })),
+    )
 
 pub returns-in-Err-clause-refused : goal.returns-in-Err-clause-refused
 returns-in-Err-clause-refused g c =
@@ -73,17 +65,13 @@ returns-in-Err-clause-refused g c =
 pub returns-in-Err-clause-left : goal.returns-in-Err-clause-left
 returns-in-Err-clause-left g c =
     let size = c.count-count.ensures.value ∙ ap operations c.tree.ensures.tree in
-    failed_left (g.D.Disk.files c.args.disk.now) (g.D.Disk.files c.loop-root.disk) (g.D.Disk.files c.run_piece.new.disk) c.args.spec.now (has c.args.spilling.cuts) c.loop-root.root c.in-Err.fault
-    (omega (arith, c.loop-root-test.true, size)) (as_tested c.args.spec.now (has c.args.spilling.cuts) c.loop-root.root _ _ c.has_root.ensures c.if-has_root.true) c.loop-root.invariant.told c.in-Err.ensures.unchanged c.in-Err.ensures.others c.in-Err.ensures.no_half c.in-Err.ensures.refused
-
-pub returns-in-Err-clause-takings : goal.returns-in-Err-clause-takings
-returns-in-Err-clause-takings g c =
-    let size = c.count-count.ensures.value ∙ ap operations c.tree.ensures.tree in
     let before = g.R.Room.takings c.args.room.now in
-    let now = g.R.Room.takings c.loop-root.room in
-    failed_takings c.args.spec.now (has c.args.spilling.cuts) c.loop-root.root c.args.spilling.budget before now (g.R.Room.takings c.run_piece.new.room)
-    (omega (arith, c.loop-root-test.true, size)) (as_tested c.args.spec.now (has c.args.spilling.cuts) c.loop-root.root _ _ c.has_root.ensures c.if-has_root.true)
-    (run_taken c.args.spec.now (has c.args.spilling.cuts) c.loop-root.root c.args.spilling.budget before now c.loop-root.text.items c.loop-root.invariant.run) c.in-Err.ensures.takings
+    let then = g.R.Room.takings c.loop-root.room in
+    failed_left (g.D.Disk.files c.args.disk.now) (g.D.Disk.files c.loop-root.disk) (g.D.Disk.files c.run_piece.new.disk) c.args.spec.now (has c.args.spilling.cuts) c.loop-root.root c.args.spilling.budget c.in-Err.fault
+    before then (g.R.Room.takings c.run_piece.new.room)
+    (omega (arith, c.loop-root-test.true, size)) (as_tested c.args.spec.now (has c.args.spilling.cuts) c.loop-root.root _ _ c.has_root.ensures c.if-has_root.true) c.loop-root.invariant.told
+    (run_taken c.args.spec.now (has c.args.spilling.cuts) c.loop-root.root c.args.spilling.budget before then c.loop-root.text.items c.loop-root.invariant.run)
+    (record { same = c.in-Err.ensures.unchanged; others_are = c.in-Err.ensures.others; no_half = c.in-Err.ensures.no_half; room = c.in-Err.ensures.takings }) c.in-Err.ensures.refused
 
 pub loop-root-preserved : goal.loop-root-preserved
 loop-root-preserved g c =
@@ -127,8 +115,9 @@ loop-root-preserved g c =
           }
     ]
 
-pub returns-in_default-clause-takings : goal.returns-in_default-clause-takings
-returns-in_default-clause-takings g c = none_taken c.args.spec.now (has c.args.spilling.cuts) c.args.spilling.budget (g.R.Room.takings c.args.room.now)
+pub returns-in_default-clause-left : goal.returns-in_default-clause-left
+returns-in_default-clause-left g c =
+    (0, record { inside = omega arith; files = none_left (g.D.Disk.files c.args.disk.now) c.args.spec.now (has c.args.spilling.cuts) }, none_taken c.args.spec.now (has c.args.spilling.cuts) c.args.spilling.budget (g.R.Room.takings c.args.room.now))
 
 pub returns-in_default-pushed-clause-cause : goal.returns-in_default-pushed-clause-cause
 returns-in_default-pushed-clause-cause g c = cause_after _ _ _ c.loop-root.invariant.counted (cause_as _ _ (wanting _ refl) c.in-Ok-run_piece.ensures.cause)
@@ -147,15 +136,8 @@ returns-in_default-push_wrote-clause-left g c =
     let size = c.count-count.ensures.value ∙ ap operations c.tree.ensures.tree in (
       c.loop-root.root,
       record { inside = omega (arith, c.loop-root-test.false, size); files = c.loop-root.invariant.told },
+      inl (run_taken c.args.spec.now (has c.args.spilling.cuts) c.loop-root.root c.args.spilling.budget (g.R.Room.takings c.args.room.now) (g.R.Room.takings c.loop-root.room) c.loop-root.text.items c.loop-root.invariant.run),
     )
-
-pub returns-in_default-push_wrote-clause-takings : goal.returns-in_default-push_wrote-clause-takings
-returns-in_default-push_wrote-clause-takings g c =
-    let size = c.count-count.ensures.value ∙ ap operations c.tree.ensures.tree in record {
-      end = c.loop-root.root;
-      inside = omega (arith, c.loop-root-test.false, size);
-      taken = run_taken c.args.spec.now (has c.args.spilling.cuts) c.loop-root.root c.args.spilling.budget (g.R.Room.takings c.args.room.now) (g.R.Room.takings c.loop-root.room) c.loop-root.text.items c.loop-root.invariant.run;
-    }
 
 pub returns-in_default-push_wrote-clause-cause : goal.returns-in_default-push_wrote-clause-cause
 returns-in_default-push_wrote-clause-cause g c = no_cause _ _ c.loop-root.invariant.counted (wanting _ refl)

@@ -9,10 +9,10 @@ use Rattle.tce_job.proofs.Answered.{answered, same_fault}
 use Rattle.tce_job.specs.Several.{OnlyResultsDiffer}
 use Rattle.tce_spill.specs.PieceRuns.{pieces_of}
 use Rattle.tce_spill.specs.RunRefusals.{IsLateFault}
-use Rattle.tce_spill.proofs.Causes.{cut_cause, cut_exact, no_disk_cuts, test_cause, test_exact, no_cause, late_cause, late_exact, late_free}
+use Rattle.tce_spill.proofs.Causes.{cut_cause, cut_exact, no_disk_cuts, test_cause, test_exact, no_cause, late_cause, late_exact}
 use Rattle.tce_spill.proofs.Others.{left_others}
-use Rattle.tce_spill.proofs.Ready.{few_of, are_cut, can_spill, has_spilled, reported_for, only_pieces}
-use Rattle.tce_spill.proofs.Spared.{same_room, late_room, late_left}
+use Rattle.tce_spill.proofs.Ready.{few_of, are_cut, can_spill, has_spilled, only_pieces}
+use Rattle.tce_spill.proofs.Spared.{late_left}
 use Rattle.tce_spill.proofs.run.run_spill.Goals as goal
 
 pub test_budget-requires-clause-few : goal.test_budget-requires-clause-few
@@ -57,13 +57,6 @@ returns-in_err-text-clause-exactly g c due free cause known =
     rw (p.1, p.2) (late_exact (g.D.Disk.files c.args.disk.now) c.args.spec.now c.args.budget c.args.limit cut (few_of c.args.spec.now c.args.limit c.in_ok-planned.ensures.exactly) are
     c.in_ok-test_budget.ensures.enough c.in_ok-test_budget.ensures.opened c.in_err-text.field-0.0 due why free cause known)
 
-pub returns-in_err-text-clause-tested : goal.returns-in_err-text-clause-tested
-returns-in_err-text-clause-tested g c =
-    let cut = has c.in_ok-planned.planned.nodes in
-    let why = subst (λ (told : Option Files). IsLateFault told c.args.spec.now cut c.in_err-text.field-0.0) c.in_ok-test_budget.ensures.same c.in_err-text.ensures.refused in
-    let p = err_from_is_err_and c.from_residual-in_err-text.result c.from_residual-in_err-text.ensures.1 in
-    rw (p.1, p.2) (λ files eq free. absurd (late_free (g.D.Disk.files c.args.disk.now) c.args.spec.now cut c.in_err-text.field-0.0 why files eq free))
-
 pub returns-in_err-text-clause-others : goal.returns-in_err-text-clause-others
 returns-in_err-text-clause-others g c =
     let cut = has c.in_ok-planned.planned.nodes in
@@ -72,19 +65,16 @@ returns-in_err-text-clause-others g c =
       are_cut = are_cut c.args.spec.now c.args.limit cut c.in_ok-planned.ensures.exactly c.in_ok-planned.ensures.cuts;
       here =
           subst (λ (told : Option Files). OnlyResultsDiffer (pieces_of c.args.spec.now cut) told (g.D.Disk.files c.run_all-ran.new.disk)) c.in_ok-test_budget.ensures.same
-          (left_others (g.D.Disk.files c.test_budget.new.disk) (g.D.Disk.files c.run_all-ran.new.disk) c.args.spec.now cut c.in_err-text.field-0.0 c.in_err-text.ensures.left);
+          (left_others (g.D.Disk.files c.test_budget.new.disk) (g.D.Disk.files c.run_all-ran.new.disk) (g.R.Room.takings c.args.room.now) (g.R.Room.takings c.run_all-ran.new.room) c.args.spec.now cut c.args.budget c.in_err-text.field-0.0
+          c.in_err-text.ensures.left);
     })
 
-pub returns-clause-told : goal.returns-clause-told
-returns-clause-told g c =
+pub returns-clause-done : goal.returns-clause-done
+returns-clause-done g c =
     let cut = has c.in_ok-planned.planned.nodes in
-    has_spilled (g.D.Disk.files c.args.disk.now) (g.D.Disk.files c.test_budget.new.disk) (g.D.Disk.files c.run_all-ran.new.disk) c.args.spec.now c.args.limit cut
-    (are_cut c.args.spec.now c.args.limit cut c.in_ok-planned.ensures.exactly c.in_ok-planned.ensures.cuts) c.in_ok-test_budget.ensures.same c.in_ok-text.ensures.told c.in_ok-text.ensures.spilled
-
-pub returns-clause-reported : goal.returns-clause-reported
-returns-clause-reported g c =
-    reported_for c.args.spec.now (has c.in_ok-planned.planned.nodes) c.args.budget c.args.limit (g.R.Room.takings c.args.room.now) (g.R.Room.takings c.run_all-ran.new.room) c.in_ok-text.text.items _
-    c.in_ok-planned.ensures.cuts c.in_ok-planned.ensures.meet c.in_ok-text.ensures.reported c.of.ensures
+    has_spilled (g.D.Disk.files c.args.disk.now) (g.D.Disk.files c.test_budget.new.disk) (g.D.Disk.files c.run_all-ran.new.disk) (g.R.Room.takings c.args.room.now) (g.R.Room.takings c.run_all-ran.new.room) c.args.spec.now c.args.budget c.args.limit cut
+    c.in_ok-text.text.items _ (are_cut c.args.spec.now c.args.limit cut c.in_ok-planned.ensures.exactly c.in_ok-planned.ensures.cuts) c.in_ok-planned.ensures.meet c.in_ok-test_budget.ensures.same c.in_ok-text.ensures.told
+    c.in_ok-text.ensures.spilled c.in_ok-text.ensures.reported c.of.ensures
 
 pub returns-clause-exactly : goal.returns-clause-exactly
 returns-clause-exactly g c due free cause known =
@@ -101,17 +91,7 @@ returns-clause-others g c =
 pub returns-in_err-planned-clause-left : goal.returns-in_err-planned-clause-left
 returns-in_err-planned-clause-left g c =
     let p = err_from_is_err_and c.from_residual.result c.from_residual.ensures.1 in
-    rw (p.1, p.2) (inl refl)
-
-pub returns-in_err-planned-clause-takings : goal.returns-in_err-planned-clause-takings
-returns-in_err-planned-clause-takings g c =
-    let p = err_from_is_err_and c.from_residual.result c.from_residual.ensures.1 in
-    rw (p.1, p.2) (same_room c.args.spec.now c.args.budget c.args.limit c.in_err-planned.field-0.0 (g.R.Room.takings c.args.room.now) (g.R.Room.takings c.args.room.now) refl)
-
-pub returns-in_err-planned-clause-tested : goal.returns-in_err-planned-clause-tested
-returns-in_err-planned-clause-tested g c =
-    let p = err_from_is_err_and c.from_residual.result c.from_residual.ensures.1 in
-    rw (p.1, p.2) (λ files eq free. refl)
+    rw (p.1, p.2) (inl (refl, refl))
 
 pub returns-in_err-planned-clause-others : goal.returns-in_err-planned-clause-others
 returns-in_err-planned-clause-others g c = inl refl
@@ -119,17 +99,7 @@ returns-in_err-planned-clause-others g c = inl refl
 pub returns-in_err-test_budget-clause-left : goal.returns-in_err-test_budget-clause-left
 returns-in_err-test_budget-clause-left g c =
     let p = err_from_is_err_and c.from_residual-in_err-test_budget.result c.from_residual-in_err-test_budget.ensures.1 in
-    rw (p.1, p.2) (inl c.in_err-test_budget.ensures.same)
-
-pub returns-in_err-test_budget-clause-takings : goal.returns-in_err-test_budget-clause-takings
-returns-in_err-test_budget-clause-takings g c =
-    let p = err_from_is_err_and c.from_residual-in_err-test_budget.result c.from_residual-in_err-test_budget.ensures.1 in
-    rw (p.1, p.2) (same_room c.args.spec.now c.args.budget c.args.limit c.in_err-test_budget.field-0.0 (g.R.Room.takings c.args.room.now) (g.R.Room.takings c.args.room.now) refl)
-
-pub returns-in_err-test_budget-clause-tested : goal.returns-in_err-test_budget-clause-tested
-returns-in_err-test_budget-clause-tested g c =
-    let p = err_from_is_err_and c.from_residual-in_err-test_budget.result c.from_residual-in_err-test_budget.ensures.1 in
-    rw (p.1, p.2) (λ files eq free. refl)
+    rw (p.1, p.2) (inl (c.in_err-test_budget.ensures.same, refl))
 
 pub returns-in_err-test_budget-clause-others : goal.returns-in_err-test_budget-clause-others
 returns-in_err-test_budget-clause-others g c = inl c.in_err-test_budget.ensures.same
@@ -139,22 +109,11 @@ returns-in_err-text-clause-left g c =
     let cut = has c.in_ok-planned.planned.nodes in
     let are = are_cut c.args.spec.now c.args.limit cut c.in_ok-planned.ensures.exactly c.in_ok-planned.ensures.cuts in
     let p = err_from_is_err_and c.from_residual-in_err-text.result c.from_residual-in_err-text.ensures.1 in
-    rw (p.1, p.2) (late_left (g.D.Disk.files c.args.disk.now) (g.D.Disk.files c.test_budget.new.disk) (g.D.Disk.files c.run_all-ran.new.disk) c.args.spec.now cut c.args.limit c.in_err-text.field-0.0 are
-    c.in_ok-test_budget.ensures.same c.in_err-text.ensures.left)
+    rw (p.1, p.2) (late_left (g.D.Disk.files c.args.disk.now) (g.D.Disk.files c.test_budget.new.disk) (g.D.Disk.files c.run_all-ran.new.disk) (g.R.Room.takings c.args.room.now) (g.R.Room.takings c.run_all-ran.new.room) c.args.spec.now
+    cut c.args.budget c.args.limit c.in_err-text.field-0.0 are c.in_ok-test_budget.ensures.same c.in_err-text.ensures.left)
 
-pub returns-in_err-text-clause-takings : goal.returns-in_err-text-clause-takings
-returns-in_err-text-clause-takings g c =
-    let cut = has c.in_ok-planned.planned.nodes in
-    let are = are_cut c.args.spec.now c.args.limit cut c.in_ok-planned.ensures.exactly c.in_ok-planned.ensures.cuts in
-    let p = err_from_is_err_and c.from_residual-in_err-text.result c.from_residual-in_err-text.ensures.1 in
-    rw (p.1, p.2) (late_room (g.D.Disk.files c.test_budget.new.disk) c.args.spec.now cut c.args.budget c.args.limit c.in_err-text.field-0.0 (g.R.Room.takings c.args.room.now) (g.R.Room.takings c.run_all-ran.new.room) are
-    c.in_err-text.ensures.refused c.in_err-text.ensures.takings)
-
-pub returns-in_err-planned-clause-told : goal.returns-in_err-planned-clause-told
-returns-in_err-planned-clause-told g c = IfOk-from_err c.from_residual.result _ c.from_residual.ensures.0
-
-pub returns-in_err-planned-clause-reported : goal.returns-in_err-planned-clause-reported
-returns-in_err-planned-clause-reported g c = IfOk-from_err c.from_residual.result _ c.from_residual.ensures.0
+pub returns-in_err-planned-clause-done : goal.returns-in_err-planned-clause-done
+returns-in_err-planned-clause-done g c = IfOk-from_err c.from_residual.result _ c.from_residual.ensures.0
 
 pub returns-in_err-planned-clause-refused : goal.returns-in_err-planned-clause-refused
 returns-in_err-planned-clause-refused g c =
@@ -174,11 +133,8 @@ returns-in_err-planned-clause-cause g c =
 pub returns-in_err-planned-clause-quiet : goal.returns-in_err-planned-clause-quiet
 returns-in_err-planned-clause-quiet g c = λ none. refl
 
-pub returns-in_err-test_budget-clause-told : goal.returns-in_err-test_budget-clause-told
-returns-in_err-test_budget-clause-told g c = IfOk-from_err c.from_residual-in_err-test_budget.result _ c.from_residual-in_err-test_budget.ensures.0
-
-pub returns-in_err-test_budget-clause-reported : goal.returns-in_err-test_budget-clause-reported
-returns-in_err-test_budget-clause-reported g c = IfOk-from_err c.from_residual-in_err-test_budget.result _ c.from_residual-in_err-test_budget.ensures.0
+pub returns-in_err-test_budget-clause-done : goal.returns-in_err-test_budget-clause-done
+returns-in_err-test_budget-clause-done g c = IfOk-from_err c.from_residual-in_err-test_budget.result _ c.from_residual-in_err-test_budget.ensures.0
 
 pub returns-in_err-test_budget-clause-cause : goal.returns-in_err-test_budget-clause-cause
 returns-in_err-test_budget-clause-cause g c =
@@ -190,11 +146,8 @@ returns-in_err-test_budget-clause-quiet g c =
     let p = err_from_is_err_and c.from_residual-in_err-test_budget.result c.from_residual-in_err-test_budget.ensures.1 in
     rw (p.1, p.2) (λ none. c.in_err-test_budget.ensures.quiet (λ failed. none (same_fault c.in_err-test_budget.field-0.0 _ _ refl refl failed)))
 
-pub returns-in_err-text-clause-told : goal.returns-in_err-text-clause-told
-returns-in_err-text-clause-told g c = IfOk-from_err c.from_residual-in_err-text.result _ c.from_residual-in_err-text.ensures.0
-
-pub returns-in_err-text-clause-reported : goal.returns-in_err-text-clause-reported
-returns-in_err-text-clause-reported g c = IfOk-from_err c.from_residual-in_err-text.result _ c.from_residual-in_err-text.ensures.0
+pub returns-in_err-text-clause-done : goal.returns-in_err-text-clause-done
+returns-in_err-text-clause-done g c = IfOk-from_err c.from_residual-in_err-text.result _ c.from_residual-in_err-text.ensures.0
 
 pub returns-in_err-text-clause-cause : goal.returns-in_err-text-clause-cause
 returns-in_err-text-clause-cause g c =

@@ -84,7 +84,7 @@ returns-in-Ok-clause-exactly g c = λ command is files told due free cause.
 pub returns-in-Ok-clause-takings : goal.returns-in-Ok-clause-takings
 returns-in-Ok-clause-takings g c = λ command is.
     let same = one_command _ _ command c.in-Some.ensures is in
-    subst (λ k. MayTake k (g.D.Disk.files c.args.disk.now) (g.R.Room.takings c.args.room.now) (g.R.Room.takings c.perform.new.room)) (sym same) (done_takes (command_of c.in-Some.command) (g.D.Disk.files c.args.disk.now) (g.D.Disk.files c.perform.new.disk) (g.R.Room.takings c.args.room.now) (g.R.Room.takings c.perform.new.room) c.in-Ok.report.items c.in-Ok.ensures.done.done)
+    subst (λ k. MayTake k (g.D.Disk.files c.args.disk.now) (g.D.Disk.files c.perform.new.disk) (g.R.Room.takings c.args.room.now) (g.R.Room.takings c.perform.new.room)) (sym same) (done_takes (command_of c.in-Some.command) (g.D.Disk.files c.args.disk.now) (g.D.Disk.files c.perform.new.disk) (g.R.Room.takings c.args.room.now) (g.R.Room.takings c.perform.new.room) c.in-Ok.report.items c.in-Ok.ensures.done.done)
 
 pub returns-in-Ok-clause-others : goal.returns-in-Ok-clause-others
 returns-in-Ok-clause-others g c = λ command is.
@@ -123,7 +123,7 @@ returns-in-Err-clause-no_memory g c = λ memory.
 pub returns-in-Err-clause-takings : goal.returns-in-Err-clause-takings
 returns-in-Err-clause-takings g c = λ command is.
     let same = one_command _ _ command c.in-Some.ensures is in
-    subst (λ k. MayTake k (g.D.Disk.files c.args.disk.now) (g.R.Room.takings c.args.room.now) (g.R.Room.takings c.perform.new.room)) (sym same) c.in-Err.ensures.refused.takings
+    subst (λ k. MayTake k (g.D.Disk.files c.args.disk.now) (g.D.Disk.files c.perform.new.disk) (g.R.Room.takings c.args.room.now) (g.R.Room.takings c.perform.new.room)) (sym same) c.in-Err.ensures.refused.takings
 
 pub returns-in-Err-clause-others : goal.returns-in-Err-clause-others
 returns-in-Err-clause-others g c = λ command is.
