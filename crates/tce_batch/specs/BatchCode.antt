@@ -30,11 +30,15 @@ pub record AreKept (d : Declarations) (cs : List Contraction) : Type 0 where
   pub each : All (IsKept d) cs
   pub named : HaveNames d.tensors
 
+-- all are over these declarations
+abbrev pub AreOver : Declarations → List Specification → Type 0
+AreOver declarations batch = All (λ (s : Specification). s.declarations ≡ declarations) batch
+
 -- one specification or more, all over the same declarations
 pub record IsBatch (batch : List Specification) : Type 0 where
   pub some : 0 < length batch
   pub declarations : Declarations
-  pub same : All (λ (s : Specification). s.declarations ≡ declarations) batch
+  pub same : AreOver declarations batch
   pub rules : All IsSpecification batch
 
 -- the results of the first formulas, that many of them

@@ -2,7 +2,7 @@
 
 ghost use Rattle.std.specs.Prelude.{◌≡◌, ◌<◌, ◌≤◌, ◌==◌, eqb, length, IfOk, slice_get, Some};
 ghost use Rattle.std.specs.List.{list_any};
-ghost use Rattle.tce_batch.specs.BatchCode.{IsBatch, results_before};
+ghost use Rattle.tce_batch.specs.BatchCode.{AreOver, IsBatch, results_before};
 
 use std::alloc::{AllocError, Global};
 use std::marker::Model;
@@ -46,6 +46,13 @@ impl Batch {
         ensures rules { IsBatch self.now }
     {
         self.contractions.len()
+    }
+
+    /// The declared ranges, indexes and tensors, which all formulas have.
+    pub fn declarations(&self) -> &Declarations
+        ensures { AreOver result.now self.now }
+    {
+        &self.declarations
     }
 
     /// A specification by its number, from 0.

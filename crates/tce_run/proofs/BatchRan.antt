@@ -4,23 +4,27 @@ use Rattle.std.specs.Prelude.{slice_get}
 use Rattle.std.specs.Option.{ForSome, option_map}
 use Rattle.std.proofs.lemmas.Option.{slice_get_within}
 use Rattle.tce_outside.specs.Files.{Files}
+use Rattle.tce_spec.specs.Declarations.{Declarations}
 use Rattle.tce_spec.specs.Specification.{Specification}
 use Rattle.tce_job.specs.Takings.{tile_take}
 use Rattle.tce_job.specs.declared.fault.JobFault.{JobFault}
 use Rattle.tce_job.specs.declared.fault.JobFault.TheVariants as faults
-use Rattle.tce_job.specs.Refusals.{NamesDeclared, IsFree as IsFreeFault}
+use Rattle.tce_job.specs.Refusals.{IsFree as IsFreeFault}
 use Rattle.tce_batch.specs.declared.fault.BatchFault.{BatchFault}
 use Rattle.tce_job.specs.Several.{files_after, HasTakenEach, OnlyResultsDiffer}
+use Rattle.tce_batch.specs.BatchCode.{AreOver}
 use Rattle.tce_batch.specs.Refusals.{IsAt, IsOneOf, IsCauseAt}
 use Rattle.tce_batch.specs.Left.{IsLeftAt}
 use Rattle.tce_command.specs.Refusals.{IsFree}
 use Rattle.tce_command.specs.declared.refusal.Refusal.{Refusal}
 use Rattle.tce_command.specs.declared.refusal.Refusal.TheVariants.{Disk, Memory}
 use Rattle.tce_run.specs.BatchSource.{HasBatch}
-use Rattle.tce_run.specs.Told.{IsOfFiles, IsToldAs}
+use Rattle.tce_run.specs.Told.{IsOfFiles, IsToldAs, IsToldOver, NamesOneOf}
 use Rattle.tce_run.specs.BatchDone.{IsBatchLeft, IsBatchPrefix, IsBatchRoomLeft, IsBatchRun, OnlyBatchDiffers}
 use Rattle.tce_run.specs.BatchOfFormulas.{AreRun, IsFormulaFault}
-use Rattle.tce_run.specs.BatchRefusals.{IsBatchRefusalOn, IsFormulaRefusal, IsToldAt, IsToldWithout}
+use Rattle.tce_run.specs.BatchRefusals.{IsBatchRefusalOn, IsToldAt}
+use Rattle.tce_batch.proofs.Afforded.{some_at}
+use Rattle.tce_batch.proofs.Ended.{at_all}
 use Rattle.tce_run.proofs.May.{untold_at}
 use Rattle.tce_run.proofs.Ran.{within}
 use Rattle.tce_run.proofs.Told.{told_disk, disk_told, told_free}
@@ -35,17 +39,28 @@ names_one told formulas budget formula (faults.Array t u) why = let w = slice_ge
 names_one told formulas budget formula faults.Disk why = why
 names_one told formulas budget formula faults.Memory why = why
 
-pub names_tensor : (told : Option Files) (formulas : List Specification) (budget formula : ℕ) (f : JobFault) → IsCauseAt told formulas budget formula f → (s : Specification) → slice_get formulas (formula - 1) ≡ Some s
-    → NamesDeclared s f
-names_tensor told formulas budget formula (faults.BudgetTooSmall n) why s at = tt
-names_tensor told formulas budget formula (faults.IntermediatesTooLarge n) why s at = tt
-names_tensor told formulas budget formula (faults.Array t u) why s at =
-    let number : why.number ≡ formula - 1 = omega (arith, why.counted) in
-    let found : Some why.specification ≡ Some s = sym why.at ∙ ap (slice_get formulas) number ∙ at in
-    let same : why.specification ≡ s = cc in
-    subst (λ (x : Specification). NamesDeclared x (faults.Array t u)) same why.here.2
-names_tensor told formulas budget formula faults.Disk why s at = tt
-names_tensor told formulas budget formula faults.Memory why s at = tt
+-- an operand that the fault names is declared, also where all formulas are over the same declarations
+pub names_tensor : (told : Option Files) (formulas : List Specification) (budget formula : ℕ) (d : Declarations) (f : JobFault) → AreOver d formulas → IsCauseAt told formulas budget formula f → NamesOneOf d f
+names_tensor told formulas budget formula d (faults.BudgetTooSmall n) over why = tt
+names_tensor told formulas budget formula d (faults.IntermediatesTooLarge n) over why = tt
+names_tensor told formulas budget formula d (faults.Array t u) over why =
+    let same : why.specification.declarations ≡ d = at_all (λ (x : Specification). x.declarations ≡ d) formulas why.number why.specification over why.at in
+    subst (λ (x : Declarations). NamesOneOf x (faults.Array t u)) same why.here.2
+names_tensor told formulas budget formula d faults.Disk over why = tt
+names_tensor told formulas budget formula d faults.Memory over why = tt
+
+-- what tells a fault over the declarations tells it by the specification of its formula
+pub told_at : (formulas : List Specification) (d : Declarations) (refused : BatchFault) (a : Refusal) → AreOver d formulas → IsOneOf formulas refused.formula → IsToldOver d refused.fault a → IsToldAt formulas refused a
+told_at formulas d refused a over one told =
+    let (s, at) = some_at formulas (refused.formula - 1) (omega (arith, one.some, one.within)) in
+    let same : s.declarations ≡ d = at_all (λ (x : Specification). x.declarations ≡ d) formulas (refused.formula - 1) s over at in
+    record {
+      number = refused.formula - 1;
+      specification = s;
+      counted = omega (arith, one.some);
+      at = at;
+      here = subst (λ (x : Declarations). IsToldOver x refused.fault a) (sym same) told;
+    }
 
 pub of_files_at : (told : Option Files) (formulas : List Specification) (budget formula : ℕ) (f : JobFault) → IsCauseAt told formulas budget formula f → IsOfFiles f
 of_files_at told formulas budget formula (faults.BudgetTooSmall n) why = tt
@@ -56,60 +71,32 @@ of_files_at told formulas budget formula faults.Memory why = tt
 
 -- What is told of a fault.
 
-without_free : (f : JobFault) (a : Refusal) → IsToldWithout f a → IsFree a
-without_free faults.Disk a told = subst IsFree (sym told) tt
-without_free (faults.BudgetTooSmall n) a told = subst IsFree (sym told) tt
-without_free (faults.IntermediatesTooLarge n) a told = subst IsFree (sym told) tt
-without_free (faults.Array t u) a told = subst IsFree (sym told) tt
-without_free faults.Memory a told = subst IsFree (sym told) tt
-
 free_told : (formulas : List Specification) (refused : BatchFault) (a : Refusal) → IsToldAt formulas refused a → IsFreeFault refused.fault → IsFree a
-free_told formulas refused a (inl told) free = without_free refused.fault a told
-free_told formulas refused a (inr told) free = told_free told.specification refused.fault a told.here free
-
-without_disk : (f : JobFault) (a : Refusal) → IsToldWithout f a → a ≡ Disk → f ≡ faults.Disk
-without_disk faults.Disk a told failed = refl
-without_disk (faults.BudgetTooSmall n) a told failed = absurd (cc)
-without_disk (faults.IntermediatesTooLarge n) a told failed = absurd (cc)
-without_disk (faults.Array t u) a told failed = absurd (cc)
-without_disk faults.Memory a told failed = absurd (cc)
+free_told formulas refused a told free = told_free told.specification refused.fault a told.here free
 
 pub failed_told : (formulas : List Specification) (refused : BatchFault) (a : Refusal) → IsToldAt formulas refused a → a ≡ Disk → refused.fault ≡ faults.Disk
-failed_told formulas refused a (inl told) failed = without_disk refused.fault a told failed
-failed_told formulas refused a (inr told) failed = told_disk told.specification refused.fault a told.here failed
+failed_told formulas refused a told failed = told_disk told.specification refused.fault a told.here failed
 
 -- and what is told as none was none
-without_failed : (f : JobFault) (a : Refusal) → IsToldWithout f a → f ≡ faults.Disk → a ≡ Disk
-without_failed f a told failed = subst (λ g. IsToldWithout g a) failed told
-
 pub disk_told_at : (formulas : List Specification) (refused : BatchFault) (a : Refusal) → IsToldAt formulas refused a → refused.fault ≡ faults.Disk → a ≡ Disk
-disk_told_at formulas refused a (inl told) failed = without_failed refused.fault a told failed
-disk_told_at formulas refused a (inr told) failed = disk_told told.specification refused.fault a told.here failed
-
-told_of_disk : (formulas : List Specification) (formula : ℕ) (a : Refusal) → IsToldWithout faults.Disk a ⊎ IsAt formulas formula (λ number s. IsToldAs s faults.Disk a) → a ≡ Disk
-told_of_disk formulas formula a (inl told) = told
-told_of_disk formulas formula a (inr told) = told.here
-
-told_of_memory : (formulas : List Specification) (formula : ℕ) (a : Refusal) → IsToldWithout faults.Memory a ⊎ IsAt formulas formula (λ number s. IsToldAs s faults.Memory a) → a ≡ Memory
-told_of_memory formulas formula a (inl told) = told
-told_of_memory formulas formula a (inr told) = told.here
+disk_told_at formulas refused a told failed = disk_told told.specification refused.fault a told.here failed
 
 pub batch_refused : (before middle after : Option Files) (taken taken_after : List (ℕ × ℕ)) (spec : List ℕ) (budget : ℕ) (formulas : List Specification) (a : Refusal) → middle ≡ before
     → ForSome before (λ files. HasBatch files spec formulas) → IsFormulaFault middle after taken taken_after formulas budget a → IsBatchRefusalOn before spec budget a
 batch_refused before middle after taken taken_after spec budget formulas a same specified left = (
   inr (formulas, record { refused = left.refused; told = left.told; cause = untold_at middle formulas budget left.refused.formula left.refused.fault left.cause }),
-  λ files is. inr (formulas, specified files is, by_telling files is left.told),
-)
-  where
-    by_telling : (files : Files) → before ≡ Some files → IsToldAt formulas left.refused a → IsFree a ⊎ IsFormulaRefusal files formulas budget a
-    by_telling files is (inl told) = inl (without_free left.refused.fault a told)
-    by_telling files is (inr told) =
-        inr (record {
+  λ files is.
+      inr (
+        formulas,
+        specified files is,
+        record {
           formula = left.refused.formula;
           fault = left.refused.fault;
           cause = subst (λ (o : Option Files). IsCauseAt o formulas budget left.refused.formula left.refused.fault) (same ∙ is) left.cause;
-          told = told;
-        })
+          told = left.told;
+        },
+      ),
+)
 
 -- What is left.
 
@@ -119,17 +106,17 @@ unchanged_left before after spec Memory same = inl same
 unchanged_left before after spec a same = same
 
 files_left : (before after : Option Files) (taken taken_after : List (ℕ × ℕ)) (spec : List ℕ) (budget : ℕ) (formulas : List Specification) (formula : ℕ) (f : JobFault) (a : Refusal)
-    → ForSome before (λ files. HasBatch files spec formulas) → IsToldWithout f a ⊎ IsAt formulas formula (λ number s. IsToldAs s f a)
+    → ForSome before (λ files. HasBatch files spec formulas) → IsAt formulas formula (λ number s. IsToldAs s f a)
     → IsLeftAt before after taken taken_after formulas budget formula f → IsBatchLeft a before after spec
 files_left before after taken taken_after spec budget formulas formula (faults.BudgetTooSmall n) a specified told left = unchanged_left before after spec a left.0
 files_left before after taken taken_after spec budget formulas formula (faults.IntermediatesTooLarge n) a specified told left = unchanged_left before after spec a left.0
 files_left before after taken taken_after spec budget formulas formula (faults.Array t u) a specified told left = unchanged_left before after spec a left.0
 files_left before after taken taken_after spec budget formulas formula faults.Disk a specified told left =
-    subst (λ r. IsBatchLeft r before after spec) (sym (told_of_disk formulas formula a told))
+    subst (λ r. IsBatchLeft r before after spec) (sym told.here)
     (inr (record { formulas = formulas; specified = specified; number = left.number; formula = left.specification; at = left.at; others_are = left.here.0.others_are; no_half = left.here.0.no_half }))
 files_left before after taken taken_after spec budget formulas formula faults.Memory a specified told left =
     let w = slice_get_within formulas left.number left.specification left.at in
-    subst (λ r. IsBatchLeft r before after spec) (sym (told_of_memory formulas formula a told))
+    subst (λ r. IsBatchLeft r before after spec) (sym told.here)
     (inr (elim left.here [
       | inl is ↦ record { formulas = formulas; specified = specified; count = left.number; within = omega (arith, w); files_are = is.0 }
       | inr is ↦ record { formulas = formulas; specified = specified; count = left.number + 1; within = omega (arith, w); files_are = is.0 }

@@ -53,8 +53,7 @@ free_formula files formulas budget formula (faults.Array t u) a can cause told =
 
 pub granted_batch : (files : Files) (spec : List ℕ) (budget : ℕ) (a : Refusal) → CanRunBatch files spec budget → IsBatchRefusal files spec budget a → IsFree a
 granted_batch files spec budget a (formulas, specified, can) (inl p) = not_both_batch files spec formulas a specified p
-granted_batch files spec budget a (formulas, specified, can) (inr (others, also, inl free)) = free
-granted_batch files spec budget a (formulas, specified, can) (inr (others, also, inr p)) =
+granted_batch files spec budget a (formulas, specified, can) (inr (others, also, p)) =
     free_formula files others budget p.formula p.fault a (subst (λ (x : List Specification). CanRunFormulas files x budget) (one_batch files spec formulas others specified also) can) p.cause p.told
 
 -- two faults of formulas are one
@@ -82,9 +81,7 @@ pub alone_batch : (files : Files) (spec : List ℕ) (budget : ℕ) (a b : Refusa
 alone_batch files spec budget a b (inl p) (inl q) free = one_batch_refusal spec (file files spec) a b p q free
 alone_batch files spec budget a b (inl p) (inr (formulas, specified, q)) free = inl (not_both_batch files spec formulas a specified p)
 alone_batch files spec budget a b (inr (formulas, specified, p)) (inl q) free = absurd (free (not_both_batch files spec formulas b specified q))
-alone_batch files spec budget a b (inr (formulas, specified, inl is_free)) (inr (others, also, q)) free = inl is_free
-alone_batch files spec budget a b (inr (formulas, specified, inr p)) (inr (others, also, inl is_free)) free = absurd (free is_free)
-alone_batch files spec budget a b (inr (formulas, specified, inr p)) (inr (others, also, inr q)) free =
+alone_batch files spec budget a b (inr (formulas, specified, p)) (inr (others, also, q)) free =
     one_formula files others budget a b (subst (λ (x : List Specification). IsFormulaRefusal files x budget a) (one_batch files spec formulas others specified also) p) q free
 
 pub possible_batch : (files : Files) (after : Option Files) (taken taken_after : List (ℕ × ℕ)) (spec : List ℕ) (budget : ℕ) (report : List ℕ) → IsBatchRun (Some files) after taken taken_after spec budget report → CanRunBatch files spec budget

@@ -9,7 +9,7 @@ use Rattle.tce_job.specs.declared.opening.Refused.{Refused}
 use Rattle.tce_job.specs.Opened.{IsRefused}
 use Rattle.tce_job.specs.declared.fault.JobFault.{JobFault}
 use Rattle.tce_job.specs.declared.fault.JobFault.TheVariants as faults
-use Rattle.tce_job.specs.Refusals.{IsCause, CanRun, IsFree as IsFreeFault}
+use Rattle.tce_job.specs.Refusals.{IsCause, CanRun, IsFree as IsFreeFault, NamesDeclared}
 use Rattle.tce_job.specs.Prepared.{IsRoomLeft as JobRoomLeft, HasTaken}
 use Rattle.tce_command.specs.declared.refusal.Refusal.{Refusal}
 use Rattle.tce_command.specs.declared.refusal.Refusal.TheVariants.{Missing, Array, Disk, Memory}
@@ -17,7 +17,7 @@ use Rattle.tce_command.specs.Refusals.{IsFree}
 use Rattle.tce_command.specs.Source.{HasSpecification}
 use Rattle.tce_run.specs.Refusals.{IsFirstRefused, IsJobRefusal}
 use Rattle.tce_run.specs.Done.{IsTaking, IsRoomLeft}
-use Rattle.tce_run.specs.Told.{TellsOperand, IsOfFiles, IsToldAs}
+use Rattle.tce_run.specs.Told.{TellsOperand, IsOfFiles, IsToldAs, NamesOneOf}
 
 told_operand : (files : Files) (s : Specification) (budget t : ℕ) (fault : ArrayFault) (a : Refusal) → TellsOperand s t fault a → IsFirstRefused files s budget t fault → fault ≢ array_fault.Disk → IsJobRefusal files s budget a
 told_operand files s budget t array_fault.NoFile (Missing name) told first real = (t, first, told)
@@ -25,6 +25,14 @@ told_operand files s budget t (array_fault.BadLength n) (Array name trouble) tol
 told_operand files s budget t (array_fault.BadHeader n) (Array name trouble) told first real = (t, subst (IsFirstRefused files s budget t) (sym told.1) first, told.0)
 told_operand files s budget t array_fault.Disk a told first real = absurd (real refl)
 told_operand files s budget t fault a told first real = absurd told
+
+-- a fault that names a declared tensor of a specification names one of its declarations
+pub declared_over : (s : Specification) (f : JobFault) → NamesDeclared s f → NamesOneOf s.declarations f
+declared_over s (faults.BudgetTooSmall n) h = tt
+declared_over s (faults.IntermediatesTooLarge n) h = tt
+declared_over s (faults.Array t fault) h = h
+declared_over s faults.Disk h = tt
+declared_over s faults.Memory h = tt
 
 -- it is due where the fault has a cause
 pub told_cause : (files : Files) (s : Specification) (budget : ℕ) (f : JobFault) (a : Refusal) → IsToldAs s f a → IsCause (IsRefused files s) s budget f → IsJobRefusal files s budget a

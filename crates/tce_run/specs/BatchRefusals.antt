@@ -4,12 +4,9 @@ use Rattle.std.specs.Option.{ForSome}
 use Rattle.tce_outside.specs.Files.{Files, file}
 use Rattle.tce_spec.specs.Specification.{Specification}
 use Rattle.tce_job.specs.declared.fault.JobFault.{JobFault}
-use Rattle.tce_job.specs.declared.fault.JobFault.TheVariants as faults
 use Rattle.tce_batch.specs.Refusals.{IsAt, IsBatchCause, IsCauseAt}
 use Rattle.tce_batch.specs.declared.fault.BatchFault.{BatchFault}
-use Rattle.tce_command.specs.Refusals.{IsFree}
 use Rattle.tce_command.specs.declared.refusal.Refusal.{Refusal}
-use Rattle.tce_command.specs.declared.refusal.Refusal.TheVariants.{Disk, Memory}
 use Rattle.tce_command.specs.Source.{MayRefuseText}
 use Rattle.tce_run.specs.BatchSource.{HasBatch, HasBatchFault, IsBatchSourceRefusal}
 use Rattle.tce_run.specs.BatchDone.{CanRunFormulas}
@@ -30,16 +27,11 @@ pub record IsFormulaRefusal (files : Files) (formulas : List Specification) (bud
 abbrev pub IsBatchRefusal : Files → List ℕ → ℕ → Refusal → Type 0
 IsBatchRefusal files spec budget refusal =
     IsBatchSourceRefusal spec (file files spec) refusal
-    ⊎ ((formulas : List Specification) × HasBatch files spec formulas × (IsFree refusal ⊎ IsFormulaRefusal files formulas budget refusal))
+    ⊎ ((formulas : List Specification) × HasBatch files spec formulas × IsFormulaRefusal files formulas budget refusal)
 
--- how a fault is told where memory is wanting for the specification of its formula
-abbrev pub IsToldWithout : JobFault → Refusal → Type 0
-IsToldWithout faults.Disk refusal = refusal ≡ Disk
-IsToldWithout fault refusal = refusal ≡ Memory
-
--- the refusal tells the fault so, or by the specification of its formula
+-- the refusal tells the fault by the specification of its formula
 abbrev pub IsToldAt : List Specification → BatchFault → Refusal → Type 0
-IsToldAt formulas refused refusal = IsToldWithout refused.fault refusal ⊎ IsAt formulas refused.formula (λ number s. IsToldAs s refused.fault refusal)
+IsToldAt formulas refused refusal = IsAt formulas refused.formula (λ number s. IsToldAs s refused.fault refusal)
 
 -- the refusal tells a fault that runs of the formulas may have over a disk that tells nothing
 pub record MayRefuseFormulas (formulas : List Specification) (budget : ℕ) (refusal : Refusal) : Type 0 where

@@ -1,7 +1,8 @@
 -- How a fault of a run is told to a user.
-use Rattle.std.specs.Prelude.{◌≡◌, ◌≢◌, ⊤, ℕ, List, ◌++◌, codes}
+use Rattle.std.specs.Prelude.{◌≡◌, ◌≢◌, ◌<◌, ⊤, ℕ, List, length, ◌++◌, codes}
 use Rattle.tce_array.specs.declared.fault.ArrayFault.{ArrayFault}
 use Rattle.tce_array.specs.declared.fault.ArrayFault.TheVariants as array_fault
+use Rattle.tce_spec.specs.Declarations.{Declarations, tensor_at}
 use Rattle.tce_spec.specs.Specification.{Specification}
 use Rattle.tce_job.specs.TensorFiles.{name_of}
 use Rattle.tce_job.specs.declared.fault.JobFault.{JobFault}
@@ -30,10 +31,19 @@ abbrev pub IsOfFiles : JobFault → Type 0
 IsOfFiles (faults.Array t fault) = fault ≢ array_fault.Disk
 IsOfFiles fault = ⊤
 
--- the refusal tells the fault
+-- an operand that the fault names is declared
+abbrev pub NamesOneOf : Declarations → JobFault → Type 0
+NamesOneOf d (faults.Array t fault) = t < length d.tensors
+NamesOneOf d fault = ⊤
+
+-- the refusal tells the fault of a run over these declarations
+abbrev pub IsToldOver : Declarations → JobFault → Refusal → Type 0
+IsToldOver d (faults.BudgetTooSmall least) refusal = refusal ≡ Budget least
+IsToldOver d (faults.IntermediatesTooLarge memory) refusal = refusal ≡ Intermediates memory
+IsToldOver d (faults.Array t fault) refusal = TellsArray (tensor_at d t).name fault refusal
+IsToldOver d faults.Disk refusal = refusal ≡ Disk
+IsToldOver d faults.Memory refusal = refusal ≡ Memory
+
+-- of a run of this specification
 abbrev pub IsToldAs : Specification → JobFault → Refusal → Type 0
-IsToldAs s (faults.BudgetTooSmall least) refusal = refusal ≡ Budget least
-IsToldAs s (faults.IntermediatesTooLarge memory) refusal = refusal ≡ Intermediates memory
-IsToldAs s (faults.Array t fault) refusal = TellsOperand s t fault refusal
-IsToldAs s faults.Disk refusal = refusal ≡ Disk
-IsToldAs s faults.Memory refusal = refusal ≡ Memory
+IsToldAs s fault refusal = IsToldOver s.declarations fault refusal

@@ -9,7 +9,7 @@ ghost use Rattle.tce_run.specs.BatchOfFormulas.{AreRun, IsFormulaFault};
 ghost use Rattle.tce_run.specs.BatchRefusals.{IsBatchRefusalOn};
 
 use crate::batch_reading::read_batch_source;
-use crate::batch_refusals::refusal_at;
+use crate::refusals::refusal_over;
 use std::alloc::Global;
 use tce_batch::{Batch, run_batch};
 use tce_command::Refusal;
@@ -65,6 +65,6 @@ fn run_formulas<D: Disk, R: Room>(
 {
     match run_batch(alloc, batch, budget, disk, room) {
         Ok(report) => Ok(report.text.into_vec()),
-        Err(refused) => Err(refusal_at(alloc, batch, refused)),
+        Err(refused) => Err(refusal_over(batch.declarations(), refused.fault)),
     }
 }

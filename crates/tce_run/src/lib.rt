@@ -16,7 +16,6 @@
 
 mod batch;
 mod batch_reading;
-mod batch_refusals;
 mod command;
 mod demo_command;
 mod demo_input;

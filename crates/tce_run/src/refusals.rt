@@ -1,13 +1,13 @@
 // Refusals for the faults of a run.
 ghost use Rattle.std.specs.Prelude.{◌≡◌, ◌≢◌, ◌++◌, codes};
 ghost use Rattle.tce_job.specs.Refusals.{NamesDeclared};
-ghost use Rattle.tce_run.specs.Told.{IsOfFiles, IsToldAs, TellsArray};
+ghost use Rattle.tce_run.specs.Told.{IsOfFiles, IsToldAs, IsToldOver, NamesOneOf, TellsArray};
 
 use tce_array::ArrayFault;
 use tce_command::{ArrayTrouble, Refusal};
 use tce_job::JobFault;
 use tce_space::{FileName, Name};
-use tce_spec::Spec;
+use tce_spec::{Declarations, Spec};
 
 // The name of the file of an array.
 fn array_file(name: Name) -> FileName
@@ -32,17 +32,27 @@ pub fn array_refusal(name: Name, fault: ArrayFault) -> Refusal
     }
 }
 
-/// The refusal that tells a fault of a run: of an operand by its file where that is not there, else by its name.
+/// The refusal that tells a fault of a run over these declarations: of an operand by its file where that is not there, else
+/// by its name.
+pub(crate) fn refusal_over(declarations: &Declarations, fault: JobFault) -> Refusal
+    requires declared { NamesOneOf declarations.now fault }
+    requires of_files { IsOfFiles fault }
+    ensures { IsToldOver declarations.now fault result }
+{
+    match fault {
+        JobFault::BudgetTooSmall(least) => Refusal::Budget(least),
+        JobFault::IntermediatesTooLarge(memory) => Refusal::Intermediates(memory),
+        JobFault::Array(t, fault) => array_refusal(declarations.tensor(t).name, fault),
+        JobFault::Disk => Refusal::Disk,
+        JobFault::Memory => Refusal::Memory,
+    }
+}
+
+/// The refusal that tells a fault of a run of a specification.
 pub fn refusal_of(spec: &Spec, fault: JobFault) -> Refusal
     requires declared { NamesDeclared spec.now fault }
     requires of_files { IsOfFiles fault }
     ensures { IsToldAs spec.now fault result }
 {
-    match fault {
-        JobFault::BudgetTooSmall(least) => Refusal::Budget(least),
-        JobFault::IntermediatesTooLarge(memory) => Refusal::Intermediates(memory),
-        JobFault::Array(t, fault) => array_refusal(spec.tensor(t).name, fault),
-        JobFault::Disk => Refusal::Disk,
-        JobFault::Memory => Refusal::Memory,
-    }
+    refusal_over(spec.declarations(), fault)
 }

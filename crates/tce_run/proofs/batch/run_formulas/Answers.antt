@@ -2,7 +2,7 @@ use Rattle.std.proofs.Common.{List, ℕ, Err, refl, sym, subst, ap}
 use Rattle.tce_outside.proofs.Causes.{cause_as}
 use Rattle.tce_batch.specs.Reports.{HasRun}
 use Rattle.tce_run.proofs.Told.{refusal_in, answered}
-use Rattle.tce_run.proofs.BatchRan.{names_one, names_tensor, of_files_at, failed_told, disk_told_at}
+use Rattle.tce_run.proofs.BatchRan.{names_one, names_tensor, of_files_at, failed_told, disk_told_at, told_at}
 use Rattle.tce_run.proofs.batch.run_formulas.Goals as goal
 
 pub returns-in-Ok-clause-done : goal.returns-in-Ok-clause-done
@@ -22,22 +22,19 @@ returns-in-Ok-clause-cause g c = cause_as _ _ (answered c.into_vec.result _ refl
 pub returns-in-Ok-clause-told : goal.returns-in-Ok-clause-told
 returns-in-Ok-clause-told g c = λ none. c.in-Ok.ensures.quiet (λ failed. failed)
 
-pub refusal_at-requires-clause-formula : goal.refusal_at-requires-clause-formula
-refusal_at-requires-clause-formula g c =
-    names_one (g.D.Disk.files c.args.disk.now) c.args.batch.now c.args.budget c.in-Err.refused.formula c.in-Err.refused.fault c.in-Err.ensures.refused
+pub refusal_over-requires-clause-declared : goal.refusal_over-requires-clause-declared
+refusal_over-requires-clause-declared g c =
+    names_tensor (g.D.Disk.files c.args.disk.now) c.args.batch.now c.args.budget c.in-Err.refused.formula c.declarations.result.now c.in-Err.refused.fault c.declarations.ensures c.in-Err.ensures.refused
 
-pub refusal_at-requires-clause-of_files : goal.refusal_at-requires-clause-of_files
-refusal_at-requires-clause-of_files g c =
+pub refusal_over-requires-clause-of_files : goal.refusal_over-requires-clause-of_files
+refusal_over-requires-clause-of_files g c =
     of_files_at (g.D.Disk.files c.args.disk.now) c.args.batch.now c.args.budget c.in-Err.refused.formula c.in-Err.refused.fault c.in-Err.ensures.refused
-
-pub refusal_at-requires-clause-declared : goal.refusal_at-requires-clause-declared
-refusal_at-requires-clause-declared g c =
-    names_tensor (g.D.Disk.files c.args.disk.now) c.args.batch.now c.args.budget c.in-Err.refused.formula c.in-Err.refused.fault c.in-Err.ensures.refused
 
 pub returns-in-Err-clause-refused : goal.returns-in-Err-clause-refused
 returns-in-Err-clause-refused g c = record {
   refused = c.in-Err.refused;
-  told = c.refusal_at.ensures;
+  told = told_at c.args.batch.now c.declarations.result.now c.in-Err.refused c.refusal_over.result c.declarations.ensures
+      (names_one (g.D.Disk.files c.args.disk.now) c.args.batch.now c.args.budget c.in-Err.refused.formula c.in-Err.refused.fault c.in-Err.ensures.refused) c.refusal_over.ensures;
   cause = c.in-Err.ensures.refused;
   left = c.in-Err.ensures.left;
 }
@@ -46,8 +43,10 @@ pub returns-in-Err-clause-others : goal.returns-in-Err-clause-others
 returns-in-Err-clause-others g c = c.run_batch.ensures.others
 
 pub returns-in-Err-clause-cause : goal.returns-in-Err-clause-cause
-returns-in-Err-clause-cause g c = cause_as _ _ (λ failed. failed_told c.args.batch.now c.in-Err.refused c.refusal_at.result c.refusal_at.ensures (ap refusal_in failed)) c.in-Err.ensures.cause
+returns-in-Err-clause-cause g c = cause_as _ _ (λ failed. failed_told c.args.batch.now c.in-Err.refused c.refusal_over.result (told_at c.args.batch.now c.declarations.result.now c.in-Err.refused c.refusal_over.result c.declarations.ensures
+    (names_one (g.D.Disk.files c.args.disk.now) c.args.batch.now c.args.budget c.in-Err.refused.formula c.in-Err.refused.fault c.in-Err.ensures.refused) c.refusal_over.ensures) (ap refusal_in failed)) c.in-Err.ensures.cause
 
 pub returns-in-Err-clause-told : goal.returns-in-Err-clause-told
 returns-in-Err-clause-told g c = λ none.
-    c.in-Err.ensures.quiet (λ failed. none (ap Err (disk_told_at c.args.batch.now c.in-Err.refused c.refusal_at.result c.refusal_at.ensures failed)))
+    c.in-Err.ensures.quiet (λ failed. none (ap Err (disk_told_at c.args.batch.now c.in-Err.refused c.refusal_over.result (told_at c.args.batch.now c.declarations.result.now c.in-Err.refused c.refusal_over.result c.declarations.ensures
+    (names_one (g.D.Disk.files c.args.disk.now) c.args.batch.now c.args.budget c.in-Err.refused.formula c.in-Err.refused.fault c.in-Err.ensures.refused) c.refusal_over.ensures) failed)))
