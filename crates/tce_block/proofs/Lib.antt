@@ -1,5 +1,5 @@
+pub mod AddedRows
 pub mod Folds
-pub mod Fours
 pub mod FourWords
 pub mod Innermost
 pub mod Moves

@@ -1,4 +1,4 @@
-// Two loops, one inside the other: rows, some of them four at a time.
+// Two loops, one inside the other: rows, some of them all at once.
 ghost use Rattle.std.specs.Prelude.{◌≡◌, ◌↔◌, ◌+◌, ◌^◌, ◌<◌, ◌≤◌, IsTrue, length, [], ◌∷◌};
 ghost use Rattle.tce_block.specs.Running.{CanRun, AreTurned};
 ghost use Rattle.tce_block.specs.Rows.{AreFourWords, IsScaled, loops_of};
@@ -83,7 +83,7 @@ fn grow_by_scaled_rows(words: &mut Words, rows: Rows, out: u64, left: u64, right
     if rows.along.len == 4 {
         rows_of_four(words, rows, out, left, right);
     } else if rows.outer.out == 0 && LONG <= rows.along.len {
-        rows_by_four(words, rows, out, left, right);
+        rows_at_once(words, rows, out, left, right);
     } else {
         rows_by_one(words, Turn::Grow, rows, out, left, right);
     }
@@ -157,40 +157,23 @@ fn dots_of_four(words: &mut Words, rows: Rows, out: u64, left: u64, right: u64)
     }
 }
 
-// Rows that are added with one factor each, four at once as far as they go.
-fn rows_by_four(words: &mut Words, rows: Rows, out: u64, left: u64, right: u64)
-    requires limit { length words.old < 2 ^ 60 }
+// Rows that are added with one factor each to the same words, which are loaded and stored once for all rows.
+fn rows_at_once(words: &mut Words, rows: Rows, out: u64, left: u64, right: u64)
     requires run { CanRun (length words.old) (loops_of rows) out left right }
     requires still { rows.outer.out ≡ 0 }
-    requires next_word { rows.along.out ≡ 1 }
-    requires one_factor { rows.along.left ≡ 0 }
-    requires one_row { rows.along.right ≡ 1 }
+    requires scaled { IsScaled rows.along }
     ensures { AreTurned Turn.Grow (loops_of rows) out left right words.old words.new }
 {
     let Rows { outer, along } = rows;
-    let fours = outer.len / 4;
-    for four in 0..fours {
-        let x = 4 * four;
-        let factors = Strided {
-            first: left + x * outer.left,
-            step: outer.left,
-        };
-        let scaled = Strided {
-            first: right + x * outer.right,
-            step: outer.right,
-        };
-        words.mul_add_four(out, factors, scaled, along.len);
-    }
-    for x in 4 * fours..outer.len {
-        turn_along(
-            words,
-            Turn::Grow,
-            along,
-            out + x * outer.out,
-            left + x * outer.left,
-            right + x * outer.right,
-        );
-    }
+    let factors = Strided {
+        first: left,
+        step: outer.left,
+    };
+    let scaled = Strided {
+        first: right,
+        step: outer.right,
+    };
+    words.mul_add_rows(out, factors, scaled, along.len, outer.len);
 }
 
 // The rows one by one.

@@ -7,8 +7,10 @@
 ghost use Rattle.std.specs.Prelude.{◌≡◌, map, length, replicate};
 ghost use Rattle.std.specs.Simd.Lanes.{zip2};
 ghost use Rattle.tce_base.specs.Word.{wrapping_add, wrapping_sub, wrapping_mul, wrapping_sum};
-ghost use Rattle.tce_kernel.specs.Scaled.{with_four};
 
+mod rows;
+
+pub use rows::mul_add_rows;
 use std::simd::prelude::*;
 
 const LANES: usize = 8;
@@ -180,35 +182,6 @@ pub fn mul_add_sv(out: &mut [u64], s: u64, b: &[u64])
     }
     for at in LANES * blocks..out.len() {
         out[at] = out[at].wrapping_add(s.wrapping_mul(b[at]));
-    }
-}
-
-/// Adds to each word of `out` the products of the four factors and the words of `a`, `b`, `c` and `d` at its place, which is
-/// loaded and stored once.
-pub fn mul_add_four(out: &mut [u64], factors: [u64; 4], a: &[u64], b: &[u64], c: &[u64], d: &[u64])
-    requires a { length a.now ≡ length out.old }
-    requires b { length b.now ≡ length out.old }
-    requires c { length c.now ≡ length out.old }
-    requires d { length d.now ≡ length out.old }
-    ensures { out.new ≡ with_four out.old factors a.now b.now c.now d.now }
-{
-    let [p, q, r, s] = factors;
-    let blocks = out.len() / LANES;
-    for block in 0..blocks {
-        let at = LANES * block;
-        let lanes = u64x8::from_slice(&out[at..])
-            + u64x8::splat(p) * u64x8::from_slice(&a[at..])
-            + u64x8::splat(q) * u64x8::from_slice(&b[at..])
-            + u64x8::splat(r) * u64x8::from_slice(&c[at..])
-            + u64x8::splat(s) * u64x8::from_slice(&d[at..]);
-        lanes.copy_to_slice(&mut out[at..]);
-    }
-    for at in LANES * blocks..out.len() {
-        out[at] = out[at]
-            .wrapping_add(p.wrapping_mul(a[at]))
-            .wrapping_add(q.wrapping_mul(b[at]))
-            .wrapping_add(r.wrapping_mul(c[at]))
-            .wrapping_add(s.wrapping_mul(d[at]));
     }
 }
 

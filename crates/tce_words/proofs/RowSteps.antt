@@ -1,14 +1,16 @@
--- Four rows that are added one after the other.
-use Rattle.std.proofs.Common.{◌≡◌, ℕ, ◌+◌, ◌*◌, ◌<◌, ◌≤◌, List, ◌++◌, length, slice_index, slice_range, take, drop, map, refl, sym, ◌∙◌, ap, ap₂, subst, arith}
-use Rattle.std.proofs.lemmas.List.{length-take-le, get_or-append_right, get_or_append_left, length-map, get_or-map, ext_get_or}
-use Rattle.std.proofs.lemmas.Simd.{get_or-zip2}
-use Rattle.std.specs.Simd.Lanes.{zip2}
+-- Rows that are added one after the other.
+use Rattle.std.proofs.Common.{◌≡◌, ℕ, zero, suc, ◌+◌, ◌-◌, ◌*◌, ◌<◌, ◌≤◌, List, ◌++◌, length, slice_index, slice_range, take, drop, map, refl, sym, ◌∙◌, ap, ap₂, subst, arith}
+use Rattle.std.proofs.lemmas.List.{take-append-drop, length-take-le, get_or-append_right, get_or_append_left, length-map, get_or-map, ext_get_or}
+use Rattle.std.proofs.Math.Nat.{mul-le-mul_right}
+use Rattle.std.proofs.lemmas.Simd.{chunk-drop, get_or-zip2}
 use Rattle.tce_base.specs.Word.{wrapping_add, wrapping_mul}
-use Rattle.tce_kernel.specs.Scaled.{with_scaled, with_four}
+use Rattle.tce_kernel.specs.Scaled.{with_scaled, with_rows}
+use Rattle.tce_kernel.proofs.RowBlocks.{chunk-row, row_is}
 use Rattle.tce_kernel.proofs.Scaled.{length-with_scaled}
-use Rattle.tce_words.specs.Rows.{IsRowAdded, AreFourRowsAdded, row_of}
+use Rattle.tce_words.specs.Added.{reach, rows_added}
+use Rattle.tce_words.specs.Rows.{IsRowAdded, AreRowsAdded, row_of}
 use Rattle.tce_words.specs.Run.{IsWithin, AreApart, IsRun, with_part}
-use Rattle.tce_words.proofs.RunSteps.{run_of_part, get_or-slice_range, part_within, length-part, mapped_values, run_added, steady_left, part_replaced}
+use Rattle.tce_words.proofs.RunSteps.{run_of_part, get_or-slice_range, part_within, length-part, part_replaced}
 
 -- the part that was split off
 pub middle_is : (words front target back : List ℕ) (out n : ℕ) → words ≡ front ++ (target ++ back) → length front ≡ out → length target ≡ n → out + n ≤ length words → target ≡ slice_range words out (out + n)
@@ -21,23 +23,20 @@ middle_is words front target back out n whole before long room =
     ∙ ap (λ k. slice_index (target ++ back) k) (omega arith)
     ∙ get_or_append_left target back 0 t lt))
 
-pub same_four : (words also factors a b c d e g h i : List ℕ) → words ≡ also → a ≡ e → b ≡ g → c ≡ h → d ≡ i → with_four words factors a b c d ≡ with_four also factors e g h i
-same_four words also factors a b c d e g h i p q r s t = rw (p, q, r, s, t) refl
-
-first_row_added : (out factor row n : ℕ) (old : List ℕ) → 0 < n → IsWithin (length old) out 1 n → IsWithin (length old) row 1 n
-    → IsRowAdded out factor row n old (with_part old out (with_scaled (slice_range old out (out + n)) (slice_index old factor) (row_of old row n)))
-first_row_added out factor row n old some within row_within =
-    let f : ℕ → ℕ = λ t. wrapping_mul (slice_index old (factor + t * 0)) (slice_index old (row + t * 1)) in
-    let zs : List ℕ = map (wrapping_mul (slice_index old factor)) (slice_range old row (row + n)) in
-    run_added wrapping_add f out 1 n old (with_part old out (zip2 wrapping_add (slice_range old out (out + n)) zs)) zs refl refl some within
-    (mapped_values (wrapping_mul (slice_index old factor)) f row 1 n old refl some row_within
-    (λ t. steady_left wrapping_mul (slice_index old) factor t 0 (slice_index old (row + t * 1)) refl))
-
 -- a part that is replaced again
 replaced_again : (old words next : List ℕ) (out : ℕ) → length next ≡ length words → out ≤ length old → with_part old out next ≡ with_part (with_part old out words) out next
 replaced_again old words next out long le =
     ap (λ k. take out old ++ (next ++ drop (out + k) old)) long
     ∙ part_replaced (with_part old out words) (take out old) words (drop (out + length words) old) next out refl (length-take-le out old le) long
+
+-- so many rows of n words leave n words
+length-made : (words scales : List ℕ) (factor_step : ℕ) (scaled : List ℕ) (row_step n count : ℕ) → length words ≡ n → ((t : ℕ) → t < count → length (slice_range scaled (t * row_step) (t * row_step + n)) ≡ n)
+    → length (with_rows words scales factor_step scaled row_step count) ≡ n
+length-made words scales factor_step scaled row_step n zero long rows = long
+length-made words scales factor_step scaled row_step n (suc k) long rows =
+    length-with_scaled (with_rows words scales factor_step scaled row_step k) (slice_range scaled (k * row_step) (k * row_step + length words)) (slice_index scales (k * factor_step)) n
+    (length-made words scales factor_step scaled row_step n k long (λ t lt. rows t (omega arith)))
+    (ap (λ m. length (slice_range scaled (k * row_step) (k * row_step + m))) long ∙ rows k (omega arith))
 
 next_row_added : (out factor row n : ℕ) (old words : List ℕ) → 0 < n → length words ≡ n → IsWithin (length old) out 1 n → IsWithin (length old) row 1 n
     → AreApart out 1 factor 0 n → AreApart out 1 row 1 n
@@ -62,33 +61,72 @@ next_row_added out factor row n old words some long within row_within factor_apa
     subst (λ new. IsRun f out 1 n now new) (sym (replaced_again old words next out (next_long ∙ sym long) (omega arith)))
     (run_of_part f out 1 n now next refl next_long (omega (arith, room, placed.same_length)) values)
 
-pub four_rows_added : (out factor factor_step row row_step n : ℕ) (old new : List ℕ) → 0 < n → IsWithin (length old) out 1 n → ((t : ℕ) → t < 4 → IsWithin (length old) (row + t * row_step) 1 n)
-    → ((t : ℕ) → t < 4 → AreApart out 1 (factor + t * factor_step) 0 n) → ((t : ℕ) → t < 4 → AreApart out 1 (row + t * row_step) 1 n)
-    → new ≡ with_part old out (with_scaled (with_scaled (with_scaled (with_scaled (slice_range old out (out + n)) (slice_index old factor) (row_of old row n)) (slice_index old (factor + factor_step)) (row_of old (row + row_step) n)) (slice_index old (factor + 2 * factor_step)) (row_of old (row + 2 * row_step) n)) (slice_index old (factor + 3 * factor_step)) (row_of old (row + 3 * row_step) n))
-    → AreFourRowsAdded out factor factor_step row row_step n old new
-four_rows_added out factor factor_step row row_step n old new some within rows factors_apart rows_apart is =
-    let no_row : row + 0 * row_step ≡ row = omega arith in let one_row : row + 1 * row_step ≡ row + row_step = omega arith in
-    let one_factor : factor + 1 * factor_step ≡ factor + factor_step = omega arith in
-    let first : IsWithin (length old) row 1 n = subst (λ k. IsWithin (length old) k 1 n) no_row (rows 0 (omega arith)) in
-    let second : IsWithin (length old) (row + row_step) 1 n = subst (λ k. IsWithin (length old) k 1 n) one_row (rows 1 (omega arith)) in
-    let third = rows 2 (omega arith) in let fourth = rows 3 (omega arith) in
-    let words : List ℕ = slice_range old out (out + n) in
+-- words that are put where they were
+part_stays : (out n : ℕ) (old : List ℕ) → out + n ≤ length old → with_part old out (row_of old out n) ≡ old
+part_stays out n old room =
+    let long : length (row_of old out n) ≡ n = length-part old out n room in
+    ap (λ k. take out old ++ (row_of old out n ++ drop (out + k) old)) long
+    ∙ ap (λ part. take out old ++ (part ++ drop (out + n) old)) (row_is out n old)
+    ∙ ap (λ rest. take out old ++ rest) (sym (chunk-drop out n old))
+    ∙ take-append-drop out old
+
+pub all_rows_added : (out factor factor_step row row_step n count : ℕ) (scales scaled old : List ℕ) → 0 < n → IsWithin (length old) out 1 n → ((t : ℕ) → t < count → IsWithin (length old) (row + t * row_step) 1 n)
+    → ((t : ℕ) → t < count → AreApart out 1 (factor + t * factor_step) 0 n) → ((t : ℕ) → t < count → AreApart out 1 (row + t * row_step) 1 n)
+    → ((t : ℕ) → t < count → slice_index scales (t * factor_step) ≡ slice_index old (factor + t * factor_step))
+    → ((t : ℕ) → t < count → slice_range scaled (t * row_step) (t * row_step + n) ≡ row_of old (row + t * row_step) n)
+    → AreRowsAdded out factor factor_step row row_step n count old (with_part old out (with_rows (row_of old out n) scales factor_step scaled row_step count))
+all_rows_added out factor factor_step row row_step n zero scales scaled old some within rows factors_apart rows_apart factor_at row_at =
+    part_stays out n old (part_within (length old) out 1 n refl some within)
+all_rows_added out factor factor_step row row_step n (suc k) scales scaled old some within rows factors_apart rows_apart factor_at row_at =
+    let last : k < suc k = omega arith in
+    let words : List ℕ = row_of old out n in
     let long : length words ≡ n = length-part old out n (part_within (length old) out 1 n refl some within) in
-    let row_long : (k : ℕ) → IsWithin (length old) k 1 n → length (row_of old k n) ≡ n = λ k inside. length-part old k n (part_within (length old) k 1 n refl some inside) in
-    let one : List ℕ = with_scaled words (slice_index old factor) (row_of old row n) in
-    let one_long : length one ≡ n = length-with_scaled words (row_of old row n) (slice_index old factor) n long (row_long row first) in
-    let two : List ℕ = with_scaled one (slice_index old (factor + factor_step)) (row_of old (row + row_step) n) in
-    let two_long : length two ≡ n = length-with_scaled one (row_of old (row + row_step) n) (slice_index old (factor + factor_step)) n one_long (row_long (row + row_step) second) in
-    let three : List ℕ = with_scaled two (slice_index old (factor + 2 * factor_step)) (row_of old (row + 2 * row_step) n) in
-    let three_long : length three ≡ n = length-with_scaled two (row_of old (row + 2 * row_step) n) (slice_index old (factor + 2 * factor_step)) n two_long (row_long (row + 2 * row_step) third) in
-    record {
-      after_one = with_part old out one;
-      after_two = with_part old out two;
-      after_three = with_part old out three;
-      one = first_row_added out factor row n old some within first;
-      two = next_row_added out (factor + factor_step) (row + row_step) n old one some one_long within second
-          (subst (λ k. AreApart out 1 k 0 n) one_factor (factors_apart 1 (omega arith))) (subst (λ k. AreApart out 1 k 1 n) one_row (rows_apart 1 (omega arith)));
-      three = next_row_added out (factor + 2 * factor_step) (row + 2 * row_step) n old two some two_long within third (factors_apart 2 (omega arith)) (rows_apart 2 (omega arith));
-      four = subst (λ made. IsRowAdded out (factor + 3 * factor_step) (row + 3 * row_step) n (with_part old out three) made) (sym is)
-          (next_row_added out (factor + 3 * factor_step) (row + 3 * row_step) n old three some three_long within fourth (factors_apart 3 (omega arith)) (rows_apart 3 (omega arith)));
-    }
+    let made : List ℕ = with_rows words scales factor_step scaled row_step k in
+    let row_length : (t : ℕ) → t < suc k → length (row_of old (row + t * row_step) n) ≡ n = λ t lt. length-part old (row + t * row_step) n (part_within (length old) (row + t * row_step) 1 n refl some (rows t lt)) in
+    let made_long : length made ≡ n = length-made words scales factor_step scaled row_step n k long (λ t lt. ap length (row_at t (omega arith)) ∙ row_length t (omega arith)) in
+    let same : with_scaled made (slice_index old (factor + k * factor_step)) (row_of old (row + k * row_step) n) ≡ with_rows words scales factor_step scaled row_step (suc k) =
+    sym (ap₂ (with_scaled made) (factor_at k last) (ap (λ m. slice_range scaled (k * row_step) (k * row_step + m)) long ∙ row_at k last)) in (
+      with_part old out made,
+      all_rows_added out factor factor_step row row_step n k scales scaled old some within (λ t lt. rows t (omega arith)) (λ t lt. factors_apart t (omega arith)) (λ t lt. rows_apart t (omega arith)) (λ t lt. factor_at t (omega arith)) (λ t lt. row_at t (omega arith)),
+      subst (λ next. IsRowAdded out (factor + k * factor_step) (row + k * row_step) n (with_part old out made) (with_part old out next)) same
+          (next_row_added out (factor + k * factor_step) (row + k * row_step) n old made some made_long within (rows k last) (factors_apart k last) (rows_apart k last)),
+    )
+
+-- no row has a word
+pub no_words_added : (out factor factor_step row row_step count : ℕ) (old : List ℕ) → AreRowsAdded out factor factor_step row row_step 0 count old old
+no_words_added out factor factor_step row row_step zero old = refl
+no_words_added out factor factor_step row row_step (suc k) old =
+    (old, no_words_added out factor factor_step row row_step k old, record { same_length = refl; made = λ t lt. absurd (omega arith); others = λ i none. refl })
+
+-- one row more
+pub one_row_more : (out factor factor_step row row_step n k : ℕ) (old now next : List ℕ) → AreRowsAdded out factor factor_step row row_step n k old now → IsRowAdded out (factor + k * factor_step) (row + k * row_step) n now next
+    → AreRowsAdded out factor factor_step row row_step n (k + 1) old next
+one_row_more out factor factor_step row row_step n k old now next before more =
+    let is : suc k ≡ k + 1 = omega arith in
+    subst (λ m. AreRowsAdded out factor factor_step row row_step n m old next) is (now, before, more)
+
+-- the rows lie in one part of the words, and so do the factors
+pub parts_added : (out factor factor_step row row_step n count : ℕ) (old new : List ℕ) → 0 < n → 0 < count → IsWithin (length old) out 1 n
+    → IsWithin (length old) factor factor_step count → ((t : ℕ) → t < count → IsWithin (length old) (row + t * row_step) 1 n)
+    → ((t : ℕ) → t < count → AreApart out 1 (factor + t * factor_step) 0 n) → ((t : ℕ) → t < count → AreApart out 1 (row + t * row_step) 1 n)
+    → new ≡ with_part old out (rows_added old out factor factor_step row row_step n count)
+    → AreRowsAdded out factor factor_step row row_step n count old new
+parts_added out factor factor_step row row_step n count old new some more within factors rows factors_apart rows_apart is =
+    let last : count - 1 < count = omega arith in
+    let factor_room : factor + reach factor_step count 1 ≤ length old = omega (arith, factors (count - 1) last) in
+    let row_room : row + (count - 1) * row_step + n ≤ length old = part_within (length old) (row + (count - 1) * row_step) 1 n refl some (rows (count - 1) last) in
+    let below : (t step : ℕ) → t < count → t * step ≤ (count - 1) * step = λ t step lt. mul-le-mul_right step (omega arith) in
+    subst (λ next. AreRowsAdded out factor factor_step row row_step n count old next) (sym is)
+    (all_rows_added out factor factor_step row row_step n count (row_of old factor (reach factor_step count 1)) (row_of old row (reach row_step count n)) old some within rows factors_apart rows_apart
+    (λ t lt.
+    let inside : t * factor_step < reach factor_step count 1 = omega (arith, below t factor_step lt) in
+    let here : factor + t * factor_step * 1 ≡ factor + t * factor_step = omega arith in
+    get_or-slice_range old factor (reach factor_step count 1) (t * factor_step) 1 refl inside factor_room ∙ ap (slice_index old) here)
+    (λ t lt.
+    row_is (t * row_step) n (row_of old row (reach row_step count n))
+    ∙ chunk-row (t * row_step) n (reach row_step count n) row (row + t * row_step) old (omega (arith, below t row_step lt)) refl
+    ∙ sym (row_is (row + t * row_step) n old)))
+
+pub same_rows : (words also scales scales_too scaled scaled_too : List ℕ) (factor_step row_step count : ℕ) → words ≡ also → scales ≡ scales_too → scaled ≡ scaled_too
+    → with_rows words scales factor_step scaled row_step count ≡ with_rows also scales_too factor_step scaled_too row_step count
+same_rows words also scales scales_too scaled scaled_too factor_step row_step count p q r = rw (p, q, r) refl

@@ -1,5 +1,5 @@
 -- Words that are split into the part before a run, the run, and the part behind it.
-use Rattle.std.proofs.Common.{◌≡◌, ℕ, ◌+◌, ◌*◌, ◌<◌, ◌≤◌, List, ◌++◌, length, slice_range, sym, ap, ◌∙◌, subst, arith}
+use Rattle.std.proofs.Common.{◌≡◌, ℕ, ◌+◌, ◌≤◌, List, ◌++◌, length, slice_range, sym, ap, ◌∙◌, arith}
 use Rattle.tce_words.specs.Rows.{row_of}
 use Rattle.tce_words.specs.Run.{with_part}
 use Rattle.tce_words.proofs.RowSteps.{middle_is}
@@ -32,20 +32,9 @@ module _ (words front rest target back : List ℕ) (out n : ℕ) (split : words 
       → length part ≡ length target
   part_as_long at part found room = ap length (part_is at part found) ∙ length-part words at n room ∙ sym long
 
--- what holds at each of four rows
-module _ (P : ℕ → Type 0) (first step : ℕ) (each : (t : ℕ) → t < 4 → P (first + t * step)) where
-  pub at_first : P first
-  at_first =
-      let is : first + 0 * step ≡ first = omega arith in
-      subst P is (each 0 (omega arith))
+  pub stretch_is : (at len : ℕ) (part : List ℕ) → ((middle : List ℕ) → length middle ≡ n → part ≡ slice_range (front ++ (middle ++ back)) at (at + len)) → part ≡ row_of words at len
+  stretch_is at len part found = found target long ∙ ap (λ xs. slice_range xs at (at + len)) (sym whole)
 
-  pub at_second : P (first + step)
-  at_second =
-      let is : first + 1 * step ≡ first + step = omega arith in
-      subst P is (each 1 (omega arith))
-
-  pub at_third : P (first + 2 * step)
-  at_third = each 2 (omega arith)
-
-  pub at_fourth : P (first + 3 * step)
-  at_fourth = each 3 (omega arith)
+  pub stretch_as_long : (at len : ℕ) (part : List ℕ) → ((middle : List ℕ) → length middle ≡ n → part ≡ slice_range (front ++ (middle ++ back)) at (at + len)) → at + len ≤ length words
+      → length part ≡ len
+  stretch_as_long at len part found room = ap length (stretch_is at len part found) ∙ length-part words at len room

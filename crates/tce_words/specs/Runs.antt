@@ -37,14 +37,14 @@ dot_of words a a_step b b_step n = wrapping_sum (zip2 wrapping_mul (words_along 
 abbrev pub grown_at : List ℕ → ℕ → ℕ → List ℕ
 grown_at words at more = slice_set words at (wrapping_add (slice_index words at) more)
 
--- each of four rows of n words, whose first ones are a step apart, lies among len words
-abbrev pub AreRowsWithin : ℕ → ℕ → ℕ → ℕ → Type 0
-AreRowsWithin len row row_step n = (t : ℕ) → t < 4 → IsWithin len (row + t * row_step) 1 n
+-- each of so many rows of n words, whose first ones are a step apart, lies among len words
+abbrev pub AreRowsWithin : ℕ → ℕ → ℕ → ℕ → ℕ → Type 0
+AreRowsWithin len row row_step n count = (t : ℕ) → t < count → IsWithin len (row + t * row_step) 1 n
 
 -- and none of them has a place of the n words from `out` on; `step` is 1 for a row, and 0 where each is one word
-abbrev pub AreRowsApart : ℕ → ℕ → ℕ → ℕ → ℕ → Type 0
-AreRowsApart out row row_step step n = (t : ℕ) → t < 4 → AreApart out 1 (row + t * row_step) step n
+abbrev pub AreRowsApart : ℕ → ℕ → ℕ → ℕ → ℕ → ℕ → Type 0
+AreRowsApart out row row_step step n count = (t : ℕ) → t < count → AreApart out 1 (row + t * row_step) step n
 
--- each of them ends before those words or begins behind them
-abbrev pub AreRowsBeside : ℕ → ℕ → ℕ → ℕ → Type 0
-AreRowsBeside out row row_step n = (t : ℕ) → t < 4 → (row + t * row_step + n ≤ out) ⊎ (out + n ≤ row + t * row_step)
+-- the len words from `at` on end before the n words from `out` on or begin behind them
+abbrev pub IsBeside : ℕ → ℕ → ℕ → ℕ → Type 0
+IsBeside out n at len = (at + len ≤ out) ⊎ (out + n ≤ at)

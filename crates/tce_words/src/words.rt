@@ -2,7 +2,7 @@
 ghost use Rattle.std.specs.Prelude.{◌≡◌, ℕ, ◌+◌, ◌/◌, ◌%◌, ◌^◌, ◌<◌, ◌≤◌, length, slice_index, slice_set, replicate, IfOk};
 ghost use Rattle.tce_base.specs.Word.{wrapping_sum, word_of_bytes};
 ghost use Rattle.tce_words.specs.Load.{IsLoaded, narrow_of, bytes_of};
-ghost use Rattle.tce_words.specs.Rows.{AreFourRowsAdded};
+ghost use Rattle.tce_words.specs.Rows.{AreRowsAdded};
 ghost use Rattle.tce_words.specs.Run.{IsWithin, AreApart, IsDistinct, with_part, words_along};
 ghost use Rattle.tce_words.specs.Runs.{IsTimes, IsTimesAdded, IsPlus, IsMinus, IsAdded, AreRowsWithin, AreRowsApart, dot_of, grown_at};
 
@@ -220,20 +220,20 @@ impl Words {
         );
     }
 
-    /// Adds to the n words from `out` on the products of four factors and the words of four rows, the first row first.
+    /// Adds to the n words from `out` on the products of so many factors and the words of as many rows, the first row first.
     ///
-    /// The factors are the words at the first four places of `factors`, the rows the n words from each of the first four
-    /// places of `rows` on. None of them may lie among the words from `out` on.
-    pub fn mul_add_four(&mut self, out: u64, factors: Strided, rows: Strided, n: u64)
+    /// The factors are the words at the first places of `factors`, the rows the n words from each of the first places of `rows`
+    /// on. None of them may lie among the words from `out` on.
+    pub fn mul_add_rows(&mut self, out: u64, factors: Strided, rows: Strided, n: u64, count: u64)
         requires out { IsWithin (length self.old) out 1 n }
-        requires factors { IsWithin (length self.old) factors.first factors.step 4 }
-        requires rows { AreRowsWithin (length self.old) rows.first rows.step n }
-        requires apart_from_factors { AreRowsApart out factors.first factors.step 0 n }
-        requires apart_from_rows { AreRowsApart out rows.first rows.step 1 n }
-        ensures { AreFourRowsAdded out factors.first factors.step rows.first rows.step n
+        requires factors { IsWithin (length self.old) factors.first factors.step count }
+        requires rows { AreRowsWithin (length self.old) rows.first rows.step n count }
+        requires apart_from_factors { AreRowsApart out factors.first factors.step 0 n count }
+        requires apart_from_rows { AreRowsApart out rows.first rows.step 1 n count }
+        ensures { AreRowsAdded out factors.first factors.step rows.first rows.step n count
             self.old self.new }
     {
-        added::mul_add_four(
+        added::mul_add_rows(
             self.as_mut_slice(),
             out as usize,
             Run {
@@ -245,6 +245,7 @@ impl Words {
                 step: rows.step as usize,
             },
             n as usize,
+            count as usize,
         );
     }
 

@@ -1,6 +1,6 @@
 use std::process::Abort;
 use tce_kernel::{
-    add_vv, clear, dot, minus_sv, minus_vs, minus_vv, mul_add_four, mul_add_sv, mul_add_vv, mul_sv,
+    add_vv, clear, dot, minus_sv, minus_vs, minus_vv, mul_add_rows, mul_add_sv, mul_add_vv, mul_sv,
     mul_vv, plus_sv, plus_vv, sum,
 };
 
@@ -9,10 +9,10 @@ const MOST: usize = 68;
 const S: u64 = 0xfedc_ba98_7654_3210;
 
 // Words without a pattern.
-fn noise(seed: u64) -> [u64; MOST] {
-    let mut made = [0; MOST];
+fn noise<const N: usize>(seed: u64) -> [u64; N] {
+    let mut made = [0; N];
     let mut word = seed;
-    for place in 0..MOST {
+    for place in 0..N {
         word = word
             .wrapping_mul(6364136223846793005)
             .wrapping_add(1442695040888963407);
@@ -214,33 +214,41 @@ fn differences_equal_plain_loops(rt: HostRuntime) {
     expect_minus_vs(&rt, &by_one);
 }
 
-// The n first places have grown by the products of 2, 3, 5 and the last number with their rows.
-fn expect_four(rt: &impl Abort, n: usize, found: &[u64; MOST], runs: &Runs, more: &Runs) {
+// What rows are added to, their factors, which are 3 apart, and the rows, which are 70 apart.
+#[derive(Clone, Copy)]
+struct Rows {
+    old: [u64; MOST],
+    factors: [u64; 13],
+    words: [u64; 350],
+}
+
+// The n first places have grown by the products of so many factors and the words of their rows.
+fn expect_rows(rt: &impl Abort, n: usize, count: usize, found: &[u64; MOST], rows: &Rows)
+    requires { count ≤ 5 }
+{
     for t in 0..MOST {
-        let (old, a, b) = (runs.old[t], runs.a[t], runs.b[t]);
-        let even = old
-            .wrapping_add(a.wrapping_mul(2))
-            .wrapping_add(b.wrapping_mul(3));
-        let due = even
-            .wrapping_add(more.a[t].wrapping_mul(5))
-            .wrapping_sub(more.b[t]);
-        assert!(rt; found[t] == if t < n { due } else { old }, "{n} {t}");
+        let mut due = rows.old[t];
+        for k in 0..count {
+            if t < n {
+                due = due.wrapping_add(rows.factors[3 * k].wrapping_mul(rows.words[70 * k + t]));
+            }
+        }
+        assert!(rt; found[t] == due, "{count} {n} {t}");
     }
 }
 
 #[test]
-fn four_rows_equal_plain_loops(rt: HostRuntime) {
-    let (runs, more) = (Runs::of(11), Runs::of(14));
-    for n in 0..MOST {
-        let mut words = runs.old;
-        mul_add_four(
-            &mut words[..n],
-            [2, 3, 5, u64::MAX],
-            &runs.a[..n],
-            &runs.b[..n],
-            &more.a[..n],
-            &more.b[..n],
-        );
-        expect_four(&rt, n, &words, &runs, &more);
+fn rows_equal_plain_loops(rt: HostRuntime) {
+    let rows = Rows {
+        old: noise(11),
+        factors: noise(12),
+        words: noise(13),
+    };
+    for count in 0..6 {
+        for n in 0..MOST {
+            let mut words = rows.old;
+            mul_add_rows(&mut words[..n], &rows.factors, 3, &rows.words, 70, count);
+            expect_rows(&rt, n, count, &words, &rows);
+        }
     }
 }

@@ -170,10 +170,11 @@ fn summing_runs_equal_plain_loops(rt: HostRuntime) -> Result<(), Fail> {
     Ok(())
 }
 
-// Four rows from 200 on, 70 apart, with factors from 500 on, 3 apart, go to the words at 0.
-fn add_four(words: &mut Words, n: u64)
+// Rows from 200 on, 70 apart, with factors from 500 on, 3 apart, go to the words at 0.
+fn add_rows(words: &mut Words, n: u64, count: u64)
     requires length { length words.old ≡ 602 }
     requires n { n ≤ 67 }
+    requires count { count ≤ 4 }
     ensures { length words.new ≡ 602 }
 {
     let factors = Strided {
@@ -184,13 +185,32 @@ fn add_four(words: &mut Words, n: u64)
         first: 200,
         step: 70,
     };
-    words.mul_add_four(0, factors, rows, n);
+    words.mul_add_rows(0, factors, rows, n, count);
 }
 
-fn add_four_plainly(words: &mut [u64; LEN], n: usize)
-    requires { n ≤ 67 }
+// Rows from 200 on, 140 apart, go to the words at 270, which are between them.
+fn add_rows_around(words: &mut Words, n: u64, count: u64)
+    requires length { length words.old ≡ 602 }
+    requires n { n ≤ 67 }
+    requires count { count ≤ 2 }
+    ensures { length words.new ≡ 602 }
 {
-    for row in 0..4 {
+    let factors = Strided {
+        first: 500,
+        step: 3,
+    };
+    let rows = Strided {
+        first: 200,
+        step: 140,
+    };
+    words.mul_add_rows(270, factors, rows, n, count);
+}
+
+fn add_rows_plainly(words: &mut [u64; LEN], n: usize, count: usize)
+    requires n { n ≤ 67 }
+    requires count { count ≤ 4 }
+{
+    for row in 0..count {
         for t in 0..n {
             let product = words[500 + 3 * row].wrapping_mul(words[200 + 70 * row + t]);
             words[t] = words[t].wrapping_add(product);
@@ -198,16 +218,37 @@ fn add_four_plainly(words: &mut [u64; LEN], n: usize)
     }
 }
 
+fn add_rows_around_plainly(words: &mut [u64; LEN], n: usize, count: usize)
+    requires n { n ≤ 67 }
+    requires count { count ≤ 2 }
+{
+    for row in 0..count {
+        for t in 0..n {
+            let product = words[500 + 3 * row].wrapping_mul(words[200 + 140 * row + t]);
+            words[270 + t] = words[270 + t].wrapping_add(product);
+        }
+    }
+}
+
 #[test]
-fn four_rows_equal_plain_loops(rt: HostRuntime) -> Result<(), Fail> {
+fn rows_equal_plain_loops(rt: HostRuntime) -> Result<(), Fail> {
     let mut room = HeapRoom::new(rt.alloc());
     let old = noise(3);
     for n in 0..68u64 {
-        let mut words = block_of(&mut room, &old)?;
-        add_four(&mut words, n);
-        let mut plain = old;
-        add_four_plainly(&mut plain, n as usize);
-        expect_words(&rt, &words, &plain, "four");
+        for count in 0..5u64 {
+            let mut words = block_of(&mut room, &old)?;
+            add_rows(&mut words, n, count);
+            let mut plain = old;
+            add_rows_plainly(&mut plain, n as usize, count as usize);
+            expect_words(&rt, &words, &plain, "rows");
+        }
+        for count in 0..3u64 {
+            let mut words = block_of(&mut room, &old)?;
+            add_rows_around(&mut words, n, count);
+            let mut plain = old;
+            add_rows_around_plainly(&mut plain, n as usize, count as usize);
+            expect_words(&rt, &words, &plain, "around");
+        }
     }
     Ok(())
 }

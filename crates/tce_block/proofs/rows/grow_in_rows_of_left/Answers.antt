@@ -1,7 +1,7 @@
 use Rattle.std.proofs.Common.{[], ◌∷◌}
 use Rattle.tce_space.specs.Box.{places}
 use Rattle.tce_block.specs.Places.{word_place}
-use Rattle.tce_block.proofs.Fours.{made_swapped}
+use Rattle.tce_block.proofs.AddedRows.{made_swapped}
 use Rattle.tce_block.proofs.rows.grow_in_rows_of_left.Goals as goal
 
 pub returns-then-is_scaled : goal.returns-then-is_scaled
