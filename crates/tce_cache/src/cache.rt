@@ -10,7 +10,7 @@ mod writing;
 
 use crate::array::ArrayRef;
 use crate::table::Table;
-use crate::transfer::{Span, read_words};
+use crate::transfer::{Span, piece_len, read_words};
 use std::alloc::{AllocError, Global};
 use std::marker::Model;
 use tce_outside::{Disk, Failed};
@@ -31,6 +31,8 @@ pub struct Cache {
     frame_words: u64,
     table: Table,
     touches: u128,
+    // What passes between files and frames.
+    buffer: Vec<u8>,
 }
 
 // The same arrays in memory of their own.
@@ -64,7 +66,7 @@ impl Model for Cache {
 
     ghost use Rattle.tce_cache.specs.Parts.{IsWhole};
 
-    ghost invariant = { λ c. IsWhole c.arrays.items c.at c.frame_words c.table c.touches };
+    ghost invariant = { λ c. IsWhole c.arrays.items c.at c.frame_words c.table c.touches c.buffer.items };
 }
 
 impl Cache {
@@ -91,12 +93,14 @@ impl Cache {
         let kept = copied(alloc, arrays)?;
         let tiles = tile_counts(alloc, arrays)?;
         let table = Table::new(alloc, frames as usize, &tiles)?;
+        let piece = piece_len(frame_words.saturating_mul(frames));
         Ok(Cache {
             arrays: kept,
             at,
             frame_words,
             table,
             touches: 0,
+            buffer: vec![in alloc; 0; piece]?,
         })
     }
 
@@ -143,34 +147,36 @@ impl Cache {
 
     // Reads a tile into a frame.
     fn read_tile<D: Disk>(
-        &self,
+        &mut self,
         disk: &mut D,
         words: &mut Words,
         array: u8,
         tile: u64,
         frame: usize,
     ) -> Result<(), Failed>
-        requires exists { Exists self.now array tile }
-        requires frame { frame < self.now.frames }
-        requires room { HasRoom self.now words.old }
+        requires exists { Exists self.old array tile }
+        requires frame { frame < self.old.frames }
+        requires room { HasRoom self.old words.old }
         requires bounded { length words.old < 2 ^ 60 }
-        requires file { IsFileThere self.now array (D.files disk.old) }
-        ensures read { OnOk result (IsTileRead self.now (D.files disk.old) words.new
+        requires file { IsFileThere self.old array (D.files disk.old) }
+        ensures read { OnOk result (IsTileRead self.old (D.files disk.old) words.new
             array tile frame) }
         ensures len { length words.new ≡ length words.old }
-        ensures others { IsSameOutside (layout self.now) frame words.old words.new }
+        ensures others { IsSameOutside (layout self.old) frame words.old words.new }
+        ensures cache { self.new ≡ self.old }
         ensures same { D.files disk.new ≡ D.files disk.old }
         ensures cause { HasCause (D.faults disk.old) (D.faults disk.new) (IsErr result) }
         ensures told { TellsFaults (D.faults disk.old) (D.faults disk.new) (IsErr result) }
     {
+        let at = self.place(frame);
         let array = &self.arrays[array as usize];
         let n = array.shape.tile_words();
         let span = Span {
             from: n * tile,
-            at: self.place(frame),
+            at,
             n,
         };
-        read_words(disk, array, span, words)?;
+        read_words(disk, array, span, words, self.buffer.as_mut_slice())?;
         Ok(())
     }
 
@@ -208,7 +214,7 @@ impl Cache {
         Ok(oldest)
     }
 
-    // Brings a tile that is not held into a frame. It stands apart, so that a touch of a held tile has no room for the buffers.
+    // Brings a tile that is not held into a frame. It stands apart, so that a touch of a held tile is short.
     #[inline(never)]
     fn bring<D: Disk>(
         &mut self,

@@ -5,10 +5,10 @@
 //! writing is marked, and is written to its file before its frame is given to another tile, or by a flush. So the
 //! current word of a tile, which is the one in its frame or else the one in its file, never changes by a call here.
 //!
-//! Tiles pass between files and frames in pieces of at most 32 KiB, which stand outside the words of the run. The tables
-//! are taken when a cache is made. A flush writes marked tiles that follow one another, in their file and in the frames,
-//! as one span. `specs/Cache.antt` has the model, `specs/Touch.antt` says what a touch and a flush do, `specs/Runs.antt`
-//! what is done with such tiles, and `specs/Transfer.antt` what is read and written.
+//! Tiles come from files in pieces of at most 32 KiB and go to them in those of at most 256 KiB, through a buffer outside the
+//! words of the run. It and the tables are taken when a cache is made. A flush writes marked tiles that follow one another,
+//! in their file and in the frames, as one span. `specs/Cache.antt` has the model, `specs/Touch.antt` says what a touch and a
+//! flush do, `specs/Runs.antt` what is done with such tiles, and `specs/Transfer.antt` what is read and written.
 //!
 //! Which tiles are held is kept by a [`Table`], which knows of no files or devices: what the files have is a function of
 //! array, tile and place. `specs/Held.antt` has the list of held tiles, and `specs/Current.antt` says what the current word

@@ -12,14 +12,18 @@ use tce_array::Form;
 use tce_outside::{Disk, Failed};
 use tce_words::Words;
 
-// How many bytes one transfer moves at most. They stand outside the block of words.
-const PIECE: usize = 0x8000;
+// How many words a buffer has room for at most: with more of them a system writes no faster.
+const MOST_WORDS: u64 = 0x8000;
 
-// A buffer is cleared before it is used, so that few words get a short one, which takes so many bytes.
-const SHORT: usize = 4096;
+// How many words one read moves at most, so that few are read of a tile beside which others were written to a new file.
+const READ_WORDS: u64 = 0x1000;
 
-// So many words fit into a short buffer in every form.
-const SHORT_WORDS: u64 = 512;
+/// How many bytes the buffer has between files and frames of so many words.
+pub(crate) fn piece_len(words: u64) -> usize
+    ensures { 8 ≤ result }
+{
+    8 * words.min(MOST_WORDS).max(1) as usize
+}
 
 /// Words of an array's file, from the number `from` on, and as many of a block, from `at` on.
 #[derive(Clone, Copy)]
@@ -77,8 +81,10 @@ fn read_piece<D: Disk>(
     Ok(())
 }
 
-// Reads words through a buffer, as many at a time as fit into it.
-fn read_through<D: Disk>(
+/// Reads the words of a span of an array's file through a buffer, as many at a time as fit into it.
+///
+/// Where the disk fails, these words may be anything. All others stay in every case.
+pub(crate) fn read_words<D: Disk>(
     disk: &mut D,
     array: &ArrayRef,
     span: Span,
@@ -99,7 +105,7 @@ fn read_through<D: Disk>(
     ensures told { TellsFaults (D.faults disk.old) (D.faults disk.new) (IsErr result) }
 {
     let width = array.form.width();
-    let most = buffer.len() as u64 / 8;
+    let most = (buffer.len() as u64 / 8).min(READ_WORDS);
     let mut done = 0;
     while done < span.n {
         let count = (span.n - done).min(most);
@@ -113,35 +119,6 @@ fn read_through<D: Disk>(
         done += count;
     }
     Ok(())
-}
-
-/// Reads the words of a span of an array's file.
-///
-/// Where the disk fails, these words may be anything. All others stay in every case.
-pub(crate) fn read_words<D: Disk>(
-    disk: &mut D,
-    array: &ArrayRef,
-    span: Span,
-    words: &mut Words,
-) -> Result<(), Failed>
-    requires limits { IsTiling array.now.shape }
-    requires inside { span.from + span.n ≤ padded_words array.now.shape }
-    requires room { span.at + span.n ≤ length words.old }
-    requires bounded { length words.old < 2 ^ 60 }
-    requires file { ForSome (D.files disk.old) (HasFile array.now) }
-    ensures read { OnOk result (AreRead array.now (D.files disk.old) span words.new) }
-    ensures len { length words.new ≡ length words.old }
-    ensures others { IsSameBut span.at span.n words.old words.new }
-    ensures same { D.files disk.new ≡ D.files disk.old }
-    ensures cause { HasCause (D.faults disk.old) (D.faults disk.new) (IsErr result) }
-    ensures told { TellsFaults (D.faults disk.old) (D.faults disk.new) (IsErr result) }
-{
-    if span.n <= SHORT_WORDS {
-        let mut buffer = [0; SHORT];
-        return read_through(disk, array, span, words, &mut buffer);
-    }
-    let mut buffer = [0; PIECE];
-    read_through(disk, array, span, words, &mut buffer)
 }
 
 // Writes the words of one piece.
@@ -173,8 +150,11 @@ fn write_piece<D: Disk>(
     Ok(())
 }
 
-// Writes words through a buffer, as many at a time as fit into it.
-fn write_through<D: Disk>(
+/// Writes the words of a span to an array's file through a buffer, as many at a time as fit into it.
+///
+/// Where the disk fails, these words of the file may be anything. Its first eight bytes and all other files stay in every
+/// case.
+pub(crate) fn write_words<D: Disk>(
     disk: &mut D,
     array: &ArrayRef,
     span: Span,
@@ -209,35 +189,4 @@ fn write_through<D: Disk>(
         done += count;
     }
     Ok(())
-}
-
-/// Writes the words of a span to an array's file.
-///
-/// Where the disk fails, these words of the file may be anything. Its first eight bytes and all other files stay in every
-/// case.
-pub(crate) fn write_words<D: Disk>(
-    disk: &mut D,
-    array: &ArrayRef,
-    span: Span,
-    words: &Words,
-) -> Result<(), Failed>
-    requires one { array.now.form ≡ Form.One }
-    requires limits { IsTiling array.now.shape }
-    requires inside { span.from + span.n ≤ padded_words array.now.shape }
-    requires room { span.at + span.n ≤ length words.now }
-    requires bounded { length words.now < 2 ^ 60 }
-    requires file { ForSome (D.files disk.old) (HasFile array.now) }
-    ensures written { OnOk result (Writes array.now (D.files disk.old) (D.files disk.new)
-        span words.now) }
-    ensures others { IsSameElsewhere array.now (D.files disk.old) (D.files disk.new) }
-    ensures begins { BeginsAsBefore array.now (D.files disk.old) (D.files disk.new) }
-    ensures cause { HasCause (D.faults disk.old) (D.faults disk.new) (IsErr result) }
-    ensures told { TellsFaults (D.faults disk.old) (D.faults disk.new) (IsErr result) }
-{
-    if span.n <= SHORT_WORDS {
-        let mut buffer = [0; SHORT];
-        return write_through(disk, array, span, words, &mut buffer);
-    }
-    let mut buffer = [0; PIECE];
-    write_through(disk, array, span, words, &mut buffer)
 }

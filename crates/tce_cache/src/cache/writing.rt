@@ -57,25 +57,27 @@ impl Cache {
     }
 
     // Writes the tiles of a run from their frames to their file.
-    fn write_run<D: Disk>(&self, disk: &mut D, words: &Words, run: Run) -> Result<(), Failed>
-        requires run { IsRun self.now run }
-        requires room { HasRoom self.now words.now }
+    fn write_run<D: Disk>(&mut self, disk: &mut D, words: &Words, run: Run) -> Result<(), Failed>
+        requires run { IsRun self.old run }
+        requires room { HasRoom self.old words.now }
         requires bounded { length words.now < 2 ^ 60 }
-        requires ready { ForSome (D.files disk.old) (λ fs. IsReady self.now fs words.now) }
-        ensures written { OnOk result (WritesRun self.now (D.files disk.old) (D.files disk.new)
+        requires ready { ForSome (D.files disk.old) (λ fs. IsReady self.old fs words.now) }
+        ensures cache { self.new ≡ self.old }
+        ensures written { OnOk result (WritesRun self.old (D.files disk.old) (D.files disk.new)
             words.now run) }
-        ensures others { OnlyWritableDiffers self.now (D.files disk.old) (D.files disk.new) }
+        ensures others { OnlyWritableDiffers self.old (D.files disk.old) (D.files disk.new) }
         ensures cause { HasCause (D.faults disk.old) (D.faults disk.new) (IsErr result) }
         ensures told { TellsFaults (D.faults disk.old) (D.faults disk.new) (IsErr result) }
     {
+        let at = self.place(run.frame);
         let array = &self.arrays[run.array as usize];
         let n = array.shape.tile_words();
         let span = Span {
             from: n * run.tile,
-            at: self.place(run.frame),
+            at,
             n: n * run.n as u64,
         };
-        write_words(disk, array, span, words)?;
+        write_words(disk, array, span, words, self.buffer.as_mut_slice())?;
         Ok(())
     }
 

@@ -1,74 +1,111 @@
-use Rattle.std.proofs.Common.{arith}
+use Rattle.std.proofs.Common.{arith, refl, sym, ◌≡◌, ◌∙◌, ◌*◌, subst}
+use Rattle.std.proofs.lemmas.List.{length-take-le}
+use Rattle.std.proofs.lemmas.Result.{IfOk-from_err}
+use Rattle.std.proofs.lemmas.Bool.{false≢true}
+use Rattle.tce_outside.proofs.Causes.{failed_after, no_cause}
+use Rattle.tce_cache.specs.Transfer.{IsWritten}
+use Rattle.tce_cache.proofs.Transfers.{told_before, told_once, written_joined, nothing_written}
 use Rattle.tce_cache.proofs.transfer.write_words.Goals as goal
 
-pub write_through-requires-clause-some : goal.write_through-requires-clause-some
-write_through-requires-clause-some g c = omega arith
+pub loop-done-init : goal.loop-done-init
+loop-done-init g c = record {
+  done = omega arith;
+  others = refl;
+  begins = refl;
+  counted = refl;
+  written = λ x told y now. told_once (g.D.Disk.files c.args.disk.now) x y told now (λ z. IsWritten c.args.array.now x z c.args.span.from c.args.words.now c.args.span.at 0) (nothing_written c.args.array.now x c.args.span.from c.args.span.at c.args.words.now (c.requires.file x told));
+}
 
-pub write_through-requires-clause-one : goal.write_through-requires-clause-one
-write_through-requires-clause-one g c = c.requires.one
+pub overflow_sub-span : goal.overflow_sub-span
+overflow_sub-span g c = c.loop-done.invariant.done
 
-pub write_through-requires-clause-limits : goal.write_through-requires-clause-limits
-write_through-requires-clause-limits g c = c.requires.limits
+pub overflow_add-next : goal.overflow_add-next
+overflow_add-next g c = omega (arith, c.requires.limits.room, c.requires.inside, c.loop-done.invariant.done)
 
-pub write_through-requires-clause-inside : goal.write_through-requires-clause-inside
-write_through-requires-clause-inside g c = c.requires.inside
+pub overflow_add-next-in-loop-done : goal.overflow_add-next-in-loop-done
+overflow_add-next-in-loop-done g c = omega (arith, c.requires.room, c.requires.bounded, c.loop-done.invariant.done)
 
-pub write_through-requires-clause-room : goal.write_through-requires-clause-room
-write_through-requires-clause-room g c = c.requires.room
+pub overflow_mul-piece : goal.overflow_mul-piece
+overflow_mul-piece g c = omega (arith, c.min-count.ensures, c.requires.limits.room, c.requires.inside)
 
-pub write_through-requires-clause-bounded : goal.write_through-requires-clause-bounded
-write_through-requires-clause-bounded g c = c.requires.bounded
+pub slice_bounds-piece-end : goal.slice_bounds-piece-end
+slice_bounds-piece-end g c = omega (arith, c.min-count.ensures, c.loop-done.auto.buffer)
 
-pub write_through-requires-clause-file : goal.write_through-requires-clause-file
-write_through-requires-clause-file g c = c.requires.file
+pub slice_bounds-piece-end-in-loop-done : goal.slice_bounds-piece-end-in-loop-done
+slice_bounds-piece-end-in-loop-done g c = sym (length-take-le (8 * c.min-count.result) c.loop-done.buffer (omega (arith, c.min-count.ensures, c.loop-done.auto.buffer)))
 
-pub returns-then-span-le-SHORT_WORDS-clause-written : goal.returns-then-span-le-SHORT_WORDS-clause-written
-returns-then-span-le-SHORT_WORDS-clause-written g c = c.write_through.ensures.written
+pub write_piece-requires-clause-whole : goal.write_piece-requires-clause-whole
+write_piece-requires-clause-whole g c = length-take-le (8 * c.min-count.result) c.loop-done.buffer (omega (arith, c.min-count.ensures, c.loop-done.auto.buffer))
 
-pub returns-then-span-le-SHORT_WORDS-clause-others : goal.returns-then-span-le-SHORT_WORDS-clause-others
-returns-then-span-le-SHORT_WORDS-clause-others g c = c.write_through.ensures.others
+pub write_piece-requires-clause-one : goal.write_piece-requires-clause-one
+write_piece-requires-clause-one g c = c.requires.one
 
-pub returns-then-span-le-SHORT_WORDS-clause-begins : goal.returns-then-span-le-SHORT_WORDS-clause-begins
-returns-then-span-le-SHORT_WORDS-clause-begins g c = c.write_through.ensures.begins
+pub write_piece-requires-clause-limits : goal.write_piece-requires-clause-limits
+write_piece-requires-clause-limits g c = c.requires.limits
 
-pub returns-then-span-le-SHORT_WORDS-clause-cause : goal.returns-then-span-le-SHORT_WORDS-clause-cause
-returns-then-span-le-SHORT_WORDS-clause-cause g c = c.write_through.ensures.cause
+pub write_piece-requires-clause-inside : goal.write_piece-requires-clause-inside
+write_piece-requires-clause-inside g c = omega (arith, c.requires.inside, c.loop-done.invariant.done, c.min-count.ensures)
 
-pub returns-then-span-le-SHORT_WORDS-clause-told : goal.returns-then-span-le-SHORT_WORDS-clause-told
-returns-then-span-le-SHORT_WORDS-clause-told g c = c.write_through.ensures.told
+pub write_piece-requires-clause-room : goal.write_piece-requires-clause-room
+write_piece-requires-clause-room g c = omega (arith, c.requires.room, c.loop-done.invariant.done, c.min-count.ensures)
 
-pub write_through-requires-2-clause-some : goal.write_through-requires-2-clause-some
-write_through-requires-2-clause-some g c = omega arith
+pub write_piece-requires-clause-bounded : goal.write_piece-requires-clause-bounded
+write_piece-requires-clause-bounded g c = c.requires.bounded
 
-pub write_through-requires-2-clause-one : goal.write_through-requires-2-clause-one
-write_through-requires-2-clause-one g c = c.requires.one
+pub write_piece-requires-clause-file : goal.write_piece-requires-clause-file
+write_piece-requires-clause-file g c x told =
+    let first = told_before c.args.array.now.file.bytes _ _ x c.loop-done.invariant.others told in
+    (c.loop-done.invariant.written first.0 first.1 x told).has_file
 
-pub write_through-requires-2-clause-limits : goal.write_through-requires-2-clause-limits
-write_through-requires-2-clause-limits g c = c.requires.limits
+pub overflow_add-done : goal.overflow_add-done
+overflow_add-done g c = omega (arith, c.requires.limits.room, c.requires.inside, c.loop-done.invariant.done, c.min-count.ensures)
 
-pub write_through-requires-2-clause-inside : goal.write_through-requires-2-clause-inside
-write_through-requires-2-clause-inside g c = c.requires.inside
+pub loop-done-smaller : goal.loop-done-smaller
+loop-done-smaller g c = omega (arith, c.requires.some, c.loop-done-test.true, c.min-count.ensures)
 
-pub write_through-requires-2-clause-room : goal.write_through-requires-2-clause-room
-write_through-requires-2-clause-room g c = c.requires.room
+pub loop-done-preserved : goal.loop-done-preserved
+loop-done-preserved g c =
+    let piece = c.in_ok-write_piece.ensures in
+    let before = c.loop-done.invariant in
+    record {
+      done = omega (arith, c.min-count.ensures);
+      others = piece.others ∙ before.others;
+      begins = piece.begins ∙ before.begins;
+      counted = piece.told false≢true ∙ before.counted;
+      written = λ x told y now.
+          let middle = told_before c.args.array.now.file.bytes _ _ y piece.others now in
+          written_joined c.args.array.now x middle.0 y c.args.span.from c.args.span.at c.loop-done.done c.min-count.result c.args.words.now
+          (before.written x told middle.0 middle.1) (piece.written middle.0 middle.1 y now);
+    }
 
-pub write_through-requires-2-clause-bounded : goal.write_through-requires-2-clause-bounded
-write_through-requires-2-clause-bounded g c = c.requires.bounded
+pub returns-in_err-write_piece-clause-written : goal.returns-in_err-write_piece-clause-written
+returns-in_err-write_piece-clause-written g c = IfOk-from_err c.from_residual.result _ c.from_residual.ensures.0
 
-pub write_through-requires-2-clause-file : goal.write_through-requires-2-clause-file
-write_through-requires-2-clause-file g c = c.requires.file
+pub returns-in_err-write_piece-clause-others : goal.returns-in_err-write_piece-clause-others
+returns-in_err-write_piece-clause-others g c = c.write_piece.ensures.others ∙ c.loop-done.invariant.others
+
+pub returns-in_err-write_piece-clause-begins : goal.returns-in_err-write_piece-clause-begins
+returns-in_err-write_piece-clause-begins g c = c.write_piece.ensures.begins ∙ c.loop-done.invariant.begins
+
+pub returns-in_err-write_piece-clause-cause : goal.returns-in_err-write_piece-clause-cause
+returns-in_err-write_piece-clause-cause g c = failed_after (g.D.Disk.faults c.args.disk.now) (g.D.Disk.faults c.loop-done.disk) (g.D.Disk.faults c.write_piece.new.disk) c.loop-done.invariant.counted c.in_err-write_piece.ensures.cause
+
+pub returns-in_err-write_piece-clause-told : goal.returns-in_err-write_piece-clause-told
+returns-in_err-write_piece-clause-told g c = λ none. absurd (none c.from_residual.ensures.0)
 
 pub returns-clause-written : goal.returns-clause-written
-returns-clause-written g c = c.write_through-2.ensures.written
+returns-clause-written g c x told y now =
+    let all : c.loop-done.done ≡ c.args.span.n = omega (arith, c.loop-done.invariant.done, c.loop-done-test.false) in
+    subst (IsWritten c.args.array.now x y c.args.span.from c.args.words.now c.args.span.at) all (c.loop-done.invariant.written x told y now)
 
 pub returns-clause-others : goal.returns-clause-others
-returns-clause-others g c = c.write_through-2.ensures.others
+returns-clause-others g c = c.loop-done.invariant.others
 
 pub returns-clause-begins : goal.returns-clause-begins
-returns-clause-begins g c = c.write_through-2.ensures.begins
+returns-clause-begins g c = c.loop-done.invariant.begins
 
 pub returns-clause-cause : goal.returns-clause-cause
-returns-clause-cause g c = c.write_through-2.ensures.cause
+returns-clause-cause g c = no_cause (g.D.Disk.faults c.args.disk.now) (g.D.Disk.faults c.loop-done.disk) c.loop-done.invariant.counted false≢true
 
 pub returns-clause-told : goal.returns-clause-told
-returns-clause-told g c = c.write_through-2.ensures.told
+returns-clause-told g c = λ _. c.loop-done.invariant.counted

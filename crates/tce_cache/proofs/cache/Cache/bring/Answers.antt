@@ -6,7 +6,8 @@ use Rattle.tce_cache.specs.Current.{place, IsSameOutside}
 use Rattle.tce_outside.proofs.Causes.{cause_of, failed_after, no_cause}
 use Rattle.tce_cache.specs.declared.array.ArrayRef.{ArrayRef}
 use Rattle.tce_cache.specs.Transfer.{HasFile}
-use Rattle.tce_cache.specs.Cache.{State, Exists, HasRoom, OnlyWritableDiffers, IsArrayAt, layout, stored, words_of_tile}
+use Rattle.tce_cache.specs.Cache.{State, IsCache, Exists, HasRoom, OnlyWritableDiffers, IsArrayAt, layout, stored, words_of_tile}
+use Rattle.tce_cache.specs.Touch.{IsPlaced, IsSameArrays, with_held}
 use Rattle.tce_cache.proofs.Counted.{nothing_outside}
 use Rattle.tce_cache.proofs.Tiles.{outside_frames, told_from}
 use Rattle.tce_cache.proofs.Steps.{has_after, same_brought}
@@ -80,10 +81,10 @@ pub returns-in_err-read_tile-clause-arrays : goal.returns-in_err-read_tile-claus
 returns-in_err-read_tile-clause-arrays g c = IfOk-from_err c.from_residual-in_err-read_tile.result _ c.from_residual-in_err-read_tile.ensures.0
 
 pub returns-in_err-read_tile-clause-same : goal.returns-in_err-read_tile-clause-same
-returns-in_err-read_tile-clause-same g c = c.take_frame.ensures.same
+returns-in_err-read_tile-clause-same g c = c.read_tile.ensures.cache ∙ c.take_frame.ensures.same ∙ ap (λ (z : State). with_held c.args.self.now z.held c.args.self.now.touches) (sym c.read_tile.ensures.cache)
 
 pub returns-in_err-read_tile-clause-cache : goal.returns-in_err-read_tile-clause-cache
-returns-in_err-read_tile-clause-cache g c = c.take_frame.ensures.cache
+returns-in_err-read_tile-clause-cache g c = subst IsCache (sym c.read_tile.ensures.cache) c.take_frame.ensures.cache
 
 pub returns-in_err-read_tile-clause-others : goal.returns-in_err-read_tile-clause-others
 returns-in_err-read_tile-clause-others g c = subst (OnlyWritableDiffers c.args.self.now (g.D.Disk.files c.args.disk.now)) (sym c.read_tile.ensures.same) c.take_frame.ensures.others
@@ -119,16 +120,18 @@ returns-clause-arrays g c x told y now =
     let others : IsSameOutside (layout s) f c.args.words.now words = subst (λ (z : State). IsSameOutside (layout z) f c.args.words.now words) took.same c.read_tile.ensures.others in
     let loaded : (k : ℕ) → k < words_of_tile (slice_get s.arrays c.args.array) → slice_index words (place (layout s) f + k) ≡ stored s y c.args.array c.args.tile k =
     subst (λ (z : State). (k : ℕ) → k < words_of_tile (slice_get z.arrays c.args.array) → slice_index words (place (layout z) f + k) ≡ stored z y c.args.array c.args.tile k) took.same (c.in_ok-read_tile.ensures.read y middle) in
-    same_brought s c.take_frame.new.self tile x y c.args.words.now words c.requires.cache took.placed (took.arrays x told y middle) ((c.requires.ready x told).1) others loaded
+    subst (λ (z : State). IsSameArrays s z x y c.args.words.now words) (sym c.read_tile.ensures.cache) (same_brought s c.take_frame.new.self tile x y c.args.words.now words c.requires.cache took.placed (took.arrays x told y middle) ((c.requires.ready x told).1) others loaded)
 
 pub returns-clause-placed : goal.returns-clause-placed
-returns-clause-placed g c = c.in_ok-frame.ensures.placed
+returns-clause-placed g c =
+    let tile : Held = record { array = c.args.array; tile = c.args.tile; frame = c.in_ok-frame.frame; marked = c.args.marked } in
+    subst (λ (z : State). IsPlaced c.args.self.now z tile) (sym c.read_tile.ensures.cache) c.in_ok-frame.ensures.placed
 
 pub returns-clause-same : goal.returns-clause-same
-returns-clause-same g c = c.take_frame.ensures.same
+returns-clause-same g c = c.read_tile.ensures.cache ∙ c.take_frame.ensures.same ∙ ap (λ (z : State). with_held c.args.self.now z.held c.args.self.now.touches) (sym c.read_tile.ensures.cache)
 
 pub returns-clause-cache : goal.returns-clause-cache
-returns-clause-cache g c = c.take_frame.ensures.cache
+returns-clause-cache g c = subst IsCache (sym c.read_tile.ensures.cache) c.take_frame.ensures.cache
 
 pub returns-clause-others : goal.returns-clause-others
 returns-clause-others g c = subst (OnlyWritableDiffers c.args.self.now (g.D.Disk.files c.args.disk.now)) (sym c.read_tile.ensures.same) c.take_frame.ensures.others

@@ -16,6 +16,7 @@ invariant_of-self c =
     let is = holding_is c.clean.new.self s.table.frames s.table.arrays (cleaned a t s.table.held) c.clean.ensures.same.0 c.clean.ensures.same.1 (c.clean.ensures.held a t has.0 has.1 has.2) in
     record {
       table_arrays = c.clean.ensures.same.1 ∙ c.self.invariant.table_arrays;
+      buffer_len = c.self.invariant.buffer_len;
       cache = subst (λ (tb : Holding). IsCache (record { arrays = s.arrays.items; at = s.at; frames = tb.frames; frame_words = s.frame_words; held = tb.held; touches = s.touches })) is (cache_cleaned v a t s.touches c.self.invariant.cache);
     }
 

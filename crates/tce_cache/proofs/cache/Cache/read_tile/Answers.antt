@@ -14,11 +14,11 @@ index-array-requires g c =
     let same : length c.self.inside.arrays.items ≡ length c.args.self.now.arrays = ap (λ (s : State). length s.arrays) c.self.view_is in
     omega (arith, low, same)
 
-pub place-requires-clause-frame : goal.place-requires-clause-frame
-place-requires-clause-frame g c = c.requires.frame
+pub place-at-requires-clause-frame : goal.place-at-requires-clause-frame
+place-at-requires-clause-frame g c = c.requires.frame
 
-pub place-requires-clause-bounded : goal.place-requires-clause-bounded
-place-requires-clause-bounded g c = omega (arith, c.requires.room, c.requires.bounded)
+pub place-at-requires-clause-bounded : goal.place-at-requires-clause-bounded
+place-at-requires-clause-bounded g c = omega (arith, c.requires.room, c.requires.bounded)
 
 pub overflow_mul-span : goal.overflow_mul-span
 overflow_mul-span g c =
@@ -46,7 +46,7 @@ read_words-requires-clause-room g c =
     let here = array_at (λ (x : ArrayRef). c.args.tile < tiles x.shape) c.self.inside.arrays.items c.args.self.now.arrays c.args.array a (ap (λ (s : State). s.arrays) c.self.view_is) c.requires.exists c.index-array.ensures in
     let fits : c.tile_words-n.result ≤ c.args.self.now.frame_words = omega (arith, c.tile_words-n.ensures.words, (subst IsCache c.self.view_is c.self.invariant.cache).arrays.fit c.args.array a here.0) in
     let room = frame_room c.args.self.now c.args.words.now c.args.frame c.tile_words-n.result c.requires.frame fits c.requires.room in
-    omega (arith, room, c.place.ensures)
+    omega (arith, room, c.place-at.ensures)
 
 pub read_words-requires-clause-file : goal.read_words-requires-clause-file
 read_words-requires-clause-file g c x told =
@@ -74,20 +74,20 @@ returns-in_err-read_words-clause-others g c =
     let a = c.index-array.result.now in
     let here = array_at (λ (x : ArrayRef). c.args.tile < tiles x.shape) c.self.inside.arrays.items c.args.self.now.arrays c.args.array a (ap (λ (s : State). s.arrays) c.self.view_is) c.requires.exists c.index-array.ensures in
     let fits : c.tile_words-n.result ≤ c.args.self.now.frame_words = omega (arith, c.tile_words-n.ensures.words, (subst IsCache c.self.view_is c.self.invariant.cache).arrays.fit c.args.array a here.0) in
-    inside_frame c.args.self.now c.args.frame c.tile_words-n.result c.place.result c.args.words.now c.read_words.new.words fits c.place.ensures c.read_words.ensures.others
+    inside_frame c.args.self.now c.args.frame c.tile_words-n.result c.place-at.result c.args.words.now c.read_words.new.words fits c.place-at.ensures c.read_words.ensures.others
 
 pub returns-clause-read : goal.returns-clause-read
 returns-clause-read g c x told =
     let a = c.index-array.result.now in
     let here = array_at (λ (x : ArrayRef). c.args.tile < tiles x.shape) c.self.inside.arrays.items c.args.self.now.arrays c.args.array a (ap (λ (s : State). s.arrays) c.self.view_is) c.requires.exists c.index-array.ensures in
-    tile_read c.args.self.now a x c.args.array c.args.tile c.args.frame c.tile_words-n.result c.place.result c.read_words.new.words here.0 c.tile_words-n.ensures.words c.place.ensures (c.in_ok-read_words.ensures.read x told)
+    tile_read c.args.self.now a x c.args.array c.args.tile c.args.frame c.tile_words-n.result c.place-at.result c.read_words.new.words here.0 c.tile_words-n.ensures.words c.place-at.ensures (c.in_ok-read_words.ensures.read x told)
 
 pub returns-clause-others : goal.returns-clause-others
 returns-clause-others g c =
     let a = c.index-array.result.now in
     let here = array_at (λ (x : ArrayRef). c.args.tile < tiles x.shape) c.self.inside.arrays.items c.args.self.now.arrays c.args.array a (ap (λ (s : State). s.arrays) c.self.view_is) c.requires.exists c.index-array.ensures in
     let fits : c.tile_words-n.result ≤ c.args.self.now.frame_words = omega (arith, c.tile_words-n.ensures.words, (subst IsCache c.self.view_is c.self.invariant.cache).arrays.fit c.args.array a here.0) in
-    inside_frame c.args.self.now c.args.frame c.tile_words-n.result c.place.result c.args.words.now c.read_words.new.words fits c.place.ensures c.in_ok-read_words.ensures.others
+    inside_frame c.args.self.now c.args.frame c.tile_words-n.result c.place-at.result c.args.words.now c.read_words.new.words fits c.place-at.ensures c.in_ok-read_words.ensures.others
 
 pub returns-clause-len : goal.returns-clause-len
 returns-clause-len g c = c.read_words.ensures.len

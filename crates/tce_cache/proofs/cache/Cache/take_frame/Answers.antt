@@ -56,6 +56,7 @@ invariant_of-self g c =
     let room : length v.held < v.frames = omega (arith, c.len.ensures.count, c.frames.ensures, c.if-len-frames.true) in
     record {
       table_arrays = c.hold.ensures.same.1 ∙ c.self.invariant.table_arrays;
+      buffer_len = c.self.invariant.buffer_len;
       cache = cache_held v c.args.self.now c.hold.new.self x c.self.invariant.cache c.self.view_is c.hold.ensures.same.0 c.hold.ensures.held room c.requires.absent c.hold.ensures.free c.hold.ensures.low c.requires.exists c.requires.writable;
     }
 
@@ -225,6 +226,7 @@ invariant_of-self-2 g c =
     let state = state_over now w v c.replace.new.self c.replace.new.self.held c.self-2.view_is c.in_ok-write_back.ensures.same c.replace.ensures.same.0 refl in
     record {
       table_arrays = c.replace.ensures.same.1 ∙ c.self-2.invariant.table_arrays;
+      buffer_len = c.self-2.invariant.buffer_len;
       cache = subst IsCache (sym state) (cache_over now v.held c.replace.new.self.held x is up c.requires.exists c.requires.writable);
     }
 

@@ -77,7 +77,7 @@ invariant_of-self g c =
     ] in
     let now : IsCache (with_held v r (s.touches + 1)) = cache_touched v a t (s.touches + 1) h x is found.1 named.0 named.1 writable (touched_apart s.table.frames s.table.held a t h x is.apart found.1 named.0 named.1 refl) (omega arith) in
     let moved = subst (λ (tb : Holding). IsCache (record { arrays = s.arrays.items; at = s.at; frames = tb.frames; frame_words = s.frame_words; held = tb.held; touches = s.touches + 1 })) table now in
-    record { table_arrays = c.touch.ensures.same.1 ∙ c.self.invariant.table_arrays; cache = moved }
+    record { table_arrays = c.touch.ensures.same.1 ∙ c.self.invariant.table_arrays; cache = moved; buffer_len = c.self.invariant.buffer_len }
 
 pub returns-in-Some-clause-touched : goal.returns-in-Some-clause-touched
 returns-in-Some-clause-touched g c =
@@ -182,7 +182,7 @@ pub invariant_of-self-in-None : goal.invariant_of-self-in-None
 invariant_of-self-in-None g c =
     let s = c.self.inside in
     let v : State = record { arrays = s.arrays.items; at = s.at; frames = s.table.frames; frame_words = s.frame_words; held = s.table.held; touches = s.touches } in
-    record { table_arrays = c.self.invariant.table_arrays; cache = cache_counted v (s.touches + 1) c.self.invariant.cache }
+    record { table_arrays = c.self.invariant.table_arrays; cache = cache_counted v (s.touches + 1) c.self.invariant.cache; buffer_len = c.self.invariant.buffer_len }
 
 pub bring-requires-clause-exists : goal.bring-requires-clause-exists
 bring-requires-clause-exists g c = subst (λ (z : State). Exists z c.args.array c.args.tile) (sym c.self.view_is) c.requires.exists

@@ -6,13 +6,17 @@ use Rattle.tce_cache.specs.Frames.{held_at}
 use Rattle.tce_outside.proofs.Causes.{cause_of, no_cause}
 use Rattle.tce_cache.specs.declared.cache.writing.Run.{Run}
 use Rattle.tce_cache.specs.Cache.{State, IsCache}
-use Rattle.tce_cache.specs.Touch.{IsSameArrays}
-use Rattle.tce_cache.specs.Runs.{run_cleaned}
+use Rattle.tce_cache.specs.Touch.{IsSameArrays, with_held}
+use Rattle.tce_cache.specs.Runs.{IsRun, run_cleaned}
 use Rattle.tce_cache.proofs.Counted.{held_again, no_others}
 use Rattle.tce_cache.proofs.Runs.{none_cleaned, are_cleaned, run_of_one, same_run}
 use Rattle.tce_cache.proofs.Steps.{same_stay}
 use Rattle.tce_cache.proofs.Transfers.{told_once}
 use Rattle.tce_cache.proofs.cache.Cache.write_back.Goals as goal
+
+-- the same cache has its own tiles
+still_held : (old new : State) → new ≡ old → new ≡ with_held old new.held old.touches
+still_held old new is = subst (λ (z : State). z ≡ with_held old z.held old.touches) (sym is) refl
 
 pub frame-held-requires : goal.frame-held-requires
 frame-held-requires g c = subst (λ (z : State). c.args.frame < length z.held) (sym c.self.view_is) c.requires.frame
@@ -86,13 +90,13 @@ pub returns-in_err-write_run-clause-few : goal.returns-in_err-write_run-clause-f
 returns-in_err-write_run-clause-few g c = IfOk-from_err c.from_residual.result _ c.from_residual.ensures.0
 
 pub returns-in_err-write_run-clause-same : goal.returns-in_err-write_run-clause-same
-returns-in_err-write_run-clause-same g c = refl
+returns-in_err-write_run-clause-same g c = still_held c.args.self.now c.write_run.new.self c.write_run.ensures.cache
 
 pub returns-in_err-write_run-clause-arrays : goal.returns-in_err-write_run-clause-arrays
 returns-in_err-write_run-clause-arrays g c = IfOk-from_err c.from_residual.result _ c.from_residual.ensures.0
 
 pub returns-in_err-write_run-clause-cache : goal.returns-in_err-write_run-clause-cache
-returns-in_err-write_run-clause-cache g c = subst IsCache c.self.view_is c.self.invariant.cache
+returns-in_err-write_run-clause-cache g c = subst IsCache (c.self.view_is ∙ sym c.write_run.ensures.cache) c.self.invariant.cache
 
 pub returns-in_err-write_run-clause-others : goal.returns-in_err-write_run-clause-others
 returns-in_err-write_run-clause-others g c = c.write_run.ensures.others
@@ -104,14 +108,15 @@ pub returns-in_err-write_run-clause-told : goal.returns-in_err-write_run-clause-
 returns-in_err-write_run-clause-told g c = λ none. absurd (none c.from_residual.ensures.0)
 
 pub clean_run-requires-clause-cache : goal.clean_run-requires-clause-cache
-clean_run-requires-clause-cache g c = subst IsCache c.self.view_is c.self.invariant.cache
+clean_run-requires-clause-cache g c = subst IsCache (c.self.view_is ∙ sym c.write_run.ensures.cache) c.self.invariant.cache
 
 pub clean_run-requires-clause-run : goal.clean_run-requires-clause-run
-clean_run-requires-clause-run g c = c.longest-run.ensures.run
+clean_run-requires-clause-run g c = subst (λ (z : State). IsRun z c.longest-run.result) (sym c.write_run.ensures.cache) c.longest-run.ensures.run
 
 pub returns-clause-cleaned : goal.returns-clause-cleaned
 returns-clause-cleaned g c =
-    are_cleaned c.args.self.now c.args.frame c.longest-run.result c.clean_run.new.self.held c.longest-run.ensures.run (ap (λ (r : Run). r.frame) c.longest-run.ensures.begins) (ap (λ (z : State). z.held) c.clean_run.ensures.cleaned)
+    let cleaned = c.clean_run.ensures.cleaned ∙ ap (λ (z : State). with_held z (run_cleaned c.longest-run.result.array c.longest-run.result.tile c.longest-run.result.n z.held) z.touches) c.write_run.ensures.cache in
+    are_cleaned c.args.self.now c.args.frame c.longest-run.result c.clean_run.new.self.held c.longest-run.ensures.run (ap (λ (r : Run). r.frame) c.longest-run.ensures.begins) (ap (λ (z : State). z.held) cleaned)
 
 pub returns-clause-few : goal.returns-clause-few
 returns-clause-few g c = (c.longest-run.ensures.run.some, c.longest-run.ensures.few)
@@ -119,14 +124,14 @@ returns-clause-few g c = (c.longest-run.ensures.run.some, c.longest-run.ensures.
 pub returns-clause-same : goal.returns-clause-same
 returns-clause-same g c =
     let run = c.longest-run.result in
-    held_again c.args.self.now c.clean_run.new.self (run_cleaned run.array run.tile run.n c.args.self.now.held) c.clean_run.ensures.cleaned
+    held_again c.args.self.now c.clean_run.new.self (run_cleaned run.array run.tile run.n c.args.self.now.held) (c.clean_run.ensures.cleaned ∙ ap (λ (z : State). with_held z (run_cleaned c.longest-run.result.array c.longest-run.result.tile c.longest-run.result.n z.held) z.touches) c.write_run.ensures.cache)
 
 pub returns-clause-arrays : goal.returns-clause-arrays
 returns-clause-arrays g c x told y after =
     let now = c.args.self.now in
     let words = c.args.words.now in
     let is : IsCache now = subst IsCache c.self.view_is c.self.invariant.cache in
-    subst (λ (z : State). IsSameArrays now z x y words words) (sym c.clean_run.ensures.cleaned) (same_run now x y words c.longest-run.result is (c.requires.ready x told) c.longest-run.ensures.run (c.in_ok-write_run.ensures.written x told y after))
+    subst (λ (z : State). IsSameArrays now z x y words words) (sym (c.clean_run.ensures.cleaned ∙ ap (λ (z : State). with_held z (run_cleaned c.longest-run.result.array c.longest-run.result.tile c.longest-run.result.n z.held) z.touches) c.write_run.ensures.cache)) (same_run now x y words c.longest-run.result is (c.requires.ready x told) c.longest-run.ensures.run (c.in_ok-write_run.ensures.written x told y after))
 
 pub returns-clause-cache : goal.returns-clause-cache
 returns-clause-cache g c = c.clean_run.ensures.cache

@@ -26,13 +26,13 @@ overflow_mul-span g c =
     let n : c.tile_words-n.result * c.args.run.tile ≡ tile_words a.shape * c.args.run.tile = ap (λ m. m * c.args.run.tile) c.tile_words-n.ensures.words in
     omega (arith, inside, n, c.tile_words-n.ensures.limits.room)
 
-pub place-requires-clause-frame : goal.place-requires-clause-frame
-place-requires-clause-frame g c =
+pub place-at-requires-clause-frame : goal.place-at-requires-clause-frame
+place-at-requires-clause-frame g c =
     let low = run_low c.args.self.now c.args.run (subst IsCache c.self.view_is c.self.invariant.cache) c.requires.run in
     omega (arith, low, c.requires.run.some)
 
-pub place-requires-clause-bounded : goal.place-requires-clause-bounded
-place-requires-clause-bounded g c = omega (arith, c.requires.room, c.requires.bounded)
+pub place-at-requires-clause-bounded : goal.place-at-requires-clause-bounded
+place-at-requires-clause-bounded g c = omega (arith, c.requires.room, c.requires.bounded)
 
 pub overflow_mul-span-2 : goal.overflow_mul-span-2
 overflow_mul-span-2 g c =
@@ -71,7 +71,7 @@ write_words-requires-clause-room g c =
     let here = array_at (λ (x : ArrayRef). c.args.run.tile < tiles x.shape) c.self.inside.arrays.items now.arrays c.args.run.array a (ap (λ (s : State). s.arrays) c.self.view_is) (run_exists now c.args.run is c.requires.run) c.index-array.ensures in
     let fits : c.tile_words-n.result ≤ now.frame_words = omega (arith, c.tile_words-n.ensures.words, is.arrays.fit c.args.run.array a here.0) in
     let room = run_room now c.args.words.now c.args.run c.tile_words-n.result is c.requires.run (c.tile_words-n.ensures.words ∙ sym (ap words_of_tile here.0)) fits c.requires.room in
-    subst (λ p. p + c.tile_words-n.result * c.args.run.n ≤ length c.args.words.now) (sym c.place.ensures) room
+    subst (λ p. p + c.tile_words-n.result * c.args.run.n ≤ length c.args.words.now) (sym c.place-at.ensures) room
 
 pub write_words-requires-clause-file : goal.write_words-requires-clause-file
 write_words-requires-clause-file g c x told =
@@ -92,7 +92,7 @@ returns-clause-written g c x told y after =
     let is : IsCache now = subst IsCache c.self.view_is c.self.invariant.cache in
     let a = c.index-array.result.now in
     let here = array_at (λ (b : ArrayRef). HasFile b x) c.self.inside.arrays.items now.arrays c.args.run.array a (ap (λ (s : State). s.arrays) c.self.view_is) (run_has_file now c.args.run x c.args.words.now (c.requires.ready x told) c.requires.run) c.index-array.ensures in
-    run_written now a x y c.args.run c.tile_words-n.result c.place.result c.args.words.now is.arrays c.requires.run here.0 c.tile_words-n.ensures.words c.place.ensures here.1
+    run_written now a x y c.args.run c.tile_words-n.result c.place-at.result c.args.words.now is.arrays c.requires.run here.0 c.tile_words-n.ensures.words c.place-at.ensures here.1
     (ap (others a.file.bytes) (sym after) ∙ c.in_ok-write_words.ensures.others ∙ ap (others a.file.bytes) told)
     (c.in_ok-write_words.ensures.written x told y after)
 

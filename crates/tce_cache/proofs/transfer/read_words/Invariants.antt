@@ -1,7 +1,7 @@
 use Rattle.std.proofs.Common.{◌≡◌, ◌-◌, ◌≤◌, length}
 use Rattle.std.specs.Option.{ForSome}
 use Rattle.tce_cache.specs.Transfer.{AreWordsOf, IsSameBut}
-use Rattle.tce_cache.proofs.transfer.read_through.Given as goal
+use Rattle.tce_cache.proofs.transfer.read_words.Given as goal
 
 abbrev pub invariant-loop-done : goal.invariant-loop-done
 invariant-loop-done g l = record {

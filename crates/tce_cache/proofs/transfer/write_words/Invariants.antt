@@ -2,7 +2,7 @@ use Rattle.std.proofs.Common.{◌≡◌, ◌-◌, ◌≤◌}
 use Rattle.std.specs.Option.{ForSome}
 use Rattle.tce_outside.specs.Files.{others, bytes_before}
 use Rattle.tce_cache.specs.Transfer.{IsWritten}
-use Rattle.tce_cache.proofs.transfer.write_through.Given as goal
+use Rattle.tce_cache.proofs.transfer.write_words.Given as goal
 
 abbrev pub invariant-loop-done : goal.invariant-loop-done
 invariant-loop-done g l = record {
