@@ -34,7 +34,8 @@ fn operation_of(kind: Kind) -> Arithmetic
     }
 }
 
-// A block of a sum's loops.
+// A block of a sum's loops. It stands apart, so that one of a joined product, of which most are small, is short.
+#[inline(never)]
 fn run_sum<D: Disk>(
     evaluation: &Evaluation,
     store: &mut Storage<'_, D>,
@@ -63,7 +64,8 @@ fn run_sum<D: Disk>(
     Ok(())
 }
 
-// A block of the loops of a node with two operands.
+// A block of the loops of a node with two operands, which stands apart as that of a sum does.
+#[inline(never)]
 fn run_pair<D: Disk>(
     evaluation: &Evaluation,
     store: &mut Storage<'_, D>,

@@ -89,6 +89,21 @@ impl Plan {
         if self.made && self.tail == *tail {
             return;
         }
+        self.become_that_of(evaluation, cache, tail);
+    }
+
+    // Becomes the plan of a tail. It stands apart, so that a tail that has its plan has no room for the lists of a new one, which
+    // are cleared first.
+    #[inline(never)]
+    fn become_that_of(&mut self, evaluation: &Evaluation, cache: &Cache, tail: &Tail)
+        requires steps { CanStep (places_of evaluation.now)
+            evaluation.now.result.now.tensor cache.now tail.now }
+        requires declared { All (λ i. i < length evaluation.now.space.now.indexes)
+            (loops_of tail.now) }
+        requires loops { AreLoops (loops_of tail.now)
+            (map (edge_at evaluation.now.space.now) (loops_of tail.now)) }
+        ensures { IsPlanFor (places_of evaluation.now) tail.now self.new }
+    {
         self.cuts = cuts_of(evaluation.space, tail.loops.0.as_slice());
         set_steps(evaluation, cache, tail, &mut self.nest.windows);
         self.nest.sequence = sequence_of(tail, &self.cuts, &self.nest.windows);
