@@ -11,7 +11,7 @@ from cabunlit.errors import FormulaError, NotEnoughMemory
 from cabunlit.memory import budget_of, bytes_of
 from cabunlit.plan import Plan, as_specification, plan
 from cabunlit.simulate import Reads
-from cabunlit.specification import Range, Specification
+from cabunlit.specification import Range, Specification, judge
 
 PathLike = str | os.PathLike[str]
 TARGETS = (4, 8, 12, 16, 24, 32, 48, 64, 96, 128, 192, 256, 384, 512, 768, 1024, 4096, 65536)
@@ -101,6 +101,7 @@ def advise(spec: Specification | str | PathLike, memory: int | str | None = None
     unknown = set(fixed) - set(found.ranges)
     if unknown:
         raise FormulaError(f"fixed has {sorted(map(str, unknown))}, which are no ranges")
+    judge(found.text(), program)
     plans = [plan(found.alone(k), program) for k in range(len(found.formulas))]
     return advise_plans(found, plans, bytes_of(memory), fixed)
 

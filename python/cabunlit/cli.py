@@ -15,6 +15,7 @@ from cabunlit.heads import read_head
 from cabunlit.page import report_page
 from cabunlit.pieces import Cut, cut, join, run_piece
 from cabunlit.plan import plan
+from cabunlit.progress import show
 from cabunlit.tiles import bands
 
 
@@ -131,22 +132,17 @@ def _pieces(words: argparse.Namespace) -> str:
     return "\n".join(f"piece {it} is done" for it in numbers) or "all pieces are done"
 
 
-def _put(text: str) -> None:
-    """Writes lines to standard output in one call, so that those of processes that run side by side stay whole."""
-    sys.stdout.write(f"{text}\n")
-
-
 def main(words: Sequence[str] | None = None) -> int:
     """Runs a command and returns its exit status: 0, or 1 with a line on standard error."""
     found = _parser().parse_args(words)
     try:
         if found.verb == "info":
-            _put("\n\n".join(map(info, found.file)))
+            show("\n\n".join(map(info, found.file)))
         elif found.verb == "report":
-            print(report_page(plan(found.spec), found.budget), end="")
+            show(report_page(plan(found.spec), found.budget))
         else:
-            _put(_pieces(found))
+            show(_pieces(found))
     except (CabunlitError, OSError) as error:
-        print(f"cabunlit: {error}", file=sys.stderr)
+        show(f"cabunlit: {error}", sys.stderr)
         return 1
     return 0

@@ -1,9 +1,11 @@
 """Einsums: labels, shapes and a path, as formulas of the language."""
 from __future__ import annotations
 
+import operator
 import string
 from collections.abc import Mapping, Sequence
 from dataclasses import dataclass
+from numbers import Real
 from typing import Any
 
 import numpy
@@ -112,7 +114,8 @@ class Contraction:
         output = tuple(right if right is not None else _implicit(labels))
         known = {it for of in labels for it in of}
         if len(set(output)) != len(output) or not set(output) <= known:
-            raise FormulaError(f"the output {''.join(output)!r} has a label twice, or one that no operand has")
+            raise FormulaError(f"the output {''.join(output)!r} has a label twice, or one that no operand has and so no extent: "
+                               "take labels of the operands, each once")
         return cls(kept, dropped, output, extents, _path(kept, output, extents, optimize))
 
     @property
@@ -265,7 +268,8 @@ def _extents(labels: Sequence[Labels], shapes: Sequence[Sequence[int]]) -> dict[
         for label, n in zip(of, shape):
             known = extents.get(label, 1)
             if n != known and 1 not in (n, known):
-                raise FormulaError(f"label {label!r} has the extent {known}, and {n} in operand {k}")
+                raise FormulaError(f"label {label!r} has the extent {known}, and {n} in operand {k}: give that axis another label, or "
+                                   "an operand with as many elements along it")
             extents[label] = max(n, known) if n else n
     if 0 in extents.values():
         raise FormulaError("an operand has no elements")
@@ -297,20 +301,18 @@ def _for_numpy(operands: Sequence[Labels], output: Labels, extents: Mapping[str,
 
 def _path(operands: Sequence[Labels], output: Labels, extents: Mapping[str, int], optimize: object) -> Path:
     """A path of items of one or two entries."""
-    if optimize is None or isinstance(optimize, (str, bool)):
+    found: Any = optimize
+    of_numpy = isinstance(found, (list, tuple)) and len(found) == 2 and isinstance(found[0], str) and isinstance(found[1], Real)
+    if found is None or of_numpy or isinstance(found, (str, bool)):
         text, arrays = _for_numpy(operands, output, extents)
         try:
-            found: Sequence[Any] = numpy.einsum_path(text, *arrays, optimize=optimize or False)[0]
-        except KeyError:
+            found = numpy.einsum_path(text, *arrays, optimize=tuple(found) if of_numpy else found or False)[0]
+        except (KeyError, TypeError):
             raise FormulaError(f"optimize={optimize!r} is no path that numpy finds: give \"greedy\", \"optimal\", or a path") from None
-    elif isinstance(optimize, (list, tuple)):
-        found = optimize
-    else:
-        raise FormulaError(f"optimize={optimize!r} is no path")
-    if len(found) == 2 and isinstance(found[1], (int, float)):
-        text, arrays = _for_numpy(operands, output, extents)
-        found = numpy.einsum_path(text, *arrays, optimize=tuple(found))[0]
-    items = [tuple(int(at) for at in it) for it in found if not isinstance(it, str)]
+    try:
+        items = [tuple(map(operator.index, it)) for it in found if not isinstance(it, str)]
+    except TypeError:
+        raise FormulaError(f"optimize={optimize!r} is no path: give \"greedy\", \"optimal\", or a list as [(1, 2), (0, 1)]") from None
     return _in_pairs(items, len(operands))
 
 
@@ -319,7 +321,7 @@ def _in_pairs(items: Sequence[tuple[int, ...]], count: int) -> Path:
     path: list[tuple[int, ...]] = []
     for k, item in enumerate(items):
         if not item or len(set(item)) != len(item) or any(not 0 <= at < count for at in item):
-            raise FormulaError(f"item {k} of the path, {item}, does not fit: {count} entries are left")
+            raise FormulaError(f"item {k} of the path, {item}, does not fit: {count} entries are left, which are counted from 0")
         rest = list(item)
         while len(rest) > 2:
             pair = rest[:2]
@@ -329,5 +331,5 @@ def _in_pairs(items: Sequence[tuple[int, ...]], count: int) -> Path:
         path.append(tuple(rest))
         count -= len(rest) - 1
     if count != 1:
-        raise FormulaError(f"the path leaves {count} entries, and one is wanted")
+        raise FormulaError(f"the path leaves {count} entries, and one is wanted: each item puts one in the place of those that it takes")
     return tuple(path)

@@ -10,7 +10,7 @@ from cabunlit.contraction import Contraction, from_sublists
 from cabunlit.errors import FormulaError
 from cabunlit.evaluate import run_choice
 from cabunlit.memory import bytes_of
-from cabunlit.progress import Progress
+from cabunlit.progress import Progress, show
 from cabunlit.specification import Specification
 from cabunlit.strategy import Choice, choose
 from cabunlit.tiles import Array
@@ -86,7 +86,7 @@ def einsum(subscripts: Any, *operands: Any, optimize: Any = "greedy", memory: in
     fixed_ranges = {ways["whole"].indexes[contraction.names()[it]] for it in contraction.labels if it not in free}
     choice, said = choose(_possible(ways), bytes_of(memory), free_ranges - fixed_ranges, disk, program)
     if explain:
-        print(explanation(contraction, choice, said))
+        show(explanation(contraction, choice, said))
     given = dict(zip(names, sources))
     with Workspace(program, target) as place, Progress("contractions", len(choice.plans), progress) as shown:
         return run_choice(place, choice, given, out, shown)

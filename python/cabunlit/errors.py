@@ -146,6 +146,7 @@ class SpecificationError(TceError):
     causes = {
         "more than 32 operations": "Cut the formula: strategy=\"auto\" does, and so do several formulas for batch.",
         "limit of indexes passed": "A specification has at most 24 indexes: cut the formula into several, or use an index again.",
+        "limit of rank passed": "A tensor has at most 8 indexes: contract a part first.",
         "limit of tensors passed": "A specification has at most 32 tensors: cut the formula into several.",
         "limit of tile words passed": "A tile has at most 2^20 elements: choose shorter edges.",
         "more than 10 loops": "Factor the formula: an operation has at most 10 different indexes.",
@@ -221,6 +222,21 @@ class DiskFault(TceError):
     status = 8
     advice = ("The disk is full or broken, or reading or writing is not permitted there: see to that and run again. "
               "Results that were not finished have no head.")
+
+
+def disk_fault(error: OSError, path: object) -> DiskFault:
+    """The exception of what the system says of a file or a folder.
+
+    Examples
+    --------
+    >>> raise disk_fault(PermissionError(13, "Permission denied"), "/C.tca")
+    Traceback (most recent call last):
+    ...
+    cabunlit.errors.DiskFault: error 8: disk fault
+    /C.tca: Permission denied
+    The disk is full or broken, ..
+    """
+    return DiskFault("disk fault", f"{path}: {error.strerror}")
 
 
 class ReportLost(TceError):

@@ -1,10 +1,11 @@
 """Formulas of the language on arrays of numpy and array files: `evaluate`, `batch` and `spill`."""
 from __future__ import annotations
 
+import operator
 import os
 from collections.abc import Callable, Iterable, Mapping, Sequence
 from pathlib import Path
-from typing import Any
+from typing import Any, SupportsIndex
 
 import numpy
 
@@ -15,7 +16,7 @@ from cabunlit.heads import is_whole
 from cabunlit.language import Formula, Reference, parse_formula, references
 from cabunlit.memory import budget_of, bytes_of
 from cabunlit.plan import as_specification, plan
-from cabunlit.progress import Progress, watcher
+from cabunlit.progress import Progress, show, watcher
 from cabunlit.specification import Range, Specification, judge
 from cabunlit.strategy import Choice, candidates, choose
 from cabunlit.tiles import Array
@@ -76,15 +77,14 @@ def evaluate(text: Specification | str | PathLike, arrays: Mapping[str, Any] | N
     sources = {name: as_operand(it, name) for name, it in {**(arrays or {}), **named}.items()}
     spec, free = _specified(text, sources, chunks, program)
     formula = spec.formula
+    _judge(spec, strategy, program)
     _check_operands(spec, sources)
     target = check_out(out, spec.shape(formula.result.tensor))
-    _judge(spec, strategy, program)
     ways = candidates(spec, strategy)
     choice, said = choose(ways, bytes_of(memory), free, disk, program)
     if explain:
-        print("\n".join(said))
-        for it in choice.plans:
-            print(it.spec.formula.text(), it.nest_text(), sep="\n", end="")
+        nests = [f"{it.spec.formula.text()}\n{it.nest_text()}" for it in choice.plans]
+        show("\n".join([*said, *nests]))
     with Workspace(program, target) as place, Progress("formulas", len(choice.plans), progress) as shown:
         return run_choice(place, choice, sources, out, shown)
 
@@ -258,7 +258,7 @@ def batch(text: Specification | str | PathLike, arrays: Mapping[str, Any] | None
     plans = [plan(spec.alone(k), program) for k in range(len(spec.formulas))]
     budgets = [min(it.full_budget, budget_of(room, it.memory, it.least_budget // 3)) for it in plans]
     kept = _kept(spec, home, sources) if resume and home is not None else set()
-    beside = None if home is None else home / "."
+    beside = None if home is None else home / "results"
     with Workspace(program, beside) as place, Progress("formulas", len(plans), progress) as shown:
         for name in spec.inputs():
             place.put(name, sources[name], spec)
@@ -289,7 +289,7 @@ def _found(text: Specification | str | PathLike, home: Path, sources: Mapping[st
     """The operands that are files in a folder."""
     lines = text.text() if isinstance(text, Specification) else os.fspath(text)
     if lines.endswith(".tce") and "\n" not in lines:
-        lines = Path(lines).read_text(encoding="utf-8")
+        lines = Path(lines).read_text(encoding="utf-8", errors="surrogateescape")
     formulas = [parse_formula(it.split("#")[0]) for it in lines.splitlines() if "=" in it.split("#")[0]]
     wanted = Specification(formulas=formulas).inputs()
     return {name: open_array(home / f"{name}.tca") for name in wanted
@@ -352,11 +352,13 @@ def spill(text: Specification | str | PathLike, arrays: Mapping[str, Any] | None
     36
     """
     sources = {name: as_operand(it, name) for name, it in {**(arrays or {}), **named}.items()}
+    if not isinstance(limit, SupportsIndex) or operator.index(limit) < 0:
+        raise FormulaError(f"limit={limit!r} is no number of elements: give a whole number from 0 on")
     spec, _ = _specified(text, sources, chunks, program)
-    _check_operands(spec, sources)
     name = spec.formula.result.tensor
-    target = check_out(out, spec.shape(name))
     judge(spec.text(), program)
+    _check_operands(spec, sources)
+    target = check_out(out, spec.shape(name))
     with Workspace(program, target) as place, Progress("pieces", None, progress) as shown:
         for it in spec.inputs():
             place.put(it, sources[it], spec)
@@ -365,5 +367,5 @@ def spill(text: Specification | str | PathLike, arrays: Mapping[str, Any] | None
         budget = budget_of(bytes_of(memory), limit, largest)
         report = place.run(["spill", str(budget), str(limit)], spec, watcher(files, shown) if progress else None)
         if explain:
-            print(report, end="")
+            show(report)
         return place.take(name, out, result_type(sources.values()), report)

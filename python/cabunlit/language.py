@@ -115,7 +115,7 @@ class _Reader:
         return self.tokens[self.at] if self.at < len(self.tokens) else ""
 
     def refuse(self) -> None:
-        raise FormulaError(f"bad text at {self.token or 'the end'!r} of {self.text.strip()!r}")
+        raise FormulaError(f"bad text at {self.token or 'the end'!r} of {self.text.strip()!r}: {_mending(self.token)}")
 
     def take(self, token: str) -> None:
         if self.token != token:
@@ -184,6 +184,19 @@ class _Reader:
             self.at += 1
             return Constant(value)
         return self.reference()
+
+
+def _mending(token: str) -> str:
+    """What to do about a token that cannot stand where it stands."""
+    if token in WORDS:
+        return f"{token} is reserved, so take another name, or write its own form"
+    if len(token) > 16 and token[0].isalpha():
+        return "a name has at most 16 letters"
+    if token.isdigit() and token.isascii():
+        return f"write * between factors, and numbers from 0 to {2**64 - 1} without zeros in front"
+    if token in ("_", ".") or not token.isascii():
+        return "names have the letters a to z and A to Z, digits and _ alone, a letter first, and numbers no point"
+    return "write formulas as C[i,j] = sum{k}(A[i,k] * B[k,j])"
 
 
 def _reference(it: Reference) -> str:

@@ -2,6 +2,8 @@
 from __future__ import annotations
 
 import re
+from math import isfinite
+from numbers import Real
 
 from cabunlit.errors import NotEnoughMemory
 
@@ -10,13 +12,15 @@ UNITS = {"": 1, "k": 10**3, "m": 10**6, "g": 10**9, "t": 10**12, "ki": 2**10, "m
 MOST_WORDS = 2**40
 
 
-def bytes_of(memory: int | str | None) -> int:
+def bytes_of(memory: int | str | None, name: str = "memory") -> int:
     """A memory in bytes.
 
     Parameters
     ----------
     memory : int, str or None
         Bytes, or a text as `"64 MiB"`; None for half of what the system has available.
+    name : str, optional
+        Of the argument, for what is refused.
 
     Returns
     -------
@@ -35,11 +39,11 @@ def bytes_of(memory: int | str | None) -> int:
     if memory is None:
         return _available() // 2
     if isinstance(memory, str):
-        found = re.fullmatch(r"\s*([\d.]+)\s*([kmgt]i?)?b?\s*", memory.lower())
-        if not found:
-            raise NotEnoughMemory(f"memory={memory!r} is no number of bytes: write 64 MiB, or 67108864")
-        return int(float(found[1]) * UNITS[found[2] or ""])
-    return int(memory)
+        if found := re.fullmatch(r"\s*([0-9]+(?:\.[0-9]*)?)\s*([kmgt]i?)?b?\s*", memory.lower()):
+            return int(float(found[1]) * UNITS[found[2] or ""])
+    elif isinstance(memory, Real) and isfinite(memory):
+        return int(memory)
+    raise NotEnoughMemory(f"{name}={memory!r} is no number of bytes: write \"64 MiB\", or 67108864")
 
 
 def _available() -> int:

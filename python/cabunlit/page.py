@@ -14,9 +14,10 @@ h1 { font-size: 22px; } h2 { font-size: 17px; margin-top: 32px; }
 pre, code { font: 13px/1.5 'DejaVu Sans Mono', monospace; }
 pre { background: #f4f6f8; padding: 12px; border-radius: 6px; white-space: pre-wrap; overflow-wrap: anywhere; }
 table { border-collapse: collapse; width: 100%; }
-th, td { text-align: left; padding: 3px 12px 3px 0; border-bottom: 1px solid #e4e9ee; }
+th, td { text-align: left; vertical-align: top; padding: 3px 12px 3px 0; border-bottom: 1px solid #e4e9ee; }
 .figure { overflow-x: auto; }
-ul.tree, ul.tree ul { list-style: none; padding-left: 18px; border-left: 1px solid #c6d0da; } ul.tree { border: 0; padding: 0; }
+ul.tree, ul.tree ul { list-style: none; padding-left: 14px; border-left: 1px solid #c6d0da; } ul.tree { border: 0; padding: 0; }
+ul.tree li { overflow-wrap: anywhere; }
 """
 
 

@@ -8,7 +8,6 @@ from __future__ import annotations
 import json
 import os
 import shutil
-import tempfile
 from collections.abc import Mapping
 from concurrent.futures import Executor, Future, as_completed
 from dataclasses import asdict
@@ -20,10 +19,10 @@ import numpy
 from cabunlit.arrays import SymmetricArray, TiledArray, create_array, open_array
 from cabunlit.cutfolder import MANIFEST, Cut, stamp
 from cabunlit.cutting import CutFormula, Slice, Sliced, sum_formulas
-from cabunlit.errors import ArrayError, CabunlitError, PiecesFailed
+from cabunlit.errors import ArrayError, CabunlitError, FormulaError, PiecesFailed, disk_fault
 from cabunlit.memory import budget_of, bytes_of
 from cabunlit.plan import as_specification, plan
-from cabunlit.program import run_program
+from cabunlit.program import run_program, temporary_folder, write_text
 from cabunlit.progress import Progress
 from cabunlit.specification import Specification, judge
 from cabunlit.tiles import bands
@@ -62,6 +61,7 @@ def cut(spec: Specification | str | PathLike, index: str, pieces: int, arrays: M
     FileExistsError
         Where the folder is there and holds something else: it is left as it is.
     FormulaError, ArrayError, TceError
+        `DiskFault`, a `TceError`, where the folder cannot be written. Nothing is left of it then.
 
     Examples
     --------
@@ -80,6 +80,9 @@ def cut(spec: Specification | str | PathLike, index: str, pieces: int, arrays: M
     formula = CutFormula.of(found, index)
     bounds = tuple(formula.bounds(pieces))
     given = dict(arrays or {})
+    missing = [it for it in found.inputs() if it not in given and not os.path.exists(f"{it}.tca")]
+    if missing:
+        raise FormulaError("; ".join(f"operand {it} is missing: give it, or make {it}.tca here" for it in missing))
     sources = {name: as_operand(given[name], name) if name in given else open_array(f"{name}.tca") for name in found.inputs()}
     for name, it in sources.items():
         if tuple(it.shape) != found.shape(name):
@@ -100,9 +103,25 @@ def cut(spec: Specification | str | PathLike, index: str, pieces: int, arrays: M
 
 
 def _make(made: Cut, formula: CutFormula, sources: Mapping[str, Any]) -> None:
-    """Writes the folder of a cut; what tells that it is one comes last."""
+    """Makes the folder of a cut; what was written of it goes where it cannot be finished."""
     home = Path(made.folder)
-    home.mkdir()
+    try:
+        home.mkdir()
+    except FileExistsError:
+        raise
+    except OSError as error:
+        raise disk_fault(error, home) from error
+    try:
+        _fill(home, made, formula, sources)
+    except BaseException as error:
+        shutil.rmtree(home, ignore_errors=True)
+        if isinstance(error, OSError):
+            raise disk_fault(error, home) from error
+        raise
+
+
+def _fill(home: Path, made: Cut, formula: CutFormula, sources: Mapping[str, Any]) -> None:
+    """Writes what a cut's folder holds; what tells that it is one comes last."""
     for number, (start, stop) in enumerate(made.bounds):
         place = made.place(number)
         place.mkdir()
@@ -156,6 +175,7 @@ def run_piece(folder: PathLike, number: int, memory: int | str | None = None, pr
     Raises
     ------
     TceError, ProgramKilled, NotEnoughMemory
+        `DiskFault`, a `TceError`, also where the piece's folder is not there or cannot be written.
     """
     made = Cut.load(folder)
     if not 0 <= number < len(made.bounds):
@@ -163,15 +183,18 @@ def run_piece(folder: PathLike, number: int, memory: int | str | None = None, pr
     if made.is_done(number):
         return number
     place = made.place(number)
-    spec = Specification.parse((place / "piece.tce").read_text(encoding="ascii"))
+    try:
+        spec = Specification.parse((place / "piece.tce").read_text(encoding="ascii"))
+    except OSError as error:
+        raise disk_fault(error, place / "piece.tce") from error
     found = plan(spec, program)
     room = bytes_of(memory) if memory is not None else bytes_of(None) // (os.cpu_count() or 1)
     budget = min(found.full_budget, budget_of(room, found.memory, found.least_budget // 3))
-    attempt = Path(tempfile.mkdtemp(prefix="attempt-", dir=place))
+    attempt = temporary_folder(place, "attempt-")
     try:
         for name in spec.inputs():
             (attempt / f"{name}.tca").symlink_to((place / f"{name}.tca").resolve())
-        (attempt / "piece.tce").write_text(spec.text(), encoding="ascii")
+        write_text(attempt / "piece.tce", spec.text())
         run_program(["run", "piece.tce", str(budget)], attempt, program=program, text=spec.text())
         result = f"{spec.formula.result.tensor}.tca"
         move(attempt / result, place / result)

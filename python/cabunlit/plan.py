@@ -2,7 +2,6 @@
 from __future__ import annotations
 
 import os
-import tempfile
 from dataclasses import dataclass
 from functools import cached_property
 from math import prod
@@ -10,7 +9,7 @@ from math import prod
 from cabunlit.errors import FormulaError, NotEnoughMemory
 from cabunlit.language import dims, loops
 from cabunlit.nest import Step, Tree, nest_of, nest_text
-from cabunlit.program import run_program
+from cabunlit.program import run_text
 from cabunlit.reports import Node, read_report
 from cabunlit.simulate import EXACT_TOUCHES, Reads, Simulation
 from cabunlit.specification import Specification
@@ -148,6 +147,7 @@ def plan(spec: Specification | str | PathLike, program: PathLike | None = None, 
 
     Raises
     ------
+    FileNotFoundError
     TceError
         Where the program refuses it.
 
@@ -168,12 +168,7 @@ def plan(spec: Specification | str | PathLike, program: PathLike | None = None, 
     """
     found = as_specification(spec, program)
     found.formula
-    with tempfile.TemporaryDirectory(prefix="cabunlit-") as folder:
-        text = found.text()
-        with open(os.path.join(folder, "s.tce"), "w", encoding="ascii") as file:
-            file.write(text)
-        said = run_program(["plan", "s.tce"], folder, program=program, text=text, seconds=seconds)
-    report = read_report(said)[0]
+    report = read_report(run_text(["plan"], found.text(), program=program, seconds=seconds))[0]
     return Plan(found, report.nodes, report.memory)
 
 
@@ -185,6 +180,7 @@ def as_specification(spec: Specification | str | PathLike, program: PathLike | N
         raise FormulaError(f"{spec!r} is no formula: give a text, a file's name that ends in .tce, or a Specification")
     text = os.fspath(spec)
     if text.endswith(".tce") and "\n" not in text:
-        with open(text, encoding="utf-8", newline="") as file:
+        # (what is no text is left to the program to refuse)
+        with open(text, encoding="utf-8", errors="surrogateescape", newline="") as file:
             text = file.read()
     return Specification.parse(text, program)

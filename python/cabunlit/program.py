@@ -5,11 +5,12 @@ import os
 import shutil
 import signal
 import subprocess
+import tempfile
 import time
 from collections.abc import Callable, Sequence
 from pathlib import Path
 
-from cabunlit.errors import ProgramKilled, ProgramNotFound, error_of
+from cabunlit.errors import ProgramKilled, ProgramNotFound, disk_fault, error_of
 
 PathLike = str | os.PathLike[str]
 POLL_SECONDS = 0.1
@@ -121,3 +122,80 @@ def run_program(words: Sequence[str], folder: PathLike, *, program: PathLike | N
     lines = report.splitlines()
     last = lines[-1] if lines and lines[-1].startswith("error ") else ""
     raise error_of(last, text, process.returncode, "" if last else besides.decode("utf-8", "replace").strip())
+
+
+def temporary_folder(parent: PathLike | None = None, prefix: str = "cabunlit-") -> Path:
+    """Makes a folder of a new name.
+
+    Parameters
+    ----------
+    parent : path, optional
+        Where; else where temporary files are.
+    prefix : str, optional
+        With what its name begins.
+
+    Raises
+    ------
+    DiskFault
+        Where there is no room, or writing is not permitted.
+
+    Examples
+    --------
+    >>> made = temporary_folder(".")
+    >>> made.is_dir(), made.rmdir()
+    (True, None)
+    """
+    try:
+        return Path(tempfile.mkdtemp(prefix=prefix, dir=parent))
+    except OSError as error:
+        raise disk_fault(error, parent or tempfile.tempdir or "TMPDIR") from error
+
+
+def write_text(path: Path, text: str) -> None:
+    """Writes a specification, byte by byte as the program is to read it.
+
+    Raises
+    ------
+    DiskFault
+    """
+    try:
+        path.write_bytes(text.encode("utf-8", "surrogateescape"))
+    except OSError as error:
+        raise disk_fault(error, path) from error
+
+
+def run_text(words: Sequence[str], text: str, *, program: PathLike | None = None, seconds: float | None = None) -> str:
+    """Calls the program on a specification that has no files, as `run_program` does.
+
+    Parameters
+    ----------
+    words : sequence of str
+        The command without SPEC, which comes second.
+    text : str
+        The specification.
+    program, seconds
+        As for `run_program`.
+
+    Returns
+    -------
+    str
+        What the program printed.
+
+    Raises
+    ------
+    TceError, ProgramKilled
+        As `run_program`.
+
+    Examples
+    --------
+    >>> run_text(["plan"], "index N i")
+    Traceback (most recent call last):
+    ...
+    cabunlit.errors.SpecificationError: error 2: line 1: unknown name N
+    """
+    folder = temporary_folder()
+    try:
+        write_text(folder / "s.tce", text)
+        return run_program([words[0], "s.tce", *words[1:]], folder, program=program, text=text, seconds=seconds)
+    finally:
+        shutil.rmtree(folder, ignore_errors=True)

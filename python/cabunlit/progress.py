@@ -10,6 +10,26 @@ from typing import Any, TextIO
 from cabunlit.heads import is_whole
 
 
+def show(text: str, stream: TextIO | None = None) -> None:
+    """Writes lines in one call, so that those of processes that run side by side stay whole.
+
+    Parameters
+    ----------
+    text : str
+    stream : file, optional
+        Standard output, where none is given.
+
+    Examples
+    --------
+    >>> show("one\\ntwo")
+    one
+    two
+    """
+    stream = stream or sys.stdout
+    stream.write(text if text.endswith("\n") else f"{text}\n")
+    stream.flush()
+
+
 class Progress:
     """Counts parts as they are done: a bar of tqdm where that is there, else a line for each.
 
@@ -62,9 +82,7 @@ class Progress:
         if self.total is not None and self.count < self.total:
             left = f", about {took / self.count * (self.total - self.count):.1f} s left"
         kept = " (kept)" if again else ""
-        # (in one call, so that lines of processes that run side by side stay whole)
-        self.stream.write(f"{self.what}: {self.count}{of}, {name}{kept}, {took:.1f} s{left}\n")
-        self.stream.flush()
+        show(f"{self.what}: {self.count}{of}, {name}{kept}, {took:.1f} s{left}", self.stream)
 
 
 def _bar(what: str, total: int | None, stream: TextIO) -> Any:

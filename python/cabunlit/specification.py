@@ -3,16 +3,17 @@ from __future__ import annotations
 
 import os
 import re
-import tempfile
 from collections.abc import Iterable, Mapping, Sequence
 from dataclasses import dataclass, field, replace
 from math import prod
+from typing import TypeVar
 
 from cabunlit.errors import BudgetTooSmall, CabunlitError, FormulaError
 from cabunlit.language import Formula, loops, operations, parse_formula
-from cabunlit.program import run_program
+from cabunlit.program import run_text
 
 Names = str | Iterable[str]
+Declared = TypeVar("Declared")
 
 
 @dataclass(frozen=True)
@@ -26,6 +27,13 @@ class Range:
     def tiles(self) -> int:
         """How many tiles there are along it."""
         return -(-self.extent // self.edge)
+
+
+def _declared(names: Mapping[str, Declared], name: str) -> Declared:
+    """What a name stands for."""
+    if name not in names:
+        raise FormulaError(f"{name} is not declared: declare it in front of the formula")
+    return names[name]
 
 
 def _names(names: Names) -> tuple[str, ...]:
@@ -197,19 +205,22 @@ class Specification:
 
     def extent(self, index: str) -> int:
         """The extent of an index's range."""
-        return self.ranges[self.indexes[index]].extent
+        return self.range_of(index).extent
 
     def range_of(self, index: str) -> Range:
         """The range of an index."""
-        return self.ranges[self.indexes[index]]
+        return _declared(self.ranges, _declared(self.indexes, index))
 
     def shape(self, tensor: str) -> tuple[int, ...]:
         """The extents of a tensor's positions."""
-        return tuple(self.ranges[it].extent for it in self.tensors[tensor])
+        return tuple(it.extent for it in self._ranges_of(tensor))
 
     def chunks(self, tensor: str) -> tuple[int, ...]:
         """The edges of a tensor's tiles."""
-        return tuple(self.ranges[it].edge for it in self.tensors[tensor])
+        return tuple(it.edge for it in self._ranges_of(tensor))
+
+    def _ranges_of(self, tensor: str) -> list[Range]:
+        return [_declared(self.ranges, it) for it in _declared(self.tensors, tensor)]
 
     def tile_words(self, tensor: str) -> int:
         """The words of a tensor's tile."""
@@ -217,7 +228,7 @@ class Specification:
 
     def tiles(self, tensor: str) -> int:
         """How many tiles a tensor has."""
-        return prod(self.ranges[it].tiles for it in self.tensors[tensor])
+        return prod(it.tiles for it in self._ranges_of(tensor))
 
     def file_bytes(self, tensor: str) -> int:
         """The length of a tensor's array file in bytes."""
@@ -242,7 +253,7 @@ class Specification:
         tensors = {*formula.operands(), formula.result.tensor}
         used = set(formula.result.indexes) | {i for it in operations(formula.expression) for i in loops(it)}
         kept = {name: of for name, of in self.tensors.items() if name in tensors}
-        ranges = {of for positions in kept.values() for of in positions} | {self.indexes[i] for i in used}
+        ranges = {of for positions in kept.values() for of in positions} | {_declared(self.indexes, i) for i in used}
         made = Specification()
         made.ranges = {name: it for name, it in self.ranges.items() if name in ranges}
         made.indexes = {name: of for name, of in self.indexes.items() if name in used}
@@ -310,11 +321,8 @@ def judge(text: str, program: str | os.PathLike[str] | None = None) -> None:
     SpecificationError
         With the program's own line.
     """
-    with tempfile.TemporaryDirectory(prefix="cabunlit-") as folder:
-        with open(os.path.join(folder, "s.tce"), "w", encoding="utf-8", newline="") as file:
-            file.write(text)
-        several = sum("=" in line.split("#")[0] for line in text.splitlines()) > 1
-        try:
-            run_program(["batch" if several else "run", "s.tce", "0"], folder, program=program, text=text)
-        except BudgetTooSmall:
-            pass
+    several = sum("=" in line.split("#")[0] for line in text.splitlines()) > 1
+    try:
+        run_text(["batch" if several else "run", "0"], text, program=program)
+    except BudgetTooSmall:
+        pass

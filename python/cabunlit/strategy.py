@@ -9,8 +9,8 @@ from dataclasses import dataclass
 
 from cabunlit.advise import Advice, advise_plans
 from cabunlit.errors import (CabunlitError, FormulaError, IntermediatesTooLarge, NotEnoughDisk, NotEnoughMemory, ProgramKilled,
-                             SpecificationError)
-from cabunlit.memory import budget_of
+                             SpecificationError, disk_fault)
+from cabunlit.memory import budget_of, bytes_of
 from cabunlit.plan import Plan, plan
 from cabunlit.simulate import Reads
 from cabunlit.specification import Specification
@@ -108,7 +108,7 @@ def choose(ways: Mapping[str, Specification], memory: int, free: Collection[str]
     CabunlitError
         Why the last way is none, where there is none.
     """
-    room = shutil.disk_usage(tempfile.gettempdir()).free // 2 if disk is None else disk
+    room = _free_room() // 2 if disk is None else bytes_of(disk, "disk")
     found: list[Choice] = []
     said: list[str] = []
     failed: CabunlitError | None = None
@@ -129,6 +129,14 @@ def choose(ways: Mapping[str, Specification], memory: int, free: Collection[str]
     best = min(found, key=lambda it: it.seconds)
     said.append(f"taken: {best.name}")
     return best, said
+
+
+def _free_room() -> int:
+    """The bytes that are free where temporary files are."""
+    try:
+        return shutil.disk_usage(tempfile.gettempdir()).free
+    except OSError as error:
+        raise disk_fault(error, tempfile.tempdir or "TMPDIR") from error
 
 
 def _choice(name: str, spec: Specification, memory: int, free: Collection[str], program: PathLike | None,

@@ -14,8 +14,8 @@ from typing import Any, SupportsIndex
 import numpy
 
 from cabunlit.arrays import SymmetricArray, TiledArray, open_array, owned
-from cabunlit.errors import ArrayError, DiskFault, FileChanged, FormulaError, NotEnoughDisk, TceError
-from cabunlit.program import run_program
+from cabunlit.errors import ArrayError, FileChanged, FormulaError, NotEnoughDisk, TceError, disk_fault
+from cabunlit.program import run_program, temporary_folder, write_text
 from cabunlit.specification import Specification
 from cabunlit.tiles import Array
 from cabunlit.writing import refuse_elements, refuse_mask, write_source
@@ -104,10 +104,7 @@ class Workspace:
 
     def __init__(self, program: PathLike | None = None, beside: PathLike | None = None) -> None:
         parent = None if beside is None else os.path.dirname(os.path.abspath(beside))
-        try:
-            self.folder = Path(tempfile.mkdtemp(prefix=".cabunlit-" if beside else "cabunlit-", dir=parent))
-        except OSError as error:
-            raise DiskFault("disk fault", f"{parent or os.environ.get('TMPDIR', 'TMPDIR')}: {error.strerror}") from error
+        self.folder = temporary_folder(parent, ".cabunlit-" if beside else "cabunlit-")
         self.program = program
         self.opened: list[TiledArray] = []
 
@@ -156,7 +153,7 @@ class Workspace:
     def run(self, words: Sequence[str], spec: Specification, watch: Callable[[], None] | None = None) -> str:
         """Runs the program on a specification: its words are a command's without SPEC, which comes second."""
         text = spec.text()
-        (self.folder / "s.tce").write_text(text, encoding="ascii")
+        write_text(self.folder / "s.tce", text)
         try:
             report = run_program([words[0], "s.tce", *words[1:]], self.folder, program=self.program, text=text, watch=watch)
         except TceError as error:
@@ -208,7 +205,10 @@ def _is_linked(source: Any, chunks: Sequence[int]) -> bool:
 
 
 def _temporary(folder: Path) -> str:
-    handle, name = tempfile.mkstemp(".tca", "cabunlit-", folder)
+    try:
+        handle, name = tempfile.mkstemp(".tca", "cabunlit-", folder)
+    except OSError as error:
+        raise disk_fault(error, folder) from error
     os.close(handle)
     return name
 
@@ -224,14 +224,14 @@ def move(place: PathLike, target: PathLike) -> None:
         os.replace(place, target)
     except OSError as error:
         if error.errno != errno.EXDEV:
-            raise DiskFault("disk fault", f"{os.fspath(target)}: {error.strerror}") from error
+            raise disk_fault(error, target) from error
         part = f"{os.fspath(target)}.part"
         try:
             shutil.copyfile(place, part)
             os.replace(part, target)
         except OSError as again:
             Path(part).unlink(missing_ok=True)
-            raise DiskFault("disk fault", f"{os.fspath(target)}: {again.strerror}") from again
+            raise disk_fault(again, target) from again
 
 
 def check_out(out: Out, shape: Sequence[int]) -> PathLike | None:

@@ -13,7 +13,7 @@ from typing import Any, SupportsIndex
 
 import numpy
 
-from cabunlit.errors import ArrayError, DiskFault
+from cabunlit.errors import ArrayError, disk_fault
 from cabunlit.heads import head_bytes
 from cabunlit.tiles import Array, bands, counts_of, regions, write_rows
 
@@ -91,12 +91,12 @@ class ArrayWriter:
         try:
             self._file, self._name = tempfile.mkstemp(".part", ".cabunlit-", os.path.dirname(self.path))
         except OSError as error:
-            raise _fault(error, self.path) from error
+            raise disk_fault(error, self.path) from error
         try:
             os.truncate(self._file, self.length)
         except OSError as error:
             self.abandon()
-            raise _fault(error, self.path) from error
+            raise disk_fault(error, self.path) from error
 
     def __enter__(self) -> ArrayWriter:
         return self
@@ -107,7 +107,7 @@ class ArrayWriter:
             return
         self.abandon()
         if isinstance(error, OSError) and error.errno in (errno.ENOSPC, errno.EDQUOT, errno.EIO, errno.EFBIG):
-            raise _fault(error, self.path) from error
+            raise disk_fault(error, self.path) from error
 
     def tiles(self) -> Array:
         """All elements in the order of the file, to be set."""
@@ -165,7 +165,7 @@ class ArrayWriter:
             os.replace(self._name, self.path)
         except OSError as error:
             self.abandon()
-            raise _fault(error, self.path) from error
+            raise disk_fault(error, self.path) from error
         os.close(self._file)
         self._tiles, self._file = None, -1
 
@@ -188,10 +188,6 @@ def _umask() -> int:
     found = os.umask(0)
     os.umask(found)
     return found
-
-
-def _fault(error: OSError, path: str) -> DiskFault:
-    return DiskFault("disk fault", f"{path}: {error.strerror}")
 
 
 def source_of(array: Any) -> tuple[tuple[int, ...], numpy.dtype[Any]]:

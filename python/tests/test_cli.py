@@ -36,6 +36,29 @@ def test_info_of_other_files(content, capsys):
     assert main(["info", "c.cert"]) == 1
 
 
+class Writes:
+    """A stream that counts calls."""
+
+    def __init__(self):
+        self.texts = []
+
+    def write(self, text):
+        self.texts.append(text)
+
+    def flush(self):
+        pass
+
+
+def test_each_message_is_written_in_one_call(monkeypatch):
+    write_array("A.tca", numpy.arange(3), 2)
+    for words in (["info", "A.tca", "A.tca"], ["info", "nowhere.tca"], ["report", str(PRODUCT)]):
+        out, err = Writes(), Writes()
+        monkeypatch.setattr(sys, "stdout", out)
+        monkeypatch.setattr(sys, "stderr", err)
+        status = main(words)
+        assert [len(out.texts), len(err.texts)] == [1 - status, status] and (out.texts + err.texts)[0].endswith("\n")
+
+
 def test_report(capsys):
     assert main(["report", str(PRODUCT), "--budget", "20000"]) == 0
     said = capsys.readouterr().out

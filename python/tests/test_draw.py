@@ -16,6 +16,7 @@ from cabunlit.draw import fusion_graph, memory_bars
 from cabunlit.page import report_page
 from cabunlit.plan import Plan
 from cabunlit.reports import Node
+from cabunlit.specification import Range
 
 EXAMPLES = Path(__file__).resolve().parent.parent.parent / "examples"
 BROWSER = shutil.which("chromium")
@@ -66,6 +67,14 @@ def test_the_largest_graph_is_readable(own_folder):
     html = f"<!DOCTYPE html><html><body>{fusion_graph(found)}{memory_bars(found)}</body></html>"
     seen = look(html, own_folder)
     assert seen["overlaps"] == [] and seen["right"] <= 1280 and seen["height"] >= 9 and seen["width"] <= 1280
+
+
+@pytest.mark.skipif(BROWSER is None, reason="there is no chromium")
+def test_the_page_of_the_largest_tree_fits(own_folder):
+    found = largest_plan()
+    found.spec.ranges["N"] = Range(100, 100)  # (one tile, so that its reads are followed at once)
+    seen = look(report_page(found), own_folder)
+    assert seen["overlaps"] == [] and seen["scroll"] <= 1280 and seen["height"] >= 9
 
 
 @pytest.mark.skipif(BROWSER is None, reason="there is no chromium")
