@@ -4,6 +4,7 @@ from __future__ import annotations
 import operator
 import os
 from collections.abc import Callable, Iterable, Mapping, Sequence
+from math import prod
 from pathlib import Path
 from typing import Any, SupportsIndex
 
@@ -13,8 +14,9 @@ from cabunlit.arrays import TiledArray, open_array
 from cabunlit.contraction import even_edge
 from cabunlit.errors import ArrayError, FormulaError, SpecificationError
 from cabunlit.heads import is_whole
-from cabunlit.language import Formula, Reference, parse_formula, references
+from cabunlit.language import Formula, Reference, loops, parse_formula, references
 from cabunlit.memory import budget_of, bytes_of
+from cabunlit.nest import Tree
 from cabunlit.plan import as_specification, plan
 from cabunlit.progress import Progress, show, watcher
 from cabunlit.specification import Range, Specification, judge
@@ -365,7 +367,16 @@ def spill(text: Specification | str | PathLike, arrays: Mapping[str, Any] | None
         files: Callable[[], Iterable[Path]] = lambda: [*place.folder.glob("spill-*.tca"), place.folder / f"{name}.tca"]
         largest = max(map(spec.tile_words, (*spec.inputs(), name)))
         budget = budget_of(bytes_of(memory), limit, largest)
-        report = place.run(["spill", str(budget), str(limit)], spec, watcher(files, shown) if progress else None)
+        watch = watcher(files, shown, lambda names: _share(spec, names)) if progress else None
+        report = place.run(["spill", str(budget), str(limit)], spec, watch)
         if explain:
             show(report)
         return place.take(name, out, result_type(sources.values()), report)
+
+
+def _share(spec: Specification, names: set[str]) -> float:
+    """The part of all iterations that is done where the files of these names are whole: `spill-V` has the values of operation V."""
+    tree = Tree.of(spec.formula)
+    turns = [prod(map(spec.extent, loops(it))) for it in tree.operations]
+    roots = [int(it.removeprefix("spill-")) if it.startswith("spill-") else len(turns) - 1 for it in names]
+    return sum(turns[it] for it in set().union(*map(tree.below, roots))) / sum(turns)

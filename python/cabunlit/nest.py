@@ -69,6 +69,10 @@ class Tree:
         """The operation that uses a node's values."""
         return next((v for v, it in enumerate(self.operands) if node in [x for x in it if isinstance(x, int)]), None)
 
+    def below(self, node: int) -> set[int]:
+        """A node with all operations that lead to it."""
+        return {node}.union(*(self.below(it) for it in self.operands[node] if isinstance(it, int)))
+
     def named(self, operand: int | Expression) -> str:
         """How a text names an operand."""
         return f"node {operand}" if isinstance(operand, int) else canonical(operand)

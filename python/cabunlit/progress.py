@@ -67,21 +67,31 @@ class Progress:
         if self.bar is not None:
             self.bar.close()
 
-    def done(self, name: str, again: bool = False) -> None:
-        """Says that a part is done; `again` where it was done before and is kept."""
+    def done(self, name: str, again: bool = False, share: float | None = None) -> None:
+        """Says that a part is done.
+
+        Parameters
+        ----------
+        name : str
+        again : bool, optional
+            Whether it was done before and is kept.
+        share : float, optional
+            How much of all work is done with it, up to 1; else as many of the parts as are done.
+        """
         self.count += 1
         if not self.show:
             return
+        if share is None and self.total is not None:
+            share = self.count / self.total
+        took = time.monotonic() - self.begun
+        left = "" if share is None or not 0 < share < 1 else f", about {took / share * (1 - share):.1f} s left"
+        kept = " (kept)" if again else ""
         if self.bar is not None:
-            self.bar.set_postfix_str(name + (" (kept)" if again else ""))
+            # (a bar with a total has its own)
+            self.bar.set_postfix_str(f"{name}{kept}{left if self.total is None else ''}")
             self.bar.update()
             return
-        took = time.monotonic() - self.begun
         of = f" of {self.total}" if self.total is not None else ""
-        left = ""
-        if self.total is not None and self.count < self.total:
-            left = f", about {took / self.count * (self.total - self.count):.1f} s left"
-        kept = " (kept)" if again else ""
         show(f"{self.what}: {self.count}{of}, {name}{kept}, {took:.1f} s{left}", self.stream)
 
 
@@ -96,7 +106,8 @@ def _bar(what: str, total: int | None, stream: TextIO) -> Any:
     return tqdm(total=total, desc=what, file=stream, unit=" " + what.rstrip("s"))
 
 
-def watcher(paths: Callable[[], Iterable[Path]], progress: Progress) -> Callable[[], None]:
+def watcher(paths: Callable[[], Iterable[Path]], progress: Progress,
+            share: Callable[[set[str]], float] | None = None) -> Callable[[], None]:
     """A function that tells of files once their heads stand.
 
     Parameters
@@ -104,6 +115,8 @@ def watcher(paths: Callable[[], Iterable[Path]], progress: Progress) -> Callable
     paths : callable
         The files that may be there.
     progress : Progress
+    share : callable, optional
+        How much of all work is done with the files of these names.
     """
     seen: set[Path] = set()
 
@@ -111,6 +124,6 @@ def watcher(paths: Callable[[], Iterable[Path]], progress: Progress) -> Callable
         for path in paths():
             if path not in seen and is_whole(path):
                 seen.add(path)
-                progress.done(path.stem)
+                progress.done(path.stem, share=share and share({it.stem for it in seen}))
 
     return look

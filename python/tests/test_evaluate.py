@@ -280,6 +280,15 @@ def test_spill_is_the_whole(capsys):
     assert "piece" in said.out and "pieces: 1" in said.err
 
 
+def test_how_much_of_a_spill_is_done():
+    from cabunlit.evaluate import _share
+    spec = Specification({"N": 4, "M": 2}, {"N": "i j k", "M": "l"}, {"A": "N N", "B": "N M", "C": "N N"},
+                         "C[i,j] = sum{k}(A[i,k] * A[k,j]) * sum{l}(B[j,l])")
+    # (64 iterations each of nodes 0 and 1, 8 of node 2 and 16 of node 3)
+    assert _share(spec, {"spill-1"}) == 128 / 152 and _share(spec, {"spill-2"}) == 8 / 152
+    assert _share(spec, {"spill-1", "spill-2"}) == 136 / 152 and _share(spec, {"spill-1", "C"}) == 1
+
+
 def test_two_results_of_a_run_are_apart():
     one, two = evaluate("C[i,j] = 2 * A[i,j]", A=A), evaluate("C[i,j] = 3 * A[i,j]", A=A)
     assert (numpy.asarray(one) == 2 * A).all() and (numpy.asarray(two) == 3 * A).all() and one.path != two.path

@@ -125,24 +125,32 @@ def test_executors_of_this_machine(executor):
     assert (numpy.asarray(join(made)) == A @ B).all()
 
 
-def slow_program(folder, seconds):
-    """A program that says its number and waits before it runs."""
-    path = Path(folder) / "slow-tce"
-    path.write_text(f"#!/bin/sh\nif [ \"$1\" = run ]; then echo $PPID >> {folder}/started; sleep {seconds}; fi\n"
-                    "exec \"$CABUNLIT_TCE\" \"$@\"\n")
+def waiting_program(folder, number):
+    """A program that notes who called it, and of which run NUMBER, counted from 1, never ends while its caller lives."""
+    path = Path(folder) / "waiting-tce"
+    path.write_text(f"#!/bin/sh\nif [ \"$1\" = run ]; then\n  echo $PPID >> {folder}/started\n"
+                    f"  if [ $(wc -l < {folder}/started) -ge {number} ] && mkdir {folder}/waits 2> {folder}/said; then\n"
+                    "    while kill -0 $PPID; do sleep 0.1; done\n    exit 1\n  fi\nfi\nexec \"$CABUNLIT_TCE\" \"$@\"\n")
     path.chmod(0o755)
     return path
+
+
+def callers():
+    """Who called the program that waits, once it does."""
+    wait_for(lambda: Path("waits").exists())
+    return [int(it) for it in Path("started").read_text().split()]
 
 
 def test_a_pool_that_breaks_leaves_what_is_done(own_folder):
     made = cut(SPEC, "i", 4, {"A": A, "B": B}, folder="p")
     run_piece("p", 0)
     with ProcessPoolExecutor(1) as workers:
-        workers.submit(os.getpid).result()
-        threading.Timer(0.5, lambda: [it.kill() for it in list(workers._processes.values())]).start()
+        thread = threading.Thread(target=lambda: os.kill(callers()[-1], signal.SIGKILL))
+        thread.start()
         with pytest.raises(PiecesFailed, match="call again") as caught:
-            run_pieces(made, workers, program=slow_program(own_folder, 2))
-    assert 0 not in caught.value.failed and caught.value.failed
+            run_pieces(made, workers, program=waiting_program(own_folder, 2))
+        thread.join()
+    assert caught.value.failed == (2, 3)
     run_pieces(made)
     assert (numpy.asarray(join(made)) == A @ B).all()
 
@@ -171,15 +179,11 @@ def test_dask_does_the_pieces_of_a_killed_worker_again(own_folder):
         client = distributed.Client(scheduler_file="scheduler.json")
         client.wait_for_workers(2)
 
-        def kill():
-            wait_for(lambda: Path("started").exists() and Path("started").read_text())
-            os.kill(int(Path("started").read_text().split()[0]), signal.SIGKILL)
-
-        thread = threading.Thread(target=kill)
+        thread = threading.Thread(target=lambda: os.kill(callers()[0], signal.SIGKILL))
         thread.start()
-        run_pieces(made, client.get_executor(), memory="1 MiB", program=slow_program(own_folder, 1))
+        run_pieces(made, client.get_executor(), memory="1 MiB", program=waiting_program(own_folder, 1))
         thread.join()
-        assert [it.poll() for it in running[1:]].count(None) == 1
+        wait_for(lambda: [it.poll() for it in running[1:]].count(None) == 1)
         client.close()
     finally:
         for it in running:
@@ -211,12 +215,12 @@ def test_mpi(own_folder):
 
 def test_an_interrupted_call_goes_on(own_folder):
     made = cut(SPEC, "i", 4, {"A": A, "B": B}, folder="p")
-    code = f"from cabunlit import run_pieces\nrun_pieces('p', program={str(slow_program(own_folder, 0.7))!r})\n"
+    code = f"from cabunlit import run_pieces\nrun_pieces('p', program={str(waiting_program(own_folder, 3))!r})\n"
     process = subprocess.Popen([sys.executable, "-c", code], env={**os.environ, "PYTHONPATH": PACKAGE}, stderr=subprocess.DEVNULL)
-    wait_for(lambda: Path("started").exists() and len(Path("started").read_text().split()) == 2)
+    assert callers() == [process.pid] * 3
     process.send_signal(signal.SIGINT)
-    assert process.wait(30) != 0
-    assert 0 not in made.missing() and made.missing()
+    assert process.wait(60) != 0
+    assert made.missing() == [2, 3]
     run_pieces(made)
     assert (numpy.asarray(join(made)) == A @ B).all() and not [it for it in Path("p").rglob("attempt-*")]
 

@@ -43,3 +43,20 @@ def test_a_number_that_is_not_known():
     with Progress("pieces", None, stream=stream) as progress:
         progress.done("spill-1")
     assert stream.getvalue().startswith("pieces: 1, spill-1, ")
+
+
+def test_time_left_goes_by_the_share_that_is_done(monkeypatch):
+    now = [100.0]
+    monkeypatch.setattr("cabunlit.progress.time.monotonic", lambda: now[0])
+    for total, due in ((None, "pieces: 1, spill-1, 3.0 s, about 9.0 s left"), (2, "pieces: 1 of 2, spill-1, 3.0 s, about 9.0 s left")):
+        stream, now[0] = io.StringIO(), 100.0
+        with Progress("pieces", total, stream=stream) as progress:
+            now[0] += 3
+            progress.done("spill-1", share=0.25)
+            progress.done("C", share=1.0)
+        assert stream.getvalue().splitlines()[0] == due and "left" not in stream.getvalue().splitlines()[1]
+    bar = Terminal()
+    with Progress("pieces", None, stream=bar) as progress:
+        now[0] += 3
+        progress.done("spill-1", share=0.25)
+    assert "spill-1, about 9.0 s left" in bar.getvalue()
