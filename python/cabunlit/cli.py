@@ -4,19 +4,21 @@ from __future__ import annotations
 import argparse
 import os
 import sys
-from collections.abc import Sequence
+from collections.abc import Iterable, Sequence
 from pathlib import Path
 
 import numpy
 
 from cabunlit.arrays import open_array
-from cabunlit.errors import CabunlitError
-from cabunlit.heads import read_head
+from cabunlit.errors import ArrayError, CabunlitError
+from cabunlit.heads import is_pairs, read_head, read_pairs
 from cabunlit.page import report_page
 from cabunlit.pieces import Cut, cut, join, run_piece
 from cabunlit.plan import plan
 from cabunlit.progress import show
-from cabunlit.tiles import bands
+from cabunlit.tiles import Array, bands
+
+BLOCK = 1 << 15
 
 
 def info(path: str) -> str:
@@ -50,36 +52,41 @@ def info(path: str) -> str:
     """
     if path.endswith(".cert"):
         return _certificate(path)
+    if is_pairs(path):
+        return _pairs(path)
     head = read_head(path)
     array = open_array(path)
-    size = os.path.getsize(path)
-    lines = []
-    if head.pair != (0, 0):
-        turned = "antisymmetric" if head.antisymmetric else "symmetric"
-        lines += [f"{path}: a file of pairs, {turned} in the positions {head.pair[0]} and {head.pair[1]}",
-                  f"extents {_list(head.shape)}", f"{head.stored} pairs stored, {size} bytes"]
-    else:
-        version = "first" if head.form == "TCARRAY1" else "second"
-        tiles = int(numpy.prod(array.numblocks, dtype=object))
-        padding = tiles * int(numpy.prod(head.chunks, dtype=object)) - array.size
-        lines += [f"{path}: an array file of the {version} version", f"extents {_list(head.shape)}",
-                  f"edges {_list(head.chunks)}",
-                  f"tiles {tiles} ({_list(array.numblocks)}), {padding} elements of padding",
-                  f"{head.width} bytes an element, {size} bytes"]
-    least, most = _limits(path)
-    return "\n".join([*lines, f"as signed numbers from {least} to {most}"])
+    version = "first" if head.form == "TCARRAY1" else "second"
+    tiles = int(numpy.prod(array.numblocks, dtype=object))
+    padding = tiles * int(numpy.prod(head.chunks, dtype=object)) - array.size
+    blocks = (array[band.region] for band in bands(array.shape, array.chunks, array.dtype.itemsize))
+    return "\n".join([f"{path}: an array file of the {version} version", f"extents {_list(head.shape)}", f"edges {_list(head.chunks)}",
+                      f"tiles {tiles} ({_list(array.numblocks)}), {padding} elements of padding",
+                      f"{head.width} bytes an element, {os.path.getsize(path)} bytes", _limits(blocks)])
+
+
+def _pairs(path: str) -> str:
+    """What a file of pairs holds. Its head tells the extents only where it has no others than those of the pair."""
+    first, second, sign, stored = read_pairs(path)
+    turned = "antisymmetric" if sign else "symmetric"
+    try:
+        extents = f"extents {_list(read_head(path).shape)}"
+    except ArrayError:
+        extents = "extents that its head does not tell"
+    words = numpy.memmap(path, "<i8", "r", 32, stored) if stored else numpy.zeros(0, "<i8")
+    blocks = (words[at:at + BLOCK] for at in range(0, stored, BLOCK))
+    return "\n".join([f"{path}: a file of pairs, {turned} in the positions {first} and {second}", extents,
+                      f"{stored} words stored, {os.path.getsize(path)} bytes", _limits(blocks)])
 
 
 def _list(numbers: Sequence[int]) -> str:
     return " ".join(map(str, numbers)) or "-"
 
 
-def _limits(path: str) -> tuple[int, int]:
-    """The least and the largest element, some tiles at a time."""
-    array = open_array(path)
-    blocks = (array[band.region] for band in bands(array.shape, array.chunks, array.dtype.itemsize))
+def _limits(blocks: Iterable[Array]) -> str:
+    """The least and the largest element, one block after the other."""
     pairs = [(int(block.min()), int(block.max())) for block in blocks]
-    return min(a for a, _ in pairs), max(b for _, b in pairs)
+    return f"as signed numbers from {min(a for a, _ in pairs)} to {max(b for _, b in pairs)}" if pairs else "no elements"
 
 
 def _certificate(path: str) -> str:

@@ -88,7 +88,7 @@ def read_head(path: str | os.PathLike[str], shape: Sequence[int] | None = None) 
         begin = file.read(8 * 20)
     letters, words = begin[:8], [int(it) for it in numpy.frombuffer(begin[8:len(begin) // 8 * 8], "<u8")]
     if letters == PAIRS:
-        return _pairs(path, words, size, shape)
+        return _pairs(path, size, shape)
     second = letters == SECOND
     if letters not in (FIRST, SECOND):
         state = "is not finished: run again the command that made it" if not any(letters) else "is no array file"
@@ -107,13 +107,32 @@ def read_head(path: str | os.PathLike[str], shape: Sequence[int] | None = None) 
     return head
 
 
-def _pairs(path: str | os.PathLike[str], words: list[int], size: int, shape: Sequence[int] | None) -> Head:
-    """The head of a file that stores pairs once."""
+def is_pairs(path: str | os.PathLike[str]) -> bool:
+    """Whether a file begins as one that stores pairs once."""
+    with open(path, "rb") as file:
+        return file.read(8) == PAIRS
+
+
+def read_pairs(path: str | os.PathLike[str]) -> tuple[int, int, bool, int]:
+    """What the head of a file that stores pairs once says of itself: the two positions, whether it turns the sign, and how many
+    words follow.
+
+    Raises
+    ------
+    ArrayError
+        Where it has no such head.
+    """
+    size = os.path.getsize(path)
+    words = [int(it) for it in numpy.fromfile(path, "<u8", 4)[1:]]
+    if len(words) < 3 or words[2] > 1 or words[0] >= words[1] or size % 8:
+        raise ArrayError(f"{os.fspath(path)} has no head of a file of pairs: write it again")
+    return words[0], words[1], bool(words[2]), size // 8 - 4
+
+
+def _pairs(path: str | os.PathLike[str], size: int, shape: Sequence[int] | None) -> Head:
+    """The head of a file that stores pairs once, with the extents."""
     name = os.fspath(path)
-    if len(words) < 3 or size < 32 or words[2] > 1 or words[0] >= words[1]:
-        raise ArrayError(f"{name} has no head of a file of pairs: write it again")
-    first, second, sign = words[:3]
-    stored = (size - 32) // 8
+    first, second, sign, stored = read_pairs(path)
     if shape is None:
         if (first, second) != (0, 1):
             raise ArrayError(f"{name} does not tell its extents: give shape=")
@@ -124,7 +143,7 @@ def _pairs(path: str | os.PathLike[str], words: list[int], size: int, shape: Seq
         raise ArrayError(f"{name} has pairs of the positions {first} and {second}, which {extents} has not alike")
     m = extents[first]
     pairs = m * (m - 1) // 2 if sign else m * (m + 1) // 2
-    head = Head(PAIRS.decode(), extents, extents, 8, 32, (first, second), bool(sign), pairs)
+    head = Head(PAIRS.decode(), extents, extents, 8, 32, (first, second), sign, pairs)
     if head.file_bytes != size:
         raise ArrayError(f"{name} has {size} bytes, and {head.file_bytes} are due for the extents {extents}")
     return head

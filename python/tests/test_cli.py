@@ -27,7 +27,20 @@ def test_info(capsys):
     assert "symmetric in the positions 0 and 1" in said and "a certificate of 1 operations" in said
 
 
-@pytest.mark.parametrize("content", [b"", bytes(64), b"hello, world"])
+@pytest.mark.parametrize("pair, sign, words, extents", [
+    ((0, 1), 0, [5, 6, 7], "extents 2 2"), ((0, 1), 1, [], "extents 1 1"), ((1, 2), 1, [-1] * 9, "does not tell"),
+    ((0, 1), 0, [1] * 4, "does not tell"), ((2, 7), 0, range(70000), "does not tell"),
+])
+def test_info_of_pairs(pair, sign, words, extents, capsys):
+    Path("S.sym").write_bytes(b"TCSYMM01" + numpy.array([*pair, sign, *words], "<i8").tobytes())
+    assert main(["info", "S.sym"]) == 0
+    said = capsys.readouterr().out.splitlines()
+    assert said[0] == f"S.sym: a file of pairs, {'anti' * sign}symmetric in the positions {pair[0]} and {pair[1]}" and extents in said[1]
+    assert said[2] == f"{len(words)} words stored, {32 + 8 * len(words)} bytes"
+    assert said[3] == (f"as signed numbers from {min(words)} to {max(words)}" if words else "no elements")
+
+
+@pytest.mark.parametrize("content", [b"", bytes(64), b"hello, world", b"TCSYMM01", b"TCSYMM01" + bytes(24), b"TCSYMM01" + bytes(25)])
 def test_info_of_other_files(content, capsys):
     Path("A.tca").write_bytes(content)
     assert main(["info", "A.tca"]) == 1 and capsys.readouterr().err.startswith("cabunlit: A.tca ")
