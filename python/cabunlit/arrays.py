@@ -190,6 +190,15 @@ class SymmetricArray(TiledArray):
         The two positions.
     antisymmetric : bool
         Whether an exchange of the two turns the sign.
+
+    Examples
+    --------
+    >>> with open("S.sym", "wb") as file:  # (elements 5, 6 and 7 of a symmetric matrix, at (0, 0), (0, 1) and (1, 1))
+    ...     file.write(b"TCSYMM01" + numpy.array([0, 1, 0, 5, 6, 7], "<u8").tobytes())
+    56
+    >>> numpy.asarray(open_array("S.sym"))
+    array([[5, 6],
+           [6, 7]])
     """
 
     @property

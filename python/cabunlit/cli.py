@@ -131,7 +131,9 @@ def _pieces(words: argparse.Namespace) -> str:
         return f"{words.folder}: pieces 0 to {len(made.bounds) - 1}"
     if words.step == "join":
         return f"wrote {join(words.folder, words.out).path}"
-    task = os.environ.get("SLURM_ARRAY_TASK_ID")
+    task = os.environ.get("SLURM_ARRAY_TASK_ID", "")
+    if words.number is None and task and not task.isdecimal():
+        raise CabunlitError(f"SLURM_ARRAY_TASK_ID is {task!r} and no number of a piece: give one behind the folder")
     number = words.number if words.number is not None else int(task) if task else None
     numbers = [number] if number is not None else Cut.load(words.folder).missing()
     for it in numbers:

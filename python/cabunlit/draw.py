@@ -70,7 +70,14 @@ def fusion_graph(plan: Plan) -> str:
     Returns
     -------
     str
-        SVG, which needs nothing else.
+        SVG, which needs nothing else; its width and height are in pixels.
+
+    Examples
+    --------
+    >>> from cabunlit import plan
+    >>> found = plan(Specification({"N": 4}, {"N": "i j"}, {"A": "N N", "V": "N"}, "V[i] = sum{j}(A[i,j])"))
+    >>> fusion_graph(found)[:4], fusion_graph(found).count("<circle")
+    ('<svg', 2)
     """
     columns, tree = _columns(plan), plan.tree
     rows = {node.number: k for k, node in enumerate(reversed(plan.nodes))}
@@ -140,10 +147,21 @@ def _named(plan: Plan, number: int, y: int) -> list[str]:
 def memory_bars(plan: Plan) -> str:
     """Bars of each intermediate: its values without fusion, and what is kept of them, by their logarithms.
 
+    Parameters
+    ----------
+    plan : Plan
+
     Returns
     -------
     str
-        SVG.
+        SVG, which needs nothing else; its width and height are in pixels.
+
+    Examples
+    --------
+    >>> from cabunlit import plan
+    >>> text = "E[] = sum{i}(A[i] * A[i])"
+    >>> "16 to 1<" in memory_bars(plan(Specification({"N": 16}, {"N": "i"}, {"A": "N", "E": ""}, text)))
+    True
     """
     inner = [node for node in plan.nodes if node.size is not None]
     most = max([plan.whole_size(node.number) for node in inner], default=1)

@@ -124,6 +124,14 @@ def _bound(it: Expression, largest: Mapping[str, Fraction], extents: Mapping[str
 def degree(it: Expression) -> int:
     """How many operands each term multiplies: the result's scale is the operands' to this power.
 
+    Parameters
+    ----------
+    it : Expression
+
+    Returns
+    -------
+    int
+
     Raises
     ------
     FormulaError
@@ -237,6 +245,11 @@ def from_fixed(array: Any, scale: Scale | int) -> Floats:
     -------
     array of float64
 
+    Raises
+    ------
+    ArrayError
+        Where the words are no whole numbers.
+
     Examples
     --------
     >>> float(from_fixed(numpy.array(3), 4))
@@ -251,6 +264,18 @@ def from_fixed(array: Any, scale: Scale | int) -> Floats:
 
 def read_bound(spec: Specification | str | os.PathLike[str], magnitudes: Mapping[str, Magnitude]) -> int:
     """The bound of a specification whose operands are scaled already.
+
+    Parameters
+    ----------
+    spec : Specification, str or path
+        Of one formula.
+    magnitudes : mapping of str to number or array
+        The largest magnitude of each operand's words, or these.
+
+    Returns
+    -------
+    int
+        What the magnitude of an element of the result may come to.
 
     Raises
     ------

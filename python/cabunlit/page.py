@@ -34,6 +34,13 @@ def report_page(plan: Plan, budget: int | None = None) -> str:
     -------
     str
         HTML.
+
+    Examples
+    --------
+    >>> from cabunlit import plan
+    >>> found = plan(Specification({"N": 4}, {"N": "i j"}, {"A": "N N", "V": "N"}, "V[i] = sum{j}(A[i,j])"))
+    >>> report_page(found)[:15], "<h2>Loop nest" in report_page(found)
+    ('<!DOCTYPE html>', True)
     """
     formula = plan.spec.formula
     sections = [

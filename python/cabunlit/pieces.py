@@ -227,6 +227,15 @@ def run_pieces(made: Cut | PathLike, executor: Executor | None = None, *, memory
     ------
     PiecesFailed
         With the numbers of those that are not done; a later call does these alone.
+    ArrayError
+        Where the folder holds no cut.
+
+    Examples
+    --------
+    >>> spec = Specification({"N": (4, 2)}, {"N": "i"}, {"A": "N", "C": "N"}, "C[i] = 2 * A[i]")
+    >>> made = cut(spec, "i", 2, {"A": numpy.arange(4)}, folder="twice")
+    >>> made.missing(), run_pieces("twice", memory="1 MiB"), made.missing()
+    ([0, 1], None, [])
     """
     found = made if isinstance(made, Cut) else Cut.load(made)
     left = found.missing()
@@ -306,6 +315,17 @@ def join(made: Cut | PathLike, out: PathLike | None = None, *, memory: int | str
     ------
     PiecesFailed
         Where pieces are not done.
+    ArrayError
+        Where the folder holds no cut.
+    DiskFault
+        Where the result cannot be written. Nothing is left of it then.
+
+    Examples
+    --------
+    >>> spec = Specification({"N": (4, 2)}, {"N": "i"}, {"A": "N", "C": "N"}, "C[i] = 2 * A[i]")
+    >>> run_pieces(cut(spec, "i", 2, {"A": numpy.arange(4)}, folder="doubled"))
+    >>> join("doubled", "C.tca")[:]
+    array([0, 2, 4, 6])
     """
     found = made if isinstance(made, Cut) else Cut.load(made)
     missing = found.missing()

@@ -29,6 +29,14 @@ class Plan:
         The operations with their loops, fused sets and sizes.
     memory : int
         The elements of all intermediates together.
+
+    Examples
+    --------
+    >>> found = plan(Specification({"N": (8, 4)}, {"N": "i j"}, {"A": "N N", "V": "N"}, "V[i] = sum{j}(A[i,j])"))
+    >>> print(found.describe(), end="")
+    node 0 sum: 64 turns, the result
+    memory: 0 elements, 0 bytes
+    reads: 6 tiles, 576 bytes, each 1.5 times
     """
 
     spec: Specification

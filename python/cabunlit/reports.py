@@ -77,6 +77,11 @@ def read_report(text: str) -> list[Report]:
     -------
     list of Report
 
+    Raises
+    ------
+    CabunlitError
+        Where it is no report.
+
     Examples
     --------
     >>> read_report('''tce run 1

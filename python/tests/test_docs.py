@@ -8,9 +8,9 @@ import numpy
 import pytest
 
 import cabunlit
+from cabunlit import cli, draw, fixed_point, page, reports
 
 NAMES = [it.name for it in pkgutil.iter_modules(cabunlit.__path__) if it.name != "__main__"]
-NUMPY_SECTIONS = ("Returns", "Raises", "Yields", "Attributes", "Parameters", "Examples")
 
 
 @pytest.mark.parametrize("name", NAMES)
@@ -28,8 +28,21 @@ def test_examples(name, own_folder):
 
 @pytest.mark.parametrize("name", cabunlit.__all__)
 def test_public_names_have_docstrings(name):
-    found = getattr(cabunlit, name)
-    text = inspect.getdoc(found)
-    assert text
-    if inspect.isfunction(found):
-        assert ">>>" in text and "Parameters" in text and "Returns" in text or name in ("run_pieces", "join")
+    assert inspect.getdoc(getattr(cabunlit, name))
+
+
+def calls():
+    """What a user calls: functions of the package's own, of its modules on real numbers and pictures, and of the command."""
+    of_package = [getattr(cabunlit, name) for name in cabunlit.__all__]
+    of_modules = [it for module in (fixed_point, draw, page, reports, cli) for name, it in vars(module).items()
+                  if inspect.isfunction(it) and it.__module__ == module.__name__ and not name.startswith("_") and name != "main"]
+    return [it for it in of_package if inspect.isfunction(it)] + of_modules
+
+
+@pytest.mark.parametrize("call", calls(), ids=lambda it: it.__name__)
+def test_calls_say_what_they_take_give_and_raise(call):
+    text = inspect.getdoc(call)
+    assert ">>>" in text and "Examples\n--------" in text
+    assert "Parameters" in text or call.__name__ == "shown_number"
+    assert "Returns" in text or call.__name__ in ("run_pieces", "shown_number")
+    assert "Raises" in text or "raise " not in inspect.getsource(call)
