@@ -55,7 +55,8 @@ class Progress:
     """
 
     def __init__(self, what: str, total: int | None, show: bool = True, stream: TextIO | None = None, bar: bool = True) -> None:
-        self.what, self.total, self.show, self.count = what, total, show, 0
+        self.what, self.total, self.show = what, total, show
+        self.count = self.kept = 0
         self.stream = stream or sys.stderr
         self.begun = time.monotonic()
         self.bar = _bar(what, total, self.stream) if show and bar else None
@@ -79,12 +80,12 @@ class Progress:
             How much of all work is done with it, up to 1; else as many of the parts as are done.
         """
         self.count += 1
+        self.kept += again
         if not self.show:
             return
-        if share is None and self.total is not None:
-            share = self.count / self.total
         took = time.monotonic() - self.begun
-        left = "" if share is None or not 0 < share < 1 else f", about {took / share * (1 - share):.1f} s left"
+        rest = self._rest(share)
+        left = f", about {took * rest:.1f} s left" if rest else ""
         kept = " (kept)" if again else ""
         if self.bar is not None:
             # (a bar with a total has its own)
@@ -93,6 +94,13 @@ class Progress:
             return
         of = f" of {self.total}" if self.total is not None else ""
         show(f"{self.what}: {self.count}{of}, {name}{kept}, {took:.1f} s{left}", self.stream)
+
+    def _rest(self, share: float | None) -> float:
+        """How many times as long as so far it will take; 0 where that is not known. What was kept took no time."""
+        if share is not None:
+            return (1 - share) / share if share > 0 else 0.0
+        fresh = self.count - self.kept
+        return (self.total - self.count) / fresh if self.total is not None and fresh else 0.0
 
 
 def _bar(what: str, total: int | None, stream: TextIO) -> Any:

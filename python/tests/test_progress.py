@@ -60,3 +60,16 @@ def test_time_left_goes_by_the_share_that_is_done(monkeypatch):
         now[0] += 3
         progress.done("spill-1", share=0.25)
     assert "spill-1, about 9.0 s left" in bar.getvalue()
+
+
+def test_what_is_kept_takes_no_time(monkeypatch):
+    now, stream = [100.0], io.StringIO()
+    monkeypatch.setattr("cabunlit.progress.time.monotonic", lambda: now[0])
+    with Progress("pieces", 4, stream=stream) as progress:
+        progress.done("piece 0", again=True)
+        now[0] += 3
+        progress.done("piece 1")
+        progress.done("piece 2")
+        progress.done("piece 3")
+    assert stream.getvalue().splitlines() == ["pieces: 1 of 4, piece 0 (kept), 0.0 s", "pieces: 2 of 4, piece 1, 3.0 s, about 6.0 s left",
+                                              "pieces: 3 of 4, piece 2, 3.0 s, about 1.5 s left", "pieces: 4 of 4, piece 3, 3.0 s"]
