@@ -10,7 +10,7 @@ import time
 from collections.abc import Callable, Sequence
 from pathlib import Path
 
-from cabunlit.errors import ProgramKilled, ProgramNotFound, disk_fault, error_of
+from cabunlit.errors import DiskFault, ProgramKilled, ProgramNotFound, disk_fault, error_of
 
 PathLike = str | os.PathLike[str]
 POLL_SECONDS = 0.1
@@ -121,7 +121,10 @@ def run_program(words: Sequence[str], folder: PathLike, *, program: PathLike | N
                             -process.returncode)
     lines = report.splitlines()
     last = lines[-1] if lines and lines[-1].startswith("error ") else ""
-    raise error_of(last, text, process.returncode, "" if last else besides.decode("utf-8", "replace").strip())
+    detail = "" if last else besides.decode("utf-8", "replace").strip()
+    if process.returncode == DiskFault.status:
+        detail = f"in {os.fspath(folder)}, where {shutil.disk_usage(folder).free} bytes are free"
+    raise error_of(last, text, process.returncode, detail)
 
 
 def temporary_folder(parent: PathLike | None = None, prefix: str = "cabunlit-") -> Path:

@@ -310,7 +310,7 @@ def test_a_disk_without_room_for_the_result(own_folder):
     narrow = own_folder / "tce"
     narrow.write_text("#!/bin/sh\ntrap '' XFSZ\nulimit -f 100\nexec \"$CABUNLIT_TCE\" \"$@\"\n")
     narrow.chmod(0o755)
-    with pytest.raises(DiskFault, match="error 8: disk fault"):
+    with pytest.raises(DiskFault, match=f"error 8: disk fault\nin {own_folder}/.cabunlit-.*, where [0-9]+ bytes are free\n.*see to that"):
         evaluate("C[i,j] = V[i] * V[j]", V=numpy.arange(200), out="C.tca", program=narrow)
     assert os.listdir(".") == ["tce"]
 
