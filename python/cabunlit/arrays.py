@@ -134,6 +134,8 @@ class TiledArray:
             raise FileChanged(f"{self.path} is no longer the file that was opened: open it again")
 
     def __array__(self, dtype: object = None, copy: bool | None = None) -> Array:
+        if copy is False:
+            raise ValueError("the elements of a file are copied to be an array: leave copy= out")
         self.refuse_change()
         out = numpy.empty(self.shape, self.dtype)
         self._read([0] * self.ndim, out)
@@ -214,10 +216,6 @@ class SymmetricArray(TiledArray):
     def _open(self) -> Array:
         others = [n for d, n in enumerate(self.shape) if d not in self._head.pair]
         return numpy.memmap(self.path, self.dtype, "r", self._head.length, (*others, self._head.stored))
-
-    def __array__(self, dtype: object = None, copy: bool | None = None) -> Array:
-        out = self[(slice(None),) * self.ndim]
-        return out if dtype is None else out.astype(dtype)
 
     def _read(self, starts: Sequence[int], out: Array) -> None:
         out[...] = self._gather([numpy.arange(s, s + n) for s, n in zip(starts, out.shape)])

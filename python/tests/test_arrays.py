@@ -301,6 +301,8 @@ def test_indexes_that_are_refused():
             tiled[key]
     assert tiled[numpy.array([True, False])].tolist() == [[0, 1, 2]] and tiled[[1, 0], 2].tolist() == [5, 2]
     assert len(tiled) == 2 and tiled[-1, -1] == 5
+    with pytest.raises(ValueError, match="leave copy= out"):
+        tiled.__array__(copy=False)
     assert int(sum(block.sum() for block in tiled)) == 15
 
 
