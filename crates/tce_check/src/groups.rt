@@ -7,29 +7,30 @@ use crate::uppers::{Parts, group_of, hint_of, marks_of, parts_of, single_of, upp
 use tce_nesting::Row;
 use tce_space::IndexSet;
 
-// How many rows have an entry. Those behind them are asked one by one.
-pub(crate) const ENTRIES: usize = 131_072;
-
-// An entry is the place of a row, below this, and above it the marks.
-const PLACES: u32 = 524_288;
-
 // Fewer rows have no entries, since to fill the groups would take longer than to ask all rows.
 const FEW: usize = 48;
+
+// The place of a row, and the marks of its upper parts.
+#[derive(Clone, Copy, Default)]
+pub(crate) struct Entry {
+    place: u32,
+    marks: u32,
+}
 
 // The rows of a node by their three largest upper parts: the outer loops that they put above the others.
 //
 // The upper parts of a row that stands for a state are upper parts of the state too, so the row is looked for in the
-// groups of three of these. No answer rests on it: where no row of a group stands for the state, all rows are asked, those
-// without an entry before the others. So groups without room give the same answers.
+// groups of three of these. No answer rests on it: where no row of a group stands for the state, all rows are asked. So
+// groups without room give the same answers.
 #[derive(Drop)]
 pub(crate) struct Groups<'a> {
     // For each group the place behind its last entry. It begins where the group before it ends.
     pub(crate) ends: &'a mut [u32],
-    pub(crate) entries: &'a mut [u32],
+    pub(crate) entries: &'a mut [Entry],
     // The place of the last row with one class, by that class.
     pub(crate) singles: &'a mut [u32],
-    // How many rows of the node have an entry.
-    pub(crate) kept: usize,
+    // Whether the rows of the node have entries.
+    pub(crate) are_filled: bool,
 }
 
 // A state for which a row is sought, and the marks of its upper parts.
@@ -44,25 +45,23 @@ struct Sought<'a, 'b> {
 impl<'a> Groups<'a> {
     // Takes the rows of a node in the place of those that it had.
     pub(crate) fn fill(&mut self, rows: &[Row], outer: IndexSet) {
-        if rows.len() < FEW {
-            self.kept = 0;
+        self.are_filled = FEW <= rows.len() && rows.len() <= self.entries.len();
+        if !self.are_filled {
             return;
         }
-        let kept = &rows[..rows.len().min(self.entries.len())];
-        self.kept = kept.len();
-        self.count(kept, outer);
+        self.count(rows, outer);
         self.begin();
-        for (place, row) in kept.iter().enumerate() {
+        for (place, row) in rows.iter().enumerate() {
             self.add(place, row, outer);
         }
-        self.fill_singles(kept);
+        self.fill_singles(rows);
     }
 
     // Notes the place of the last row with one class, for each class.
     fn fill_singles(&mut self, rows: &[Row]) {
         self.singles.fill(u32::MAX);
         for (place, row) in rows.iter().enumerate() {
-            if row.classes.classes().len() == 1 && place < PLACES as usize {
+            if row.classes.classes().len() == 1 && place < u32::MAX as usize {
                 if let Some(single) = self.singles.get_mut(single_of(row.classes.classes()[0])) {
                     *single = place as u32;
                 }
@@ -74,7 +73,8 @@ impl<'a> Groups<'a> {
     fn count(&mut self, rows: &[Row], outer: IndexSet) {
         self.ends.fill(0);
         for row in rows {
-            let group = group_of(&parts_of(uppers_of(&row.classes, outer).as_slice()));
+            let parts = parts_of(uppers_of(&row.classes, outer).as_slice());
+            let group = group_of(&parts, self.ends.len());
             if let Some(count) = self.ends.get_mut(group) {
                 *count = u32::saturating_add(*count, 1);
             }
@@ -94,11 +94,14 @@ impl<'a> Groups<'a> {
     // Adds a row to its group.
     fn add(&mut self, place: usize, row: &Row, outer: IndexSet) {
         let uppers = uppers_of(&row.classes, outer);
-        let group = group_of(&parts_of(uppers.as_slice()));
-        if place < PLACES as usize {
+        let group = group_of(&parts_of(uppers.as_slice()), self.ends.len());
+        if place < u32::MAX as usize {
             if let Some(end) = self.ends.get_mut(group) {
                 if let Some(entry) = self.entries.get_mut(*end as usize) {
-                    *entry = place as u32 | marks_of(uppers.as_slice()) << 19;
+                    *entry = Entry {
+                        place: place as u32,
+                        marks: marks_of(uppers.as_slice()),
+                    };
                     *end = u32::saturating_add(*end, 1);
                 }
             }
@@ -106,8 +109,8 @@ impl<'a> Groups<'a> {
     }
 
     // The entries of the group of three parts.
-    fn entries_of(&self, parts: &Parts) -> &[u32] {
-        let group = group_of(parts);
+    fn entries_of(&self, parts: &Parts) -> &[Entry] {
+        let group = group_of(parts, self.ends.len());
         let from = if group == 0 {
             0
         } else {
@@ -135,11 +138,10 @@ impl<'a> Groups<'a> {
             sought.now.state.now.classes) sought.now.state.now.cost) sought.now.rows.now) }
     {
         for entry in self.entries_of(parts) {
-            if *entry / PLACES & !sought.marks == 0 {
-                let place = *entry % PLACES;
-                if let Some(row) = sought.rows.get(place as usize) {
+            if entry.marks & !sought.marks == 0 {
+                if let Some(row) = sought.rows.get(entry.place as usize) {
                     if stands_for(row, sought.state, sought.outer) {
-                        return Some(place);
+                        return Some(entry.place);
                     }
                 }
             }
@@ -244,35 +246,18 @@ impl<'a> Groups<'a> {
         None
     }
 
-    // The place of a row without an entry that stands for the state.
-    fn late_place(&self, rows: &[Row], state: &Row, outer: IndexSet) -> Option<u32>
-        ensures { IfSome result (λ place. Any (StandsFor outer (above state.now.classes)
-            state.now.cost) rows.now) }
-    {
-        for place in self.kept..rows.len() {
-            if let Some(row) = rows.get(place) {
-                if stands_for(row, state, outer) {
-                    return Some(place.min(u32::MAX as usize) as u32);
-                }
-            }
-        }
-        None
-    }
-
-    // The place of a row that stands for the state, where the groups lead to it or it has no entry.
+    // The place of a row that stands for the state, where the groups lead to it.
     fn place_soon(&self, rows: &[Row], state: &Row, outer: IndexSet) -> Option<u32>
         ensures { IfSome result (λ place. Any (StandsFor outer (above state.now.classes)
             state.now.cost) rows.now) }
     {
-        if 0 < self.kept {
-            if let Some(place) = self.single_place(rows, state, outer) {
-                return Some(place);
-            }
-            if let Some(place) = self.likely_place(rows, state, outer) {
-                return Some(place);
-            }
+        if !self.are_filled {
+            return None;
         }
-        self.late_place(rows, state, outer)
+        if let Some(place) = self.single_place(rows, state, outer) {
+            return Some(place);
+        }
+        self.likely_place(rows, state, outer)
     }
 
     // Whether some row stands for a state.
@@ -297,7 +282,7 @@ impl<'a> Groups<'a> {
         ensures { IsTrue result → Any (StandsFor outer (above state.now.classes) state.now.cost)
             rows.now }
     {
-        let number = hint_of(&state.classes);
+        let number = hint_of(&state.classes, hints.len());
         if stands_at(rows, hints.get(number).copied(), state, outer) {
             return true;
         }

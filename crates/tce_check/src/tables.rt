@@ -8,12 +8,13 @@ ghost use Rattle.tce_check.specs.First.{IsFirst};
 ghost use Rattle.tce_check.specs.Verdict.{CoversAt, FailsAt};
 
 use crate::bound::bound_of;
-use crate::groups::{ENTRIES, Groups};
+use crate::groups::{Entry, Groups};
 use crate::operands::{leaf_row, left_rows, right_rows};
 use crate::parts::{PARTS, PartCost};
 use crate::reach::fill_reaches;
 use crate::steps::{Kept, Node, Step};
-use crate::uppers::{GROUPS, HINTS, SINGLES};
+use crate::uppers::{SINGLES, slots_for};
+use std::alloc::Global;
 use tce_nesting::{Tables, choices, stretches_of};
 use tce_space::Space;
 use tce_tree::Tree;
@@ -65,14 +66,13 @@ fn first_uncovered_at(
 // How many rows a table has at least whose rows go by groups.
 const MANY: usize = 250;
 
-// Whether some table has many rows.
-fn has_many_rows(tables: &Tables) -> bool {
+// How many rows the largest table has.
+fn most_rows(tables: &Tables) -> usize {
+    let mut most = 0;
     for v in 0..tables.lists() {
-        if MANY <= tables.rows(v).len() {
-            return true;
-        }
+        most = most.max(tables.rows(v).len());
     }
-    false
+    most
 }
 
 // The least node whose rows do not cover the steps at it, with the first of these.
@@ -88,26 +88,37 @@ pub(crate) fn first_uncovered_node(
         (λ found. IsFirst (operations tree.now - 1) (CoversAt space.now tree.now tables.now)
         (FailsAt space.now tree.now tables.now found.1.fused found.1.state) found.0) }
 {
-    if has_many_rows(tables) {
-        return first_uncovered_of_many(space, tree, tables);
+    let most = most_rows(tables);
+    if MANY <= most {
+        return first_uncovered_of_many(space, tree, tables, most);
     }
     let mut kept = Kept {
         groups: Groups {
             ends: &mut [],
             entries: &mut [],
             singles: &mut [],
-            kept: 0,
+            are_filled: false,
         },
         reaches: &mut [],
     };
     first_uncovered_of(space, tree, tables, &mut kept, &mut [])
 }
 
-// The same, where the rows go by groups.
-//
-// The entries take 512 KiB of stack, ends and hints 64 KiB each, the reaches 32 KiB and the singles 4 KiB, which are not to stand in the frame of what calls this.
-#[inline(never)]
-fn first_uncovered_of_many(space: &Space, tree: &Tree, tables: &Tables) -> Option<(u8, Step)>
+// So many copies of a value, and none where memory is wanting.
+fn copies<T: Copy>(alloc: Global, value: T, count: usize) -> Vec<T> {
+    match vec![in alloc; value; count] {
+        Ok(all) => all,
+        Err(_) => Vec::new(alloc),
+    }
+}
+
+// The same, where the rows go by groups, at most so many rows at a node. What has no room is empty, and then more rows are asked.
+fn first_uncovered_of_many(
+    space: &Space,
+    tree: &Tree,
+    tables: &Tables,
+    most: usize,
+) -> Option<(u8, Step)>
     requires measured { IsMeasured space.now tree.now }
     requires lists { length tables.now + 1 ≡ operations tree.now }
     requires rows { RowsFit tree.now tables.now }
@@ -115,21 +126,22 @@ fn first_uncovered_of_many(space: &Space, tree: &Tree, tables: &Tables) -> Optio
         (λ found. IsFirst (operations tree.now - 1) (CoversAt space.now tree.now tables.now)
         (FailsAt space.now tree.now tables.now found.1.fused found.1.state) found.0) }
 {
-    let mut ends = [0; GROUPS];
-    let mut entries = [0; ENTRIES];
-    let mut hints = [0; HINTS];
-    let mut singles = [0; SINGLES];
-    let mut reaches = [PartCost::none(); PARTS];
+    let alloc = tables.allocator();
+    let mut ends = copies(alloc, 0, slots_for(most / 2));
+    let mut entries = copies(alloc, Entry::default(), most);
+    let mut hints = copies(alloc, 0, slots_for(most.saturating_mul(4)));
+    let mut singles = copies(alloc, 0, SINGLES);
+    let mut reaches = copies(alloc, PartCost::none(), PARTS);
     let mut kept = Kept {
         groups: Groups {
-            ends: &mut ends,
-            entries: &mut entries,
-            singles: &mut singles,
-            kept: 0,
+            ends: ends.as_mut_slice(),
+            entries: entries.as_mut_slice(),
+            singles: singles.as_mut_slice(),
+            are_filled: false,
         },
-        reaches: &mut reaches,
+        reaches: reaches.as_mut_slice(),
     };
-    first_uncovered_of(space, tree, tables, &mut kept, &mut hints)
+    first_uncovered_of(space, tree, tables, &mut kept, hints.as_mut_slice())
 }
 
 // The same, with what is kept of a node, and the hints that are kept from state to state.

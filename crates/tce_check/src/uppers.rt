@@ -4,14 +4,11 @@ use arrayvec::ArrayVec;
 use tce_nesting::Nesting;
 use tce_space::{IndexSet, MAX_LOOPS};
 
-// A prime, so that parts which differ in few loops mostly have different groups.
-pub(crate) const GROUPS: usize = 16_381;
+// There are no fewer groups and hints.
+const LEAST_SLOTS: usize = 16_384;
 
 // The greatest prime for which all remainders are bits of a mark.
-const MARKS: u32 = 13;
-
-// How many hints there are, a prime.
-pub(crate) const HINTS: usize = 16_381;
+const MARKS: u32 = 31;
 
 // How many places of rows with one class are kept, a prime.
 pub(crate) const SINGLES: usize = 1021;
@@ -62,19 +59,35 @@ pub(crate) fn parts_of(uppers: &[IndexSet]) -> Parts {
     parts
 }
 
-// The number of the group of three parts.
-pub(crate) fn group_of(parts: &Parts) -> usize {
-    let two = parts.first.bits() as u64 * 1021 + parts.second.bits() as u64;
-    ((two * 1021 + parts.third.bits() as u64) % GROUPS as u64) as usize
+// A power of two that is no less than this, unless that is very large.
+pub(crate) fn slots_for(least: usize) -> usize {
+    let mut slots = LEAST_SLOTS;
+    for _ in 0..8 {
+        if slots < least {
+            slots = slots.wrapping_mul(2);
+        }
+    }
+    slots
 }
 
-// The hint for states with these classes.
-pub(crate) fn hint_of(classes: &Nesting) -> usize {
-    let mut number = 0;
+// The slot of a number, where the slots are a power of two: numbers that differ in little mostly have different ones.
+fn slot_of(number: u64, slots: usize) -> usize {
+    (number.wrapping_mul(0x9e37_79b9_7f4a_7c15) >> 32) as usize & slots.wrapping_sub(1)
+}
+
+// The group of three parts, where there are so many groups.
+pub(crate) fn group_of(parts: &Parts, groups: usize) -> usize {
+    let two = parts.first.bits() as u64 * 1021 + parts.second.bits() as u64;
+    slot_of(two * 1021 + parts.third.bits() as u64, groups)
+}
+
+// The hint for states with these classes, where there are so many hints.
+pub(crate) fn hint_of(classes: &Nesting, hints: usize) -> usize {
+    let mut number: u64 = 0;
     for class in classes.classes() {
-        number = (number % HINTS * 1021 + class.bits() as usize) % HINTS;
+        number = (number ^ number >> 29 ^ class.bits() as u64).wrapping_mul(0xbf58_476d_1ce4_e5b9);
     }
-    number
+    slot_of(number, hints)
 }
 
 // The number under which a row with this class alone is noted.

@@ -50,6 +50,11 @@ impl Tables {
         Ok(())
     }
 
+    /// Where the lists lie, so that whoever reads them can keep as many notes of them.
+    pub fn allocator(&self) -> Global {
+        *self.lists.allocator()
+    }
+
     /// How many lists there are.
     pub fn lists(&self) -> u8
         ensures value { result ≡ length self.now }

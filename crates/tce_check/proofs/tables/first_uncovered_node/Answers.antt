@@ -18,8 +18,8 @@ first_uncovered_of-requires-clause-lists c = c.requires.lists
 pub first_uncovered_of-requires-clause-rows : goal.first_uncovered_of-requires-clause-rows
 first_uncovered_of-requires-clause-rows c = c.requires.rows
 
-pub returns-then-has_many_rows : goal.returns-then-has_many_rows
-returns-then-has_many_rows c = c.first_uncovered_of_many.ensures
+pub returns-then-most-ge-MANY : goal.returns-then-most-ge-MANY
+returns-then-most-ge-MANY c = c.first_uncovered_of_many.ensures
 
 pub returns : goal.returns
 returns c = c.first_uncovered_of.ensures
