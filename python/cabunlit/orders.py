@@ -103,7 +103,7 @@ class Model:
 
         def leaf_of(it: Reference, moves: int) -> tuple[int, int, frozenset[str], int]:
             """A reference, its tensor and the indexes at its positions as one number, as the program has it."""
-            leaf = tensors.index(it.tensor)
+            leaf = tensors.index(it.tensor) + 1
             for i in it.indexes:
                 leaf = (32 * leaf + names.index(i) + 1) % 2**64
             return next(number), leaf, frozenset(it.indexes), min(MOST, moves * self._cost_of(it))

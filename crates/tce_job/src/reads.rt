@@ -192,7 +192,7 @@ fn references_of(tree: &Tree, output: &Leaf, elements: &Numbers, frames: u64) ->
 
 // A reference by the operation of a node, whose tiles are moved so often.
 fn reference_of(node: u8, leaf: &Leaf, elements: &Numbers, moves: u64) -> Reference {
-    let mut number = leaf.tensor as u64;
+    let mut number = leaf.tensor as u64 + 1;
     let mut bits = 0;
     let mut words: u64 = 1;
     for index in leaf.indexes.as_slice() {
