@@ -19,6 +19,7 @@ pub mod Running
 pub mod Stepping
 pub mod Positions
 pub mod Plans
+pub mod Listed
 pub mod Calls
 pub mod LoopPlaces
 pub mod Sums

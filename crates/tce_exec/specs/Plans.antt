@@ -1,8 +1,11 @@
 -- What stays from run to run of one tail.
-use Rattle.std.specs.Prelude.{◌≡◌, ℕ, IsTrue, map, Some}
+use Rattle.std.specs.Prelude.{◌≡◌, ℕ, IsTrue, List, map, Some}
 use Rattle.std.specs.List.{All}
 use Rattle.tce_space.specs.Space.{extent_at, edge_at}
-use Rattle.tce_block.specs.Cuts.{IsCut, extents_of, edges_of}
+use Rattle.tce_block.specs.Cuts.{IsCut, extents_of, edges_of, part_of}
+use Rattle.tce_block.specs.Parts.{blocks}
+use Rattle.tce_block.specs.declared.cut.Block.{Block}
+use Rattle.tce_block.specs.declared.cut.Cut.{Cut}
 use Rattle.tce_exec.specs.NodeStates.{Places}
 use Rattle.tce_tree.specs.FlatTree.{right_of}
 use Rattle.tce_tree.specs.declared.node.Operand.{Operand}
@@ -21,12 +24,17 @@ pub record IsNest (p : Places) (tail : Tail) (nest : Nest) : Type 0 where
   pub steps_are : AreSteps p tail nest.windows
   pub loops_fit : (v : ℕ) → tail.sum ≡ Some v → (o : Operand) → right_of p.tree tail.node ≡ Some o → FitSequence nest.windows nest.sequence
 
--- the cuts of its tail's loops, and the nest of them
+-- these are the blocks of a box, all of them and in order
+abbrev pub AreAllBlocks : List Cut → List Block → Type 0
+AreAllBlocks cuts list = map part_of list ≡ blocks (extents_of cuts) (edges_of cuts)
+
+-- the cuts of its tail's loops, and the nest of them; where the blocks are few, all are listed
 pub record IsPlan (p : Places) (plan : Plan) : Type 0 where
   pub cuts_are : All IsCut plan.cuts.items
   pub extents_are : extents_of plan.cuts.items ≡ map (extent_at p.space) (loops_of plan.tail)
   pub edges_are : edges_of plan.cuts.items ≡ map (edge_at p.space) (loops_of plan.tail)
   pub nest_is : IsNest p plan.tail plan.nest
+  pub list_is : IsTrue plan.few → AreAllBlocks plan.cuts.items plan.list.items
 
 -- it is that of this tail
 pub record IsPlanFor (p : Places) (tail : Tail) (plan : Plan) : Type 0 where

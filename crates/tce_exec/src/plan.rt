@@ -7,7 +7,8 @@ ghost use Rattle.tce_exec.specs.Loops.{AreLoops};
 ghost use Rattle.tce_exec.specs.Blocks.{loops_of};
 ghost use Rattle.tce_exec.specs.Evaluations.{places_of};
 ghost use Rattle.tce_exec.specs.Windows.{CanStep};
-ghost use Rattle.tce_exec.specs.Plans.{IsPlan, IsPlanFor, AreKept};
+ghost use Rattle.tce_block.specs.Cuts.{IsCut};
+ghost use Rattle.tce_exec.specs.Plans.{IsPlan, IsPlanFor, AreKept, AreAllBlocks};
 
 use crate::cuts::sequence_of;
 use crate::evaluation::Evaluation;
@@ -19,6 +20,9 @@ use tce_block::{Block, Blocks, Cut};
 use tce_cache::Cache;
 use tce_space::{LoopOrder, MAX_LOOPS, Space};
 use tce_walk::{Tail, cuts_of};
+
+/// So many blocks of a tail are kept at most.
+const MOST_BLOCKS: usize = 16;
 
 /// In which sequence the loops of a tail run in a block, and the windows of its operands and places.
 #[derive(Drop)]
@@ -37,6 +41,10 @@ pub(crate) struct Plan {
     // The blocks that are still to come, and the one that runs. Each run of the tail begins with all of them.
     pub blocks: Blocks,
     pub block: Block,
+    // Whether the tail ran again, so that its blocks were counted, and whether they are few. Then all are in the list.
+    pub counted: bool,
+    pub few: bool,
+    pub list: ArrayVec<Block, MOST_BLOCKS>,
     pub nest: Nest,
 }
 
@@ -50,6 +58,23 @@ fn copied(loops: &[u8]) -> ArrayVec<u8, MAX_LOOPS>
         copy.push(*index);
     }
     copy
+}
+
+// Puts the blocks of a box into a list, and answers whether these are all.
+#[inline(never)]
+fn list_blocks(cuts: &ArrayVec<Cut, MAX_LOOPS>, list: &mut ArrayVec<Block, MOST_BLOCKS>) -> bool
+    requires { All IsCut cuts.now.items }
+    ensures { IsTrue result → AreAllBlocks cuts.now.items list.new.items }
+{
+    list.clear();
+    let mut rest = Blocks::new(cuts);
+    while list.len() < MOST_BLOCKS {
+        match rest.next() {
+            Some(block) => list.push(block),
+            None => return true,
+        }
+    }
+    rest.next().is_none()
 }
 
 impl Plan {
@@ -71,6 +96,9 @@ impl Plan {
             cuts,
             blocks,
             block: Block::default(),
+            counted: false,
+            few: false,
+            list: ArrayVec::new(),
             nest: Nest { windows, sequence },
         }
     }
@@ -87,6 +115,10 @@ impl Plan {
         ensures { IsPlanFor (places_of evaluation.now) tail.now self.new }
     {
         if self.made && self.tail == *tail {
+            if !self.counted {
+                self.counted = true;
+                self.few = list_blocks(&self.cuts, &mut self.list);
+            }
             return;
         }
         self.become_that_of(evaluation, cache, tail);
@@ -112,6 +144,8 @@ impl Plan {
             node: tail.node,
             sum: tail.sum,
         };
+        self.counted = false;
+        self.few = false;
         self.made = true;
     }
 }

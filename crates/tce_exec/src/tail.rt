@@ -1,5 +1,5 @@
 // Whole tails.
-ghost use Rattle.std.specs.Prelude.{◌≡◌, ◌+◌, ◌≤◌, ◌^◌, slice_index, OnOk, IsErr};
+ghost use Rattle.std.specs.Prelude.{◌≡◌, ◌+◌, ◌≤◌, ◌^◌, slice_index, OnOk, IsErr, IsTrue};
 ghost use Rattle.tce_walk.specs.Machine.{assignment_of, touches_of_tail, IsTailAt};
 ghost use Rattle.tce_exec.specs.Prepared.{IsPrepared};
 ghost use Rattle.tce_exec.specs.Storages.{work_of, setting_of, IsSame, Keeps, Changes, FailsByDisk, TellsOfDisk};
@@ -17,6 +17,48 @@ use crate::turns::TailBlock;
 use tce_outside::{Disk, Failed};
 use tce_space::Numbers;
 use tce_walk::Tail;
+
+// Runs the blocks of a tail that has all of them in a list.
+fn run_listed<D: Disk>(
+    evaluation: &Evaluation,
+    store: &mut Storage<'_, D>,
+    tail: &Tail,
+    numbers: &Numbers,
+    first: &mut Position,
+    plan: &mut Plan,
+) -> Result<(), Failed>
+    requires prepared { IsPrepared (work_of D.files evaluation.now store.old) }
+    requires tail { IsTailAt (setting_of D.files evaluation.now store.old)
+        tail.now (assignment_of numbers.now) }
+    requires touches { store.old.cache.now.touches
+        + touches_of_tail evaluation.now.space.now tail.now ≤ 2 ^ 100 }
+    requires position { IsPosition evaluation.now.space.now first.old }
+    requires outside { slice_index first.old.numbers ≡ slice_index numbers.now }
+    requires few { IsTrue plan.old.few }
+    requires plan { IsPlanFor (places_of evaluation.now) tail.now plan.old }
+    ensures changed { OnOk result (Changes
+        (after_tail D.files evaluation.now store.old tail.now numbers.now) (touches_of_tail evaluation.now.space.now tail.now) D.files evaluation.now store.old store.new) }
+    ensures kept { Keeps D.files evaluation.now store.old store.new }
+    ensures position { OnOk result (IsPosition evaluation.now.space.now first.new) }
+    ensures plan { OnOk result (IsPlanFor (places_of evaluation.now) tail.now plan.new) }
+    ensures same { IsSame store.old store.new }
+    ensures cause { FailsByDisk D.faults store.old store.new (IsErr result) }
+    ensures told { TellsOfDisk D.faults store.old store.new (IsErr result) }
+{
+    // The limits of spaces, trees and words.
+    let _indexes = evaluation.space.index_count();
+    let _nodes = evaluation.tree.count();
+    let _len = store.words.len();
+    for k in 0..plan.list.len() {
+        let at = TailBlock {
+            tail,
+            numbers,
+            block: &plan.list[k],
+        };
+        run_block(evaluation, store, &at, first, &mut plan.nest)?;
+    }
+    Ok(())
+}
 
 // Runs the blocks of a tail, from the numbers of the loops round it on.
 fn run_blocks<D: Disk>(
@@ -48,6 +90,9 @@ fn run_blocks<D: Disk>(
     let _indexes = evaluation.space.index_count();
     let _nodes = evaluation.tree.count();
     let _len = store.words.len();
+    if plan.few {
+        return run_listed(evaluation, store, tail, numbers, first, plan);
+    }
     plan.blocks.restart(&plan.cuts);
     while plan.blocks.next_in(&mut plan.block) {
         let at = TailBlock {

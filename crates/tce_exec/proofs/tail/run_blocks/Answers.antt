@@ -31,6 +31,8 @@ loop-plan-init g c =
       made = refl;
       tail_is = refl;
       cuts_are = refl;
+      few_are = refl;
+      list_is = refl;
       counted = refl;
     }
 
@@ -63,6 +65,8 @@ loop-plan-preserved g c =
       made = c.loop-plan.invariant.made;
       tail_is = c.loop-plan.invariant.tail_is;
       cuts_are = c.loop-plan.invariant.cuts_are;
+      few_are = c.loop-plan.invariant.few_are;
+      list_is = c.loop-plan.invariant.list_is;
       counted = e.told false≢true ∙ c.loop-plan.invariant.counted;
     }
 

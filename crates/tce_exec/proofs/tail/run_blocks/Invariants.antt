@@ -18,6 +18,8 @@ invariant-loop-plan g l =
       made : l.plan.made ≡ l.fn.plan.made;
       tail_is : l.plan.tail ≡ l.fn.plan.tail;
       cuts_are : l.plan.cuts ≡ l.fn.plan.cuts;
+      few_are : l.plan.few ≡ l.fn.plan.few;
+      list_is : l.plan.list ≡ l.fn.plan.list;
       counted : g.D.Disk.faults l.store.disk.now ≡ g.D.Disk.faults l.fn.store.disk.now;
     }
 
