@@ -1,3 +1,5 @@
+ghost use Rattle.std.specs.Prelude.{◌≤◌};
+
 use std::process::Abort;
 use tce_kernel::{
     add_vv, clear, dot, minus_sv, minus_vs, minus_vv, mul_add_rows, mul_add_sv, mul_add_vv, mul_sv,

@@ -171,6 +171,7 @@ fn summing_runs_equal_plain_loops(rt: HostRuntime) -> Result<(), Fail> {
 }
 
 // Rows from 200 on, 70 apart, with factors from 500 on, 3 apart, go to the words at 0.
+#[tactic(auto, using(crate::proofs::TestPlaces::rows_keep_length))]
 fn add_rows(words: &mut Words, n: u64, count: u64)
     requires length { length words.old ≡ 602 }
     requires n { n ≤ 67 }
@@ -189,6 +190,7 @@ fn add_rows(words: &mut Words, n: u64, count: u64)
 }
 
 // Rows from 200 on, 140 apart, go to the words at 270, which are between them.
+#[tactic(auto, using(crate::proofs::TestPlaces::rows_keep_length))]
 fn add_rows_around(words: &mut Words, n: u64, count: u64)
     requires length { length words.old ≡ 602 }
     requires n { n ≤ 67 }
