@@ -1,5 +1,5 @@
 -- How the refusals of the tools are told, whatever the disk tells.
-use Rattle.std.proofs.Common.{◌≡◌, refl, sym, subst, ℕ, List, inl, inr, Err}
+use Rattle.std.proofs.Common.{sym, subst, ℕ, List, inl, inr, Err}
 use Rattle.tce_array.specs.declared.form.Form.{Form}
 use Rattle.tce_array.specs.declared.fault.ArrayFault.{ArrayFault}
 use Rattle.tce_array.specs.declared.fault.ArrayFault.TheVariants as array_fault

@@ -15,6 +15,7 @@ use tce_array::{Form, form_len};
 use tce_command::Refusal;
 use tce_outside::Disk;
 use tce_space::Shape;
+use tce_tools::Buffers;
 
 /// Packs a tensor.
 pub fn pack_tensor<D: Disk>(
@@ -41,7 +42,10 @@ pub fn pack_tensor<D: Disk>(
     let Ok(text) = report(alloc, "pack", array.as_str(), form_len(Form::One, shape)) else {
         return Err(Refusal::Memory);
     };
-    match tce_tools::pack(disk, shape, flat, array.as_str()) {
+    let Ok(mut buffers) = Buffers::new(alloc) else {
+        return Err(Refusal::Memory);
+    };
+    match tce_tools::pack(disk, shape, flat, array.as_str(), &mut buffers) {
         Ok(()) => Ok(text),
         Err(fault) => Err(refusal_of(fault, tensor, flat)),
     }
@@ -71,7 +75,10 @@ pub fn unpack_tensor<D: Disk>(
     let Ok(text) = report(alloc, "unpack", flat, 8 * shape.elements()) else {
         return Err(Refusal::Memory);
     };
-    match tce_tools::unpack(disk, shape, array.as_str(), flat) {
+    let Ok(mut buffers) = Buffers::new(alloc) else {
+        return Err(Refusal::Memory);
+    };
+    match tce_tools::unpack(disk, shape, array.as_str(), flat, &mut buffers) {
         Ok(()) => Ok(text),
         Err(fault) => Err(refusal_of(fault, tensor, array.as_str())),
     }
@@ -101,7 +108,17 @@ pub fn convert_tensor<D: Disk>(
     let Ok(text) = report(alloc, "convert", converted.as_str(), form_len(form, shape)) else {
         return Err(Refusal::Memory);
     };
-    match tce_tools::convert(disk, shape, array.as_str(), form, converted.as_str()) {
+    let Ok(mut buffers) = Buffers::new(alloc) else {
+        return Err(Refusal::Memory);
+    };
+    match tce_tools::convert(
+        disk,
+        shape,
+        array.as_str(),
+        form,
+        converted.as_str(),
+        &mut buffers,
+    ) {
         Ok(()) => Ok(text),
         Err(fault) => Err(refusal_of(fault, tensor, array.as_str())),
     }

@@ -16,10 +16,16 @@ use crate::demo_sum::result_sum;
 use std::alloc::Global;
 use tce_command::Refusal;
 use tce_outside::{Disk, OutFault};
+use tce_tools::Buffers;
 use tce_words::Room;
 
 // Writes the files that a run needs.
-fn put_input<D: Disk>(disk: &mut D, made: &Example, seed: u64) -> Result<(), Refusal>
+fn put_input<D: Disk>(
+    disk: &mut D,
+    made: &Example,
+    seed: u64,
+    buffers: &mut Buffers,
+) -> Result<(), Refusal>
     requires spec { IsDemo made.now.spec }
     requires seed { IsSeed seed }
     ensures written { PutsInput made.now seed (D.files disk.old) (D.files disk.new) result }
@@ -29,7 +35,7 @@ fn put_input<D: Disk>(disk: &mut D, made: &Example, seed: u64) -> Result<(), Ref
     ensures cause { HasCause (D.faults disk.old) (D.faults disk.new) (result ≡ Err Refusal.Disk) }
     ensures told { TellsFaults (D.faults disk.old) (D.faults disk.new) (result ≡ Err Refusal.Disk) }
 {
-    match write_input(disk, made, seed) {
+    match write_input(disk, made, seed, buffers) {
         Ok(()) => Ok(()),
         Err(OutFault::Failed) => Err(Refusal::Disk),
         Err(OutFault::Memory) => Err(Refusal::Memory),
@@ -43,6 +49,7 @@ fn demonstrate<D: Disk, R: Room>(
     seed: u64,
     disk: &mut D,
     room: &mut R,
+    buffers: &mut Buffers,
 ) -> Result<String, Refusal>
     requires spec { IsDemo made.now.spec }
     requires seed { IsSeed seed }
@@ -57,9 +64,9 @@ fn demonstrate<D: Disk, R: Room>(
     ensures cause { HasCause (D.faults disk.old) (D.faults disk.new) (result ≡ Err Refusal.Disk) }
     ensures told { TellsFaults (D.faults disk.old) (D.faults disk.new) (result ≡ Err Refusal.Disk) }
 {
-    put_input(disk, made, seed)?;
+    put_input(disk, made, seed, buffers)?;
     let run = run_example(alloc, &made.spec, disk, room)?;
-    let Ok(sum) = result_sum(disk, &made.spec) else {
+    let Ok(sum) = result_sum(disk, &made.spec, buffers) else {
         return Err(Refusal::Disk);
     };
     match report(alloc, run.memory, run.tiles, sum) {
@@ -98,7 +105,10 @@ pub fn demo<D: Disk, R: Room>(
     let Ok(made) = make_example(alloc, v, o) else {
         return Err(Refusal::Memory);
     };
-    let done = demonstrate(alloc, &made, seed, disk, room);
+    let Ok(mut buffers) = Buffers::new(alloc) else {
+        return Err(Refusal::Memory);
+    };
+    let done = demonstrate(alloc, &made, seed, disk, room, &mut buffers);
     drop(made);
     done
 }

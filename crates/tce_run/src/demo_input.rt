@@ -11,7 +11,7 @@ use std::alloc::{AllocError, Global};
 use tce_job::file_of;
 use tce_outside::{Disk, OutFault};
 use tce_spec::{Spec, read_spec};
-use tce_tools::{demo_array, demo_spec, write_file};
+use tce_tools::{Buffers, demo_array, demo_spec, write_file};
 
 /// A text, and what it specifies.
 #[derive(Drop)]
@@ -35,10 +35,14 @@ pub fn make_example(alloc: Global, v: u64, o: u64) -> Result<Example, AllocError
     Ok(Example { text, spec })
 }
 
-// Writes the array of an operand, of the numbers drawn after this one, and gives the last of them. Its buffers stand on
-// the stack; in a function of its own they stand there once for the four.
-#[inline(never)]
-fn write_array<D: Disk>(disk: &mut D, spec: &Spec, t: u8, number: u64) -> Result<u64, OutFault>
+// Writes the array of an operand, of the numbers drawn after this one, and gives the last of them.
+fn write_array<D: Disk>(
+    disk: &mut D,
+    spec: &Spec,
+    t: u8,
+    number: u64,
+    buffers: &mut Buffers,
+) -> Result<u64, OutFault>
     requires spec { IsDemo spec.now }
     requires number { IsSeed number }
     requires operand { t < 4 }
@@ -54,11 +58,16 @@ fn write_array<D: Disk>(disk: &mut D, spec: &Spec, t: u8, number: u64) -> Result
         (IsErrOf result OutFault.Failed) }
 {
     let file = file_of(spec, t);
-    demo_array(disk, &spec.tensor(t).shape, file.as_str(), number)
+    demo_array(disk, &spec.tensor(t).shape, file.as_str(), number, buffers)
 }
 
 // Writes the arrays of the operands. The numbers go on from array to array.
-fn write_operands<D: Disk>(disk: &mut D, spec: &Spec, seed: u64) -> Result<(), OutFault>
+fn write_operands<D: Disk>(
+    disk: &mut D,
+    spec: &Spec,
+    seed: u64,
+    buffers: &mut Buffers,
+) -> Result<(), OutFault>
     requires spec { IsDemo spec.now }
     requires seed { IsSeed seed }
     ensures written { PutsOperands spec.now seed (D.files disk.old) (D.files disk.new) result }
@@ -69,15 +78,20 @@ fn write_operands<D: Disk>(disk: &mut D, spec: &Spec, seed: u64) -> Result<(), O
     ensures told { TellsFaults (D.faults disk.old) (D.faults disk.new)
         (IsErrOf result OutFault.Failed) }
 {
-    let number = write_array(disk, spec, 0, seed)?;
-    let number = write_array(disk, spec, 1, number)?;
-    let number = write_array(disk, spec, 2, number)?;
-    write_array(disk, spec, 3, number)?;
+    let number = write_array(disk, spec, 0, seed, buffers)?;
+    let number = write_array(disk, spec, 1, number, buffers)?;
+    let number = write_array(disk, spec, 2, number, buffers)?;
+    write_array(disk, spec, 3, number, buffers)?;
     Ok(())
 }
 
 /// Writes the file of the specification, and those of the operands.
-pub fn write_input<D: Disk>(disk: &mut D, example: &Example, seed: u64) -> Result<(), OutFault>
+pub fn write_input<D: Disk>(
+    disk: &mut D,
+    example: &Example,
+    seed: u64,
+    buffers: &mut Buffers,
+) -> Result<(), OutFault>
     requires spec { IsDemo example.now.spec }
     requires seed { IsSeed seed }
     ensures written { PutsInput example.now seed (D.files disk.old) (D.files disk.new) result }
@@ -89,5 +103,5 @@ pub fn write_input<D: Disk>(disk: &mut D, example: &Example, seed: u64) -> Resul
         (IsErrOf result OutFault.Failed) }
 {
     write_file(disk, "demo.tce", &example.text)?;
-    write_operands(disk, &example.spec, seed)
+    write_operands(disk, &example.spec, seed, buffers)
 }

@@ -7,11 +7,10 @@ use tce_array::Form;
 use tce_job::file_of;
 use tce_outside::{Disk, Failed};
 use tce_spec::Spec;
-use tce_tools::cell_sum;
+use tce_tools::{Buffers, cell_sum};
 
 /// The sum of all elements of the result, modulo 2^64.
-#[inline(never)]
-pub fn result_sum<D: Disk>(disk: &mut D, spec: &Spec) -> Result<u64, Failed>
+pub fn result_sum<D: Disk>(disk: &mut D, spec: &Spec, buffers: &mut Buffers) -> Result<u64, Failed>
     requires { HasResultArray (D.files disk.old) spec.now }
     ensures sum { IfOk result (IsSumOfResult (D.files disk.old) spec.now) }
     ensures same { D.files disk.new ≡ D.files disk.old }
@@ -20,5 +19,11 @@ pub fn result_sum<D: Disk>(disk: &mut D, spec: &Spec) -> Result<u64, Failed>
 {
     let result = spec.result().tensor;
     let file = file_of(spec, result);
-    cell_sum(disk, Form::One, &spec.tensor(result).shape, file.as_str())
+    cell_sum(
+        disk,
+        Form::One,
+        &spec.tensor(result).shape,
+        file.as_str(),
+        buffers,
+    )
 }

@@ -6,7 +6,6 @@ use Rattle.std.proofs.lemmas.List.{get_or-take, get_or-drop, get_or_append_left,
 use Rattle.std.proofs.lemmas.List.Elements.{recursion_from_All}
 use Rattle.std.proofs.lemmas.Bool.{cases_lt}
 use Rattle.std.proofs.lemmas.Option.{none-some}
-use Rattle.std.specs.List.{AllByRecursion}
 use Rattle.tce_base.specs.Word.{word_bytes}
 use Rattle.tce_base.proofs.WordBytes.{drop-words}
 use Rattle.tce_space.specs.Box.{places, place}

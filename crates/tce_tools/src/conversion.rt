@@ -6,9 +6,10 @@ ghost use Rattle.tce_array.specs.Forms.{Fits};
 ghost use Rattle.tce_tools.specs.Answers.{IsOfConvert, AllNarrow, IsFirstWide};
 ghost use Rattle.tce_tools.specs.Told.{HasStoredIn, AllFit, IsFirstMisfitIn, IsConvertAnswerTo, Converts, MayConvert, KeepsFiles, IsDiskFault};
 
-use crate::band::{LONGEST_BAND, band_at};
+use crate::band::band_at;
 use crate::banding::read_band;
-use crate::copying::copy;
+use crate::buffers::Buffers;
+use crate::copying::{Copying, copy};
 use crate::fault::ToolFault;
 use crate::storage::{ElementFile, Storage};
 use tce_array::{Form, open};
@@ -42,6 +43,7 @@ fn find_misfit<D: Disk>(
     shape: &Shape,
     name: &str,
     form: Form,
+    buffers: &mut Buffers,
 ) -> Result<Option<u64>, Failed>
     requires { HasStoredIn (D.files disk.old) name.now (Storage.Array form) shape.now }
     ensures none { result ≡ Ok None
@@ -52,9 +54,9 @@ fn find_misfit<D: Disk>(
     ensures cause { HasCause (D.faults disk.old) (D.faults disk.new) (IsErr result) }
     ensures told { TellsFaults (D.faults disk.old) (D.faults disk.new) (IsErr result) }
 {
-    let mut bytes = [0; 8 * LONGEST_BAND];
-    let mut tiled = [0; LONGEST_BAND];
-    let mut buffer = [0; LONGEST_BAND];
+    let bytes = buffers.bytes.as_mut_slice();
+    let tiled = buffers.tiled.as_mut_slice();
+    let buffer = buffers.words.as_mut_slice();
     let read = ElementFile {
         name,
         storage: Storage::Array(form),
@@ -65,7 +67,7 @@ fn find_misfit<D: Disk>(
     while done < elements {
         let band = band_at(shape, done);
         let words = &mut buffer[..band.len as usize];
-        read_band(disk, &read, band, &mut bytes, &mut tiled, words)?;
+        read_band(disk, &read, band, bytes, tiled, words)?;
         if let Some(place) = first_misfit(words) {
             return Ok(Some(done + place as u64));
         }
@@ -81,6 +83,7 @@ fn misfit_for<D: Disk>(
     name: &str,
     form: Form,
     wanted: Form,
+    buffers: &mut Buffers,
 ) -> Result<Option<u64>, Failed>
     requires { HasStoredIn (D.files disk.old) name.now (Storage.Array form) shape.now }
     ensures none { result ≡ Ok None → wanted ≡ Form.Narrow
@@ -92,7 +95,7 @@ fn misfit_for<D: Disk>(
     ensures told { TellsFaults (D.faults disk.old) (D.faults disk.new) (IsErr result) }
 {
     match wanted {
-        Form::Narrow => find_misfit(disk, shape, name, form),
+        Form::Narrow => find_misfit(disk, shape, name, form, buffers),
         _ => Ok(None),
     }
 }
@@ -109,6 +112,7 @@ pub fn convert<D: Disk>(
     array: &str,
     form: Form,
     to: &str,
+    buffers: &mut Buffers,
 ) -> Result<(), ToolFault>
     requires { array.now ≢ to.now }
     ensures converted { OnOk result
@@ -123,15 +127,15 @@ pub fn convert<D: Disk>(
     ensures told { TellsFaults (D.faults disk.old) (D.faults disk.new) (IsDiskFault result) }
 {
     let found = open(disk, array, shape)?;
-    if let Some(place) = misfit_for(disk, shape, array, found, form)? {
+    if let Some(place) = misfit_for(disk, shape, array, found, form, buffers)? {
         return Err(ToolFault::DoesNotFit(place));
     }
-    copy(
-        disk,
+    let files = Copying {
         shape,
-        array,
-        Storage::Array(found),
-        to,
-        Storage::Array(form),
-    )
+        source: array,
+        from: Storage::Array(found),
+        target: to,
+        to: Storage::Array(form),
+    };
+    copy(disk, files, buffers)
 }

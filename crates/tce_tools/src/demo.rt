@@ -7,8 +7,9 @@ ghost use Rattle.std.specs.String.{string_bytes};
 ghost use Rattle.tce_tools.specs.Demo.{drawn, digit, range_line, demo_text};
 ghost use Rattle.tce_tools.specs.Told.{Draws, DrawsBare, MayDraw};
 
-use crate::band::{LONGEST_BAND, band_at};
+use crate::band::band_at;
 use crate::banding::write_band;
+use crate::buffers::Buffers;
 use crate::storage::{ElementFile, Storage, make, write_start};
 use std::alloc::{AllocError, Global};
 use tce_array::Form;
@@ -72,7 +73,13 @@ fn draw(x: u64, digits: &mut [u64]) -> u64
 
 // Makes a file of the last digits of the numbers that are drawn after `x`, with zeros in the place of its head, and gives
 // the last number drawn.
-fn demo_elements<D: Disk>(disk: &mut D, shape: &Shape, array: &str, x: u64) -> Result<u64, OutFault>
+fn demo_elements<D: Disk>(
+    disk: &mut D,
+    shape: &Shape,
+    array: &str,
+    x: u64,
+    buffers: &mut Buffers,
+) -> Result<u64, OutFault>
     requires low { 1 ≤ x }
     requires high { x ≤ 2147483646 }
     ensures made { OnOk result
@@ -85,9 +92,9 @@ fn demo_elements<D: Disk>(disk: &mut D, shape: &Shape, array: &str, x: u64) -> R
     ensures told { TellsFaults (D.faults disk.old) (D.faults disk.new) (HasFailed result) }
 {
     make(disk, array, Storage::Array(Form::One), shape)?;
-    let mut bytes = [0; 8 * LONGEST_BAND];
-    let mut tiled = [0; LONGEST_BAND];
-    let mut buffer = [0; LONGEST_BAND];
+    let bytes = buffers.bytes.as_mut_slice();
+    let tiled = buffers.tiled.as_mut_slice();
+    let buffer = buffers.words.as_mut_slice();
     let made = ElementFile {
         name: array,
         storage: Storage::Array(Form::One),
@@ -100,7 +107,7 @@ fn demo_elements<D: Disk>(disk: &mut D, shape: &Shape, array: &str, x: u64) -> R
         let band = band_at(shape, done);
         let digits = &mut buffer[..band.len as usize];
         number = draw(number, digits);
-        let Ok(()) = write_band(disk, &made, band, &mut bytes, &mut tiled, digits) else {
+        let Ok(()) = write_band(disk, &made, band, bytes, tiled, digits) else {
             return Err(OutFault::Failed);
         };
         done += band.len;
@@ -119,6 +126,7 @@ pub fn demo_array<D: Disk>(
     shape: &Shape,
     array: &str,
     x: u64,
+    buffers: &mut Buffers,
 ) -> Result<u64, OutFault>
     requires low { 1 ≤ x }
     requires high { x ≤ 2147483646 }
@@ -131,7 +139,7 @@ pub fn demo_array<D: Disk>(
     ensures told { TellsFaults (D.faults disk.old) (D.faults disk.new) (HasFailed result) }
 {
     let _limits = shape.elements();
-    let number = demo_elements(disk, shape, array, x)?;
+    let number = demo_elements(disk, shape, array, x, buffers)?;
     match write_start(disk, array, Storage::Array(Form::One), shape) {
         Ok(()) => Ok(number),
         Err(Failed) => Err(OutFault::Failed),

@@ -4,12 +4,13 @@
 //! A flat file has the elements of an array alone, in row-major order, eight bytes each, the lowest first. An array
 //! file has them tile by tile behind a head, as `tce_array` says. Elements move between files in bands: at most 32,768
 //! that follow each other in row-major order, and that stand in an array file in pieces of one length at equal distances.
-//! The buffers are of fixed length, so a call needs no memory of its own, however large the files are. Other crates read and
-//! write runs of words by [`read_words`], [`write_words`] and [`write_start`], and whole files by [`write_file`].
+//! The caller lends the [`Buffers`], whose length is fixed, however large the files are. Other crates read and write runs of
+//! words by [`read_words`], [`write_words`] and [`write_start`], and whole files by [`write_file`].
 #![tactic(auto)]
 
 mod band;
 mod banding;
+mod buffers;
 mod conversion;
 mod copying;
 mod demo;
@@ -25,6 +26,7 @@ mod writing;
 
 pub use band::{Band, LONGEST_BAND, band_at};
 pub use banding::write_band;
+pub use buffers::Buffers;
 pub use conversion::convert;
 pub use demo::{demo_array, demo_spec};
 pub use fault::ToolFault;

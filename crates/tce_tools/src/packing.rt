@@ -5,7 +5,8 @@ ghost use Rattle.tce_outside.specs.Fault.{HasCause, TellsFaults};
 ghost use Rattle.tce_tools.specs.Answers.{IsOfPack, IsOfUnpack};
 ghost use Rattle.tce_tools.specs.Told.{IsPackAnswerTo, IsUnpackAnswerTo, Packs, Unpacks, MayPack, MayUnpack, KeepsFiles, IsDiskFault};
 
-use crate::copying::copy;
+use crate::buffers::Buffers;
+use crate::copying::{Copying, copy};
 use crate::fault::ToolFault;
 use crate::storage::Storage;
 use tce_array::{Form, open};
@@ -18,7 +19,13 @@ use tce_space::Shape;
 /// element. `Disk` only where the disk failed, and then the array file is as it was, is absent, begins with zeros as no
 /// array does, or is whole but for its head, which is written last; every other refusal changes no file.
 #[tactic(auto, using(crate::proofs::NoHalf::same_left))]
-pub fn pack<D: Disk>(disk: &mut D, shape: &Shape, flat: &str, array: &str) -> Result<(), ToolFault>
+pub fn pack<D: Disk>(
+    disk: &mut D,
+    shape: &Shape,
+    flat: &str,
+    array: &str,
+    buffers: &mut Buffers,
+) -> Result<(), ToolFault>
     requires { flat.now ≢ array.now }
     ensures packed { OnOk result
         (Packs flat.now array.now shape.now (D.files disk.old) (D.files disk.new)) }
@@ -36,14 +43,14 @@ pub fn pack<D: Disk>(disk: &mut D, shape: &Shape, flat: &str, array: &str) -> Re
     if len != 8 * shape.elements() {
         return Err(ToolFault::FlatLength(len));
     }
-    copy(
-        disk,
+    let files = Copying {
         shape,
-        flat,
-        Storage::Flat,
-        array,
-        Storage::Array(Form::One),
-    )
+        source: flat,
+        from: Storage::Flat,
+        target: array,
+        to: Storage::Array(Form::One),
+    };
+    copy(disk, files, buffers)
 }
 
 /// Makes a flat file of the elements of an array file, whatever its form.
@@ -57,6 +64,7 @@ pub fn unpack<D: Disk>(
     shape: &Shape,
     array: &str,
     flat: &str,
+    buffers: &mut Buffers,
 ) -> Result<(), ToolFault>
     requires { array.now ≢ flat.now }
     ensures unpacked { OnOk result
@@ -70,12 +78,12 @@ pub fn unpack<D: Disk>(
     ensures told { TellsFaults (D.faults disk.old) (D.faults disk.new) (IsDiskFault result) }
 {
     let form = open(disk, array, shape)?;
-    copy(
-        disk,
+    let files = Copying {
         shape,
-        array,
-        Storage::Array(form),
-        flat,
-        Storage::Flat,
-    )
+        source: array,
+        from: Storage::Array(form),
+        target: flat,
+        to: Storage::Flat,
+    };
+    copy(disk, files, buffers)
 }

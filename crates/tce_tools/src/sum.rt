@@ -4,8 +4,9 @@ ghost use Rattle.tce_base.specs.Word.{wrapping_sum};
 ghost use Rattle.tce_outside.specs.Fault.{HasCause, TellsFaults};
 ghost use Rattle.tce_tools.specs.Told.{HasFormIn, IsSumOf};
 
-use crate::band::{LONGEST_BAND, band_at};
+use crate::band::band_at;
 use crate::banding::read_band;
+use crate::buffers::Buffers;
 use crate::storage::{ElementFile, Storage};
 use tce_array::Form;
 use tce_outside::{Disk, Failed};
@@ -28,6 +29,7 @@ pub fn cell_sum<D: Disk>(
     form: Form,
     shape: &Shape,
     array: &str,
+    buffers: &mut Buffers,
 ) -> Result<u64, Failed>
     requires { HasFormIn (D.files disk.old) array.now form shape.now }
     ensures sum { IfOk result (IsSumOf (D.files disk.old) array.now form shape.now) }
@@ -35,9 +37,9 @@ pub fn cell_sum<D: Disk>(
     ensures cause { HasCause (D.faults disk.old) (D.faults disk.new) (IsErr result) }
     ensures told { TellsFaults (D.faults disk.old) (D.faults disk.new) (IsErr result) }
 {
-    let mut bytes = [0; 8 * LONGEST_BAND];
-    let mut tiled = [0; LONGEST_BAND];
-    let mut buffer = [0; LONGEST_BAND];
+    let bytes = buffers.bytes.as_mut_slice();
+    let tiled = buffers.tiled.as_mut_slice();
+    let buffer = buffers.words.as_mut_slice();
     let read = ElementFile {
         name: array,
         storage: Storage::Array(form),
@@ -49,7 +51,7 @@ pub fn cell_sum<D: Disk>(
     while done < elements {
         let band = band_at(shape, done);
         let words = &mut buffer[..band.len as usize];
-        read_band(disk, &read, band, &mut bytes, &mut tiled, words)?;
+        read_band(disk, &read, band, bytes, tiled, words)?;
         total = total.wrapping_add(sum_of(words));
         done += band.len;
     }

@@ -9,7 +9,7 @@ use std::process::Abort;
 use tce_array::{Form, open};
 use tce_outside::{Disk, MemDisk, OutFault};
 use tce_space::Shape;
-use tce_tools::{ToolFault, cell_sum, convert, demo_array, demo_spec, pack, unpack};
+use tce_tools::{Buffers, ToolFault, cell_sum, convert, demo_array, demo_spec, pack, unpack};
 
 // The words from 1 on, eight bytes each.
 fn counted(rt: &impl Abort, alloc: Global, count: u64) -> Vec<u8> {
@@ -39,6 +39,7 @@ fn first_form(rt: &impl Abort, alloc: Global, shape: &Shape, words: &str) -> Vec
 
 // Packs, where the names differ.
 fn packed<D: Disk>(
+    alloc: Global,
     disk: &mut D,
     shape: &Shape,
     flat: &str,
@@ -47,11 +48,15 @@ fn packed<D: Disk>(
     if flat == array {
         return None;
     }
-    Some(pack(disk, shape, flat, array))
+    let Ok(mut buffers) = Buffers::new(alloc) else {
+        return None;
+    };
+    Some(pack(disk, shape, flat, array, &mut buffers))
 }
 
 // Unpacks, where the names differ.
 fn unpacked<D: Disk>(
+    alloc: Global,
     disk: &mut D,
     shape: &Shape,
     array: &str,
@@ -60,11 +65,15 @@ fn unpacked<D: Disk>(
     if array == flat {
         return None;
     }
-    Some(unpack(disk, shape, array, flat))
+    let Ok(mut buffers) = Buffers::new(alloc) else {
+        return None;
+    };
+    Some(unpack(disk, shape, array, flat, &mut buffers))
 }
 
 // Converts, where the names differ.
 fn converted<D: Disk>(
+    alloc: Global,
     disk: &mut D,
     shape: &Shape,
     array: &str,
@@ -74,15 +83,26 @@ fn converted<D: Disk>(
     if array == to {
         return None;
     }
-    Some(convert(disk, shape, array, form, to))
+    let Ok(mut buffers) = Buffers::new(alloc) else {
+        return None;
+    };
+    Some(convert(disk, shape, array, form, to, &mut buffers))
 }
 
 // The form and the sum of an array.
-fn form_and_sum<D: Disk>(disk: &mut D, shape: &Shape, name: &str) -> Option<(Form, u64)> {
+fn form_and_sum<D: Disk>(
+    alloc: Global,
+    disk: &mut D,
+    shape: &Shape,
+    name: &str,
+) -> Option<(Form, u64)> {
+    let Ok(mut buffers) = Buffers::new(alloc) else {
+        return None;
+    };
     let Ok(form) = open(disk, name, shape) else {
         return None;
     };
-    let Ok(sum) = cell_sum(disk, form, shape, name) else {
+    let Ok(sum) = cell_sum(disk, form, shape, name, &mut buffers) else {
         return None;
     };
     Some((form, sum))
@@ -90,6 +110,7 @@ fn form_and_sum<D: Disk>(disk: &mut D, shape: &Shape, name: &str) -> Option<(For
 
 // Draws from a number that the generator takes.
 fn drawn<D: Disk>(
+    alloc: Global,
     disk: &mut D,
     shape: &Shape,
     array: &str,
@@ -98,45 +119,60 @@ fn drawn<D: Disk>(
     if x < 1 || x > 2147483646 {
         return None;
     }
-    Some(demo_array(disk, shape, array, x))
+    let Ok(mut buffers) = Buffers::new(alloc) else {
+        return None;
+    };
+    Some(demo_array(disk, shape, array, x, &mut buffers))
 }
 
-fn expect_packed<D: Disk>(rt: &impl Abort, disk: &mut D, shape: &Shape) {
-    assert!(rt; packed(disk, shape, "a.flat", "A.tca") == Some(Ok(())));
+fn expect_packed<D: Disk>(rt: &impl Abort, alloc: Global, disk: &mut D, shape: &Shape) {
+    assert!(rt; packed(alloc, disk, shape, "a.flat", "A.tca") == Some(Ok(())));
 }
 
-fn expect_unpacked<D: Disk>(rt: &impl Abort, disk: &mut D, shape: &Shape, array: &str) {
-    assert!(rt; unpacked(disk, shape, array, "b.flat") == Some(Ok(())));
+fn expect_unpacked<D: Disk>(
+    rt: &impl Abort,
+    alloc: Global,
+    disk: &mut D,
+    shape: &Shape,
+    array: &str,
+) {
+    assert!(rt; unpacked(alloc, disk, shape, array, "b.flat") == Some(Ok(())));
 }
 
-fn expect_converted<D: Disk>(rt: &impl Abort, disk: &mut D, shape: &Shape, form: Form) {
-    assert!(rt; converted(disk, shape, "A.tca", form, "B.tca") == Some(Ok(())));
+fn expect_converted<D: Disk>(
+    rt: &impl Abort,
+    alloc: Global,
+    disk: &mut D,
+    shape: &Shape,
+    form: Form,
+) {
+    assert!(rt; converted(alloc, disk, shape, "A.tca", form, "B.tca") == Some(Ok(())));
 }
 
-// The array has this form and this sum.
+// The array has this form and sum.
 fn expect_sum<D: Disk>(
     rt: &impl Abort,
+    alloc: Global,
     disk: &mut D,
     shape: &Shape,
     name: &str,
-    form: Form,
-    sum: u64,
+    due: (Form, u64),
 ) {
-    assert!(rt; form_and_sum(disk, shape, name) == Some((form, sum)));
+    assert!(rt; form_and_sum(alloc, disk, shape, name) == Some(due));
 }
 
 // The array A.tca is written in this form as B.tca, has this sum, and gives back its elements.
 fn expect_form(
     rt: &impl Abort,
+    alloc: Global,
     disk: &mut MemDisk,
     shape: &Shape,
-    form: Form,
-    sum: u64,
+    due: (Form, u64),
     flat: &[u8],
 ) {
-    expect_converted(rt, disk, shape, form);
-    expect_sum(rt, disk, shape, "B.tca", form, sum);
-    expect_unpacked(rt, disk, shape, "B.tca");
+    expect_converted(rt, alloc, disk, shape, due.0);
+    expect_sum(rt, alloc, disk, shape, "B.tca", due);
+    expect_unpacked(rt, alloc, disk, shape, "B.tca");
     expect_file(rt, disk, "b.flat", flat);
 }
 
@@ -160,12 +196,33 @@ fn expect_tiled(
     let flat = counted(rt, alloc, elements);
     let array = first_form(rt, alloc, &shape, words);
     let mut disk = disk_of(rt, alloc, flat.as_slice());
-    expect_packed(rt, &mut disk, &shape);
+    expect_packed(rt, alloc, &mut disk, &shape);
     expect_file(rt, &disk, "A.tca", array.as_slice());
-    expect_sum(rt, &mut disk, &shape, "A.tca", Form::One, sum);
-    expect_form(rt, &mut disk, &shape, Form::Narrow, sum, flat.as_slice());
-    expect_form(rt, &mut disk, &shape, Form::Wide, sum, flat.as_slice());
-    expect_form(rt, &mut disk, &shape, Form::One, sum, flat.as_slice());
+    expect_sum(rt, alloc, &mut disk, &shape, "A.tca", (Form::One, sum));
+    expect_form(
+        rt,
+        alloc,
+        &mut disk,
+        &shape,
+        (Form::Narrow, sum),
+        flat.as_slice(),
+    );
+    expect_form(
+        rt,
+        alloc,
+        &mut disk,
+        &shape,
+        (Form::Wide, sum),
+        flat.as_slice(),
+    );
+    expect_form(
+        rt,
+        alloc,
+        &mut disk,
+        &shape,
+        (Form::One, sum),
+        flat.as_slice(),
+    );
     expect_file(rt, &disk, "B.tca", array.as_slice());
     expect_file(rt, &disk, "A.tca", array.as_slice());
 }
@@ -202,16 +259,16 @@ fn expect_long(rt: &impl Abort, alloc: Global, dimensions: &str, elements: u64) 
     assert!(rt; elements < 1 << 20);
     let flat = counted(rt, alloc, elements);
     let mut disk = disk_of(rt, alloc, flat.as_slice());
-    expect_packed(rt, &mut disk, &shape);
+    expect_packed(rt, alloc, &mut disk, &shape);
     expect_sum(
         rt,
+        alloc,
         &mut disk,
         &shape,
         "A.tca",
-        Form::One,
-        elements * (elements + 1) / 2,
+        (Form::One, elements * (elements + 1) / 2),
     );
-    expect_unpacked(rt, &mut disk, &shape, "A.tca");
+    expect_unpacked(rt, alloc, &mut disk, &shape, "A.tca");
     expect_file(rt, &disk, "b.flat", flat.as_slice());
 }
 
@@ -244,22 +301,23 @@ fn disk_of_two(rt: &impl Abort, alloc: Global, shape: &Shape, words: &str) -> Me
 
 #[test]
 fn narrow_elements_are_signed(rt: HostRuntime) {
-    let shape = shape_of(&rt, rt.alloc(), "2/1");
-    let mut disk = disk_of_two(&rt, rt.alloc(), &shape, "18446744073709551615 5");
-    expect_converted(&rt, &mut disk, &shape, Form::Narrow);
+    let alloc = rt.alloc();
+    let shape = shape_of(&rt, alloc, "2/1");
+    let mut disk = disk_of_two(&rt, alloc, &shape, "18446744073709551615 5");
+    expect_converted(&rt, alloc, &mut disk, &shape, Form::Narrow);
     expect_file(&rt, &disk, "B.tca", NARROW);
-    expect_sum(&rt, &mut disk, &shape, "B.tca", Form::Narrow, 4);
+    expect_sum(&rt, alloc, &mut disk, &shape, "B.tca", (Form::Narrow, 4));
 }
 
 // Whether two words fit the narrow form, and the place of the first that does not.
 fn expect_fit(rt: &impl Abort, alloc: Global, words: &str, answer: Result<(), ToolFault>) {
     let shape = shape_of(rt, alloc, "2/1");
     let mut disk = disk_of_two(rt, alloc, &shape, words);
-    let done = converted(&mut disk, &shape, "A.tca", Form::Narrow, "B.tca");
+    let done = converted(alloc, &mut disk, &shape, "A.tca", Form::Narrow, "B.tca");
     assert!(rt; done == Some(answer), "{words}");
     let kept = disk.file("B.tca") == Some(b"old".as_slice());
     assert!(rt; kept == answer.is_err(), "{words}");
-    expect_converted(rt, &mut disk, &shape, Form::Wide);
+    expect_converted(rt, alloc, &mut disk, &shape, Form::Wide);
 }
 
 #[test]
@@ -307,7 +365,7 @@ fn expect_drawn(
     let shape = shape_of(rt, alloc, dimensions);
     let array = first_form(rt, alloc, &shape, digits);
     let mut disk = MemDisk::new(alloc);
-    assert!(rt; drawn(&mut disk, &shape, "A.tca", from) == Some(Ok(to)));
+    assert!(rt; drawn(alloc, &mut disk, &shape, "A.tca", from) == Some(Ok(to)));
     expect_file(rt, &disk, "A.tca", array.as_slice());
 }
 

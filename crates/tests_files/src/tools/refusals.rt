@@ -21,8 +21,14 @@ fn expect_old(rt: &impl Abort, disk: &MemDisk) {
 }
 
 // Packing is refused with this fault, and changes nothing.
-fn expect_no_flat(rt: &impl Abort, disk: &mut MemDisk, shape: &Shape, fault: ToolFault) {
-    assert!(rt; packed(disk, shape, "a.flat", "A.tca") == Some(Err(fault)));
+fn expect_no_flat(
+    rt: &impl Abort,
+    alloc: Global,
+    disk: &mut MemDisk,
+    shape: &Shape,
+    fault: ToolFault,
+) {
+    assert!(rt; packed(alloc, disk, shape, "a.flat", "A.tca") == Some(Err(fault)));
     expect_old(rt, disk);
 }
 
@@ -35,7 +41,7 @@ fn expect_flat_length(
     len: usize,
 ) {
     put_file(rt, disk, "a.flat", repeated(rt, alloc, 7, len).as_slice());
-    expect_no_flat(rt, disk, shape, ToolFault::FlatLength(len as u64));
+    expect_no_flat(rt, alloc, disk, shape, ToolFault::FlatLength(len as u64));
 }
 
 #[test]
@@ -43,7 +49,7 @@ fn flat_files_are_refused(rt: HostRuntime) {
     let alloc = rt.alloc();
     let shape = shape_of(&rt, alloc, "5/2");
     let mut disk = old_disk(&rt, alloc);
-    expect_no_flat(&rt, &mut disk, &shape, ToolFault::NoFlat);
+    expect_no_flat(&rt, alloc, &mut disk, &shape, ToolFault::NoFlat);
     expect_flat_length(&rt, alloc, &mut disk, &shape, 0);
     expect_flat_length(&rt, alloc, &mut disk, &shape, 39);
     expect_flat_length(&rt, alloc, &mut disk, &shape, 41);
@@ -52,23 +58,32 @@ fn flat_files_are_refused(rt: HostRuntime) {
 // Unpacking and converting the array are refused with this fault, and change nothing.
 fn expect_no_array(
     rt: &impl Abort,
+    alloc: Global,
     disk: &mut MemDisk,
     shape: &Shape,
     name: &str,
     fault: ArrayFault,
 ) {
     let refused = Some(Err(ToolFault::Array(fault)));
-    assert!(rt; unpacked(disk, shape, name, "b.flat") == refused);
-    assert!(rt; converted(disk, shape, name, Form::Wide, "b.flat") == refused);
+    assert!(rt; unpacked(alloc, disk, shape, name, "b.flat") == refused);
+    assert!(rt; converted(alloc, disk, shape, name, Form::Wide, "b.flat") == refused);
     expect_old(rt, disk);
 }
 
 #[test]
 fn arrays_are_refused(rt: HostRuntime) {
-    let shape = shape_of(&rt, rt.alloc(), "5/2");
-    let mut disk = old_disk(&rt, rt.alloc());
-    expect_no_array(&rt, &mut disk, &shape, "A.tca", ArrayFault::BadLength(3));
-    expect_no_array(&rt, &mut disk, &shape, "B.tca", ArrayFault::NoFile);
+    let alloc = rt.alloc();
+    let shape = shape_of(&rt, alloc, "5/2");
+    let mut disk = old_disk(&rt, alloc);
+    expect_no_array(
+        &rt,
+        alloc,
+        &mut disk,
+        &shape,
+        "A.tca",
+        ArrayFault::BadLength(3),
+    );
+    expect_no_array(&rt, alloc, &mut disk, &shape, "B.tca", ArrayFault::NoFile);
 }
 
 // Whether a call ended well, or with the fault of the disk where it failed.
@@ -81,11 +96,16 @@ fn is_fault(ended: Option<Result<(), ToolFault>>, faults: u64) -> bool {
 }
 
 // One of three commands over a disk with the flat file a.flat and the array A.tca.
-fn ended(disk: &mut FaultyDisk, shape: &Shape, command: u8) -> Option<Result<(), ToolFault>> {
+fn ended(
+    alloc: Global,
+    disk: &mut FaultyDisk,
+    shape: &Shape,
+    command: u8,
+) -> Option<Result<(), ToolFault>> {
     match command {
-        0 => packed(disk, shape, "a.flat", "B.tca"),
-        1 => unpacked(disk, shape, "A.tca", "B.tca"),
-        _ => converted(disk, shape, "A.tca", Form::Narrow, "B.tca"),
+        0 => packed(alloc, disk, shape, "a.flat", "B.tca"),
+        1 => unpacked(alloc, disk, shape, "A.tca", "B.tca"),
+        _ => converted(alloc, disk, shape, "A.tca", Form::Narrow, "B.tca"),
     }
 }
 
@@ -109,7 +129,7 @@ fn expect_failure(
     let mut files = disk_of(rt, alloc, flat);
     put_file(rt, &mut files, "A.tca", array);
     let mut disk = failing(rt, alloc, files, call);
-    let done = ended(&mut disk, &shape, command);
+    let done = ended(alloc, &mut disk, &shape, command);
     assert!(rt; is_fault(done, disk.faults()), "call {call} of {command}");
     if disk.faults() == 1 {
         expect_no_half(rt, disk.inner(), call);

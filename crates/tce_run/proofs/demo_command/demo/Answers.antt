@@ -22,3 +22,6 @@ returns-clause-as_run g c = all_of_demo c.demonstrate-done.result c.in-Ok.made.s
 pub returns-clause-no_half : goal.returns-clause-no_half
 returns-clause-no_half g c =
     demo_left c.in-Ok.made.spec c.in-Ok.made.text.items c.args.seed c.args.v c.args.o _ _ c.in-Ok.ensures.spec c.in-Ok.ensures.text c.requires.v c.requires.o c.demonstrate-done.ensures.no_half
+
+pub returns-in_default-new-clause-as_run : goal.returns-in_default-new-clause-as_run
+returns-in_default-new-clause-as_run g c = memory_of_demo c.args.v c.args.o c.requires.v c.requires.o

@@ -9,7 +9,6 @@ use Rattle.tce_tools.specs.Answers.{FitBefore, IsFirstMisfit}
 use Rattle.tce_tools.proofs.Apart.{none_not_some, same_some, failed_not_ok}
 use Rattle.tce_tools.proofs.Told.{failed_from}
 use Rattle.tce_tools.proofs.Misfits.{fit_more, misfit_at}
-use Rattle.std.proofs.lemmas.List.{length-take-le}
 use Rattle.std.proofs.lemmas.Bool.{false≢true}
 use Rattle.tce_tools.proofs.conversion.find_misfit.Goals as goal
 
@@ -94,15 +93,6 @@ loop-done-init g c = record { done = omega arith; fits = λ x told xs inside lt.
 
 pub band_at-band-requires : goal.band_at-band-requires
 band_at-band-requires g c = subst (λ n. c.loop-done.done < n) c.elements-elements.ensures.elements c.loop-done-test.true
-
-pub slice_bounds-buffer-end : goal.slice_bounds-buffer-end
-slice_bounds-buffer-end g c = omega (arith, c.band_at-band.array_long, c.band_at-band.ensures.band.short)
-
-pub slice_bounds-words-end : goal.slice_bounds-words-end
-slice_bounds-words-end g c = sym (length-take-le c.band_at-band.result.len c.loop-done.buffer (omega (arith, c.band_at-band.array_long, c.band_at-band.ensures.band.short)))
-
-pub read_band-requires-clause-words : goal.read_band-requires-clause-words
-read_band-requires-clause-words g c = length-take-le c.band_at-band.result.len c.loop-done.buffer (omega (arith, c.band_at-band.array_long, c.band_at-band.ensures.band.short))
 
 pub returns-in_err-read_band-clause-none : goal.returns-in_err-read_band-clause-none
 returns-in_err-read_band-clause-none g c = λ none. absurd (failed_not_ok _ _ c.from_residual.ensures.0 none)

@@ -8,8 +8,8 @@ abbrev pub invariant-loop-done : goal.invariant-loop-done
 invariant-loop-done g l = record {
   first : l.first.len ≤ l.done;
   done : l.done ≤ l.elements;
-  files : g.D.Disk.files l.disk ≡ holding_by l.target (λ fs. bare_bytes l.fn.to l.shape (first_elements l.shape (later_elements l.shape (element_in l.fn.from l.shape (contents fs l.source)) l.first.len) l.done)) (g.D.Disk.files l.fn.disk);
-  others : others l.target (g.D.Disk.files l.disk) ≡ others l.target (g.D.Disk.files l.fn.disk);
+  files : g.D.Disk.files l.disk ≡ holding_by l.files.target.now (λ fs. bare_bytes l.fn.files.to l.shape (first_elements l.shape (later_elements l.shape (element_in l.fn.files.from l.shape (contents fs l.files.source.now)) l.first.len) l.done)) (g.D.Disk.files l.fn.disk);
+  others : others l.files.target.now (g.D.Disk.files l.disk) ≡ others l.files.target.now (g.D.Disk.files l.fn.disk);
   later : g.D.Disk.faults l.fn.disk ≤ g.D.Disk.faults l.disk;
   counted : g.D.Disk.faults l.disk ≡ g.D.Disk.faults l.fn.disk;
 }

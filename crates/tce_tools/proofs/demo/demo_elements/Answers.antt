@@ -1,4 +1,4 @@
-use Rattle.std.proofs.Common.{◌≡◌, ◌∙◌, ◌+◌, refl, sym, ap, subst, arith, length, List, ℕ, Option, is_err, ◌<◌}
+use Rattle.std.proofs.Common.{◌≡◌, ◌∙◌, ◌+◌, refl, sym, ap, subst, arith, length, List, ℕ, Option, is_err, ◌<◌, ◌≤◌}
 use Rattle.std.proofs.lemmas.List.{length-take-le}
 use Rattle.tce_space.specs.Tiling.{Tiling, elements}
 use Rattle.tce_outside.specs.Files.{Files}
@@ -44,7 +44,7 @@ loop-done-preserved g c =
     let before : Option Files = g.D.Disk.files c.args.disk.now in
     let element : List ℕ → ℕ = demo_element s c.args.x in
     let stored : ℕ → Files → List ℕ = λ n fs. bare_bytes (Array One) s (first_elements s element n) in
-    let long : length c.loop-done.buffer ≡ 32768 = c.band_at-band.array_long in
+    let long : 32768 ≤ length c.loop-done.buffer = omega (arith, c.loop-done.auto.buffer, c.args.buffers.now.words_fit) in
     let len : length c.draw-number.new.digits ≡ band.len = omega (arith, long, c.draw-number.ensures.len, c.band_at-band.ensures.band.short, length-take-le band.len c.loop-done.buffer (omega (arith, long, c.band_at-band.ensures.band.short))) in
     let values : AreElements s element band.start c.draw-number.new.digits =
     subst (λ n. AreElements s element n c.draw-number.new.digits) (sym c.band_at-band.ensures.start) (digits_are_elements s c.args.x c.loop-done.number c.loop-done.done c.draw-number.new.digits c.loop-done.invariant.number c.draw-number.ensures.digits) in
@@ -124,17 +124,8 @@ returns-in_err-make-clause-no_half g c = unmade_left c.args.array.now _ _ _ _ c.
 pub band_at-band-requires : goal.band_at-band-requires
 band_at-band-requires g c = subst (λ n. c.loop-done.done < n) c.elements-elements.ensures.elements c.loop-done-test.true
 
-pub slice_bounds-buffer-end : goal.slice_bounds-buffer-end
-slice_bounds-buffer-end g c = omega (arith, c.band_at-band.array_long, c.band_at-band.ensures.band.short)
-
-pub slice_bounds-digits-end : goal.slice_bounds-digits-end
-slice_bounds-digits-end g c = sym (length-take-le c.band_at-band.result.len c.loop-done.buffer (omega (arith, c.band_at-band.array_long, c.band_at-band.ensures.band.short)))
-
 pub draw-number-requires : goal.draw-number-requires
 draw-number-requires g c = c.loop-done.invariant.small
-
-pub write_band-requires-clause-words : goal.write_band-requires-clause-words
-write_band-requires-clause-words g c = c.draw-number.ensures.len ∙ length-take-le c.band_at-band.result.len c.loop-done.buffer (omega (arith, c.band_at-band.array_long, c.band_at-band.ensures.band.short))
 
 pub overflow_add-done : goal.overflow_add-done
 overflow_add-done g c = omega (arith, c.band_at-band.ensures.band.inside, c.band_at-band.ensures.band.few, c.band_at-band.ensures.band.tiling.room, c.band_at-band.ensures.start)

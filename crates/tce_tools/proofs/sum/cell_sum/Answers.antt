@@ -7,7 +7,6 @@ use Rattle.tce_tools.proofs.Forms.{form_stored}
 use Rattle.tce_tools.proofs.Told.{failed_from}
 use Rattle.tce_tools.proofs.Sums.{sum_none, sum_of_run, sum_of_all}
 use Rattle.std.proofs.lemmas.Result.{IfOk-from_err}
-use Rattle.std.proofs.lemmas.List.{length-take-le}
 use Rattle.std.proofs.lemmas.Bool.{false≢true}
 use Rattle.tce_tools.proofs.sum.cell_sum.Goals as goal
 
@@ -54,15 +53,6 @@ read_band-requires-clause-band g c = c.band_at-band.ensures.band
 
 pub band_at-band-requires : goal.band_at-band-requires
 band_at-band-requires g c = subst (λ n. c.loop-done.done < n) c.elements-elements.ensures.elements c.loop-done-test.true
-
-pub slice_bounds-buffer-end : goal.slice_bounds-buffer-end
-slice_bounds-buffer-end g c = omega (arith, c.band_at-band.array_long, c.band_at-band.ensures.band.short)
-
-pub slice_bounds-words-end : goal.slice_bounds-words-end
-slice_bounds-words-end g c = sym (length-take-le c.band_at-band.result.len c.loop-done.buffer (omega (arith, c.band_at-band.array_long, c.band_at-band.ensures.band.short)))
-
-pub read_band-requires-clause-words : goal.read_band-requires-clause-words
-read_band-requires-clause-words g c = length-take-le c.band_at-band.result.len c.loop-done.buffer (omega (arith, c.band_at-band.array_long, c.band_at-band.ensures.band.short))
 
 pub returns-in_err-read_band-clause-sum : goal.returns-in_err-read_band-clause-sum
 returns-in_err-read_band-clause-sum g c = IfOk-from_err c.from_residual.result _ c.from_residual.ensures.0
