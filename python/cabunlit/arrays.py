@@ -379,11 +379,14 @@ def write_array(path: PathLike, array: Any, chunks: int | Sequence[int], *, shap
 
 def owned(array: TiledArray) -> TiledArray:
     """Has the file of an array removed with the array itself."""
-    weakref.finalize(array, _remove, array.path)
+    weakref.finalize(array, _remove, array.path, os.getpid())
     return array
 
 
-def _remove(path: str) -> None:
+def _remove(path: str, process: int) -> None:
+    # (a process that was forked has a copy of the array, and leaves the file alone)
+    if os.getpid() != process:
+        return
     try:
         os.unlink(path)
     except OSError:

@@ -185,9 +185,12 @@ class ArrayWriter:
 
 
 def _umask() -> int:
-    found = os.umask(0)
-    os.umask(found)
-    return found
+    """What the process takes from the rights of new files. It is read and not set and set back, which two threads could mix up."""
+    try:
+        with open("/proc/self/status", encoding="ascii", errors="replace") as lines:
+            return next(int(it.split()[1], 8) for it in lines if it.startswith("Umask:"))
+    except (OSError, StopIteration):
+        return 0o077
 
 
 def source_of(array: Any) -> tuple[tuple[int, ...], numpy.dtype[Any]]:

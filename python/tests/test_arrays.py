@@ -11,7 +11,7 @@ import numpy
 import pytest
 from hypothesis import given, strategies as some
 
-from cabunlit import create_array, evaluate, open_array, write_array
+from cabunlit import create_array, einsum, evaluate, open_array, write_array
 from cabunlit.errors import ArrayError, DiskFault, FileChanged
 from cabunlit.heads import head_bytes, is_whole
 from cabunlit.tiles import bands, counts_of, write_rows
@@ -318,3 +318,34 @@ def test_a_view_keeps_a_temporary_file():
     found = evaluate("C[i] = 0 - A[i]", A=numpy.arange(3)).view("<u8")
     gc.collect()
     assert numpy.asarray(found).tolist() == [0, 2**64 - 1, 2**64 - 2]
+
+
+def test_a_forked_process_leaves_a_temporary_file():
+    found = evaluate("C[i] = 0 - A[i]", A=numpy.arange(3))
+    process = os.fork()
+    if process == 0:
+        try:
+            del found
+            gc.collect()
+        finally:
+            os._exit(0)
+    assert os.waitpid(process, 0)[1] == 0 and numpy.asarray(found).tolist() == [0, -1, -2]
+
+
+def test_files_have_the_rights_of_new_ones():
+    before = os.umask(0o027)
+    try:
+        write_array("A.tca", numpy.arange(3), 2)
+        assert os.stat("A.tca").st_mode & 0o777 == 0o640 and os.umask(0o027) == 0o027
+    finally:
+        os.umask(before)
+
+
+def test_a_file_of_pairs_is_an_operand():
+    with open("S.sym", "wb") as file:
+        file.write(b"TCSYMM01" + numpy.array([0, 1, 1, 5, -6, 7], "<i8").tobytes())
+    pairs = open_array("S.sym")
+    whole = numpy.array([[0, 5, -6], [-5, 0, 7], [6, -7, 0]])
+    assert (numpy.asarray(pairs) == whole).all()
+    assert (einsum("ij,jk", pairs, pairs, out=numpy.ndarray, chunks=2) == whole @ whole).all()
+    assert (evaluate("C[i,j] = S[i,j] - S[j,i]", S=pairs, out=numpy.ndarray) == 2 * whole).all()
