@@ -270,7 +270,7 @@ def _extents(labels: Sequence[Labels], shapes: Sequence[Sequence[int]]) -> dict[
             if n != known and 1 not in (n, known):
                 raise FormulaError(f"label {label!r} has the extent {known}, and {n} in operand {k}: give that axis another label, or "
                                    "an operand with as many elements along it")
-            extents[label] = max(n, known) if n else n
+            extents[label] = max(n, known) if n > 0 else 0
     if 0 in extents.values():
         raise FormulaError("an operand has no elements")
     return extents

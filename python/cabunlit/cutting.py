@@ -1,9 +1,10 @@
 """How a formula is cut along an index into formulas of its pieces."""
 from __future__ import annotations
 
+import operator
 from collections.abc import Sequence
 from dataclasses import dataclass
-from typing import Any
+from typing import Any, SupportsIndex
 
 import numpy
 
@@ -79,7 +80,7 @@ class CutFormula:
         """
         of = self.spec.range_of(self.index)
         tiles = of.extent // of.edge
-        if not 1 <= pieces <= tiles:
+        if not isinstance(pieces, SupportsIndex) or not 1 <= operator.index(pieces) <= tiles:
             raise FormulaError(f"{self.index} has {tiles} whole tiles, so there are 1 to {tiles} pieces and not {pieces}: "
                                "write the arrays in shorter chunks along it")
         ends = [tiles * k // pieces * of.edge for k in range(pieces)] + [of.extent]

@@ -1,12 +1,13 @@
 """Specifications: ranges, indexes, tensors and formulas, built by calls or read from a text."""
 from __future__ import annotations
 
+import operator
 import os
 import re
 from collections.abc import Iterable, Mapping, Sequence
 from dataclasses import dataclass, field, replace
 from math import prod
-from typing import TypeVar
+from typing import SupportsIndex, TypeVar
 
 from cabunlit.errors import BudgetTooSmall, CabunlitError, FormulaError
 from cabunlit.language import Formula, loops, operations, parse_formula
@@ -96,7 +97,9 @@ class Specification:
 
     def add_range(self, name: str, extent: int, edge: int = 1) -> Specification:
         """Declares a range; an edge of 1 makes each element a tile of its own."""
-        self.ranges[name] = Range(int(extent), int(edge))
+        if not isinstance(extent, SupportsIndex) or not isinstance(edge, SupportsIndex):
+            raise FormulaError(f"range {name} has the extent {extent!r} and the edge {edge!r}: give whole numbers")
+        self.ranges[name] = Range(operator.index(extent), operator.index(edge))
         return self
 
     def add_index(self, of: str, *names: str) -> Specification:
@@ -200,7 +203,8 @@ class Specification:
     def formula(self) -> Formula:
         """The formula, where there is one alone."""
         if len(self.formulas) != 1:
-            raise FormulaError(f"one formula is wanted here, and there are {len(self.formulas)}: use batch")
+            count = f"there are {len(self.formulas)}: use batch" if self.formulas else "there is none"
+            raise FormulaError(f"one formula is wanted here, and {count}")
         return self.formulas[0]
 
     def extent(self, index: str) -> int:

@@ -148,3 +148,21 @@ def test_a_folder_of_temporary_files_that_is_not_there(call, own_folder, monkeyp
 def test_every_refusal_is_one_of_the_packages():
     for it in (FormulaError, NotEnoughMemory, SpecificationError, DiskFault, PiecesFailed):
         assert issubclass(it, CabunlitError)
+
+
+@pytest.mark.parametrize("of", [4.5, "4", (4, 2.0), None])
+def test_ranges_of_other_numbers(of):
+    with pytest.raises(FormulaError, match="whole numbers"):
+        Specification({"N": of})
+    assert Specification({"N": (numpy.int64(4), numpy.int32(2))}).text() == "range N 4 tile 2\n"
+
+
+def test_counts_that_are_none():
+    with pytest.raises(FormulaError, match="no elements"):
+        Specification.from_einsum("ij", (2, -3))
+    for pieces in ("x", 1.5, None, -1):
+        with pytest.raises(FormulaError, match="1 to 2 pieces"):
+            cut(TEXT, "i", pieces, {"A": A, "B": A}, folder="p")
+    with pytest.raises(FormulaError, match="there is none"):
+        evaluate("", A=A)
+    assert os.listdir(".") == []
