@@ -17,3 +17,4 @@ pub mod BoxSums
 pub mod LastBlocks
 pub mod Worked
 pub mod Fitting
+pub mod Grouped

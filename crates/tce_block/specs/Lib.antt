@@ -13,3 +13,4 @@ pub mod Last
 pub mod Steps
 pub mod Numbers
 pub mod Inside
+pub mod Grouped

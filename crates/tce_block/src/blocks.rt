@@ -132,7 +132,7 @@ fn clear(numbers: &mut [u64])
 }
 
 // Makes the block the one with these numbers. The block before has as many dimensions, so that its lists are written over.
-fn fill_block(extents: &[u64], edges: &[u64], numbers: &[u64], block: &mut Block)
+pub(crate) fn fill_block(extents: &[u64], edges: &[u64], numbers: &[u64], block: &mut Block)
     requires { IsNumbered extents.now edges.now numbers.now }
     ensures { part_of block.new ≡ block_of extents.now edges.now numbers.now }
 {
