@@ -12,15 +12,17 @@ from __future__ import annotations
 
 from collections.abc import Callable, Sequence
 from dataclasses import dataclass
+from functools import partial
 from math import prod
 
+from cabunlit.grouping import Reading, group_sizes
 from cabunlit.holes import ResultFile
 from cabunlit.language import Reference, Sum, references
 from cabunlit.nest import Clear, Compute, Loop, Step, Tree, nest_of
 from cabunlit.orders import running_orders
 from cabunlit.reports import Node
 from cabunlit.specification import Specification
-from cabunlit.terms import tensors_of, terms_of
+from cabunlit.terms import Term, tensors_of, terms_of
 from cabunlit.walking import band_of, carrier_of, is_band, is_held, is_tail, straight
 
 EXACT_TOUCHES = 1_000_000
@@ -80,12 +82,13 @@ _Terms = list[tuple[list[Loop], list[_Touch]]]
 @dataclass(frozen=True)
 class _Band:
     """Loops that run block by block, their body, and what it touches once a block, if it does not go element by element; or terms,
-    by which the blocks go."""
+    by which the blocks go. And how many blocks a group has along each loop, where blocks go group by group."""
 
     loops: list[Loop]
     body: list[Step]
     touches: list[_Touch] | None
     terms: _Terms
+    sizes: list[int] | None
 
 
 class _Frames:
@@ -201,13 +204,22 @@ class Simulation:
             found = straight(body)
             touches = [it for node in found for it in [*self._reading(node), *self._writing(node)]]
             once = tail or (found and is_held(len(found), len(touches), self.frames.frames))
-            self.bands[id(loop)] = _Band(loops, body, touches if once else None, [] if tail else self._terms(loops, body))
+            terms = [] if tail else terms_of(self.spec, self.tree, self.nodes, loops, body)
+            self.bands[id(loop)] = _Band(loops, body, touches if once else None, self._touches_of_terms(terms, body),
+                                         None if tail else self._sizes(loops, found, terms))
             self._find_bands(body)
 
-    def _terms(self, loops: Sequence[Loop], body: Sequence[Step]) -> _Terms:
+    def _touches_of_terms(self, terms: Sequence[Term], body: Sequence[Step]) -> _Terms:
         own = self._writing(carrier_of(body))
-        return [([Loop(i) for i in it.loops], [*map(self._touch_of, tensors_of(self.tree, it)), *own])
-                for it in terms_of(self.spec, self.tree, self.nodes, loops, body)]
+        return [([Loop(i) for i in it.loops], [*map(self._touch_of, tensors_of(self.tree, it)), *own]) for it in terms]
+
+    def _sizes(self, loops: Sequence[Loop], nodes: Sequence[int], terms: Sequence[Term]) -> list[int]:
+        """How many blocks of a band a group has along each loop."""
+        readings = [Reading(it.tensor, frozenset(it.indexes), frozenset(term.loops)) for term in terms for it in tensors_of(self.tree, term)]
+        if not terms:
+            readings = [Reading(it.tensor, frozenset(it.indexes), frozenset())
+                        for node in nodes for it in self.tree.operands[node] if isinstance(it, Reference)]
+        return group_sizes(self.spec, [it.index for it in loops], readings, self.frames.frames)
 
     # The loops.
 
@@ -226,10 +238,10 @@ class Simulation:
             self._run_terms(band, depth)
         elif band.touches is not None:
             touches, count = band.touches, 0 if is_tail(self.tree, band.body) else len(band.body)
-            self._each(band.loops, depth, lambda turns: self._do(touches, turns * count))
+            self._each_of_band(band, depth, lambda turns: self._do(touches, turns * count))
         else:
-            loops, body = band.loops, band.body
-            self._each(loops, depth, lambda turns: self._repeat(turns, body, depth + len(loops)))
+            body, inner = band.body, depth + len(band.loops)
+            self._each_of_band(band, depth, lambda turns: self._repeat(turns, body, inner))
 
     def _run_terms(self, band: _Band, depth: int) -> None:
         """Runs each block term by term, and then the body at the last elements."""
@@ -239,7 +251,7 @@ class Simulation:
             for loops, touches in band.terms:
                 self._each(loops, inner, lambda _: self._do(touches))
 
-        self._each(band.loops, depth, run_block)
+        self._each_of_band(band, depth, run_block)
         for k, loop in enumerate(band.loops):
             self.at[loop.index] = self._followed_tiles(loop, depth + k) - 1
         self._run(band.body, inner)
@@ -284,6 +296,31 @@ class Simulation:
             self._each(band[1:], depth + 1, action, turns * length)
         self.frames.add(before, of.tiles - count)
         self.at[band[0].index] = 0
+
+    def _each_of_band(self, band: _Band, depth: int, action: Callable[[int], None]) -> None:
+        """Runs an action for each block of a band, group by group."""
+        sizes = band.sizes
+        if sizes is None or len(sizes) < 2 or sizes[1] == self.spec.range_of(band.loops[1].index).tiles:
+            self._each(band.loops, depth, action)
+            return
+        row, column, *others = band.loops
+        of, size = self.spec.range_of(row.index), sizes[0]
+        groups = -(-of.tiles // size)
+        count = min(groups, SAMPLES) if self._sampled(row, depth) else groups
+
+        def run_group(first: int, turns: int) -> None:
+            for tile in range(first, min(first + size, of.tiles)):
+                self.at[row.index] = tile
+                length = min(of.edge, of.extent - tile * of.edge)
+                self._each(others, depth + 2, action, turns * length)
+
+        self.exact &= count == groups
+        before = self.frames.counts()
+        for group in range(count):
+            before = self.frames.counts() if group == count - 1 else before
+            self._each([column], depth + 1, partial(run_group, group * size))
+        self.frames.add(before, groups - count)
+        self.at[row.index] = 0
 
     def _sampled(self, loop: Loop, depth: int) -> bool:
         return depth < self.sampled_above and self.spec.range_of(loop.index).tiles > SAMPLES

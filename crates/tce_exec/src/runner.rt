@@ -46,6 +46,10 @@ impl<'a, D: Disk> Machine for Runner<'a, D> {
         × (y.store.cache.ghost_name ≡ x.store.cache.ghost_name) × (y.store.disk.ghost_name ≡ x.store.disk.ghost_name)
         × IsLater (work_of D.files x.evaluation x.store) (work_of D.files y.evaluation y.store) x.failed y.failed };
 
+    fn frames(&self) -> usize {
+        self.store.cache.frames()
+    }
+
     fn clear(&mut self, v: u8) {
         let store = &mut self.store;
         clear_slot(&self.evaluation, store.words, v);

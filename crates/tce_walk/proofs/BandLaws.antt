@@ -14,7 +14,8 @@ use Rattle.tce_tree.specs.WellFormed.{among}
 use Rattle.tce_block.specs.Parts.{block, beginnings, lengths}
 use Rattle.tce_code.specs.Execution.{Setting, State, exec, repeated}
 use Rattle.tce_code.specs.Program.{Program}
-use Rattle.tce_walk.proofs.Boxes.{IsSame, Steady, Exchange, box, shifted, in_block, lasts, by_blocks, kept_in_box, last_in_box, fold_blocks, equal_boxes, last_place, some_turns, counts_positive}
+use Rattle.tce_block.specs.Grouped.{shifted}
+use Rattle.tce_walk.proofs.Boxes.{IsSame, Steady, Exchange, box, in_block, lasts, by_blocks, kept_in_box, last_in_box, fold_blocks, equal_boxes, last_place, some_turns, counts_positive}
 use Rattle.tce_walk.proofs.Carried.{IsFree, changed, Lands, Follows, body_follows}
 use Rattle.tce_walk.specs.Bands.{Known, is_sum, known_after, HaveTurns, IsBand, BlocksMakeBands}
 use Rattle.tce_walk.specs.PartRuns.{exec_along, exec_part}
@@ -47,7 +48,7 @@ exec_box s [] body a state = refl
 exec_box s (i ∷ order) body a state =
     ap (λ turn. repeated (s.elements.extent i) turn state) (fun_ext (λ x. fun_ext (λ before. exec_box s order body (with_number a i x) before)))
 
-exec_block : (s : Setting) (order : List ℕ) (body : Program) (from len : List ℕ) (a : Assignment) (state : State) → length from ≡ length order → length len ≡ length order
+pub exec_block : (s : Setting) (order : List ℕ) (body : Program) (from len : List ℕ) (a : Assignment) (state : State) → length from ≡ length order → length len ≡ length order
     → exec_along s body order from len state a ≡ box (λ xs. turn_of s order body a (shifted from xs)) len state
 exec_block s [] body [] [] a state e f = refl
 exec_block s [] body [] (n ∷ len) a state e f = absurd (let h : ⊥ = omega (arith, f) in h)
@@ -59,14 +60,14 @@ exec_block s (i ∷ order) body (x ∷ from) (n ∷ len) a state e f =
     exec_block s order body from len (with_number a i (x + y)) before (let r : length from ≡ length order = omega (arith, e) in r)
     (let r : length len ≡ length order = omega (arith, f) in r))))
 
-rank_begins : (es bs : List ℕ) → length bs ≡ length es → length (beginnings es bs) ≡ length es
+pub rank_begins : (es bs : List ℕ) → length bs ≡ length es → length (beginnings es bs) ≡ length es
 rank_begins [] bs e = refl
 rank_begins (x ∷ es) [] e = absurd (let h : ⊥ = omega (arith, e) in h)
 rank_begins (x ∷ es) (b ∷ bs) e =
     let later = rank_begins es bs (let r : length bs ≡ length es = omega (arith, e) in r) in
     let all : length (beginnings (x ∷ es) (b ∷ bs)) ≡ length (x ∷ es) = omega (arith, later) in all
 
-rank_lengths : (ns es bs : List ℕ) → length es ≡ length ns → length bs ≡ length ns → length (lengths ns es bs) ≡ length ns
+pub rank_lengths : (ns es bs : List ℕ) → length es ≡ length ns → length bs ≡ length ns → length (lengths ns es bs) ≡ length ns
 rank_lengths [] es bs e f = refl
 rank_lengths (n ∷ ns) [] bs e f = absurd (let h : ⊥ = omega (arith, e) in h)
 rank_lengths (n ∷ ns) (x ∷ es) [] e f = absurd (let h : ⊥ = omega (arith, f) in h)
@@ -75,10 +76,10 @@ rank_lengths (n ∷ ns) (x ∷ es) (b ∷ bs) e f =
     let all : length (lengths (n ∷ ns) (x ∷ es) (b ∷ bs)) ≡ length (n ∷ ns) = omega (arith, later) in all
 
 -- states that agree on the free places and on those of the node that carries
-abbrev Alike : Setting → ℕ → Known → State → State → Type 0
+abbrev pub Alike : Setting → ℕ → Known → State → State → Type 0
 Alike s t outside x y = ((v : ℕ) (p : List ℕ) → IsFree s outside v p → x v p ≡ y v p) × ((p : List ℕ) → x t p ≡ y t p)
 
-alike : (s : Setting) (t : ℕ) (outside : Known) → IsSame State (Alike s t outside)
+pub alike : (s : Setting) (t : ℕ) (outside : Known) → IsSame State (Alike s t outside)
 alike s t outside = record {
   own = λ x. ((λ v p m. refl), (λ p. refl));
   on = λ x y z h k. ((λ v p m. h.0 v p m ∙ k.0 v p m), (λ p. h.1 p ∙ k.1 p));
@@ -114,7 +115,7 @@ changes_cross s t order xs ys a p (Some x) (Some y) w false is (inr l) (inr m) =
       | inr k ↦ put_outside order xs a i k ∙ sym (put_outside order ys a i k)
     ]))
 
-steady_turn : (s : Setting) (t : ℕ) (order : List ℕ) (outside : Known) (body : Program) (a : Assignment) → IsBand s.tree s.fusion order t outside body → HaveTurns s body
+pub steady_turn : (s : Setting) (t : ℕ) (order : List ℕ) (outside : Known) (body : Program) (a : Assignment) → IsBand s.tree s.fusion order t outside body → HaveTurns s body
     → (xs : List ℕ) → Steady (Alike s t outside) (turn_of s order body a xs)
 steady_turn s t order outside body a band turns xs x y h =
     let f = turn_follows s t order outside body (put order xs a) x y band turns h.0 in (
@@ -122,7 +123,7 @@ steady_turn s t order outside body a band turns xs x y h =
       (λ p. (f.carried p).here ∙ ap (changed (is_sum (node s.tree t)) (f.carried p).change) (h.1 p) ∙ sym (f.carried p).there),
     )
 
-exchange_turns : (s : Setting) (t : ℕ) (order : List ℕ) (outside : Known) (body : Program) (a : Assignment) → IsBand s.tree s.fusion order t outside body → HaveTurns s body
+pub exchange_turns : (s : Setting) (t : ℕ) (order : List ℕ) (outside : Known) (body : Program) (a : Assignment) → IsBand s.tree s.fusion order t outside body → HaveTurns s body
     → (xs ys : List ℕ) → Exchange (Alike s t outside) (turn_of s order body a xs) (turn_of s order body a ys)
 exchange_turns s t order outside body a band turns xs ys x = (
   (λ v p m. one_after.other_free v p m ∙ (two.free v p m) ∙ sym (one.free v p m) ∙ sym (two_after.other_free v p m)),

@@ -15,17 +15,20 @@ use Rattle.tce_tree.specs.Measure.{IsMeasured}
 use Rattle.tce_tree.specs.Value.{Assignment, with_number}
 use Rattle.tce_block.proofs.Fitting.{fit_the_box}
 use Rattle.tce_block.specs.Laws.{AreEdges, AreParts}
+use Rattle.tce_block.specs.Grouped.{grouped_blocks}
+use Rattle.tce_block.specs.Numbers.{AreWithin}
 use Rattle.tce_block.specs.Parts.{Part, blocks, lengths}
 use Rattle.tce_code.specs.Execution.{Setting, State, repeated}
 use Rattle.tce_code.specs.Plan.{Plan}
 use Rattle.tce_code.specs.Program.{Program, stop, step, loop}
 use Rattle.tce_code.specs.Shape.{EachAction, ActionFits, IsLoop, most_open}
 use Rattle.tce_code.specs.declared.op.Op.{Op}
+use Rattle.tce_walk.proofs.GroupedBands.{groups_make_bands, grouped-numbered, same_in_groups}
 use Rattle.tce_walk.proofs.BandLaws.{blocks_make_bands}
 use Rattle.tce_walk.proofs.Boxes.{box, in_block, by_blocks, fold_blocks, equal_boxes}
 use Rattle.tce_walk.proofs.Turns.{IsIndex, loop-index, turn-bound, turn-part}
 use Rattle.tce_walk.specs.BandRuns.{FitsLoops, IsBlockOf, IsPartRun, IsBandRun, touches_in, touches_of_band}
-use Rattle.tce_walk.specs.Bands.{HaveTurns, IsBand}
+use Rattle.tce_walk.specs.Bands.{Known, HaveTurns, IsBand}
 use Rattle.tce_walk.specs.BandSearch.{band_program, IsBandAt, BeginsBand}
 use Rattle.tce_walk.specs.Machine.{after}
 use Rattle.tce_walk.specs.PartRuns.{exec_part}
@@ -153,14 +156,61 @@ block-fits space tree body loops a part limits measured is h =
     } in
     parts-fit space loops (map (edge_at space) loops) part.from part.len (fit_the_box (map (extent_at space) loops) (map (edge_at space) loops) edges h.number part h.block)
 
-pub blocks-begin : (space : IndexSpace) (tree : ContractionTree) (s : Setting) (body : Program) (loops : List ℕ) (a : Assignment) (remaining : List Part) (before : Option State) (t : ℕ)
-    → remaining ≡ blocks (map (extent_at space) loops) (map (edge_at space) loops) → AreBlocksLeft space tree s body loops a remaining before before t t
-blocks-begin space tree s body loops a remaining before t e =
+-- what the law of bands asks for
+record IsBandOver (space : IndexSpace) (s : Setting) (ops : List Op) (band : Band) (outside : Known) : Type 0 where
+  some : ArePositive (map s.elements.extent band.loops.0.items)
+  edges : ArePositive (map (edge_at space) band.loops.0.items)
+  turns : HaveTurns s (program_at ops band.at)
+  passes : IsBand s.tree s.fusion band.loops.0.items band.carrier outside (program_at ops band.at)
+
+band-over : (space : IndexSpace) (tree : ContractionTree) (fusion : List ℕ) (own : IndexSpace) (s : Setting) (ops : List Op) (band : Band) (a : Assignment) → AreKept space tree
+    → RunsOver space tree own s → s.fusion ≡ fusion → (is : IsBandAt tree fusion ops band) → IsPart space tree (band_program ops band) a → IsBandOver space s ops band is.outside
+band-over space tree fusion own s ops band a limits over fused is part =
+    let body : Program = program_at ops band.at in
+    let loops : List ℕ = band.loops.0.items in
+    let inner : (b : Assignment) × IsPart space tree body b = inner-part space tree body loops a limits over.measured part in
+    record {
+      some = subst (λ f. ArePositive (map f loops)) (sym over.extents) (positive-from (extent_at space) loops (λ d l. (each-index space tree body loops a limits over.measured part d l).some));
+      edges = edges-positive space tree body loops a limits over.measured part;
+      turns = have-turns space tree s inner.1.plan body inner.1.opened limits over.measured over.extents inner.1.shape;
+      passes =
+          subst (λ c. IsBand c s.fusion loops band.carrier is.outside body) (sym over.tree_is)
+          (subst (λ g. IsBand tree g loops band.carrier is.outside body) (sym fused) is.passes);
+    }
+
+pub blocks-begin : (space : IndexSpace) (tree : ContractionTree) (fusion : List ℕ) (own : IndexSpace) (s : Setting) (ops : List Op) (band : Band) (a : Assignment) (sizes : List ℕ)
+    (remaining : List Part) (before : Option State) (t : ℕ) → AreKept space tree → RunsOver space tree own s → s.fusion ≡ fusion → IsBandAt tree fusion ops band
+    → IsPart space tree (band_program ops band) a → AreWithin (counts_along (map (extent_at space) band.loops.0.items) (map (edge_at space) band.loops.0.items)) sizes
+    → remaining ≡ grouped_blocks (map (extent_at space) band.loops.0.items) (map (edge_at space) band.loops.0.items) sizes
+    → AreBlocksLeft space tree s (program_at ops band.at) band.loops.0.items a remaining before before t t
+blocks-begin space tree fusion own s ops band a sizes remaining before t limits over fused is part within e =
     subst (λ parts. AreBlocksLeft space tree s body loops a parts before before t t) (sym e) (record {
-      state = refl;
-      touches = omega arith;
-      each = λ k p h. record { number = k; block = h };
+      state = ap (λ f. option_map f before) (fun_ext (λ state.
+          ap (λ f. fold step state (grouped_blocks (map f loops) (map (edge_at space) loops) sizes)) (sym over.extents)
+          ∙ groups_make_bands s loops band.carrier is.outside body a (edge_at space) sizes state facts.some facts.edges facts.turns facts.passes
+          (subst (λ f. AreWithin (counts_along (map f loops) (map (edge_at space) loops)) sizes) (sym over.extents) within)
+          ∙ sym (blocks_make_bands s loops band.carrier is.outside body a (edge_at space) state facts.some facts.edges facts.turns facts.passes)
+          ∙ ap (λ f. fold step state (blocks (map f loops) (map (edge_at space) loops))) over.extents));
+      touches =
+          let same = same_in_groups (λ m (p : Part). m + touches_in space tree body p.len) (map (extent_at space) loops) (map (edge_at space) loops) sizes
+          (λ m p q. let cross : m + touches_in space tree body p.len + touches_in space tree body q.len ≡ m + touches_in space tree body q.len + touches_in space tree body p.len = omega arith in cross) within t in
+          omega (arith, same);
+      each = λ k p h.
+          let one = grouped-numbered (map (extent_at space) loops) (map (edge_at space) loops) sizes within k p h in
+          record { number = one.number; block = one.is };
     })
+  where
+    body : Program
+    body = program_at ops band.at
+
+    loops : List ℕ
+    loops = band.loops.0.items
+
+    facts : IsBandOver space s ops band is.outside
+    facts = band-over space tree fusion own s ops band a limits over fused is part
+
+    step : State → Part → State
+    step inside p = exec_part s body loops p inside a
 
 grown-more : (space : IndexSpace) (tree : ContractionTree) (body : Program) (parts : List Part) (m n : ℕ) → m ≤ n
     → fold (λ k part. k + touches_in space tree body part.len) m parts ≤ fold (λ k part. k + touches_in space tree body part.len) n parts
@@ -258,13 +308,10 @@ blocks-all space tree fusion own s ops band a remaining before now t u limits ov
   state = mapped-same now ∙ ap (λ parts. option_map (λ state. fold (step s body loops a) state parts) now) (sym (none-left remaining none)) ∙ h.state
       ∙ ap (λ f. option_map f before) (fun_ext (λ state.
       ap (λ f. fold (step s body loops a) state (blocks (map f loops) (map (edge_at space) loops))) (sym over.extents)
-      ∙ blocks_make_bands s loops band.carrier is.outside body a (edge_at space) state (subst (λ f. ArePositive (map f loops)) (sym over.extents) extents) edges
-      (have-turns space tree s inner.1.plan body inner.1.opened limits over.measured over.extents inner.1.shape)
-      (subst (λ c. IsBand c s.fusion loops band.carrier is.outside body) (sym over.tree_is)
-      (subst (λ g. IsBand tree g loops band.carrier is.outside body) (sym fused) is.passes))));
+      ∙ blocks_make_bands s loops band.carrier is.outside body a (edge_at space) state facts.some facts.edges facts.turns facts.passes));
   touches =
       let all = all-touches space tree body (map (extent_at space) loops) (map (edge_at space) loops) t
-      (length-map loops (edge_at space) ∙ sym (length-map loops (extent_at space))) edges in
+      (length-map loops (edge_at space) ∙ sym (length-map loops (extent_at space))) facts.edges in
       let last = ap (fold (λ k p. k + touches_in space tree body p.len) u) (none-left remaining none) in
       omega (arith, h.touches, all, last);
 }
@@ -278,14 +325,8 @@ blocks-all space tree fusion own s ops band a remaining before now t u limits ov
     step : Setting → Program → List ℕ → Assignment → State → Part → State
     step s body loops a inside part = exec_part s body loops part inside a
 
-    inner : (b : Assignment) × IsPart space tree body b
-    inner = inner-part space tree body loops a limits over.measured part
-
-    edges : ArePositive (map (edge_at space) loops)
-    edges = edges-positive space tree body loops a limits over.measured part
-
-    extents : ArePositive (map (extent_at space) loops)
-    extents = positive-from (extent_at space) loops (λ d l. (each-index space tree body loops a limits over.measured part d l).some)
+    facts : IsBandOver space s ops band is.outside
+    facts = band-over space tree fusion own s ops band a limits over fused is part
 
 -- a band that a loop begins
 pub band-part : (space : IndexSpace) (tree : ContractionTree) (fusion : List ℕ) (ops : List Op) (at i : ℕ) (band : Band) (a : Assignment) → BeginsBand tree fusion ops at i band

@@ -1,7 +1,7 @@
 -- A part of a band's loops, turn by turn.
 use Rattle.std.proofs.Common.{◌≡◌, ℕ, ◌+◌, ◌*◌, ◌^◌, ◌<◌, ◌≤◌, Option, Some, None, List, ◌∷◌, length, get_or, set, drop, refl, sym, ap, ◌∙◌, subst, arith, set-set, add-one}
 use mathlib.Core.Path.{fun_ext}
-use Rattle.std.proofs.Math.Nat.{mul_assoc, mul-le-mul_left}
+use Rattle.std.proofs.Math.Nat.{mul_assoc}
 use Rattle.std.proofs.lemmas.List.{drop_more, drop_all, set-get_or}
 use Rattle.std.specs.Option.{option_map}
 use Rattle.tce_space.specs.Box.{product}

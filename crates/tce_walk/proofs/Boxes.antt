@@ -12,6 +12,7 @@ use Rattle.tce_block.proofs.Beginning.{some_count}
 use Rattle.tce_block.proofs.Cover.{end_is}
 use Rattle.tce_block.proofs.Dimensions.{begins_inside}
 use Rattle.tce_block.proofs.Folds.{flat_more}
+use Rattle.tce_block.specs.Grouped.{shifted}
 use Rattle.tce_block.specs.Parts.{Part, block, blocks, beginnings, lengths}
 use Rattle.tce_code.specs.Execution.{repeated}
 
@@ -31,12 +32,6 @@ Exchange {X} Same h k = (x : X) → Same (h (k x)) (k (h x))
 abbrev pub box : {X : Type 0} → (List ℕ → X → X) → List ℕ → X → X
 box turn [] x = turn [] x
 box turn (n ∷ ns) x = repeated n (λ i y. box (λ xs. turn (i ∷ xs)) ns y) x
-
--- coordinates that are counted from others on
-abbrev pub shifted : List ℕ → List ℕ → List ℕ
-shifted [] xs = xs
-shifted (f ∷ from) [] = []
-shifted (f ∷ from) (x ∷ xs) = (f + x) ∷ shifted from xs
 
 -- the turns of one block
 abbrev pub in_block : {X : Type 0} → (List ℕ → X → X) → List ℕ → List ℕ → List ℕ → X → X
@@ -116,7 +111,7 @@ box_past Same h turn (n ∷ ns) same steady exchange =
     (λ i. box_past Same h (λ xs. turn (i ∷ xs)) ns same (λ xs. steady (i ∷ xs)) (λ xs. exchange (i ∷ xs)))
 
 -- two boxes
-boxes_past : {X : Type 0} (Same : X → X → Type 0) (turn other : List ℕ → X → X) (ns ms : List ℕ) → IsSame X Same → ((xs : List ℕ) → Steady Same (turn xs))
+pub boxes_past : {X : Type 0} (Same : X → X → Type 0) (turn other : List ℕ → X → X) (ns ms : List ℕ) → IsSame X Same → ((xs : List ℕ) → Steady Same (turn xs))
     → ((xs : List ℕ) → Steady Same (other xs)) → ((xs ys : List ℕ) → Exchange Same (turn xs) (other ys)) → Exchange Same (box turn ns) (box other ms)
 boxes_past Same turn other ns ms same steady others exchange =
     box_past Same (box other ms) turn ns same steady (λ xs. past_box Same (turn xs) other ms same others (exchange xs))

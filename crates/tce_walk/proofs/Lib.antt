@@ -30,3 +30,4 @@ pub mod CheckedValues
 pub mod TermsFound
 pub mod TermBlocks
 pub mod TermBands
+pub mod GroupedBands

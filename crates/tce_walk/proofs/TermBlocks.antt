@@ -2,10 +2,13 @@
 use Rattle.std.proofs.Common.{◌≡◌, ℕ, suc, ◌+◌, ◌*◌, ◌^◌, ◌<◌, ◌≤◌, true, false, not, Option, Some, None, List, [], ◌∷◌, ◌++◌, All, map, length, get_or, drop, slice_get, refl, sym, ap, ap₂, ◌∙◌, subst, inl, arith}
 use Rattle.std.proofs.lemmas.Bool.{not-true}
 use Rattle.std.specs.Int.{div_ceil}
-use Rattle.std.specs.List.{fold}
+use mathlib.Core.Path.{fun_ext}
+use Rattle.std.specs.List.{fold, list_all}
 use Rattle.std.specs.Option.{option_map}
 use Rattle.tce_base.specs.Word.{wrapping_mul}
 use Rattle.tce_block.proofs.Cover.{length-blocks}
+use Rattle.tce_block.specs.Grouped.{grouped_blocks}
+use Rattle.tce_block.specs.Numbers.{AreWithin}
 use Rattle.tce_block.specs.Parts.{Part, blocks}
 use Rattle.tce_space.specs.Box.{product}
 use Rattle.tce_space.specs.IndexSet.{has}
@@ -19,6 +22,7 @@ use Rattle.tce_tree.specs.WellFormed.{among}
 use Rattle.tce_code.specs.Execution.{Setting, State}
 use Rattle.tce_code.specs.declared.op.Op.{Op}
 use Rattle.tce_walk.proofs.BandRuns.{first-left, none-left, mapped-same, slice-drop}
+use Rattle.tce_walk.proofs.GroupedBands.{grouped-numbered, length-grouped, same_in_groups, sets_cross}
 use Rattle.tce_walk.specs.BandRuns.{IsBlockOf}
 use Rattle.tce_walk.specs.FoundTerms.{AreTermsOf, IsTermOver}
 use Rattle.tce_walk.specs.Parts.{set_by_part}
@@ -104,14 +108,35 @@ pub counts_are : (space : IndexSpace) (order : List ℕ) → product (counts_alo
 counts_are space [] = refl
 counts_are space (i ∷ order) = ap (λ n. div_ceil (extent_at space i) (edge_at space i) * n) (counts_are space order)
 
-pub term_blocks-begin : (space : IndexSpace) (s : Setting) (t : ℕ) (order : List ℕ) (terms : List Term) (a : Assignment) (remaining : List Part) (before : Option State) (m : ℕ)
-    → remaining ≡ blocks (map (extent_at space) order) (map (edge_at space) order) → AreTermBlocksLeft space s t order terms a remaining before before m m
-term_blocks-begin space s t order terms a remaining before m e =
-    subst (λ parts. AreTermBlocksLeft space s t order terms a parts before before m m) (sym e) (record {
-      state = refl;
-      touches = omega (arith, ap (λ n. n * touches_of_terms space terms) (length-blocks (map (extent_at space) order) (map (edge_at space) order) ∙ counts_are space order));
-      each = λ k p h. record { number = k; block = h };
+pub term_blocks-begin : (space : IndexSpace) (tree : ContractionTree) (fusion : List ℕ) (own : IndexSpace) (s : Setting) (ops : List Op) (band : Band) (terms : Terms) (a : Assignment)
+    (sizes : List ℕ) (remaining : List Part) (before : Option State) (m : ℕ) → RunsOver space tree own s → s.fusion ≡ fusion → AreTermsOf space tree fusion ops band terms
+    → AreWithin (counts_along (map (extent_at space) band.loops.0.items) (map (edge_at space) band.loops.0.items)) sizes
+    → remaining ≡ grouped_blocks (map (extent_at space) band.loops.0.items) (map (edge_at space) band.loops.0.items) sizes
+    → AreTermBlocksLeft space s band.carrier band.loops.0.items terms.terms.items a remaining before before m m
+term_blocks-begin space tree fusion own s ops band terms a sizes remaining before m over fused h within e =
+    subst (λ parts. AreTermBlocksLeft space s t order terms.terms.items a parts before before m m) (sym e) (record {
+      state = ap (λ f. option_map f before) (fun_ext (λ state.
+          same_in_groups (step_of s t order a) ns es sizes (λ inside p q. sets_cross s t order (value s.elements (node s.tree t)) a kept inside p q) within state));
+      touches = omega (arith, ap (λ n. n * touches_of_terms space terms.terms.items) (length-grouped ns es sizes within ∙ length-blocks ns es ∙ counts_are space order));
+      each = λ k p q. let one = grouped-numbered ns es sizes within k p q in record { number = one.number; block = one.is };
     })
+  where
+    t : ℕ
+    t = band.carrier
+
+    order : List ℕ
+    order = band.loops.0.items
+
+    ns : List ℕ
+    ns = map (extent_at space) order
+
+    es : List ℕ
+    es = map (edge_at space) order
+
+    kept : list_all (has (kept_dims s.tree s.fusion t)) order ≡ true
+    kept =
+        subst (λ c. list_all (has (kept_dims c s.fusion t)) order ≡ true) (sym over.tree_is)
+        (subst (λ g. list_all (has (kept_dims tree g t)) order ≡ true) (sym fused) h.dims.kept)
 
 after_step : (s : Setting) (t : ℕ) (order : List ℕ) (a : Assignment) (part : Part) (parts : List Part) (now : Option State)
     → option_map (λ state. fold (step_of s t order a) state parts) (option_map (λ state. step_of s t order a state part) now)

@@ -6,7 +6,8 @@
 //! so that it may run block by block.
 //!
 //! Other loops that stand directly in one another are a band, where it does not matter in which sequence their body comes to
-//! their numbers. A band is cut at the edges of tiles, and all of a block is done before the next one. A body of operations
+//! their numbers. A band is cut at the edges of tiles, and all of a block is done before the next one. Blocks that share
+//! tiles follow one another in groups. A body of operations
 //! alone is handed to the machine with its block; any other is gone through at each of the block's numbers. Every loop that
 //! begins neither a tail nor a band is run turn by turn.
 //!
@@ -21,6 +22,7 @@ mod band_search;
 mod combination;
 mod counts;
 mod cuts;
+mod grouping;
 mod indexes;
 mod laws;
 mod machine;

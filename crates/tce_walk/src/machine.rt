@@ -57,6 +57,9 @@ pub trait Machine {
     /// What stays from one machine to a later one, also where a call fails.
     ghost keeps: { Self → Self → Type 0 };
 
+    /// How many tiles the machine holds at once.
+    fn frames(&self) -> usize;
+
     /// Sets every place of a node to 0.
     fn clear(&mut self, v: u8)
         requires ready { ready self.old }

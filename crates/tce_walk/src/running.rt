@@ -18,12 +18,13 @@ ghost use Rattle.tce_block.specs.Cuts.{part_of};
 use crate::band_search::{Band, find_band};
 use crate::combination::find_terms;
 use crate::cuts::{cuts_of, last_block};
+use crate::grouping::{group_sizes, readings_of_band};
 use crate::machine::{Body, Machine};
 use crate::search::find_tail;
 use crate::straight::straight_body;
 use crate::term_runs::run_terms_of_band;
 use crate::walk::Walk;
-use tce_block::{Block, Blocks};
+use tce_block::{Block, GroupedBlocks};
 use tce_code::Op;
 use tce_outside::Failed;
 use tce_space::{MAX_INDEXES, Numbers, Space};
@@ -227,7 +228,14 @@ fn run_band<M: Machine>(
         return Ok(());
     }
     let cuts = cuts_of(walk.space, band.loops.0.as_slice());
-    let mut parts = Blocks::new(&cuts);
+    let readings = readings_of_band(walk, band);
+    let sizes = group_sizes(
+        walk.space,
+        cuts.as_slice(),
+        readings.as_slice(),
+        machine.frames(),
+    );
+    let mut parts = GroupedBlocks::new(&cuts, &sizes);
     let mut block = Block::default();
     while parts.next_in(&mut block) {
         run_block_of_band(walk, machine, band, &block, numbers)?;

@@ -12,10 +12,11 @@ ghost use Rattle.tce_walk.specs.Touches.{block_count};
 use crate::band_search::Band;
 use crate::combination::Terms;
 use crate::cuts::cuts_of;
+use crate::grouping::{group_sizes, readings_of_terms};
 use crate::machine::Machine;
 use crate::terms::Combination;
 use crate::walk::Walk;
-use tce_block::{Block, Blocks};
+use tce_block::{Block, GroupedBlocks};
 use tce_outside::Failed;
 use tce_space::Numbers;
 
@@ -53,7 +54,14 @@ pub(crate) fn run_terms_of_band<M: Machine>(
         scale: terms.scale,
     };
     let cuts = cuts_of(walk.space, band.loops.0.as_slice());
-    let mut parts = Blocks::new(&cuts);
+    let readings = readings_of_terms(walk.tree, terms.terms.as_slice());
+    let sizes = group_sizes(
+        walk.space,
+        cuts.as_slice(),
+        readings.as_slice(),
+        machine.frames(),
+    );
+    let mut parts = GroupedBlocks::new(&cuts, &sizes);
     let mut block = Block::default();
     while parts.next_in(&mut block) {
         machine.run_terms(&sum, &block, numbers)?;

@@ -13,8 +13,10 @@ use Rattle.tce_walk.proofs.Turns.{IsIndex, AreTurns, loop-index, assignment-set,
 use Rattle.tce_walk.proofs.TailParts.{part-shaped, tail-asks, tail-few, tail-run}
 use Rattle.tce_walk.proofs.Positions.{left-start}
 use Rattle.tce_walk.proofs.Walking.{over-later, over-part, over-extents, plain-is, plain-part, plain-rest, plain-few, plain-left, open-part, open-few, open-rest, open-left, set-next, set-back, close-run, close-end, past-run, past-end}
-use Rattle.tce_block.specs.Cuts.{part_of}
-use Rattle.tce_block.specs.Parts.{Part, blocks}
+use Rattle.tce_block.specs.Cuts.{extents_of, edges_of, part_of}
+use Rattle.tce_block.specs.Grouped.{grouped_blocks}
+use Rattle.tce_walk.proofs.GroupedBands.{sizes-within}
+use Rattle.tce_block.specs.Parts.{Part}
 use Rattle.tce_space.specs.Space.{edge_at}
 use Rattle.tce_tree.specs.Value.{with_number}
 use Rattle.tce_walk.specs.BandRuns.{FitsLoops, IsPartRun}
@@ -570,9 +572,14 @@ run_band-loop-parts-init g t c = record {
   kept = g.met.M.Machine.keeps_own c.args.machine.now;
   counted = refl;
   left =
-      blocks-begin c.args.walk.now.space.now c.args.walk.now.tree.now (g.M.Machine.setting c.args.machine.now) (program_at c.args.walk.now.ops.now c.args.band.now.at) c.args.band.now.loops.0.items (assignment_of c.args.numbers.now) c.new-parts.result (g.M.Machine.state c.args.machine.now) (g.M.Machine.touches c.args.machine.now)
-      (c.new-parts.ensures ∙ ap₂ blocks (c.cuts_of-cuts.ensures.extents ∙ ap (map (extent_at c.args.walk.now.space.now)) c.as_slice-2.ensures.value)
-      (c.cuts_of-cuts.ensures.edges ∙ ap (map (edge_at c.args.walk.now.space.now)) c.as_slice-2.ensures.value));
+      let extents = c.cuts_of-cuts.ensures.extents ∙ ap (map (extent_at c.args.walk.now.space.now)) c.as_slice-2.ensures.value in
+      let edges = c.cuts_of-cuts.ensures.edges ∙ ap (map (edge_at c.args.walk.now.space.now)) c.as_slice-2.ensures.value in
+      blocks-begin c.args.walk.now.space.now c.args.walk.now.tree.now c.args.walk.now.fusion.now.0.items (g.M.Machine.space c.args.machine.now) (g.M.Machine.setting c.args.machine.now)
+      c.args.walk.now.ops.now c.args.band.now (assignment_of c.args.numbers.now) (edges_of c.group_sizes-sizes.result.items) c.new-parts.result (g.M.Machine.state c.args.machine.now)
+      (g.M.Machine.touches c.args.machine.now) c.requires.limits c.requires.over c.requires.fused c.requires.band c.requires.part
+      (sizes-within c.as_slice-3.result.now c.group_sizes-sizes.result.items _ _ c.group_sizes-sizes.ensures.cuts c.group_sizes-sizes.ensures.counts
+      (ap extents_of c.as_slice-3.ensures.value ∙ extents) (ap edges_of c.as_slice-3.ensures.value ∙ edges))
+      (c.new-parts.ensures ∙ ap₂ (λ ns es. grouped_blocks ns es (edges_of c.group_sizes-sizes.result.items)) extents edges);
   numbers_same = refl;
 }
 

@@ -1,4 +1,4 @@
-use Rattle.std.proofs.Common.{◌≡◌, ℕ, List, sym, ap, ◌∙◌, subst}
+use Rattle.std.proofs.Common.{sym, ap, ◌∙◌, subst}
 use Rattle.tce_block.specs.Cuts.{part_of}
 use Rattle.tce_walk.specs.Bodies.{IsBodyAt, after_body}
 use Rattle.tce_walk.specs.Machine.{assignment_of}

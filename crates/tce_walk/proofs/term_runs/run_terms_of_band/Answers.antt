@@ -1,12 +1,13 @@
 use Rattle.std.proofs.Common.{◌<◌, All, length, map, refl, sym, ap, ap₂, ◌∙◌, subst, rules}
 use Rattle.tce_space.specs.Space.{extent_at, edge_at}
-use Rattle.tce_block.specs.Cuts.{part_of}
-use Rattle.tce_block.specs.Parts.{blocks}
+use Rattle.tce_block.specs.Cuts.{extents_of, edges_of, part_of}
+use Rattle.tce_block.specs.Grouped.{grouped_blocks}
 use Rattle.tce_code.specs.Execution.{Setting}
 use Rattle.tce_walk.specs.Machine.{assignment_of}
 use Rattle.tce_walk.specs.Positions.{program_at}
 use Rattle.tce_walk.specs.Run.{RunsOver}
 use Rattle.tce_walk.proofs.BandRuns.{each-declared}
+use Rattle.tce_walk.proofs.GroupedBands.{sizes-within}
 use Rattle.tce_walk.proofs.TermBlocks.{Names, combination_asks, term_blocks-begin, term_blocks-next, term_block-few, term_block-is}
 use Rattle.tce_walk.proofs.Walking.{over-later}
 use Rattle.tce_walk.proofs.term_runs.run_terms_of_band.Goals as goal
@@ -24,10 +25,14 @@ loop-sum-init g c = record {
   kept = g.met.M.Machine.keeps_own c.args.machine.now;
   counted = refl;
   left =
-      term_blocks-begin c.args.walk.now.space.now (g.M.Machine.setting c.args.machine.now) c.args.band.now.carrier c.args.band.now.loops.0.items c.args.terms.now.terms.items (assignment_of c.args.numbers.now)
-      c.new-parts.result (g.M.Machine.state c.args.machine.now) (g.M.Machine.touches c.args.machine.now)
-      (c.new-parts.ensures ∙ ap₂ blocks (c.cuts_of-cuts.ensures.extents ∙ ap (map (extent_at c.args.walk.now.space.now)) c.as_slice-3.ensures.value)
-      (c.cuts_of-cuts.ensures.edges ∙ ap (map (edge_at c.args.walk.now.space.now)) c.as_slice-3.ensures.value));
+      let extents = c.cuts_of-cuts.ensures.extents ∙ ap (map (extent_at c.args.walk.now.space.now)) c.as_slice-3.ensures.value in
+      let edges = c.cuts_of-cuts.ensures.edges ∙ ap (map (edge_at c.args.walk.now.space.now)) c.as_slice-3.ensures.value in
+      term_blocks-begin c.args.walk.now.space.now c.args.walk.now.tree.now c.args.walk.now.fusion.now.0.items (g.M.Machine.space c.args.machine.now) (g.M.Machine.setting c.args.machine.now)
+      c.args.walk.now.ops.now c.args.band.now c.args.terms.now (assignment_of c.args.numbers.now) (edges_of c.group_sizes-sizes.result.items) c.new-parts.result (g.M.Machine.state c.args.machine.now)
+      (g.M.Machine.touches c.args.machine.now) c.requires.over c.requires.fused c.requires.terms
+      (sizes-within c.as_slice-5.result.now c.group_sizes-sizes.result.items _ _ c.group_sizes-sizes.ensures.cuts c.group_sizes-sizes.ensures.counts
+      (ap extents_of c.as_slice-5.ensures.value ∙ extents) (ap edges_of c.as_slice-5.ensures.value ∙ edges))
+      (c.new-parts.ensures ∙ ap₂ (λ ns es. grouped_blocks ns es (edges_of c.group_sizes-sizes.result.items)) extents edges);
 }
 
 pub run_terms-requires-clause-terms : goal.run_terms-requires-clause-terms
