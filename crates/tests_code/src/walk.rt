@@ -65,6 +65,10 @@ impl<'a> Machine for Recorder<'a> {
 
     ghost keeps = { λ x y. y.calls.ghost_name ≡ x.calls.ghost_name };
 
+    fn frames(&self) -> usize {
+        0
+    }
+
     fn clear(&mut self, v: u8) {
         let _written = self.write(&[b'c', v]);
     }
@@ -476,4 +480,34 @@ fn small_blocks_go_element_by_element(rt: HostRuntime) {
         (128, true),
         wanted.as_slice(),
     );
+}
+
+// `(A[i,j] - A[j,i]) * B[i,j]`: a block and its transpose stand in two rows and two columns
+#[test]
+fn transposes_go_in_groups_of_two_rows(rt: HostRuntime) {
+    let wanted = [
+        b'b', 2, 0, 0, 1, 0, 0, 2, 2, b'b', 2, 0, 0, 1, 2, 0, 2, 2, b'b', 2, 0, 0, 1, 0, 2, 2, 2,
+        b'b', 2, 0, 0, 1, 2, 2, 2, 2,
+    ];
+    let differences = difference(
+        &rt,
+        rt.alloc(),
+        leaf(&rt, rt.alloc(), 0, &[0, 1]),
+        leaf(&rt, rt.alloc(), 0, &[1, 0]),
+    );
+    let expr = product(
+        &rt,
+        rt.alloc(),
+        differences,
+        leaf(&rt, rt.alloc(), 1, &[0, 1]),
+    );
+    let space = three_indexes(&rt, rt.alloc());
+    let sets = [both(), IndexSet::empty()];
+    let mut calls = ArrayVec::new();
+    match calls_of(rt.alloc(), &space, &expr, &sets, 128, &mut calls) {
+        Ok(ran) => assert!(&rt; ran),
+        Err(_) => panic!(&rt; "no run"),
+    }
+    assert!(&rt; calls.as_slice() == wanted.as_slice());
+    drop(space);
 }
