@@ -8,17 +8,17 @@ import os
 import weakref
 from collections.abc import Iterator, Sequence
 from math import prod
-from typing import Any, SupportsIndex
+from typing import Any
 
 import numpy
 
 from cabunlit.errors import ArrayError, FileChanged
 from cabunlit.heads import Head, read_head
+from cabunlit.keys import Key, expanded, opened
 from cabunlit.tiles import Array, Region, counts_of, read_rows, regions
 from cabunlit.writing import ArrayWriter, write_source
 
 PathLike = str | os.PathLike[str]
-Key = Any
 
 
 class TiledArray:
@@ -139,6 +139,7 @@ class TiledArray:
         self.refuse_change()
         out = numpy.empty(self.shape, self.dtype)
         self._read([0] * self.ndim, out)
+        self.refuse_change()
         return out if dtype is None else out.astype(dtype)  # type: ignore[call-overload]
 
     def _read(self, starts: Sequence[int], out: Array) -> None:
@@ -147,26 +148,29 @@ class TiledArray:
 
     def __getitem__(self, key: Key) -> Any:
         self.refuse_change()
-        keys = _expanded(key, self.shape)
-        if all(isinstance(it, slice) and it.step == 1 for it in keys):
-            out = numpy.empty([it.stop - it.start for it in keys], self.dtype)
-            self._read([it.start for it in keys], out)
-            return out
-        lists = [numpy.arange(it.start, it.stop, it.step) if isinstance(it, slice) else numpy.atleast_1d(it) for it in keys]
-        single = tuple(d for d, it in enumerate(keys) if isinstance(it, int))
-        return self._gather(lists).squeeze(single)[()]
+        keys = expanded(key, self.shape)
+        found = self._block(keys) if all(isinstance(it, int) or isinstance(it, range) and it.step == 1 for it in keys) \
+            else self._gather(opened(keys))
+        self.refuse_change()
+        return found[()]
 
-    def _gather(self, lists: Sequence[Array]) -> Array:
-        """The elements at all combinations of these coordinates."""
-        open_lists = numpy.ix_(*lists) if lists else ()
-        where = [it // edge for it, edge in zip(open_lists, self.chunks)]
-        inside = [it % edge for it, edge in zip(open_lists, self.chunks)]
+    def _block(self, keys: Sequence[Any]) -> Array:
+        """The elements at numbers and at ranges without steps."""
+        ranges = [it if isinstance(it, range) else range(it, it + 1) for it in keys]
+        out = numpy.empty([len(it) for it in ranges], self.dtype)
+        self._read([it.start for it in ranges], out)
+        return out.squeeze(tuple(d for d, it in enumerate(keys) if isinstance(it, int)))
+
+    def _gather(self, numbers: Sequence[Array]) -> Array:
+        """The elements at these numbers, of which each dimension has an array."""
+        where = [it // edge for it, edge in zip(numbers, self.chunks)]
+        inside = [it % edge for it, edge in zip(numbers, self.chunks)]
         return numpy.asarray(self._tiles[(*where, *inside)])
 
     def tiles(self) -> Iterator[tuple[Region, Array]]:
         """The region and the elements of each tile, in the order of the file."""
         for region in regions(self.shape, self.chunks):
-            yield region, self[region]
+            yield region, numpy.asarray(self[region])
 
     def __iter__(self) -> Iterator[Array]:
         """The elements of each tile, in the order of the file."""
@@ -218,19 +222,18 @@ class SymmetricArray(TiledArray):
         return numpy.memmap(self.path, self.dtype, "r", self._head.length, (*others, self._head.stored))
 
     def _read(self, starts: Sequence[int], out: Array) -> None:
-        out[...] = self._gather([numpy.arange(s, s + n) for s, n in zip(starts, out.shape)])
+        out[...] = self._gather(numpy.ix_(*(numpy.arange(s, s + n) for s, n in zip(starts, out.shape))))
 
-    def _gather(self, lists: Sequence[Array]) -> Array:
-        opened = numpy.ix_(*lists)
-        first, second = (opened[p] for p in self.pair)
+    def _gather(self, numbers: Sequence[Array]) -> Array:
+        first, second = (numbers[p] for p in self.pair)
         low, high = numpy.minimum(first, second), numpy.maximum(first, second)
         place = high * (high - 1) // 2 + low if self.antisymmetric else high * (high + 1) // 2 + low
-        others = [it for d, it in enumerate(opened) if d not in self.pair]
+        others = [it for d, it in enumerate(numbers) if d not in self.pair]
         same = low == high
         if not self.antisymmetric:
             return numpy.asarray(self._tiles[(*others, place)])
         if self._head.stored == 0:
-            return numpy.zeros([len(it) for it in lists], self.dtype)
+            return numpy.zeros(numpy.broadcast_shapes(*(it.shape for it in numbers)), self.dtype)
         found = numpy.asarray(self._tiles[(*others, numpy.where(same, 0, place))])
         found = numpy.where(same, numpy.zeros((), self.dtype), found)
         return numpy.where(first > second, numpy.negative(found), found)
@@ -239,34 +242,6 @@ class SymmetricArray(TiledArray):
 def _stamp(path: str) -> tuple[int, int, int, int]:
     found = os.stat(path)
     return found.st_dev, found.st_ino, found.st_size, found.st_mtime_ns
-
-
-def _expanded(key: Key, shape: tuple[int, ...]) -> list[Any]:
-    """A key as one slice, whole number or list of numbers for each dimension."""
-    keys = list(key) if isinstance(key, tuple) else [key]
-    dots = [k for k, it in enumerate(keys) if it is Ellipsis]
-    at = dots[0] if dots else len(keys)
-    keys[at:at + len(dots[:1])] = [slice(None)] * (len(shape) - len(keys) + len(dots[:1]))
-    if len(keys) != len(shape) or len(dots) > 1:
-        raise IndexError(f"too many indexes: the array has {len(shape)} dimensions")
-    return [_number(it, n) for it, n in zip(keys, shape)]
-
-
-def _number(it: Any, extent: int) -> Any:
-    if isinstance(it, slice):
-        start, stop, step = it.indices(extent)
-        return slice(start, max(start, stop), 1) if step == 1 else numpy.arange(start, stop, step)
-    if isinstance(it, SupportsIndex) and not isinstance(it, numpy.ndarray):
-        number = it.__index__()
-        if not -extent <= number < extent:
-            raise IndexError(f"index {number} is out of bounds for an extent of {extent}")
-        return number % extent
-    found = numpy.asarray(it)
-    if found.dtype == bool and found.shape == (extent,):
-        return numpy.flatnonzero(found)
-    if found.ndim != 1 or found.dtype.kind not in "iu" or (found.size and (found.min() < -extent or found.max() >= extent)):
-        raise IndexError(f"{it!r} is no index of an extent of {extent}: take whole numbers, slices or lists of numbers")
-    return found % extent
 
 
 def open_array(path: PathLike, dtype: object = None, shape: Sequence[int] | None = None) -> TiledArray:

@@ -32,16 +32,25 @@ def arrays(draw, most_rank=4):
 
 @some.composite
 def keys(draw, shape):
-    """An index for each dimension: a number, a slice or a list."""
+    """An index for each dimension: a number, a slice, a list or a mask; and dots, or a mask for two dimensions."""
     found = []
     for n in shape:
-        kind = draw(some.integers(0, 3))
+        kind = draw(some.integers(0, 5))
         if kind == 0:
             found.append(draw(some.integers(-n, n - 1)))
         elif kind == 1:
             found.append(slice(draw(some.integers(-n, n)), draw(some.integers(-n, n)), draw(some.sampled_from([1, 2, -1]))))
+        elif kind == 2:
+            found.append(draw(some.lists(some.integers(-n, n - 1), min_size=2, max_size=2)))
+        elif kind == 3:
+            found.append(numpy.array([draw(some.booleans())] * n))
         else:
             found.append(slice(draw(some.none() | some.integers(0, n)), draw(some.none() | some.integers(0, n))))
+    at = draw(some.integers(0, 2 * len(found) + 2))
+    if at < len(found):
+        found[at:at + draw(some.integers(1, 2))] = [...]
+    elif len(found) > 1 and at == 2 * len(found):
+        found[:2] = [numpy.arange(shape[0] * shape[1]).reshape(shape[:2]) % 3 == 0]
     return tuple(found)
 
 
@@ -58,9 +67,31 @@ def test_what_is_written_is_read(given_array):
 def test_slices_are_those_of_numpy(found):
     (array, edges), key = found
     tiled = write_array("A.tca", array, edges, flush=False)
-    due = array[key]
-    assert tiled[key].shape == due.shape and (tiled[key] == due).all()
+    try:
+        due = array[key]
+    except IndexError:  # (lists that do not go side by side)
+        with pytest.raises(IndexError):
+            tiled[key]
+        return
+    assert tiled[key].shape == due.shape and (tiled[key] == due).all() and type(tiled[key]) is type(due)
     assert (tiled[...] == array).all()
+
+
+@pytest.mark.parametrize("key", [[], numpy.array(1), (numpy.int32(1), numpy.uint8(2)), [[0, 1], [2, 0]], ([0, 1], [1, 2]),
+                                 numpy.ix_([0, 1], [1, 2]), (slice(None), [[3]]), (numpy.arange(12).reshape(3, 4) > 5,)])
+def test_other_keys_are_those_of_numpy(key):
+    array = numpy.arange(12).reshape(3, 4)
+    tiled = write_array("A.tca", array, 2)
+    assert tiled[key].shape == array[key].shape and (tiled[key] == array[key]).all()
+
+
+def test_elements_that_change_while_they_are_read(monkeypatch):
+    tiled = write_array("A.tca", numpy.arange(12), 2)
+    for read in (lambda: numpy.asarray(tiled), lambda: tiled[2:5], lambda: tiled[[1, 2]]):
+        answers = iter([False, True])
+        monkeypatch.setattr(tiled, "changed", lambda: next(answers))
+        with pytest.raises(FileChanged):
+            read()
 
 
 @given(arrays(3))
@@ -296,7 +327,8 @@ def test_slices_read_few_bytes():
 
 def test_indexes_that_are_refused():
     tiled = write_array("A.tca", numpy.arange(6).reshape(2, 3), 2)
-    for key in [(2,), (0, 0, 0), (0, 3), (0, -4), (Ellipsis, Ellipsis), ([0.5],), (numpy.array([[0]]),)]:
+    for key in [2, -3, (2,), (0, 0, 0), (0, 3), (0, -4), (Ellipsis, Ellipsis), ([0.5],), (numpy.array([[2]]),), [-3], 1.0, "a", None, True,
+                numpy.True_, numpy.ones((2, 4), bool), ([0, 1], [0, 1, 2]), numpy.array([], "<f8")]:
         with pytest.raises(IndexError):
             tiled[key]
     assert tiled[numpy.array([True, False])].tolist() == [[0, 1, 2]] and tiled[[1, 0], 2].tolist() == [5, 2]
