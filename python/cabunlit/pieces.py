@@ -10,6 +10,7 @@ import os
 import shutil
 from collections.abc import Mapping
 from concurrent.futures import Executor, Future, as_completed
+from contextlib import ExitStack
 from dataclasses import asdict
 from pathlib import Path
 from typing import Any
@@ -20,6 +21,7 @@ from cabunlit.arrays import SymmetricArray, TiledArray, create_array, open_array
 from cabunlit.cutfolder import MANIFEST, Cut, stamp
 from cabunlit.cutting import CutFormula, Slice, Sliced, sum_formulas
 from cabunlit.errors import ArrayError, CabunlitError, FormulaError, PiecesFailed, disk_fault
+from cabunlit.interrupts import later_interrupts
 from cabunlit.memory import budget_of, bytes_of
 from cabunlit.plan import as_specification, plan
 from cabunlit.program import run_program, temporary_folder, write_text
@@ -105,19 +107,20 @@ def cut(spec: Specification | str | PathLike, index: str, pieces: int, arrays: M
 def _make(made: Cut, formula: CutFormula, sources: Mapping[str, Any]) -> None:
     """Makes the folder of a cut; what was written of it goes where it cannot be finished."""
     home = Path(made.folder)
-    try:
-        home.mkdir()
-    except FileExistsError:
-        raise
-    except OSError as error:
-        raise disk_fault(error, home) from error
-    try:
-        _fill(home, made, formula, sources)
-    except BaseException as error:
-        shutil.rmtree(home, ignore_errors=True)
-        if isinstance(error, OSError):
+    with ExitStack() as ending:
+        with later_interrupts():
+            try:
+                home.mkdir()
+            except FileExistsError:
+                raise
+            except OSError as error:
+                raise disk_fault(error, home) from error
+            ending.callback(shutil.rmtree, home, ignore_errors=True)
+        try:
+            _fill(home, made, formula, sources)
+        except OSError as error:
             raise disk_fault(error, home) from error
-        raise
+        ending.pop_all()
 
 
 def _fill(home: Path, made: Cut, formula: CutFormula, sources: Mapping[str, Any]) -> None:
@@ -190,16 +193,13 @@ def run_piece(folder: PathLike, number: int, memory: int | str | None = None, pr
     found = plan(spec, program)
     room = bytes_of(memory) if memory is not None else bytes_of(None) // (os.cpu_count() or 1)
     budget = min(found.full_budget, budget_of(room, found.memory, found.least_budget // 3))
-    attempt = temporary_folder(place, "attempt-")
-    try:
+    with temporary_folder(place, "attempt-") as attempt:
         for name in spec.inputs():
             (attempt / f"{name}.tca").symlink_to((place / f"{name}.tca").resolve())
         write_text(attempt / "piece.tce", spec.text())
         run_program(["run", "piece.tce", str(budget)], attempt, program=program, text=spec.text())
         result = f"{spec.formula.result.tensor}.tca"
         move(attempt / result, place / result)
-    finally:
-        shutil.rmtree(attempt, ignore_errors=True)
     return number
 
 

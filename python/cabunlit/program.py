@@ -7,10 +7,12 @@ import signal
 import subprocess
 import tempfile
 import time
-from collections.abc import Callable, Sequence
+from collections.abc import Callable, Iterator, Sequence
+from contextlib import ExitStack, contextmanager
 from pathlib import Path
 
 from cabunlit.errors import DiskFault, ProgramKilled, ProgramNotFound, disk_fault, error_of
+from cabunlit.interrupts import later_interrupts
 
 PathLike = str | os.PathLike[str]
 POLL_SECONDS = 0.1
@@ -95,21 +97,20 @@ def run_program(words: Sequence[str], folder: PathLike, *, program: PathLike | N
     command = [str(find_program(program)), *words]
     until = None if seconds is None else time.monotonic() + seconds
     wait = POLL_SECONDS if watch or until else None
-    with subprocess.Popen(command, cwd=folder, stdin=subprocess.DEVNULL, stdout=subprocess.PIPE, stderr=subprocess.PIPE) as process:
-        try:
-            while True:
-                try:
-                    said, besides = process.communicate(timeout=wait)
-                    break
-                except subprocess.TimeoutExpired:
-                    if until and time.monotonic() > until:
-                        raise ProgramKilled(f"tce {words[0]} was ended after {seconds} s") from None
-                    if watch:
-                        watch()
-        except BaseException:
-            process.kill()
-            process.wait()
-            raise
+    with ExitStack() as ending:
+        with later_interrupts():
+            process = ending.enter_context(subprocess.Popen(command, cwd=folder, stdin=subprocess.DEVNULL, stdout=subprocess.PIPE,
+                                                            stderr=subprocess.PIPE))
+            ending.push(lambda kind, *_: _end(process) if kind else None)
+        while True:
+            try:
+                said, besides = process.communicate(timeout=wait)
+                break
+            except subprocess.TimeoutExpired:
+                if until and time.monotonic() > until:
+                    raise ProgramKilled(f"tce {words[0]} was ended after {seconds} s") from None
+                if watch:
+                    watch()
     if watch:
         watch()
     report = said.decode("utf-8", "replace")
@@ -127,8 +128,15 @@ def run_program(words: Sequence[str], folder: PathLike, *, program: PathLike | N
     raise error_of(last, text, process.returncode, detail)
 
 
-def temporary_folder(parent: PathLike | None = None, prefix: str = "cabunlit-") -> Path:
-    """Makes a folder of a new name.
+def _end(process: subprocess.Popen[bytes]) -> None:
+    """Ends a process, whatever it does."""
+    process.kill()
+    process.wait()
+
+
+@contextmanager
+def temporary_folder(parent: PathLike | None = None, prefix: str = "cabunlit-") -> Iterator[Path]:
+    """A folder of a new name that is gone at the end of a `with`.
 
     Parameters
     ----------
@@ -144,14 +152,26 @@ def temporary_folder(parent: PathLike | None = None, prefix: str = "cabunlit-") 
 
     Examples
     --------
-    >>> made = temporary_folder(".")
-    >>> made.is_dir(), made.rmdir()
-    (True, None)
+    >>> with temporary_folder(".") as made:
+    ...     made.is_dir()
+    True
+    >>> made.exists()
+    False
     """
-    try:
-        return Path(tempfile.mkdtemp(prefix=prefix, dir=parent))
-    except OSError as error:
-        raise disk_fault(error, parent or tempfile.tempdir or "TMPDIR") from error
+    with ExitStack() as ending:
+        with later_interrupts():
+            try:
+                folder = Path(tempfile.mkdtemp(prefix=prefix, dir=parent))
+            except OSError as error:
+                raise disk_fault(error, parent or tempfile.tempdir or "TMPDIR") from error
+            ending.callback(_remove, folder, os.getpid())
+        yield folder
+
+
+def _remove(folder: Path, process: int) -> None:
+    # (a process that was forked leaves it alone)
+    if os.getpid() == process:
+        shutil.rmtree(folder, ignore_errors=True)
 
 
 def write_text(path: Path, text: str) -> None:
@@ -196,9 +216,6 @@ def run_text(words: Sequence[str], text: str, *, program: PathLike | None = None
     ...
     cabunlit.errors.SpecificationError: error 2: line 1: unknown name N
     """
-    folder = temporary_folder()
-    try:
+    with temporary_folder() as folder:
         write_text(folder / "s.tce", text)
         return run_program([words[0], "s.tce", *words[1:]], folder, program=program, text=text, seconds=seconds)
-    finally:
-        shutil.rmtree(folder, ignore_errors=True)

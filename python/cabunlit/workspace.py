@@ -15,6 +15,7 @@ import numpy
 
 from cabunlit.arrays import SymmetricArray, TiledArray, open_array, owned
 from cabunlit.errors import ArrayError, FileChanged, FormulaError, NotEnoughDisk, TceError, disk_fault
+from cabunlit.interrupts import later_interrupts
 from cabunlit.program import run_program, temporary_folder, write_text
 from cabunlit.specification import Specification
 from cabunlit.tiles import Array
@@ -104,7 +105,8 @@ class Workspace:
 
     def __init__(self, program: PathLike | None = None, beside: PathLike | None = None) -> None:
         parent = None if beside is None else os.path.dirname(os.path.abspath(beside))
-        self.folder = temporary_folder(parent, ".cabunlit-" if beside else "cabunlit-")
+        self._made = temporary_folder(parent, ".cabunlit-" if beside else "cabunlit-")
+        self.folder = self._made.__enter__()
         self.program = program
         self.opened: list[TiledArray] = []
 
@@ -112,7 +114,7 @@ class Workspace:
         return self
 
     def __exit__(self, kind: type[BaseException] | None, error: BaseException | None, trace: TracebackType | None) -> None:
-        shutil.rmtree(self.folder, ignore_errors=True)
+        self._made.__exit__(None, None, None)
 
     def refuse_without_room(self, spec: Specification, sources: Mapping[str, Any]) -> None:
         """Looks whether the operands that are no files in these tiles, and the last result, fit on the disk.
@@ -191,12 +193,17 @@ class Workspace:
         if isinstance(out, numpy.ndarray):
             out[...] = numpy.asarray(open_array(place, dtype)).reshape(out.shape)
             return out
-        keep = out is not None
-        target = os.path.realpath(os.fspath(out)) if out is not None else _temporary(self.folder.parent)
-        move(place, target)
-        found = open_array(target, dtype)
+        if out is not None:
+            target = os.path.realpath(os.fspath(out))
+            move(place, target)
+            found = open_array(target, dtype)
+        else:
+            with later_interrupts():
+                target = _temporary(self.folder.parent)
+                move(place, target)
+                found = owned(open_array(target, dtype))
         found.report = report
-        return found if keep else owned(found)
+        return found
 
 
 def _is_linked(source: Any, chunks: Sequence[int]) -> bool:

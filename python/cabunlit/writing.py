@@ -15,6 +15,7 @@ import numpy
 
 from cabunlit.errors import ArrayError, disk_fault
 from cabunlit.heads import head_bytes
+from cabunlit.interrupts import later_interrupts
 from cabunlit.tiles import Array, bands, counts_of, regions, write_rows
 
 PathLike = str | os.PathLike[str]
@@ -89,7 +90,8 @@ class ArrayWriter:
         tile = prod(self.chunks) * dtype.itemsize
         self.length = len(self.head) + prod(counts_of(shape, self.chunks)) * tile
         try:
-            self._file, self._name = tempfile.mkstemp(".part", ".cabunlit-", os.path.dirname(self.path))
+            with later_interrupts():
+                self._file, self._name = tempfile.mkstemp(".part", ".cabunlit-", os.path.dirname(self.path))
         except OSError as error:
             raise disk_fault(error, self.path) from error
         try:
