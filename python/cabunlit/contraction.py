@@ -55,11 +55,14 @@ def from_sublists(words: Sequence[Any]) -> tuple[str, list[Any]]:
     """
     names = LETTERS + "".join(chr(0x4E00 + k) for k in range(1000))
 
-    def text(labels: Sequence[Any]) -> str:
-        if not isinstance(labels, (list, tuple)) or not all(it is Ellipsis or isinstance(it, int) and 0 <= it < len(names)
-                                                            for it in labels):
-            raise FormulaError(f"{labels!r} is no list of labels, which are whole numbers from 0 on")
-        return "".join("..." if it is Ellipsis else names[it] for it in labels)
+    def text(labels: Any) -> str:
+        try:
+            found: list[Any] = [it if it is Ellipsis else operator.index(it) for it in labels]
+        except TypeError:
+            found = [-1]
+        if not all(it is Ellipsis or 0 <= it < len(names) for it in found):
+            raise FormulaError(f"{labels!r} is no list of labels, which are whole numbers from 0 to {len(names) - 1}")
+        return "".join("..." if it is Ellipsis else names[it] for it in found)
 
     parts = [text(it) for it in words[1::2]]
     output = "->" + text(words[-1]) if len(words) % 2 else ""
@@ -190,7 +193,7 @@ class Contraction:
         named : bool, optional
             Whether each item of the path is a formula of its own.
         """
-        names, edges = self.names(), self._edges(chunks)
+        names, edges = self.names(), self.edges(chunks)
         found = list(operand_names or [f"X{k}" for k in range(len(self.operands))])
         spec = Specification()
         of_pair: dict[tuple[int, int], str] = {}
@@ -207,12 +210,13 @@ class Contraction:
             spec.add_formula(formula)
         return spec
 
-    def _edges(self, chunks: object) -> dict[str, int]:
+    def edges(self, chunks: object) -> dict[str, int]:
+        """The edge of each label, of those that are given and of the usual ones."""
         if isinstance(chunks, Mapping):
             unknown = set(chunks) - set(self.labels)
             if unknown:
                 raise FormulaError(f"chunks has {sorted(unknown)}, which are no labels")
-            auto = self._edges("auto")
+            auto = self.edges("auto")
             return {it: min(n, chunks.get(it, auto[it])) for it, n in self.extents.items()}
         if chunks == "auto":
             rank = max([len(self.output), *map(len, self.operands)], default=0)

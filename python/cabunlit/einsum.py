@@ -80,7 +80,7 @@ def einsum(subscripts: Any, *operands: Any, optimize: Any = "greedy", memory: in
     sources = [Narrowed(it, gone) if gone else it for it, gone in zip(sources, contraction.dropped)]
     target = check_out(out, tuple(contraction.extents[it] for it in contraction.output))
     edges, free = _edges(contraction, sources, chunks)
-    names = _names(sources)
+    names = _names(contraction, sources, edges)
     ways = _ways(contraction, edges, names)
     free_ranges = {ways["whole"].indexes[contraction.names()[it]] for it in free}
     fixed_ranges = {ways["whole"].indexes[contraction.names()[it]] for it in contraction.labels if it not in free}
@@ -92,12 +92,14 @@ def einsum(subscripts: Any, *operands: Any, optimize: Any = "greedy", memory: in
         return run_choice(place, choice, given, out, shown)
 
 
-def _names(sources: Sequence[Any]) -> list[str]:
-    """A name for each operand; an array that stands twice has one."""
-    names: dict[int, str] = {}
-    for it in sources:
-        names.setdefault(id(it), f"X{len(names)}")
-    return [names[id(it)] for it in sources]
+def _names(contraction: Contraction, sources: Sequence[Any], edges: Mapping[str, int]) -> list[str]:
+    """A name for each operand; an array that stands twice, with the same edges, has one."""
+    every = contraction.edges(edges)
+    names: dict[tuple[int, ...], str] = {}
+    keys = [(id(it), *(every[label] for label in of)) for it, of in zip(sources, contraction.operands)]
+    for key in keys:
+        names.setdefault(key, f"X{len(names)}")
+    return [names[key] for key in keys]
 
 
 def _edges(contraction: Contraction, sources: Sequence[Any], chunks: Any) -> tuple[dict[str, int], set[str]]:

@@ -3,7 +3,7 @@ from __future__ import annotations
 
 import operator
 import os
-from collections.abc import Callable, Iterable, Mapping, Sequence
+from collections.abc import Callable, Collection, Iterable, Mapping, Sequence
 from math import prod
 from pathlib import Path
 from typing import Any, SupportsIndex
@@ -186,7 +186,11 @@ def from_formulas(formulas: Sequence[Formula], sources: Mapping[str, Any], chunk
     for use in [*uses, *(it.result for it in formulas)]:
         positions = tuple(spec.indexes[i] for i in use.indexes)
         if spec.tensors.setdefault(use.tensor, positions) != positions:
-            spec = _joined(spec, use, positions)
+            _join(spec, use, free)
+    for it, edge in given.items():
+        if it not in edges and spec.range_of(it).edge != min(edge, extents[it]):
+            raise FormulaError(f"chunks has the edge {edge} of {it}, which stands in an operand where an index of the edge "
+                               f"{spec.range_of(it).edge} stands too: give both one edge")
     spec.formulas = list(formulas)
     return spec, free & set(spec.ranges)
 
@@ -202,17 +206,19 @@ def _note(use: Reference, source: Any, extents: dict[str, int], edges: dict[str,
             edges.setdefault(index, source.chunks[d])
 
 
-def _joined(spec: Specification, use: Reference, positions: tuple[str, ...]) -> Specification:
-    """The same, where the ranges of one tensor's position under different indexes are one."""
-    for old, new in zip(positions, spec.tensors[use.tensor]):
-        if old == new:
+def _join(spec: Specification, use: Reference, free: Collection[str]) -> None:
+    """Makes the ranges of one tensor's positions under different indexes one, with an edge that is fixed, where one is."""
+    for at, index in enumerate(use.indexes):
+        kept, gone = spec.tensors[use.tensor][at], spec.indexes[index]
+        if kept == gone:
             continue
-        if spec.ranges[old].extent != spec.ranges[new].extent:
+        if spec.ranges[kept].extent != spec.ranges[gone].extent:
             raise ArrayError(f"{use.tensor} stands with indexes of different extents")
-        spec.indexes = {i: new if of == old else of for i, of in spec.indexes.items()}
-        spec.tensors = {name: tuple(new if it == old else it for it in of) for name, of in spec.tensors.items()}
-        spec.ranges.pop(old, None)
-    return spec
+        if kept in free and gone not in free:
+            kept, gone = gone, kept
+        spec.indexes = {i: kept if of == gone else of for i, of in spec.indexes.items()}
+        spec.tensors = {name: tuple(kept if it == gone else it for it in of) for name, of in spec.tensors.items()}
+        del spec.ranges[gone]
 
 
 def batch(text: Specification | str | PathLike, arrays: Mapping[str, Any] | None = None, *, folder: PathLike | None = None,

@@ -60,12 +60,26 @@ def test_the_forms_of_numpy(text, shapes):
 def test_lists_of_labels():
     assert (einsum(A, [0, 1], A, [2, 1], [2, 0], out=numpy.ndarray) == numpy.einsum(A, [0, 1], A, [2, 1], [2, 0])).all()
     assert (einsum(A, [0, 51], A, [2, 51], out=numpy.ndarray) == A @ A.T).all()
+    assert (einsum(A, numpy.array([0, 1]), A, (numpy.int64(2), 1), out=numpy.ndarray) == A @ A.T).all()
+    assert (einsum(A, [..., 1], A, [2, 1], [2, ...], out=numpy.ndarray) == A @ A.T).all()
 
 
-@pytest.mark.parametrize("words_of", [(A, "ij"), (A, [0, "j"]), (A, [0, -1]), (A,), ("ij",), (A, [0, 1], A)])
+@pytest.mark.parametrize("words_of", [(A, "ij"), (A, [0, "j"]), (A, [0, -1]), (A, [0, 5000]), (A, 0), (A, [0, 1.0]), (A,), ("ij",),
+                                      (A, [0, 1], A)])
 def test_lists_that_are_refused(words_of):
     with pytest.raises(FormulaError):
         einsum(*words_of)
+
+
+@pytest.mark.parametrize("text, names, chunks", [
+    ("ij,ji", "TT", "auto"), ("ij,jk", "TT", "auto"), ("ii,ij->j", "TT", "auto"), ("ij,jk,kl", "STS", "auto"),
+    ("ij,jk,kl", "TST", "auto"), ("ij,jk", "SS", {"i": 2, "j": 3}), ("ij,kj,ji", "TTT", {"k": 4}),
+])
+def test_an_array_that_stands_twice_in_other_tiles(text, names, chunks):
+    square = numpy.arange(36).reshape(6, 6)
+    given_arrays = {"S": square, "T": write_array("T.tca", square, (2, 3))}
+    found = einsum(text, *(given_arrays[it] for it in names), chunks=chunks, out=numpy.ndarray)
+    assert (found == numpy.einsum(text, *(square for _ in names))).all()
 
 
 def test_a_path_of_opt_einsum():

@@ -1,5 +1,6 @@
 """Formulas on arrays: every strategy gives what numpy gives, modulo 2^64."""
 import os
+import subprocess
 import threading
 import time
 from pathlib import Path
@@ -23,6 +24,25 @@ def test_formulas_have_numpys_values(drawn, strategy):
                      out=numpy.ndarray, memory=2**20)
     due = value(formula, arrays, extents)
     assert found.shape == due.shape and (found == due).all()
+
+
+@pytest.mark.parametrize("text, chunks, due", [
+    ("C[i,j] = A[i,j] - A[j,i]", "auto", lambda a: a - a.T), ("C[i,j] = sum{k}(A[i,k] * B[k,j])", {"i": 5}, lambda a: a @ a),
+    ("C[i,j] = sum{k}(A[i,k] * sum{l}(B[k,l] * A[l,j]))", "auto", lambda a: a @ a @ a),
+    ("C[i,j] = sum{k}(B[i,k] * B[k,j]) + A[j,i]", {"k": 3}, lambda a: a @ a + a.T),
+    ("C[i,j] = sum{k,l}(A[i,k] * A[k,l] * A[l,j])", "auto", lambda a: a @ a @ a),
+])
+def test_a_tensor_that_stands_twice_with_other_indexes(text, chunks, due):
+    operands = {"A": write_array("A.tca", A, (2, 3)), "B": A}
+    operands = {name: it for name, it in operands.items() if f"{name}[" in text}
+    assert (evaluate(text, operands, chunks=chunks, out=numpy.ndarray) == due(A)).all()
+    assert (numpy.asarray(batch(text, operands, chunks=chunks)["C"]) == due(A)).all()
+
+
+def test_edges_of_indexes_that_must_have_one():
+    with pytest.raises(FormulaError, match="the edge 3 of k.*give both one edge"):
+        evaluate("C[i,j] = sum{k}(A[i,k] * A[k,j])", A=A, chunks={"i": 2, "k": 3})
+    assert evaluate("C[i,j] = sum{k}(A[i,k] * A[k,j])", A=A, chunks={"k": 3}).chunks == (3, 3)
 
 
 def _references(formula):
@@ -202,7 +222,8 @@ def test_a_program_that_is_killed(own_folder):
     assert caught.value.signal == 9 and os.listdir(".") == ["tce"]
 
 
-def test_an_interrupt_ends_the_program(own_folder):
+@pytest.mark.parametrize("while_it_starts", [False, True])
+def test_an_interrupt_ends_the_program(while_it_starts, own_folder, monkeypatch):
     slow = own_folder / "tce"
     slow.write_text("#!/bin/sh\ncase $1 in run) if [ \"$3\" != 0 ]; then echo $$ > ../pid; exec sleep 60; fi;; esac\n"
                     "exec \"$CABUNLIT_TCE\" \"$@\"\n")
@@ -216,6 +237,17 @@ def test_an_interrupt_ends_the_program(own_folder):
 
     thread = threading.Thread(target=interrupt)
     thread.start()
+    if while_it_starts:
+        popen = subprocess.Popen
+
+        def waits(command, **words):
+            process = popen(command, **words)
+            if command[1] == "run" and command[3] != "0":
+                thread.join()
+                time.sleep(0.2)
+            return process
+
+        monkeypatch.setattr("cabunlit.program.subprocess.Popen", waits)
     with pytest.raises(KeyboardInterrupt):
         evaluate(PRODUCT, A=A, B=A, program=slow, out="C.tca")
     thread.join()
