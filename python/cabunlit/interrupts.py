@@ -1,6 +1,8 @@
-"""Interrupts at moments when something comes to be that has to be removed."""
+"""Interrupts at moments when something comes to be that has to be removed, or is removed."""
 from __future__ import annotations
 
+import os
+import shutil
 import signal
 import threading
 from collections.abc import Iterator
@@ -35,3 +37,17 @@ def later_interrupts() -> Iterator[None]:
         signal.signal(signal.SIGINT, before)
         if came:
             before(*came[0])
+
+
+def remove_folder(folder: str | os.PathLike[str]) -> None:
+    """Removes a folder with all that it holds, before an interrupt.
+
+    Examples
+    --------
+    >>> os.makedirs("a/b")
+    >>> remove_folder("a")
+    >>> os.path.exists("a")
+    False
+    """
+    with later_interrupts():
+        shutil.rmtree(folder, ignore_errors=True)

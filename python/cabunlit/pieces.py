@@ -7,7 +7,6 @@ from __future__ import annotations
 
 import json
 import os
-import shutil
 from collections.abc import Mapping
 from concurrent.futures import Executor, Future, as_completed
 from contextlib import ExitStack
@@ -21,7 +20,7 @@ from cabunlit.arrays import SymmetricArray, TiledArray, create_array, open_array
 from cabunlit.cutfolder import MANIFEST, Cut, stamp
 from cabunlit.cutting import CutFormula, Slice, Sliced, sum_formulas
 from cabunlit.errors import ArrayError, CabunlitError, FormulaError, PiecesFailed, disk_fault
-from cabunlit.interrupts import later_interrupts
+from cabunlit.interrupts import later_interrupts, remove_folder
 from cabunlit.memory import budget_of, bytes_of
 from cabunlit.plan import as_specification, plan
 from cabunlit.program import run_program, temporary_folder, write_text
@@ -115,7 +114,7 @@ def _make(made: Cut, formula: CutFormula, sources: Mapping[str, Any]) -> None:
                 raise
             except OSError as error:
                 raise disk_fault(error, home) from error
-            ending.callback(shutil.rmtree, home, ignore_errors=True)
+            ending.callback(remove_folder, home)
         try:
             _fill(home, made, formula, sources)
         except OSError as error:
@@ -346,7 +345,7 @@ def join(made: Cut | PathLike, out: PathLike | None = None, *, memory: int | str
                                    for d, it in enumerate(band.region))
                     writer[region] = part[band.region]
     for left in Path(found.folder).glob("piece-*/attempt-*"):  # (of workers that were killed)
-        shutil.rmtree(left, ignore_errors=True)
+        remove_folder(left)
     return open_array(target, found.dtype)
 
 

@@ -12,7 +12,7 @@ from contextlib import ExitStack, contextmanager
 from pathlib import Path
 
 from cabunlit.errors import DiskFault, ProgramKilled, ProgramNotFound, disk_fault, error_of
-from cabunlit.interrupts import later_interrupts
+from cabunlit.interrupts import later_interrupts, remove_folder
 
 PathLike = str | os.PathLike[str]
 POLL_SECONDS = 0.1
@@ -171,7 +171,7 @@ def temporary_folder(parent: PathLike | None = None, prefix: str = "cabunlit-") 
 def _remove(folder: Path, process: int) -> None:
     # (a process that was forked leaves it alone)
     if os.getpid() == process:
-        shutil.rmtree(folder, ignore_errors=True)
+        remove_folder(folder)
 
 
 def write_text(path: Path, text: str) -> None:

@@ -178,12 +178,13 @@ class ArrayWriter:
 
     def abandon(self) -> None:
         """Removes what was written."""
-        os.close(self._file)
-        self._tiles, self._file = None, -1
-        try:
-            os.unlink(self._name)
-        except OSError:
-            pass
+        with later_interrupts():
+            os.close(self._file)
+            self._tiles, self._file = None, -1
+            try:
+                os.unlink(self._name)
+            except OSError:
+                pass
 
 
 def _umask() -> int:

@@ -1,6 +1,8 @@
 """What cannot be done is refused with one exception that says what and what to do, before anything of the user's is touched."""
+import gc
 import os
 import shutil
+import signal
 import tempfile
 from pathlib import Path
 
@@ -166,3 +168,30 @@ def test_counts_that_are_none():
     with pytest.raises(FormulaError, match="there is none"):
         evaluate("", A=A)
     assert os.listdir(".") == []
+
+
+@pytest.mark.parametrize("call", [
+    lambda: evaluate(PRODUCT, A=A, B=A), lambda: batch(PRODUCT, A=A, B=A, folder="."), lambda: plan(TEXT),
+    lambda: run_pieces(cut(TEXT, "i", 2, {"A": A, "B": A}, folder="p")), lambda: write_array("A.tca", A, 4),
+])
+@pytest.mark.parametrize("of, name", [(tempfile, "mkdtemp"), (tempfile, "mkstemp"), (shutil, "rmtree"), (os, "unlink")])
+def test_an_interrupt_while_a_temporary_file_or_folder_comes_or_goes(call, of, name, own_folder, monkeypatch):
+    does, came = getattr(of, name), []
+
+    def interrupted(*words, **more):
+        if name != "mkdtemp" and name != "mkstemp":
+            signal.raise_signal(signal.SIGINT)
+        made = does(*words, **more)
+        signal.raise_signal(signal.SIGINT)
+        came.append(name)
+        return made
+
+    with monkeypatch.context() as patch:
+        patch.setattr(of, name, interrupted)
+        try:
+            call()
+        except KeyboardInterrupt:
+            came.append("told")
+    gc.collect()
+    assert came in ([], [name, "told"])
+    assert os.listdir(tempfile.tempdir) == [] and not [it for it in own_folder.rglob("*") if it.name[0] == "." or "attempt" in it.name]
