@@ -2,6 +2,7 @@
 from __future__ import annotations
 
 import os
+import stat
 from collections.abc import Sequence
 from dataclasses import dataclass
 from math import isqrt, prod
@@ -83,7 +84,10 @@ def read_head(path: str | os.PathLike[str], shape: Sequence[int] | None = None) 
     ArrayError
         Where it is no array file, or not finished.
     """
-    size = os.path.getsize(path)
+    found = os.stat(path)
+    size = found.st_size
+    if not stat.S_ISREG(found.st_mode):
+        raise ArrayError(f"{os.fspath(path)} is no file: give the path of an array file")
     with open(path, "rb") as file:
         begin = file.read(8 * 20)
     letters, words = begin[:8], [int(it) for it in numpy.frombuffer(begin[8:len(begin) // 8 * 8], "<u8")]

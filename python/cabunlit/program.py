@@ -85,6 +85,8 @@ def run_program(words: Sequence[str], folder: PathLike, *, program: PathLike | N
         Where the program refused, by its status.
     ProgramKilled
         Where a signal ended it, or its time was over. At an interrupt of this process the program is ended first.
+    ProgramNotFound
+        Where it is none, or cannot be run.
 
     Examples
     --------
@@ -99,8 +101,7 @@ def run_program(words: Sequence[str], folder: PathLike, *, program: PathLike | N
     wait = POLL_SECONDS if watch or until else None
     with ExitStack() as ending:
         with later_interrupts():
-            process = ending.enter_context(subprocess.Popen(command, cwd=folder, stdin=subprocess.DEVNULL, stdout=subprocess.PIPE,
-                                                            stderr=subprocess.PIPE))
+            process = ending.enter_context(_started(command, folder))
             ending.push(lambda kind, *_: _end(process) if kind else None)
         while True:
             try:
@@ -126,6 +127,15 @@ def run_program(words: Sequence[str], folder: PathLike, *, program: PathLike | N
     if process.returncode == DiskFault.status:
         detail = f"in {os.fspath(folder)}, where {shutil.disk_usage(folder).free} bytes are free"
     raise error_of(last, text, process.returncode, detail)
+
+
+def _started(command: Sequence[str], folder: PathLike) -> subprocess.Popen[bytes]:
+    try:
+        return subprocess.Popen(command, cwd=folder, stdin=subprocess.DEVNULL, stdout=subprocess.PIPE, stderr=subprocess.PIPE)
+    except OSError as error:
+        if not os.path.isdir(folder):
+            raise disk_fault(error, folder) from error
+        raise ProgramNotFound(f"{command[0]} cannot be run: {error.strerror}: give the path of tce, or set CABUNLIT_TCE to it") from error
 
 
 def _end(process: subprocess.Popen[bytes]) -> None:

@@ -94,7 +94,7 @@ def read_report(text: str) -> list[Report]:
     """
     lines = text.splitlines()
     if not lines or not lines[0].startswith("tce "):
-        raise CabunlitError(f"no report: {text[:80]!r}")
+        raise CabunlitError(f"no report of tce: {text[:80]!r}: have program= or CABUNLIT_TCE name tce")
     groups: list[list[str]] = [[]]
     for line in lines[1:]:
         if re.match(r"formula \d+$", line) or line.startswith("piece "):

@@ -19,7 +19,7 @@ from cabunlit.interrupts import later_interrupts
 from cabunlit.program import run_program, temporary_folder, write_text
 from cabunlit.specification import Specification
 from cabunlit.tiles import Array
-from cabunlit.writing import refuse_elements, refuse_mask, write_source
+from cabunlit.writing import refuse_elements, refuse_mask, refuse_place, write_source
 
 PathLike = str | os.PathLike[str]
 Out = PathLike | Array | type | None
@@ -225,8 +225,11 @@ def move(place: PathLike, target: PathLike) -> None:
 
     Raises
     ------
+    ArrayError
+        Where something else than a file stands there.
     DiskFault
     """
+    refuse_place(target)
     try:
         os.replace(place, target)
     except OSError as error:
@@ -261,4 +264,6 @@ def check_out(out: Out, shape: Sequence[int]) -> PathLike | None:
         return None
     if out is not None and not isinstance(out, (str, os.PathLike)):
         raise ArrayError(f"out={out!r}: give a path, an array, or numpy.ndarray")
+    if out is not None:
+        refuse_place(out)
     return out

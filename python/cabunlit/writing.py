@@ -73,6 +73,17 @@ def edges_of(shape: Sequence[int], chunks: SupportsIndex | Sequence[SupportsInde
     return edges
 
 
+def refuse_place(path: PathLike) -> None:
+    """Raises where something else than a file stands: a folder or a device is not replaced.
+
+    Raises
+    ------
+    ArrayError
+    """
+    if os.path.exists(path) and not os.path.isfile(path):
+        raise ArrayError(f"{os.fspath(path)} is there and is no file: give another path")
+
+
 class ArrayWriter:
     """An array file that is being written beside the place where it is to stand.
 
@@ -85,6 +96,7 @@ class ArrayWriter:
         self.shape, self.chunks, self.dtype = shape, edges_of(shape, chunks), dtype
         self.head = head_bytes(shape, self.chunks, dtype.itemsize)
         self.path, self.flush = os.path.realpath(path), flush
+        refuse_place(self.path)
         self._tiles: Array | None = None
         self._process = os.getpid()
         tile = prod(self.chunks) * dtype.itemsize

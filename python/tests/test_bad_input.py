@@ -9,8 +9,10 @@ from pathlib import Path
 import numpy
 import pytest
 
-from cabunlit import Specification, advise, batch, cut, einsum, evaluate, plan, run_pieces, spill, write_array
-from cabunlit.errors import (CabunlitError, DiskFault, FormulaError, NotEnoughMemory, PiecesFailed, SpecificationError)
+from cabunlit import (Specification, advise, batch, create_array, cut, einsum, evaluate, join, open_array, plan, run_pieces, spill,
+                      write_array)
+from cabunlit.errors import (ArrayError, CabunlitError, DiskFault, FormulaError, NotEnoughMemory, PiecesFailed, ProgramNotFound,
+                             SpecificationError)
 from cabunlit.fixed_point import scale_for
 from cabunlit.memory import bytes_of
 
@@ -195,3 +197,39 @@ def test_an_interrupt_while_a_temporary_file_or_folder_comes_or_goes(call, of, n
     gc.collect()
     assert came in ([], [name, "told"])
     assert os.listdir(tempfile.tempdir) == [] and not [it for it in own_folder.rglob("*") if it.name[0] == "." or "attempt" in it.name]
+
+
+def test_what_is_no_file_is_left_as_it_is(own_folder):
+    os.mkdir("folder")
+    os.mkfifo("pipe")
+    for name in ("folder", "pipe"):
+        with pytest.raises(ArrayError, match=f"{name} is no file: give the path of an array file"):
+            open_array(name)
+        for call in (lambda: write_array(name, A, 4), lambda: create_array(name, (3, 3), 2), lambda: einsum("ij->ji", A, out=name),
+                     lambda: evaluate(PRODUCT, A=A, B=A, out=name), lambda: spill(PRODUCT, A=A, B=A, limit=1, out=name)):
+            with pytest.raises(ArrayError, match=f"{name} is there and is no file: give another path"):
+                call()
+    os.mkdir("C.tca")
+    with pytest.raises(ArrayError, match="C.tca is there and is no file"):
+        batch(PRODUCT, A=A, B=A, folder=".")
+    made = cut(TEXT, "k", 2, {"A": A, "B": A}, folder="p")
+    run_pieces(made)
+    for name in ("folder", "pipe"):
+        with pytest.raises(ArrayError, match="is there and is no file"):
+            join(made, name)
+    assert sorted(os.listdir(".")) == ["C.tca", "folder", "p", "pipe"] and os.listdir("folder") == os.listdir("C.tca") == []
+    assert Path("pipe").is_fifo()
+
+
+@pytest.mark.parametrize("text, error, says", [
+    ("no script", ProgramNotFound, "tce cannot be run: Exec format error: give the path"),
+    ("#!/nowhere/sh\n", ProgramNotFound, "tce cannot be run: No such file"),
+    ("#!/bin/sh\n", CabunlitError, "no report of tce.*CABUNLIT_TCE"),
+])
+def test_programs_that_are_another_one(text, error, says, own_folder):
+    program = own_folder / "tce"
+    program.write_text(text)
+    program.chmod(0o755)
+    with pytest.raises(error, match=says):
+        evaluate(PRODUCT, A=A, B=A, out="C.tca", program=program)
+    assert os.listdir(".") == ["tce"]
