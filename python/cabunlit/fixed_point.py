@@ -5,12 +5,13 @@ must have one scale.
 """
 from __future__ import annotations
 
+import operator
 import os
 from collections.abc import Mapping
 from dataclasses import dataclass
 from fractions import Fraction
 from math import ceil
-from typing import Any
+from typing import Any, SupportsIndex
 
 import numpy
 import numpy.typing
@@ -87,19 +88,38 @@ def _expression(formula: str | Specification, magnitudes: Mapping[str, Any]) -> 
     found = parse_formula(formula)
     extents: dict[str, int] = {}
     for it in references(found.expression):
-        shape = getattr(magnitudes.get(it.tensor), "shape", None)
-        extents.update(zip(it.indexes, shape or ()))
+        shape = getattr(magnitudes.get(it.tensor), "shape", ())
+        if shape and len(shape) != len(it.indexes):
+            raise ArrayError(f"operand {it.tensor} has {len(shape)} dimensions, and {len(it.indexes)} indexes in the formula")
+        for index, n in zip(it.indexes, shape):
+            if extents.setdefault(index, n) != n:
+                raise ArrayError(f"index {index} has the extent {extents[index]}, and {n} in operand {it.tensor}")
     return found.expression, extents
 
 
 def _largest(magnitudes: Mapping[str, Magnitude]) -> dict[str, Fraction]:
     found = {}
     for name, it in magnitudes.items():
+        if not isinstance(it, (int, float, Fraction)):
+            _refuse_kind(numpy.asarray(it), f"operand {name}: ")
         largest = it if isinstance(it, (int, float, Fraction)) else max(abs(numpy.max(it).item()), abs(numpy.min(it).item()))
         if largest != largest or largest in (float("inf"), float("-inf")):
             raise ArrayError(f"operand {name} has an element that is no number")
         found[name] = abs(Fraction(largest))
     return found
+
+
+def _refuse_kind(array: numpy.typing.NDArray[Any], operand: str = "") -> None:
+    """Raises where elements are no real numbers, or where there are none."""
+    if array.dtype.kind not in "fiub":
+        raise ArrayError(f"{operand}elements are real numbers, not {array.dtype}: take the real and the imaginary parts one by one, "
+                         "or astype(float)")
+    if not array.size:
+        raise ArrayError(f"{operand}there are no elements: a sum over none is 0")
+
+
+def _shown(bound: int) -> str:
+    return str(bound) if bound < 2**80 else f"about 2^{bound.bit_length()}"
 
 
 def _bound(it: Expression, largest: Mapping[str, Fraction], extents: Mapping[str, int]) -> Fraction:
@@ -176,16 +196,20 @@ def scale_for(formula: str | Specification, bounds: Mapping[str, Magnitude], bit
     OverflowPossible
         Where the bound is not below 2^63 even with whole numbers, or, where `bits` is given, with that scale.
     FormulaError
-        Where terms that are added would have different scales.
+        Where terms that are added would have different scales, or `bits` is none.
+    ArrayError
+        Where an operand has no elements, no real ones, or another shape than the formula.
 
     Examples
     --------
     >>> scale_for("E[] = sum{i}(A[i] * A[i])", {"A": numpy.array([0.5, -0.25])}, bits=10).result
     1048576
     """
+    if bits is not None and (not isinstance(bits, SupportsIndex) or operator.index(bits) < 0):
+        raise FormulaError(f"bits={bits!r} is no number of bits: give a whole number from 0 on")
     expression, extents = _expression(formula, bounds)
     power, largest = degree(expression), _largest(bounds)
-    for count in [bits] if bits is not None else range(52, -1, -1):
+    for count in [operator.index(bits)] if bits is not None else range(52, -1, -1):
         scale = 2**count
         scaled = {name: Fraction(ceil(it * scale)) for name, it in largest.items()}
         bound = ceil(_bound(expression, scaled, extents))
@@ -194,7 +218,7 @@ def scale_for(formula: str | Specification, bounds: Mapping[str, Magnitude], bit
             wider = _bound(expression, {name: it + half for name, it in largest.items()}, extents)
             error = wider - _bound(expression, largest, extents)
             return Scale(scale, scale**power, bound, float(error) * (1 + 2**-50))
-    raise OverflowPossible(f"an element of the result may come to {bound}, and 2^63 is {LIMIT}: take fewer bits, smaller operands, "
+    raise OverflowPossible(f"an element of the result may come to {_shown(bound)}, and 2^63 is {LIMIT}: take fewer bits, smaller operands, "
                            "or sums of fewer terms", bound)
 
 
@@ -213,7 +237,7 @@ def to_fixed(array: Any, scale: Scale | int) -> Words:
     Raises
     ------
     ArrayError
-        Where an element is no number.
+        Where an element is no real number.
     OverflowPossible
         Where a scaled element is not below 2^63.
 
@@ -223,13 +247,17 @@ def to_fixed(array: Any, scale: Scale | int) -> Words:
     array([ 2, -1])
     """
     factor = scale.operand if isinstance(scale, Scale) else scale
-    found = numpy.rint(numpy.asarray(array, dtype=numpy.float64) * factor)
+    given = numpy.asarray(array)
+    _refuse_kind(given)
+    whole = given.dtype.kind in "iu"
+    # (whole numbers above 2^53 would be rounded as float64)
+    found = given if whole else numpy.rint(given.astype(numpy.float64) * factor)
     if not numpy.isfinite(found).all():
         raise ArrayError("an element is no number, or infinite")
-    largest = float(numpy.abs(found).max(initial=0.0))
+    largest = max(abs(found.max().item()), abs(found.min().item())) * (factor if whole else 1)
     if largest >= LIMIT:
         raise OverflowPossible(f"a scaled element comes to {largest:.3g}, and 2^63 is {LIMIT}: take a smaller scale", int(largest))
-    return numpy.ascontiguousarray(found.astype("<i8"))
+    return numpy.ascontiguousarray(found.astype("<i8") * (factor if whole else 1))
 
 
 def from_fixed(array: Any, scale: Scale | int) -> Floats:
@@ -289,5 +317,5 @@ def read_bound(spec: Specification | str | os.PathLike[str], magnitudes: Mapping
     """
     found = ceil(magnitude_bound(as_specification(spec), magnitudes))
     if found >= LIMIT:
-        raise OverflowPossible(f"an element of the result may come to {found}, and 2^63 is {LIMIT}: choose smaller scales", found)
+        raise OverflowPossible(f"an element of the result may come to {_shown(found)}, and 2^63 is {LIMIT}: choose smaller scales", found)
     return found

@@ -68,3 +68,37 @@ def test_what_is_refused():
         to_fixed([2.0**62], 4)
     with pytest.raises(ArrayError, match="whole numbers"):
         from_fixed(numpy.ones(2), 4)
+
+
+@pytest.mark.parametrize("of", [[], [1j], ["1.5"], [None], numpy.zeros(0), [numpy.datetime64("2026-12-01")]])
+def test_elements_that_are_no_real_numbers(of):
+    for call in (lambda: to_fixed(of, 4), lambda: scale_for("C[i] = A[i] * A[i]", {"A": numpy.array(of)})):
+        with pytest.raises(ArrayError, match="elements"):
+            call()
+
+
+@pytest.mark.parametrize("bits", [-1, 1.5, "3"])
+def test_bits_that_are_none(bits):
+    with pytest.raises(FormulaError, match="bits=.*whole number from 0 on"):
+        scale_for("C[i] = A[i] * A[i]", {"A": numpy.ones(3)}, bits=bits)
+    assert scale_for("C[i] = A[i] * A[i]", {"A": numpy.ones(3)}, bits=numpy.int64(3)).operand == 8
+
+
+def test_operands_of_other_extents_than_the_formula_has():
+    for a, b in [(3, 4), ((3, 3), 3)]:
+        with pytest.raises(ArrayError, match="extent 3, and 4 in operand B|2 dimensions, and 1 indexes"):
+            scale_for("E[] = sum{i}(A[i] * B[i])", {"A": numpy.ones(a), "B": numpy.ones(b)})
+
+
+def test_whole_numbers_are_scaled_to_the_last_bit():
+    array = numpy.array([2**53 + 1, -2**62 + 1])
+    assert to_fixed(array, 1).tolist() == array.tolist() and to_fixed(array[:1], 512).tolist() == [2**62 + 512]
+    for it in (array * 2, numpy.array([2**63], "<u8"), numpy.array([-2**63])):
+        with pytest.raises(OverflowPossible):
+            to_fixed(it, 1 if it.dtype.kind == "u" or it.size == 1 else 2)
+
+
+def test_a_bound_of_a_thousand_digits_is_told_short():
+    with pytest.raises(OverflowPossible, match="come to about 2.1[0-9]{4}, and") as caught:
+        scale_for("C[i] = " + " * ".join(["A[i]"] * 20), {"A": numpy.full(3, 1e300)})
+    assert len(str(caught.value)) < 200 and caught.value.bound >= 10**5999
