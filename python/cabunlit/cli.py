@@ -90,11 +90,11 @@ def _limits(blocks: Iterable[Array]) -> str:
 
 
 def _certificate(path: str) -> str:
-    lines = Path(path).read_text(encoding="ascii").splitlines()
-    if not lines or lines[0] != "tce certificate 1" or lines[-1] != "end":
+    lines = Path(path).read_text(encoding="ascii", errors="replace").splitlines()
+    memory = next((it for it in lines if it.startswith("memory ")), None)
+    if memory is None or lines[0] != "tce certificate 1" or lines[-1] != "end":
         raise CabunlitError(f"{path} is no certificate, or not finished")
     nodes = [it for it in lines if it.startswith("node ")]
-    memory = next(it for it in lines if it.startswith("memory "))
     rows = sum(it.startswith("row ") for it in lines)
     return "\n".join([f"{path}: a certificate of {len(nodes)} operations", *nodes, memory,
                       f"{rows} rows in {sum(it.startswith('table ') for it in lines)} tables"])
@@ -148,6 +148,8 @@ def main(words: Sequence[str] | None = None) -> int:
         if found.verb == "info":
             show("\n\n".join(map(info, found.file)))
         elif found.verb == "report":
+            if not found.spec.endswith(".tce"):
+                raise CabunlitError(f"{found.spec} is no specification: the name of one ends in .tce")
             show(report_page(plan(found.spec), found.budget))
         else:
             show(_pieces(found))

@@ -235,8 +235,8 @@ def batch(text: Specification | str | PathLike, arrays: Mapping[str, Any] | None
     folder : path, optional
         Where results are kept, as `NAME.tca`; else they go with the arrays that are returned.
     resume : bool, optional
-        Whether results in the folder that are whole and newer than their operands are kept. Operands that are no files have no
-        time, so what they lead to is done again.
+        Whether results in the folder that are whole and newer than their operands are kept, whatever formula made them. Operands
+        that are no files have no time, so what they lead to is done again.
     memory, chunks, progress, program
         As for `evaluate`.
 

@@ -26,8 +26,9 @@ def show(text: str, stream: TextIO | None = None) -> None:
     two
     """
     stream = stream or sys.stdout
-    stream.write(text if text.endswith("\n") else f"{text}\n")
-    stream.flush()
+    if stream is not None:  # (as of a process whose output was closed)
+        stream.write(text if text.endswith("\n") else f"{text}\n")
+        stream.flush()
 
 
 class Progress:
@@ -57,7 +58,7 @@ class Progress:
     def __init__(self, what: str, total: int | None, show: bool = True, stream: TextIO | None = None, bar: bool = True) -> None:
         self.what, self.total, self.show = what, total, show
         self.count = self.kept = 0
-        self.stream = stream or sys.stderr
+        self.stream: TextIO | None = stream or sys.stderr
         self.begun = time.monotonic()
         self.bar = _bar(what, total, self.stream) if show and bar else None
 
@@ -103,9 +104,9 @@ class Progress:
         return (self.total - self.count) / fresh if self.total is not None and fresh else 0.0
 
 
-def _bar(what: str, total: int | None, stream: TextIO) -> Any:
+def _bar(what: str, total: int | None, stream: TextIO | None) -> Any:
     """A bar of tqdm on a terminal, where it is installed."""
-    if not stream.isatty():
+    if stream is None or not stream.isatty():
         return None
     try:
         from tqdm import tqdm

@@ -45,8 +45,24 @@ def test_info_of_other_files(content, capsys):
     Path("A.tca").write_bytes(content)
     assert main(["info", "A.tca"]) == 1 and capsys.readouterr().err.startswith("cabunlit: A.tca ")
     assert main(["info", "B.tca"]) == 1 and "B.tca" in capsys.readouterr().err
-    Path("c.cert").write_text("tce certificate 1\n")
-    assert main(["info", "c.cert"]) == 1
+    for text in (b"", b"tce certificate 1\n", b"tce certificate 1\nend\n", b"tce certificate 1\nmemory 0\n", bytes(range(256))):
+        Path("c.cert").write_bytes(text)
+        assert main(["info", "c.cert"]) == 1 and "c.cert is no certificate" in capsys.readouterr().err
+
+
+def test_a_report_of_a_file_that_is_no_specification(capsys):
+    write_array("A.tca", numpy.arange(3), 2)
+    assert main(["report", "A.tca"]) == 1
+    assert capsys.readouterr().err == "cabunlit: A.tca is no specification: the name of one ends in .tce\n"
+
+
+def test_an_output_that_is_closed(monkeypatch):
+    write_array("A.tca", numpy.arange(3), 2)
+    monkeypatch.setattr(sys, "stdout", None)
+    assert main(["info", "A.tca"]) == 0
+    monkeypatch.setattr(sys, "stderr", None)
+    assert main(["info", "nowhere.tca"]) == 1
+    assert cabunlit.batch("B[i] = 2 * A[i]", A=numpy.arange(3), progress=True)["B"][:].tolist() == [0, 2, 4]
 
 
 class Writes:
