@@ -153,6 +153,7 @@ class Simulation:
         file = ResultFile(self.starts[-2], spec.file_bytes(result) - spec.tiles(result) * tile, tile, spec.tiles(result))
         self.frames = _Frames(frames, [8 * spec.tile_words(it) for it in self.names], file)
         self._find_bands(self.steps)
+        self.touching = [self._touches(node) for node in range(len(tree.operations))]
         self.sampled_above, self.exact = 0, True
         while self._cost(self.steps, 0) > limit and self.sampled_above < 64:
             self.sampled_above += 1
@@ -228,7 +229,7 @@ class Simulation:
             if isinstance(step, Loop):
                 self._run_loop(step, depth)
             elif isinstance(step, Compute):
-                self._do(self._touches(step.node), 1)
+                self._do(self.touching[step.node], 1)
 
     def _run_loop(self, loop: Loop, depth: int) -> None:
         band = self.bands[id(loop)]
