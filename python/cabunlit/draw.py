@@ -8,7 +8,9 @@ from math import log10
 from cabunlit.nest import Tree
 from cabunlit.plan import Plan
 
-ROW, COLUMN, LEFT = 44, 34, 330
+ROW, COLUMN = 44, 34
+# The names of operations take as much room as they need, within limits, and a letter of theirs so much at most.
+LEFT, LETTER = (330, 700), 7
 INK, SOFT, CHAIN, FREE = "#1f2933", "#66727f", "#0b62a8", "#ffffff"
 STYLE = (f"font-family:'DejaVu Sans',Verdana,sans-serif;font-size:11px;fill:{INK}")
 
@@ -81,33 +83,34 @@ def fusion_graph(plan: Plan) -> str:
     """
     columns, tree = _columns(plan), plan.tree
     rows = {node.number: k for k, node in enumerate(reversed(plan.nodes))}
+    left = min(max(LEFT[0], *(_indent(tree, it.number) + LETTER * len(_name(plan, it.number)) + 18 for it in plan.nodes)), LEFT[1])
     upright = all(len(index) <= 4 for index in columns)
     top = 30 if upright else 18 + 8 * max(map(len, columns))
     height = top + ROW * len(rows) + 10
-    width = LEFT + COLUMN * max(1, len(columns)) + 20
+    width = left + COLUMN * max(1, len(columns)) + 20
     lines, points = [], []
     for index, column in columns.items():
-        x, y = _x(column), top - 16
+        x, y = _x(left, column), top - 16
         turned = "" if upright else f' transform="rotate(-90 {x + 4} {y})"'
         extra = f' text-anchor="{"middle" if upright else "start"}" fill="{SOFT}"{turned}'
         points.append(_text(x if upright else x + 4, y, index, extra))
     for node in plan.nodes:
         y = _y(rows[node.number], top)
         parent = tree.parent(node.number)
-        points += _named(plan, node.number, y)
+        points += _named(plan, node.number, y, left)
         for index in node.loops:
             fused = index in node.fused
             fill = CHAIN if fused or _carries(plan, node.number, index) else FREE
-            points.append(f'<circle cx="{_x(columns[index])}" cy="{y}" r="4.5" fill="{fill}" stroke="{CHAIN}"/>')
+            points.append(f'<circle cx="{_x(left, columns[index])}" cy="{y}" r="4.5" fill="{fill}" stroke="{CHAIN}"/>')
             if fused and parent is not None:
-                lines.append(_edge(_x(columns[index]), y, _y(rows[parent], top)))
+                lines.append(_edge(_x(left, columns[index]), y, _y(rows[parent], top)))
     stripes = [f'<rect x="0" y="{_y(k, top) - ROW / 2:.0f}" width="{width}" height="{ROW}" fill="#f4f6f8"/>'
                for k in range(0, len(rows), 2)]
     return _svg(width, height, [*stripes, *lines, *points], "fusion graph")
 
 
-def _x(column: int) -> int:
-    return LEFT + COLUMN * column + COLUMN // 2
+def _x(left: int, column: int) -> int:
+    return left + COLUMN * column + COLUMN // 2
 
 
 def _y(row: int, top: int) -> int:
@@ -128,14 +131,20 @@ def _edge(x: int, y: int, above: int) -> str:
             'stroke-width="2" fill="none"/>')
 
 
-def _named(plan: Plan, number: int, y: int) -> list[str]:
+def _indent(tree: Tree, number: int) -> int:
+    return 8 + 7 * min(_depth(tree, number), 12)
+
+
+def _name(plan: Plan, number: int) -> str:
+    """An operation with its operands."""
+    tree = plan.tree
+    return f"{number} {plan.nodes[number].kind}: {', '.join(tree.named(it) for it in tree.operands[number])}"
+
+
+def _named(plan: Plan, number: int, y: int, left: int) -> list[str]:
     """The name of a node, its operation and its sizes."""
-    tree, node = plan.tree, plan.nodes[number]
-    indent = 8 + 7 * min(_depth(tree, number), 12)
-    room = (LEFT - indent - 10) // 7
-    says = f"{number} {node.kind}"
-    operands = ", ".join(tree.named(it) for it in tree.operands[number])
-    whole = f"{says}: {operands}"
+    node, indent, whole = plan.nodes[number], _indent(plan.tree, number), _name(plan, number)
+    room = (left - indent - 10) // LETTER
     first = whole if len(whole) <= room else whole[:room - 1] + "…"
     size = "the result"
     if node.size is not None:
@@ -165,14 +174,13 @@ def memory_bars(plan: Plan) -> str:
     """
     inner = [node for node in plan.nodes if node.size is not None]
     most = max([plan.whole_size(node.number) for node in inner], default=1)
-    digits = max(1, len(str(most)))
     room, parts = 420, []
     for row, node in enumerate(inner):
         y = 16 + 26 * row
         whole = plan.whole_size(node.number)
         parts.append(_text(8, y + 12, f"node {node.number}"))
         for size, fill, low in ((whole, "#d6e0ea", 0), (node.size or 0, CHAIN, 9)):
-            length = max(2.0, room * _digits(size) / digits)
+            length = max(2.0, room * _digits(size) / _digits(most))
             parts.append(f'<rect x="80" y="{y + low}" width="{length:.0f}" height="8" rx="2" fill="{fill}"/>')
         parts.append(_text(80 + room + 16, y + 12, f"{shown_number(whole)} to {shown_number(node.size or 0)}"))
     return _svg(680, 26 + 26 * len(inner), parts, "memory of intermediates")

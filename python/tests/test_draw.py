@@ -27,6 +27,10 @@ for (const texts of boxes) for (let a = 0; a < texts.length; a++) for (let b = 0
   const dx = Math.min(p.right, q.right) - Math.max(p.left, q.left), dy = Math.min(p.bottom, q.bottom) - Math.max(p.top, q.top);
   if (dx > 0.5 && dy > 3) found.push(texts[a].textContent + " / " + texts[b].textContent);
 }
+for (const bar of document.querySelectorAll("rect[rx]")) for (const text of bar.parentNode.querySelectorAll("text")) {
+  const p = bar.getBoundingClientRect(), q = text.getBoundingClientRect();
+  if (p.right > q.left && q.right > p.left && p.bottom > q.top && q.bottom > p.top) found.push("a bar / " + text.textContent);
+}
 const sizes = [...document.querySelectorAll("text")].map(it => it.getBoundingClientRect());
 const graph = document.querySelector("svg").getBoundingClientRect();
 document.body.setAttribute("data-look", JSON.stringify({overlaps: found, right: Math.max(...sizes.map(it => it.right)),
@@ -94,7 +98,7 @@ def test_pictures_are_svg(name):
     assert len(circles) == sum(len(it.loops) for it in found.nodes)
     assert len(edges) == sum(len(it.fused) for it in found.nodes)
     ElementTree.fromstring(memory_bars(found))
-    assert found._repr_svg_() == fusion_graph(found)
+    assert found._repr_svg_() == fusion_graph(found) and "…" not in fusion_graph(found)
 
 
 def test_a_page_needs_nothing_else():
