@@ -57,8 +57,10 @@ def report_page(plan: Plan, budget: int | None = None) -> str:
         f"<h2>Reads</h2>{_reads(plan, budget)}",
         f"<h2>Specification</h2><pre>{escape(plan.spec.text())}</pre>",
     ]
-    return (f"<!DOCTYPE html>\n<html lang=\"en\"><head><meta charset=\"utf-8\"><title>{escape(formula.text()[:80])}</title>"
+    page = (f"<!DOCTYPE html>\n<html lang=\"en\"><head><meta charset=\"utf-8\"><title>{escape(formula.text()[:80])}</title>"
             f"<style>{STYLE}</style></head><body>\n" + "\n".join(sections) + "\n</body></html>\n")
+    # (so that it is the same page whatever the encoding of the output)
+    return page.encode("ascii", "xmlcharrefreplace").decode("ascii")
 
 
 def _tree(it: Expression, count: list[int]) -> str:

@@ -79,6 +79,7 @@ def test_the_page_of_the_largest_tree_fits(own_folder):
     found.spec.ranges["N"] = Range(100, 100)  # (one tile, so that its reads are followed at once)
     seen = look(report_page(found), own_folder)
     assert seen["overlaps"] == [] and seen["scroll"] <= 1280 and seen["height"] >= 9
+    assert report_page(found).isascii() and "&#8230;" in report_page(found)
 
 
 @pytest.mark.skipif(BROWSER is None, reason="there is no chromium")
