@@ -74,14 +74,19 @@ def edges_of(shape: Sequence[int], chunks: SupportsIndex | Sequence[SupportsInde
 
 
 def refuse_place(path: PathLike) -> None:
-    """Raises where something else than a file stands: a folder or a device is not replaced.
+    """Raises where a file that may not be written stands, or something else than a file: these are not replaced.
 
     Raises
     ------
     ArrayError
+        Where it is a folder or a device.
+    DiskFault
+        Where it may not be written.
     """
     if os.path.exists(path) and not os.path.isfile(path):
         raise ArrayError(f"{os.fspath(path)} is there and is no file: give another path")
+    if os.path.exists(path) and not os.access(path, os.W_OK):
+        raise disk_fault(PermissionError(errno.EACCES, os.strerror(errno.EACCES)), path)
 
 
 class ArrayWriter:
