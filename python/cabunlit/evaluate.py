@@ -23,6 +23,7 @@ from cabunlit.specification import Range, Specification, judge
 from cabunlit.strategy import Choice, candidates, choose
 from cabunlit.tiles import Array
 from cabunlit.workspace import Out, Workspace, as_operand, check_out, chosen_edges, move
+from cabunlit.writing import refuse_place
 
 PathLike = str | os.PathLike[str]
 CAN_BE_CUT = ("more than 32 operations", "limit of indexes", "limit of tensors", "limit of ranges")
@@ -267,6 +268,9 @@ def batch(text: Specification | str | PathLike, arrays: Mapping[str, Any] | None
     plans = [plan(spec.alone(k), program) for k in range(len(spec.formulas))]
     budgets = [min(it.full_budget, budget_of(room, it.memory, it.least_budget // 3)) for it in plans]
     kept = _kept(spec, home, sources) if resume and home is not None else set()
+    if home is not None:
+        for name in spec.results():
+            refuse_place(home / f"{name}.tca")
     beside = None if home is None else home / "results"
     with Workspace(program, beside) as place, Progress("formulas", len(plans), progress) as shown:
         for name in spec.inputs():

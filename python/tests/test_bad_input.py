@@ -228,7 +228,7 @@ def test_a_file_that_may_not_be_written_is_left_as_it_is(monkeypatch):
     # (who is root may write every file)
     monkeypatch.setattr(os, "access", lambda path, mode, **more: "C.tca" not in os.fspath(path) and access(path, mode, **more))
     for call in (lambda: write_array("C.tca", A, 4), lambda: create_array("C.tca", (3, 3), 2), lambda: einsum("ij->ji", A, out="C.tca"),
-                 lambda: evaluate(PRODUCT, A=A, B=A, out="C.tca"), lambda: batch(PRODUCT, A=A, B=A, folder=".")):
+                 lambda: evaluate(PRODUCT, A=A, B=A, out="C.tca"), lambda: batch(f"D[i,j] = 2 * A[i,j]\n{PRODUCT}", A=A, B=A, folder=".")):
         with pytest.raises(DiskFault, match="C.tca: Permission denied"):
             call()
     assert Path("C.tca").read_bytes() == before and os.listdir(".") == ["C.tca"]
