@@ -46,7 +46,7 @@ def look(html, folder):
     room = tempfile.mkdtemp(dir="/tmp")
     try:
         said = subprocess.run([*words, f"--user-data-dir={room}/profile", "--dump-dom", f"--screenshot={folder}/page.png",
-                               (folder / "page.html").as_uri()], capture_output=True, text=True, timeout=120,
+                               (folder / "page.html").as_uri()], capture_output=True, text=True, timeout=300,
                               env={**os.environ, "TMPDIR": room})
     finally:
         shutil.rmtree(room, ignore_errors=True)

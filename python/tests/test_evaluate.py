@@ -225,7 +225,7 @@ def test_a_program_that_is_killed(own_folder):
 @pytest.mark.parametrize("while_it_starts", [False, True])
 def test_an_interrupt_ends_the_program(while_it_starts, own_folder, monkeypatch):
     slow = own_folder / "tce"
-    slow.write_text("#!/bin/sh\ncase $1 in run) if [ \"$3\" != 0 ]; then echo $$ > ../pid; exec sleep 60; fi;; esac\n"
+    slow.write_text("#!/bin/sh\ncase $1 in run) if [ \"$3\" != 0 ]; then echo $$ > ../pid; exec sleep 600; fi;; esac\n"
                     "exec \"$CABUNLIT_TCE\" \"$@\"\n")
     slow.chmod(0o755)
 

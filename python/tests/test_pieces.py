@@ -194,7 +194,7 @@ def test_dask_does_the_pieces_of_a_killed_worker_again(own_folder):
 
 
 def wait_for(condition):
-    until = time.monotonic() + 60
+    until = time.monotonic() + 300  # (of a machine that is busy)
     while not condition():
         assert time.monotonic() < until
         time.sleep(0.05)
@@ -208,7 +208,7 @@ def test_mpi(own_folder):
                                        "        run_pieces('p', workers, memory='1 MiB')\n    print('done')\n")
     words = ["mpiexec", "--allow-run-as-root", "--oversubscribe", "-n", "3", sys.executable, "-m", "mpi4py.futures", "mpi.py"]
     environment = {**os.environ, "PYTHONPATH": PACKAGE, "TMPDIR": "/tmp"}
-    said = subprocess.run(words, env=environment, capture_output=True, text=True, timeout=120)
+    said = subprocess.run(words, env=environment, capture_output=True, text=True, timeout=300)
     assert said.stdout == "done\n", said.stderr
     assert (numpy.asarray(join("p")) == A @ B).all()
 
@@ -219,7 +219,7 @@ def test_an_interrupted_call_goes_on(own_folder):
     process = subprocess.Popen([sys.executable, "-c", code], env={**os.environ, "PYTHONPATH": PACKAGE}, stderr=subprocess.DEVNULL)
     assert callers() == [process.pid] * 3
     process.send_signal(signal.SIGINT)
-    assert process.wait(60) != 0
+    assert process.wait(300) != 0
     assert made.missing() == [2, 3]
     run_pieces(made)
     assert (numpy.asarray(join(made)) == A @ B).all() and not [it for it in Path("p").rglob("attempt-*")]
