@@ -19,7 +19,7 @@ from cabunlit.interrupts import later_interrupts
 from cabunlit.program import run_program, temporary_folder, write_text
 from cabunlit.specification import Specification
 from cabunlit.tiles import Array
-from cabunlit.writing import refuse_elements, refuse_mask, refuse_place, write_source
+from cabunlit.writing import refuse_elements, refuse_mask, refuse_place, refuse_unknown, write_source
 
 PathLike = str | os.PathLike[str]
 Out = PathLike | Array | type | None
@@ -57,10 +57,11 @@ def as_operand(source: Any, name: str) -> Any:
     ArrayError
         Where its elements are no words.
     """
-    found = source if hasattr(source, "shape") and hasattr(source, "dtype") else numpy.asarray(source)
+    found = source if all(hasattr(source, it) for it in ("shape", "dtype", "__getitem__")) else numpy.asarray(source)
     try:
         refuse_elements(numpy.dtype(found.dtype))
         refuse_mask(found)
+        refuse_unknown(found.shape)
     except ArrayError as error:
         raise ArrayError(f"operand {name}: {error}") from None
     if any(not 1 <= n < 2**32 for n in found.shape):

@@ -130,6 +130,8 @@ class ArrayWriter:
 
     def tiles(self) -> Array:
         """All elements in the order of the file, to be set."""
+        if self._file < 0:
+            raise ArrayError(f"{self.path} is finished, or given up: begin it anew by create_array")
         if self._tiles is None:
             os.posix_fallocate(self._file, 0, self.length)
             tiled = (*counts_of(self.shape, self.chunks), *self.chunks)
@@ -173,7 +175,9 @@ class ArrayWriter:
             rest, at = rest[done:], at + done
 
     def finish(self) -> None:
-        """Writes the head, and has the file stand."""
+        """Writes the head, and has the file stand, unless that is done."""
+        if self._file < 0:
+            return
         try:
             if isinstance(self._tiles, numpy.memmap):
                 self._tiles.flush()
@@ -190,11 +194,13 @@ class ArrayWriter:
 
     def __del__(self) -> None:
         # (a process that was forked has a copy of the writer, and leaves the file alone)
-        if getattr(self, "_file", -1) >= 0 and self._process == os.getpid():
+        if hasattr(self, "_file") and self._process == os.getpid():
             self.abandon()
 
     def abandon(self) -> None:
-        """Removes what was written."""
+        """Removes what was written, unless the file stands."""
+        if self._file < 0:
+            return
         with later_interrupts():
             os.close(self._file)
             self._tiles, self._file = None, -1
@@ -213,6 +219,12 @@ def _umask() -> int:
         return 0o077
 
 
+def refuse_unknown(shape: Sequence[Any]) -> None:
+    """Raises where extents of a dask array are not known."""
+    if any(n != n for n in shape):
+        raise ArrayError(f"the shape {tuple(shape)} has extents that are not known: call compute_chunk_sizes() of the dask array")
+
+
 def source_of(array: Any) -> tuple[tuple[int, ...], numpy.dtype[Any]]:
     """The shape and the type of something to be written, or why it is refused.
 
@@ -227,6 +239,7 @@ def source_of(array: Any) -> tuple[tuple[int, ...], numpy.dtype[Any]]:
     flags = getattr(array, "flags", None)
     if flags is not None and flags.f_contiguous and not flags.c_contiguous:
         raise ArrayError("the array is in Fortran order: take numpy.ascontiguousarray(..)")
+    refuse_unknown(array.shape)
     return tuple(int(n) for n in array.shape), numpy.dtype(array.dtype)
 
 

@@ -211,6 +211,17 @@ def test_a_writer_that_is_given_up_leaves_nothing():
     assert os.listdir(".") == []
 
 
+def test_a_writer_that_is_finished():
+    with create_array("A.tca", (4, 4), 2) as writer:
+        writer[0:4, 0:4] = numpy.ones((4, 4), "<i8")
+        writer.finish()
+    writer.finish()
+    writer.abandon()
+    with pytest.raises(ArrayError, match="A.tca is finished.*create_array"):
+        writer[0:4, 0:4] = numpy.zeros((4, 4), "<i8")
+    assert (numpy.asarray(open_array("A.tca")) == 1).all() and os.listdir(".") == ["A.tca"]
+
+
 def test_a_shape_of_one_dimension():
     with create_array("A.tca", 5, 2) as writer:
         writer[1:3] = numpy.array([1, 2])
@@ -312,6 +323,11 @@ def test_dask_arrays_go_in_and_out():
     assert lazy.chunks == ((3, 2), (2, 2, 2, 1)) and lazy.dtype == tiled.dtype
     assert int((lazy[1:, ::2] * 2).sum()) == int((array[1:, ::2] * 2).sum())
     assert (numpy.asarray(write_array("B.tca", dask_array.ones((), dtype="<i8"), ())) == 1).all()
+    unknown = lazy[lazy[:, 0] > 3]
+    for call in (lambda: write_array("C.tca", unknown, 2), lambda: einsum("ij->ji", unknown)):
+        with pytest.raises(ArrayError, match="compute_chunk_sizes"):
+            call()
+    assert sorted(os.listdir(".")) == ["A.tca", "B.tca"]
 
 
 def test_slices_read_few_bytes():

@@ -165,6 +165,20 @@ def test_operands_of_other_kinds(operand):
     assert type(found) is numpy.ndarray and (found == due).all()
 
 
+class Given:
+    """What numpy makes an array of, which has no elements of its own."""
+
+    shape, dtype = A.shape, A.dtype
+
+    def __array__(self, dtype=None, copy=None):
+        return A
+
+
+def test_what_numpy_makes_an_array_of():
+    assert (einsum("ij->ji", Given(), out=numpy.ndarray) == A.T).all()
+    assert (einsum("ij->ji", memoryview(A), out=numpy.ndarray) == A.T).all() and einsum("i->", range(5), out=numpy.ndarray) == 10
+
+
 def test_numbers_as_operands():
     assert einsum(",->", 3, numpy.array(-4), out=numpy.ndarray) == -12
     assert (einsum(",ij->ij", -2, A, out=numpy.ndarray) == -2 * A).all()
