@@ -12,7 +12,7 @@ import numpy
 
 from cabunlit.arrays import TiledArray
 from cabunlit.cutting import CutFormula
-from cabunlit.errors import ArrayError
+from cabunlit.errors import ArrayError, FileChanged
 from cabunlit.heads import is_whole
 from cabunlit.specification import Specification
 
@@ -81,6 +81,14 @@ class Cut:
         made = result.stat().st_mtime_ns
         return all(it.stat().st_mtime_ns <= made for it in [*place.glob("*.tca"), place / "piece.tce"] if it.exists())
 
+    def refuse_change(self, number: int) -> None:
+        """Raises `FileChanged` where a file to which a piece is linked is no longer the one that was cut."""
+        for link in self.place(number).glob("*.tca"):
+            where = os.readlink(link) if link.is_symlink() else ""
+            known = [it for it in self.stamps.values() if where and it.startswith(f"{where} ")]
+            if known and (not os.path.exists(where) or _file_stamp(where) not in known):
+                raise FileChanged(f"{where} is no longer the file that was cut: cut it anew, in another folder")
+
     def missing(self) -> list[int]:
         """The pieces that are not done."""
         return [it for it in range(len(self.bounds)) if not self.is_done(it)]
@@ -89,11 +97,15 @@ class Cut:
 def stamp(source: Any) -> str:
     """What tells an operand from another one: a file's place and time, or a sum over an array's bytes."""
     if isinstance(source, TiledArray):
-        found = os.stat(source.path)
-        return f"{source.path} {found.st_size} {found.st_mtime_ns}"
+        return _file_stamp(source.path)
     if isinstance(source, numpy.ndarray):
         digest = hashlib.blake2b(f"{source.shape} {source.dtype}".encode(), digest_size=16)
         for row in source.reshape(-1) if source.ndim < 2 else source:
             digest.update(numpy.ascontiguousarray(row).data)
         return digest.hexdigest()
     return getattr(source, "name", repr(source))
+
+
+def _file_stamp(path: str) -> str:
+    found = os.stat(path)
+    return f"{path} {found.st_size} {found.st_mtime_ns}"

@@ -145,6 +145,8 @@ def _fill(home: Path, made: Cut, formula: CutFormula, sources: Mapping[str, Any]
 def _whole(home: Path, it: Slice, source: Any, spec: Specification) -> Path:
     """The file of an operand that is not cut, written once where there is none yet."""
     chunks = spec.chunks(it.of)
+    if isinstance(source, TiledArray):
+        source.refuse_change()
     if isinstance(source, TiledArray) and not isinstance(source, SymmetricArray) and source.chunks == chunks:
         return Path(source.path)
     path = home / f"{it.of}.tca"
@@ -176,6 +178,8 @@ def run_piece(folder: PathLike, number: int, memory: int | str | None = None, pr
 
     Raises
     ------
+    FileChanged
+        Where an operand's file to which the piece is linked is no longer the one that was cut.
     TceError, ProgramKilled, NotEnoughMemory
         `DiskFault`, a `TceError`, also where the piece's folder is not there or cannot be written.
     """
@@ -184,6 +188,7 @@ def run_piece(folder: PathLike, number: int, memory: int | str | None = None, pr
         raise ArrayError(f"{os.fspath(folder)} has the pieces 0 to {len(made.bounds) - 1}, and not {number}")
     if made.is_done(number):
         return number
+    made.refuse_change(number)
     place = made.place(number)
     try:
         spec = Specification.parse((place / "piece.tce").read_text(encoding="ascii"))

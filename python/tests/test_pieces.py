@@ -15,7 +15,7 @@ from hypothesis import assume, given, settings, strategies as some
 import cabunlit
 from cabunlit import Specification, cut, join, open_array, run_pieces, write_array
 from cabunlit.cutting import CutFormula
-from cabunlit.errors import ArrayError, FormulaError, PiecesFailed, TceError
+from cabunlit.errors import ArrayError, FileChanged, FormulaError, PiecesFailed, TceError
 from cabunlit.pieces import Cut, run_piece
 from drawn import formulas, value
 
@@ -115,6 +115,27 @@ def test_finished_pieces_are_not_done_again(capsys):
     assert made.missing() == [2]
     run_pieces("p")
     assert (numpy.asarray(join("p")) == A @ B).all()
+
+
+def test_operands_that_change_are_not_mixed():
+    spec = Specification({"N": (8, 4)}, {"N": "i j k"}, {"A": "N N", "C": "N N"}, "C[i,j] = sum{k}(A[i,k] * A[k,j])")
+    a = numpy.arange(64).reshape(8, 8)
+    tiled = write_array("A.tca", a, 4)
+    made = cut(spec, "i", 2, {"A": tiled}, folder="p")
+    run_piece("p", 0)
+    write_array("A.tca", a + 1, 4)
+    with pytest.raises(PiecesFailed, match="A.tca is no longer the file that was cut: cut it anew") as caught:
+        run_pieces(made)
+    assert isinstance(caught.value.__cause__, FileChanged) and caught.value.failed == (0, 1)
+    with pytest.raises(FileChanged):
+        cut(spec, "j", 2, {"A": tiled}, folder="q")
+    whole = Specification(spec.ranges, {"N": "i j k"}, {"A": "N N", "B": "N N", "C": "N N"}, "C[i,j] = sum{k}(B[i,k] * A[k,j])")
+    with pytest.raises(FileChanged):
+        cut(whole, "i", 2, {"A": tiled, "B": a}, folder="q")
+    assert sorted(os.listdir(".")) == ["A.tca", "p"]
+    again = cut(spec, "i", 2, {"A": open_array("A.tca")}, folder="q")
+    run_pieces(again)
+    assert (numpy.asarray(join(again)) == (a + 1) @ (a + 1)).all()
 
 
 @pytest.mark.parametrize("executor", [ThreadPoolExecutor, ProcessPoolExecutor])
