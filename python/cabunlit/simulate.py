@@ -216,7 +216,8 @@ class Simulation:
 
     def _sizes(self, loops: Sequence[Loop], nodes: Sequence[int], terms: Sequence[Term]) -> list[int]:
         """How many blocks of a band a group has along each loop."""
-        readings = [Reading(it.tensor, frozenset(it.indexes), frozenset(term.loops)) for term in terms for it in tensors_of(self.tree, term)]
+        readings = [Reading(it.tensor, frozenset(it.indexes), frozenset(term.loops))
+                    for term in terms for it in tensors_of(self.tree, term)]
         if not terms:
             readings = [Reading(it.tensor, frozenset(it.indexes), frozenset())
                         for node in nodes for it in self.tree.operands[node] if isinstance(it, Reference)]
