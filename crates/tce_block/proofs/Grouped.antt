@@ -22,6 +22,11 @@ use Rattle.tce_block.proofs.Dimensions.{begins_inside}
 
 -- ---- numbers of a group
 
+pub length-shifted : (from xs : List ℕ) → length from ≡ length xs → length (shifted from xs) ≡ length xs
+length-shifted [] xs e = refl
+length-shifted (f ∷ from) [] e = absurd (let h : ⊥ = omega (arith, e) in h)
+length-shifted (f ∷ from) (x ∷ xs) e = ap suc (length-shifted from xs (let r : length from ≡ length xs = omega (arith, e) in r))
+
 div_one : (n : ℕ) → div_ceil n 1 ≡ n
 div_one n = let all = div_ceil_times n 1 (omega arith) in omega (arith, all.0, all.1)
 

@@ -19,7 +19,7 @@ use Rattle.tce_tree.specs.Value.{Assignment}
 use Rattle.tce_tree.specs.WellFormed.{among}
 use Rattle.tce_block.proofs.Beginning.{within_limits}
 use Rattle.tce_block.proofs.Cover.{get-blocks}
-use Rattle.tce_block.proofs.Grouped.{group_is, ones_begin, ones_count, pairs_inside}
+use Rattle.tce_block.proofs.Grouped.{group_is, length-shifted, ones_begin, ones_count, pairs_inside}
 use Rattle.tce_block.specs.Cuts.{IsCut, extents_of, edges_of}
 use Rattle.tce_block.specs.declared.cut.Cut.{Cut}
 use Rattle.tce_block.specs.Grouped.{IsPair, block_at, grouped_blocks, number_at, numbers_of, ones, paired, pairs_of, shifted}
@@ -145,11 +145,6 @@ sets_cross s t order f a kept state p q =
     crossed false false x y z e = refl
 
 -- ---- bands
-
-length-shifted : (from xs : List ℕ) → length from ≡ length xs → length (shifted from xs) ≡ length xs
-length-shifted [] xs e = refl
-length-shifted (f ∷ from) [] e = absurd (let h : ⊥ = omega (arith, e) in h)
-length-shifted (f ∷ from) (x ∷ xs) e = ap suc (length-shifted from xs (let r : length from ≡ length xs = omega (arith, e) in r))
 
 -- a band leaves the same group by group
 pub groups_make_bands : (s : Setting) (order : List ℕ) (t : ℕ) (outside : Known) (body : Program) (a : Assignment) (edge : ℕ → ℕ) (gs : List ℕ) (before : State)

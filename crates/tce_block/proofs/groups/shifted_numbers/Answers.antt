@@ -1,12 +1,8 @@
 use Rattle.std.proofs.Common.{◌≡◌, ◌∙◌, ℕ, zero, suc, ◌+◌, ◌<◌, List, [], ◌∷◌, ◌++◌, length, take, get_or, refl, sym, ap, arith}
 use Rattle.std.proofs.lemmas.List.{take_all, take_more}
 use Rattle.tce_block.specs.Grouped.{shifted}
+use Rattle.tce_block.proofs.Grouped.{length-shifted}
 use Rattle.tce_block.proofs.groups.shifted_numbers.Goals as goal
-
-length-shifted : (from xs : List ℕ) → length from ≡ length xs → length (shifted from xs) ≡ length xs
-length-shifted [] xs e = refl
-length-shifted (f ∷ from) [] e = absurd (let h : ⊥ = omega (arith, e) in h)
-length-shifted (f ∷ from) (x ∷ xs) e = ap suc (length-shifted from xs (let r : length from ≡ length xs = omega (arith, e) in r))
 
 get_or-shifted : (from xs : List ℕ) (d : ℕ) → length from ≡ length xs → d < length xs → get_or (shifted from xs) d 0 ≡ get_or from d 0 + get_or xs d 0
 get_or-shifted [] [] d e l = absurd (let h : ⊥ = omega (arith, l) in h)
