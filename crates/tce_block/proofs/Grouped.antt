@@ -27,12 +27,12 @@ length-shifted [] xs e = refl
 length-shifted (f ∷ from) [] e = absurd (let h : ⊥ = omega (arith, e) in h)
 length-shifted (f ∷ from) (x ∷ xs) e = ap suc (length-shifted from xs (let r : length from ≡ length xs = omega (arith, e) in r))
 
-div_one : (n : ℕ) → div_ceil n 1 ≡ n
-div_one n = let all = div_ceil_times n 1 (omega arith) in omega (arith, all.0, all.1)
-
 pub ones_count : (ls : List ℕ) → counts_along ls (ones ls) ≡ ls
 ones_count [] = refl
-ones_count (l ∷ ls) = ap₂ (λ n ns. n ∷ ns) (div_one l) (ones_count ls)
+ones_count (l ∷ ls) =
+    let all = div_ceil_times l 1 (omega arith) in
+    let one : div_ceil l 1 ≡ l = omega (arith, all.0, all.1) in
+    ap₂ (λ n ns. n ∷ ns) one (ones_count ls)
 
 pub ones_begin : (ls bs : List ℕ) → length bs ≡ length ls → beginnings (ones ls) bs ≡ bs
 ones_begin [] [] e = refl
