@@ -38,8 +38,8 @@ fn touch_both(trial: &mut Trial, plain: &mut Plain, array: u8, tile: u64, word: 
 }
 
 // Three arrays by their extents and edges, a number of frames, and touches, each with the word that is written first
-// into the tile, or 0 where it is only read. A tile of any of the arrays is moved in so many pieces, and all touches
-// and a flush take so many calls of the disk.
+// into the tile, or 0 where it is only read. A tile of any of the arrays is read in so many pieces and written in one, and all
+// touches and a flush take so many calls of the disk.
 #[derive(Drop)]
 struct Row<'a> {
     sizes: &'a [(u64, u64); 3],
@@ -95,7 +95,7 @@ const ROWS: [Row<'static>; 3] = [
         frames: 4,
         frame_words: 4300,
         pieces: 2,
-        calls: 40,
+        calls: 36,
         touches: &MIXED,
     },
 ];
@@ -130,10 +130,7 @@ fn calls_alike(alloc: Global, row: &Row, trial: &mut Trial, plain: &mut Plain) -
     }
     let [faults, reads, writes] = trial.disk.counts();
     let [tiles_read, tiles_written] = plain.counts();
-    if faults != 0
-        || reads != tiles_read.wrapping_mul(row.pieces)
-        || writes != tiles_written.wrapping_mul(row.pieces)
-    {
+    if faults != 0 || reads != tiles_read.wrapping_mul(row.pieces) || writes != tiles_written {
         return None;
     }
     Some(reads.wrapping_add(writes))
