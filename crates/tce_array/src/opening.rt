@@ -1,7 +1,7 @@
 // Opening and creating array files.
 ghost use Rattle.std.specs.Prelude.{◌≡◌, ℕ, ◌+◌, ◌*◌, ◌≤◌, ◌<◌, List, length, take, IfOk, IfErr, OnOk, IsErr, IsErrOf, Err, codes, ◌++◌};
 ghost use Rattle.tce_outside.specs.Files.{others, written};
-ghost use Rattle.tce_outside.specs.Fault.{HasCause, HasFailed, TellsFaults};
+ghost use Rattle.tce_outside.specs.Fault.{FaultReported, HasFailed};
 ghost use Rattle.tce_array.specs.Forms.{head, form_by_start};
 ghost use Rattle.tce_array.specs.Faults.{IsDiskFault};
 ghost use Rattle.std.specs.Str.{bytes_eq};
@@ -44,8 +44,7 @@ fn find_form<D: Disk>(disk: &mut D, name: &str, len: u64) -> Result<Form, Failed
     requires { HasLengthOn (D.files disk.old) name.now len }
     ensures form { IfOk result (HasFormOn (D.files disk.old) name.now) }
     ensures same { D.files disk.new ≡ D.files disk.old }
-    ensures cause { HasCause (D.faults disk.old) (D.faults disk.new) (IsErr result) }
-    ensures told { TellsFaults (D.faults disk.old) (D.faults disk.new) (IsErr result) }
+    ensures fault_reported { FaultReported D.faults disk.old disk.new (IsErr result) }
 {
     if len < 24 {
         return Ok(Form::One);
@@ -67,8 +66,7 @@ pub fn open<D: Disk>(disk: &mut D, name: &str, shape: &Shape) -> Result<Form, Ar
     ensures fault { IfErr result (HasFaultOn (D.files disk.old) name.now shape.now) }
     ensures exact { IsOnlyAnswerOn (D.files disk.old) name.now shape.now result }
     ensures same { D.files disk.new ≡ D.files disk.old }
-    ensures cause { HasCause (D.faults disk.old) (D.faults disk.new) (IsDiskFault result) }
-    ensures told { TellsFaults (D.faults disk.old) (D.faults disk.new) (IsDiskFault result) }
+    ensures fault_reported { FaultReported D.faults disk.old disk.new (IsDiskFault result) }
 {
     let Ok(size) = disk.size(name) else {
         return Err(ArrayFault::Disk);
@@ -103,8 +101,7 @@ pub fn create<D: Disk>(disk: &mut D, name: &str, form: Form, shape: &Shape) -> R
     ensures zeros { OnOk result (HoldsZeros D.files disk.old disk.new name.now form shape.now) }
     ensures memory { IsErrOf result OutFault.Memory → D.files disk.new ≡ D.files disk.old }
     ensures others { others name.now (D.files disk.new) ≡ others name.now (D.files disk.old) }
-    ensures cause { HasCause (D.faults disk.old) (D.faults disk.new) (HasFailed result) }
-    ensures told { TellsFaults (D.faults disk.old) (D.faults disk.new) (HasFailed result) }
+    ensures fault_reported { FaultReported D.faults disk.old disk.new (HasFailed result) }
 {
     disk.make(name, form_len(form, shape))?;
     let head = head(form, shape);
@@ -129,8 +126,7 @@ pub fn write_head<D: Disk>(
     ensures written { OnOk result (HoldsHead D.files disk.old disk.new name.now form shape.now) }
     ensures behind { SameBehindHead name.now form shape.now (D.files disk.old) (D.files disk.new) }
     ensures others { others name.now (D.files disk.new) ≡ others name.now (D.files disk.old) }
-    ensures cause { HasCause (D.faults disk.old) (D.faults disk.new) (IsErr result) }
-    ensures told { TellsFaults (D.faults disk.old) (D.faults disk.new) (IsErr result) }
+    ensures fault_reported { FaultReported D.faults disk.old disk.new (IsErr result) }
 {
     let head = head(form, shape);
     disk.write_at(name, 0, head.as_slice())

@@ -6,7 +6,7 @@ ghost use Rattle.tce_job.specs.Refusals.{IsAffordable};
 ghost use Rattle.tce_job.specs.Run.{IsReported};
 ghost use Rattle.tce_job.specs.Prepared.{IsRoomLeft as IsRoomLeftByOne};
 ghost use Rattle.tce_space.specs.Limits.{max_memory};
-ghost use Rattle.tce_outside.specs.Fault.{HasCause, TellsFaults};
+ghost use Rattle.tce_outside.specs.Fault.{FaultReported};
 ghost use Rattle.tce_job.specs.declared.fault.JobFault.{JobFault as Fault};
 ghost use Rattle.tce_job.specs.Told.{IsRefusalOf, FailsOrKeeps, WritesResult, ResultAlone, Reports, LeavesRoom as LeavesRoomByOne};
 ghost use Rattle.tce_batch.specs.Reports.{HasRun};
@@ -47,8 +47,7 @@ fn run_kept<D: Disk, R: Room>(
         (R.takings room.old) (R.takings room.new) }
     ensures no_half { LeavesNoHalfResult spec.now (D.files disk.old) (D.files disk.new) }
     ensures others { ResultAlone spec.now (D.files disk.old) (D.files disk.new) }
-    ensures cause { HasCause (D.faults disk.old) (D.faults disk.new) (result ≡ Err Fault.Disk) }
-    ensures quiet { TellsFaults (D.faults disk.old) (D.faults disk.new) (result ≡ Err Fault.Disk) }
+    ensures fault_reported { FaultReported D.faults disk.old disk.new (result ≡ Err Fault.Disk) }
 {
     // A tree has at most 32 nodes.
     let _nodes = spec.tree().count();
@@ -93,8 +92,7 @@ fn run_formula<D: Disk, R: Room>(
         (λ s. LeavesNoHalfResult s (D.files disk.old) (D.files disk.new)) }
     ensures others { HoldsOf batch.now kept.now.number
         (λ s. ResultAlone s (D.files disk.old) (D.files disk.new)) }
-    ensures cause { HasCause (D.faults disk.old) (D.faults disk.new) (result ≡ Err Fault.Disk) }
-    ensures quiet { TellsFaults (D.faults disk.old) (D.faults disk.new) (result ≡ Err Fault.Disk) }
+    ensures fault_reported { FaultReported D.faults disk.old disk.new (result ≡ Err Fault.Disk) }
 {
     let Ok(spec) = batch.spec(alloc, kept.number) else {
         return Err(JobFault::Memory);
@@ -124,8 +122,7 @@ fn run_all<D: Disk, R: Room>(
     ensures free { IfErr result (IsFreeIn (D.files disk.old)) }
     ensures left { IfErr result (IsLeft (D.files disk.old) (D.files disk.new)
         (R.takings room.old) (R.takings room.new) batch.now budget) }
-    ensures cause { HasCause (D.faults disk.old) (D.faults disk.new) (HasDiskFault result) }
-    ensures quiet { TellsFaults (D.faults disk.old) (D.faults disk.new) (HasDiskFault result) }
+    ensures fault_reported { FaultReported D.faults disk.old disk.new (HasDiskFault result) }
 {
     let count = batch.len();
     let Ok(mut text) = first_line(alloc) else {
@@ -174,8 +171,7 @@ fn run_planned<D: Disk, R: Room>(
     ensures left { IfErr result (IsLeft (D.files disk.old) (D.files disk.new)
         (R.takings room.old) (R.takings room.new) batch.now budget) }
     ensures others { OnlyResultsDiffer batch.now (D.files disk.old) (D.files disk.new) }
-    ensures cause { HasCause (D.faults disk.old) (D.faults disk.new) (HasDiskFault result) }
-    ensures quiet { TellsFaults (D.faults disk.old) (D.faults disk.new) (HasDiskFault result) }
+    ensures fault_reported { FaultReported D.faults disk.old disk.new (HasDiskFault result) }
 {
     open_sources(alloc, batch, disk)?;
     let text = run_all(alloc, batch, plans, budget, disk, room)?;
@@ -211,8 +207,7 @@ pub fn run_batch<D: Disk, R: Room>(
     ensures left { IfErr result (IsLeft (D.files disk.old) (D.files disk.new)
         (R.takings room.old) (R.takings room.new) batch.now budget) }
     ensures others { OnlyResultsDiffer batch.now (D.files disk.old) (D.files disk.new) }
-    ensures cause { HasCause (D.faults disk.old) (D.faults disk.new) (HasDiskFault result) }
-    ensures quiet { TellsFaults (D.faults disk.old) (D.faults disk.new) (HasDiskFault result) }
+    ensures fault_reported { FaultReported D.faults disk.old disk.new (HasDiskFault result) }
 {
     let plans = find_plans(alloc, batch, budget)?;
     let ran = run_planned(alloc, batch, plans.as_slice(), budget, disk, room);

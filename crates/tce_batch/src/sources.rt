@@ -1,7 +1,7 @@
 // The files of the operands that are no earlier result.
 ghost use Rattle.std.specs.Prelude.{◌≡◌, ◌≢◌, ◌⊎◌, ◌<◌, ◌≤◌, Err, IfOk, IfErr, OnOk, OnErr, Some, length, slice_get};
 ghost use Rattle.std.specs.Option.{ForSome};
-ghost use Rattle.tce_outside.specs.Fault.{HasCause, TellsFaults};
+ghost use Rattle.tce_outside.specs.Fault.{FaultReported};
 ghost use Rattle.tce_job.specs.declared.fault.JobFault.{JobFault as Fault};
 ghost use Rattle.tce_spec.specs.Specification.{Specification};
 ghost use Rattle.tce_spec.specs.Operands.{shape_of};
@@ -27,8 +27,7 @@ fn open_tensor<D: Disk>(spec: &Spec, t: u8, disk: &mut D) -> Result<(), JobFault
     ensures opened { OnOk result (ForSome (D.files disk.old) (λ files. HasArray files spec.now t)) }
     ensures refused { IfErr result (IsOperandFault (D.files disk.old) spec.now t) }
     ensures same { D.files disk.new ≡ D.files disk.old }
-    ensures cause { HasCause (D.faults disk.old) (D.faults disk.new) (result ≡ Err Fault.Disk) }
-    ensures quiet { TellsFaults (D.faults disk.old) (D.faults disk.new) (result ≡ Err Fault.Disk) }
+    ensures fault_reported { FaultReported D.faults disk.old disk.new (result ≡ Err Fault.Disk) }
 {
     let name = file_of(spec, t);
     match open(disk, name.as_str(), &spec.tensor(t).shape) {
@@ -52,8 +51,7 @@ fn open_source<D: Disk>(
     ensures source { OnErr result (IsSource (results_before batch.now number) t) }
     ensures refused { IfErr result (IsOperandFault (D.files disk.old) spec.now t) }
     ensures same { D.files disk.new ≡ D.files disk.old }
-    ensures cause { HasCause (D.faults disk.old) (D.faults disk.new) (result ≡ Err Fault.Disk) }
-    ensures quiet { TellsFaults (D.faults disk.old) (D.faults disk.new) (result ≡ Err Fault.Disk) }
+    ensures fault_reported { FaultReported D.faults disk.old disk.new (result ≡ Err Fault.Disk) }
 {
     if batch.is_result_before(number, t) {
         return Ok(());
@@ -72,8 +70,7 @@ fn open_formula<D: Disk>(
     ensures opened { OnOk result (HasSourceFiles (D.files disk.old) batch.now number spec.now) }
     ensures refused { IfErr result (IsSourceFaultOf (D.files disk.old) batch.now number spec.now) }
     ensures same { D.files disk.new ≡ D.files disk.old }
-    ensures cause { HasCause (D.faults disk.old) (D.faults disk.new) (result ≡ Err Fault.Disk) }
-    ensures quiet { TellsFaults (D.faults disk.old) (D.faults disk.new) (result ≡ Err Fault.Disk) }
+    ensures fault_reported { FaultReported D.faults disk.old disk.new (result ≡ Err Fault.Disk) }
 {
     let operands = spec.operands();
     // A specification keeps its rules.
@@ -97,8 +94,7 @@ fn open_numbered<D: Disk>(
     ensures refused { IfErr result (λ fault. (fault ≡ Fault.Memory) ⊎ HoldsOf batch.now number
         (λ s. IsSourceFaultOf (D.files disk.old) batch.now number s fault)) }
     ensures same { D.files disk.new ≡ D.files disk.old }
-    ensures cause { HasCause (D.faults disk.old) (D.faults disk.new) (result ≡ Err Fault.Disk) }
-    ensures quiet { TellsFaults (D.faults disk.old) (D.faults disk.new) (result ≡ Err Fault.Disk) }
+    ensures fault_reported { FaultReported D.faults disk.old disk.new (result ≡ Err Fault.Disk) }
 {
     let Ok(spec) = batch.spec(alloc, number) else {
         return Err(JobFault::Memory);
@@ -117,8 +113,7 @@ pub(crate) fn open_sources<D: Disk>(
     ensures opened { OnOk result (HasAllSources (D.files disk.old) batch.now) }
     ensures refused { IfErr result (IsOpeningFault (D.files disk.old) batch.now) }
     ensures same { D.files disk.new ≡ D.files disk.old }
-    ensures cause { HasCause (D.faults disk.old) (D.faults disk.new) (HasDiskFault result) }
-    ensures quiet { TellsFaults (D.faults disk.old) (D.faults disk.new) (HasDiskFault result) }
+    ensures fault_reported { FaultReported D.faults disk.old disk.new (HasDiskFault result) }
 {
     let count = batch.len();
     for number in 0..count {

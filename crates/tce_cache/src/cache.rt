@@ -1,7 +1,7 @@
 // A cache of tiles.
 ghost use Rattle.std.specs.Prelude.{◌≡◌, ◌+◌, ◌*◌, ◌^◌, ◌<◌, ◌≤◌, ◌↔◌, length, slice_get, IfOk, OnOk, IsOk, IsErr, IsSome, IsTrue, Some, None};
 ghost use Rattle.std.specs.Option.{ForSome};
-ghost use Rattle.tce_outside.specs.Fault.{HasCause, TellsFaults};
+ghost use Rattle.tce_outside.specs.Fault.{FaultReported};
 ghost use Rattle.tce_cache.specs.Held.{look_up};
 ghost use Rattle.tce_cache.specs.Frames.{held_at};
 ghost use Rattle.tce_cache.specs.Current.{place, IsSameOutside};
@@ -165,8 +165,7 @@ impl Cache {
         ensures others { IsSameOutside (layout self.old) frame words.old words.new }
         ensures cache { self.new ≡ self.old }
         ensures same { D.files disk.new ≡ D.files disk.old }
-        ensures cause { HasCause (D.faults disk.old) (D.faults disk.new) (IsErr result) }
-        ensures told { TellsFaults (D.faults disk.old) (D.faults disk.new) (IsErr result) }
+        ensures fault_reported { FaultReported D.faults disk.old disk.new (IsErr result) }
     {
         let at = self.place(frame);
         let array = &self.arrays[array as usize];
@@ -202,8 +201,7 @@ impl Cache {
         ensures same { self.new ≡ with_held self.old self.new.held self.old.touches }
         ensures cache { IsCache self.new }
         ensures others { OnlyWritableDiffers self.old (D.files disk.old) (D.files disk.new) }
-        ensures cause { HasCause (D.faults disk.old) (D.faults disk.new) (IsErr result) }
-        ensures told { TellsFaults (D.faults disk.old) (D.faults disk.new) (IsErr result) }
+        ensures fault_reported { FaultReported D.faults disk.old disk.new (IsErr result) }
     {
         if self.table.len() < self.table.frames() {
             return Ok(self.table.hold(array, tile, marked));
@@ -239,8 +237,7 @@ impl Cache {
         ensures cache { IsCache self.new }
         ensures outside { IsSameOutsideFrames self.old words.old words.new }
         ensures others { OnlyWritableDiffers self.old (D.files disk.old) (D.files disk.new) }
-        ensures cause { HasCause (D.faults disk.old) (D.faults disk.new) (IsErr result) }
-        ensures told { TellsFaults (D.faults disk.old) (D.faults disk.new) (IsErr result) }
+        ensures fault_reported { FaultReported D.faults disk.old disk.new (IsErr result) }
     {
         let frame = self.take_frame(disk, words, array, tile, marked)?;
         self.read_tile(disk, words, array, tile, frame)?;
@@ -276,8 +273,7 @@ impl Cache {
         ensures cache { IsCache self.new }
         ensures outside { IsSameOutsideFrames self.old words.old words.new }
         ensures others { OnlyWritableDiffers self.old (D.files disk.old) (D.files disk.new) }
-        ensures cause { HasCause (D.faults disk.old) (D.faults disk.new) (IsErr result) }
-        ensures told { TellsFaults (D.faults disk.old) (D.faults disk.new) (IsErr result) }
+        ensures fault_reported { FaultReported D.faults disk.old disk.new (IsErr result) }
     {
         // The length of the block bounds all places.
         let _len = words.len();

@@ -1,7 +1,7 @@
 // Words between files and a block of words, in pieces.
 ghost use Rattle.std.specs.Prelude.{◌≡◌, ◌+◌, ◌*◌, ◌/◌, ◌%◌, ◌^◌, ◌<◌, ◌≤◌, length, OnOk, IsErr};
 ghost use Rattle.std.specs.Option.{ForSome};
-ghost use Rattle.tce_outside.specs.Fault.{HasCause, TellsFaults};
+ghost use Rattle.tce_outside.specs.Fault.{FaultReported};
 ghost use Rattle.tce_space.specs.Tiling.{IsTiling, padded_words};
 ghost use Rattle.tce_array.specs.Forms.{width, word_in, word_place};
 ghost use Rattle.tce_words.specs.Load.{IsLoaded};
@@ -73,8 +73,7 @@ fn read_piece<D: Disk>(
     ensures len { length words.new ≡ length words.old }
     ensures others { IsSameBut span.at span.n words.old words.new }
     ensures same { D.files disk.new ≡ D.files disk.old }
-    ensures cause { HasCause (D.faults disk.old) (D.faults disk.new) (IsErr result) }
-    ensures told { TellsFaults (D.faults disk.old) (D.faults disk.new) (IsErr result) }
+    ensures fault_reported { FaultReported D.faults disk.old disk.new (IsErr result) }
 {
     disk.read_at(array.file.as_str(), place_of(array, span.from), piece)?;
     load_piece(words, span.at, array.form, piece);
@@ -101,8 +100,7 @@ pub(crate) fn read_words<D: Disk>(
     ensures len { length words.new ≡ length words.old }
     ensures others { IsSameBut span.at span.n words.old words.new }
     ensures same { D.files disk.new ≡ D.files disk.old }
-    ensures cause { HasCause (D.faults disk.old) (D.faults disk.new) (IsErr result) }
-    ensures told { TellsFaults (D.faults disk.old) (D.faults disk.new) (IsErr result) }
+    ensures fault_reported { FaultReported D.faults disk.old disk.new (IsErr result) }
 {
     let width = array.form.width();
     let most = (buffer.len() as u64 / 8).min(READ_WORDS);
@@ -140,8 +138,7 @@ fn write_piece<D: Disk>(
         span words.now) }
     ensures others { IsSameElsewhere array.now (D.files disk.old) (D.files disk.new) }
     ensures begins { BeginsAsBefore array.now (D.files disk.old) (D.files disk.new) }
-    ensures cause { HasCause (D.faults disk.old) (D.faults disk.new) (IsErr result) }
-    ensures told { TellsFaults (D.faults disk.old) (D.faults disk.new) (IsErr result) }
+    ensures fault_reported { FaultReported D.faults disk.old disk.new (IsErr result) }
 {
     // The block says that each word has 64 bits.
     let _len = words.len();
@@ -172,8 +169,7 @@ pub(crate) fn write_words<D: Disk>(
         span words.now) }
     ensures others { IsSameElsewhere array.now (D.files disk.old) (D.files disk.new) }
     ensures begins { BeginsAsBefore array.now (D.files disk.old) (D.files disk.new) }
-    ensures cause { HasCause (D.faults disk.old) (D.faults disk.new) (IsErr result) }
-    ensures told { TellsFaults (D.faults disk.old) (D.faults disk.new) (IsErr result) }
+    ensures fault_reported { FaultReported D.faults disk.old disk.new (IsErr result) }
 {
     let most = buffer.len() as u64 / 8;
     let mut done = 0;

@@ -1,6 +1,6 @@
 // Files of specifications.
 ghost use Rattle.std.specs.Prelude.{◌≡◌, ◌≤◌, ◌↔◌, IsTrue, length, Some, Err, IfOk, IfErr};
-ghost use Rattle.tce_outside.specs.Fault.{HasCause, TellsFaults};
+ghost use Rattle.tce_outside.specs.Fault.{FaultReported};
 ghost use Rattle.tce_spec.specs.Declarations.{HaveNames};
 ghost use Rattle.tce_command.specs.Source.{IsTooLong, HasSpecificationOn, IsSourceRefusalOn, HoldsOn, IsTextRefusalOn};
 
@@ -19,8 +19,7 @@ pub fn read_source<D: Disk>(alloc: Global, disk: &mut D, name: &str) -> Result<S
     ensures names { IfOk result (λ s. HaveNames s.declarations.tensors) }
     ensures refused { IfErr result (IsSourceRefusalOn (D.files disk.old) name.now) }
     ensures same { D.files disk.new ≡ D.files disk.old }
-    ensures cause { HasCause (D.faults disk.old) (D.faults disk.new) (result ≡ Err Refusal.Disk) }
-    ensures told { TellsFaults (D.faults disk.old) (D.faults disk.new) (result ≡ Err Refusal.Disk) }
+    ensures fault_reported { FaultReported D.faults disk.old disk.new (result ≡ Err Refusal.Disk) }
 {
     let text = read_text(alloc, disk, name)?;
     match read_spec(alloc, &text) {
@@ -43,8 +42,7 @@ pub fn read_text<D: Disk>(alloc: Global, disk: &mut D, name: &str) -> Result<Vec
     ensures bytes { IfOk result (λ bytes. HoldsOn (D.files disk.old) name.now bytes.items) }
     ensures refused { IfErr result (IsTextRefusalOn (D.files disk.old) IsTooLong name.now) }
     ensures same { D.files disk.new ≡ D.files disk.old }
-    ensures cause { HasCause (D.faults disk.old) (D.faults disk.new) (result ≡ Err Refusal.Disk) }
-    ensures told { TellsFaults (D.faults disk.old) (D.faults disk.new) (result ≡ Err Refusal.Disk) }
+    ensures fault_reported { FaultReported D.faults disk.old disk.new (result ≡ Err Refusal.Disk) }
 {
     let Ok(size) = disk.size(name) else {
         return Err(Refusal::Disk);

@@ -1,7 +1,7 @@
 -- What a run works on as the code holds it: an evaluation, and the storage of its words. `files` says what a disk tells.
 use Rattle.std.specs.Prelude.{◌≡◌, ℕ, Option}
 use Rattle.std.specs.Option.{ForSome}
-use Rattle.tce_outside.specs.Fault.{HasCause, TellsFaults}
+use Rattle.tce_outside.specs.Fault.{FaultReported}
 use Rattle.tce_outside.specs.Files.{Files}
 use Rattle.tce_code.specs.Execution.{Setting, State}
 use Rattle.tce_exec.specs.Workspace.{Workspace, workspace, setting_in, state_in}
@@ -34,9 +34,12 @@ Reads touches files e before after = IsRead touches (work_of files e before) (wo
 abbrev pub Changes : {D : Type 0} → (State → State) → ℕ → (D → Option Files) → Evaluation → Storage D → Storage D → Type 0
 Changes change touches files e before after = IsChanged change touches (work_of files e before) (work_of files e after)
 
--- faults of the disk, whose count is `faults`
-abbrev pub FailsByDisk : {D : Type 0} → (D → ℕ) → Storage D → Storage D → Type 0 → Type 0
-FailsByDisk faults before after failed = HasCause (faults before.disk.now) (faults after.disk.now) failed
+-- what a call says of the faults of the disk, whose count is `faults`
+abbrev pub ReportsFaults : {D : Type 0} → (D → ℕ) → Storage D → Storage D → Type 0 → Type 0
+ReportsFaults faults before after failed = FaultReported faults before.disk.now after.disk.now failed
 
-abbrev pub TellsOfDisk : {D : Type 0} → (D → ℕ) → Storage D → Storage D → Type 0 → Type 0
-TellsOfDisk faults before after failed = TellsFaults (faults before.disk.now) (faults after.disk.now) failed
+-- what a call leaves of a storage, also where it fails
+pub record Upholds {D : Type 0} (files : D → Option Files) (faults : D → ℕ) (e : Evaluation) (before after : Storage D) (failed : Type 0) : Type 0 where
+  pub kept : Keeps files e before after
+  pub same : IsSame before after
+  pub fault_reported : ReportsFaults faults before after failed

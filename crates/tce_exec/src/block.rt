@@ -4,7 +4,7 @@ ghost use Rattle.tce_tree.specs.FlatTree.{right_of};
 ghost use Rattle.tce_block.specs.Turns.{operate};
 ghost use Rattle.tce_exec.specs.Prepared.{IsPrepared};
 ghost use Rattle.tce_exec.specs.Operands.{combined};
-ghost use Rattle.tce_exec.specs.Storages.{work_of, IsSame, Keeps, Changes, FailsByDisk, TellsOfDisk};
+ghost use Rattle.tce_exec.specs.Storages.{work_of, Changes, Upholds};
 ghost use Rattle.tce_exec.specs.Blocks.{IsBlockOf};
 ghost use Rattle.tce_exec.specs.Evaluations.{places_of};
 ghost use Rattle.tce_exec.specs.Plans.{IsNest};
@@ -51,11 +51,8 @@ fn run_sum<D: Disk>(
     requires nest { IsNest (places_of evaluation.now) at.now.tail.now nest.old }
     ensures changed { OnOk result (Changes (after_block D.files evaluation.now store.old at.now) 3
         D.files evaluation.now store.old store.new) }
-    ensures kept { Keeps D.files evaluation.now store.old store.new }
     ensures nest { OnOk result (IsNest (places_of evaluation.now) at.now.tail.now nest.new) }
-    ensures same { IsSame store.old store.new }
-    ensures cause { FailsByDisk D.faults store.old store.new (IsErr result) }
-    ensures told { TellsOfDisk D.faults store.old store.new (IsErr result) }
+    ensures upheld { Upholds D.files D.faults evaluation.now store.old store.new (IsErr result) }
 {
     sum_windows(evaluation, store, at.tail.node, first, &mut nest.windows)?;
     // All words are below 2^64.
@@ -83,11 +80,8 @@ fn run_pair<D: Disk>(
     requires nest { IsNest (places_of evaluation.now) at.now.tail.now nest.old }
     ensures changed { OnOk result (Changes (after_block D.files evaluation.now store.old at.now) 3
         D.files evaluation.now store.old store.new) }
-    ensures kept { Keeps D.files evaluation.now store.old store.new }
     ensures nest { OnOk result (IsNest (places_of evaluation.now) at.now.tail.now nest.new) }
-    ensures same { IsSame store.old store.new }
-    ensures cause { FailsByDisk D.faults store.old store.new (IsErr result) }
-    ensures told { TellsOfDisk D.faults store.old store.new (IsErr result) }
+    ensures upheld { Upholds D.files D.faults evaluation.now store.old store.new (IsErr result) }
 {
     let node = at.tail.node;
     let pairing = Pairing { right, out: node };
@@ -126,11 +120,8 @@ fn run_joined<D: Disk>(
     requires nest { IsNest (places_of evaluation.now) at.now.tail.now nest.old }
     ensures changed { OnOk result (Changes (after_block D.files evaluation.now store.old at.now) 3
         D.files evaluation.now store.old store.new) }
-    ensures kept { Keeps D.files evaluation.now store.old store.new }
     ensures nest { OnOk result (IsNest (places_of evaluation.now) at.now.tail.now nest.new) }
-    ensures same { IsSame store.old store.new }
-    ensures cause { FailsByDisk D.faults store.old store.new (IsErr result) }
-    ensures told { TellsOfDisk D.faults store.old store.new (IsErr result) }
+    ensures upheld { Upholds D.files D.faults evaluation.now store.old store.new (IsErr result) }
 {
     let node = at.tail.node;
     pair_windows(evaluation, store, node, pairing, first, &mut nest.windows)?;
@@ -156,11 +147,8 @@ fn run_begun<D: Disk>(
     requires nest { IsNest (places_of evaluation.now) at.now.tail.now nest.old }
     ensures changed { OnOk result (Changes (after_block D.files evaluation.now store.old at.now) 3
         D.files evaluation.now store.old store.new) }
-    ensures kept { Keeps D.files evaluation.now store.old store.new }
     ensures nest { OnOk result (IsNest (places_of evaluation.now) at.now.tail.now nest.new) }
-    ensures same { IsSame store.old store.new }
-    ensures cause { FailsByDisk D.faults store.old store.new (IsErr result) }
-    ensures told { TellsOfDisk D.faults store.old store.new (IsErr result) }
+    ensures upheld { Upholds D.files D.faults evaluation.now store.old store.new (IsErr result) }
 {
     let _nodes = evaluation.tree.count();
     let Some(right) = evaluation.tree.right(at.tail.node) else {
@@ -192,13 +180,10 @@ pub(crate) fn run_block<D: Disk>(
     requires nest { IsNest (places_of evaluation.now) at.now.tail.now nest.old }
     ensures changed { OnOk result (Changes (after_block D.files evaluation.now store.old at.now) 3
         D.files evaluation.now store.old store.new) }
-    ensures kept { Keeps D.files evaluation.now store.old store.new }
     ensures nest { OnOk result (IsNest (places_of evaluation.now) at.now.tail.now nest.new) }
     ensures others { KeepsAround at.now (numbers_of first.new) }
     ensures position { IsPosition evaluation.now.space.now first.new }
-    ensures same { IsSame store.old store.new }
-    ensures cause { FailsByDisk D.faults store.old store.new (IsErr result) }
-    ensures told { TellsOfDisk D.faults store.old store.new (IsErr result) }
+    ensures upheld { Upholds D.files D.faults evaluation.now store.old store.new (IsErr result) }
 {
     let _indexes = evaluation.space.index_count();
     let _nodes = evaluation.tree.count();

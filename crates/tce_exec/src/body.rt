@@ -9,7 +9,7 @@ ghost use Rattle.tce_walk.specs.PartRuns.{exec_part};
 ghost use Rattle.tce_exec.specs.Links.{IsBegun};
 ghost use Rattle.tce_exec.specs.Positions.{IsPosition};
 ghost use Rattle.tce_exec.specs.Prepared.{IsPrepared};
-ghost use Rattle.tce_exec.specs.Storages.{work_of, setting_of, IsSame, Keeps, Changes, FailsByDisk, TellsOfDisk};
+ghost use Rattle.tce_exec.specs.Storages.{work_of, setting_of, Changes, Upholds};
 ghost use Rattle.tce_exec.specs.TileCounts.{tile_count};
 ghost use Rattle.tce_exec.specs.Bodies.{after_from, touches_from, IsBodyFrom, IsOperationAt};
 
@@ -48,10 +48,7 @@ fn run_once<D: Disk>(
     requires few { store.old.cache.now.touches + 3 * length ops.now ≤ 2 ^ 100 }
     ensures changed { OnOk result (Changes (λ state. exec (setting_of D.files evaluation.now store.old)
         (program_of ops.now) state (assignment_of numbers.now)) (3 * length ops.now) D.files evaluation.now store.old store.new) }
-    ensures kept { Keeps D.files evaluation.now store.old store.new }
-    ensures same { IsSame store.old store.new }
-    ensures cause { FailsByDisk D.faults store.old store.new (IsErr result) }
-    ensures told { TellsOfDisk D.faults store.old store.new (IsErr result) }
+    ensures upheld { Upholds D.files D.faults evaluation.now store.old store.new (IsErr result) }
 {
     let _nodes = evaluation.tree.count();
     for op in ops {
@@ -75,10 +72,7 @@ fn run_loops<D: Disk>(
     ensures changed { OnOk result (Changes (after_from D.files evaluation.now store.old at.now depth numbers.old)
         (touches_from at.now depth) D.files evaluation.now store.old store.new) }
     ensures numbers { OnOk result (numbers.new ≡ numbers.old) }
-    ensures kept { Keeps D.files evaluation.now store.old store.new }
-    ensures same { IsSame store.old store.new }
-    ensures cause { FailsByDisk D.faults store.old store.new (IsErr result) }
-    ensures told { TellsOfDisk D.faults store.old store.new (IsErr result) }
+    ensures upheld { Upholds D.files D.faults evaluation.now store.old store.new (IsErr result) }
 {
     let _indexes = evaluation.space.index_count();
     if depth == at.loops.len() {
@@ -112,10 +106,7 @@ fn run_held<D: Disk>(
     requires few { store.old.cache.now.touches + touches_from at.now 0 ≤ 2 ^ 100 }
     ensures changed { OnOk result (Changes (after_from D.files evaluation.now store.old at.now 0 first.now.numbers)
         (touches_from at.now 0) D.files evaluation.now store.old store.new) }
-    ensures kept { Keeps D.files evaluation.now store.old store.new }
-    ensures same { IsSame store.old store.new }
-    ensures cause { FailsByDisk D.faults store.old store.new (IsErr result) }
-    ensures told { TellsOfDisk D.faults store.old store.new (IsErr result) }
+    ensures upheld { Upholds D.files D.faults evaluation.now store.old store.new (IsErr result) }
 {
     let mut links = ArrayVec::new();
     find_links(evaluation, store, at.ops, first, &mut links)?;
@@ -154,11 +145,8 @@ pub(crate) fn run_body<D: Disk>(
     ensures changed { OnOk result (Changes (λ state. exec_part (setting_of D.files evaluation.now store.old)
         (program_of body.now.ops.now) body.now.loops.now (part_of block.now) state (assignment_of numbers.now))
         (touches_of_body body.now.ops.now (part_of block.now)) D.files evaluation.now store.old store.new) }
-    ensures kept { Keeps D.files evaluation.now store.old store.new }
     ensures position { IsPosition evaluation.now.space.now position.new }
-    ensures same { IsSame store.old store.new }
-    ensures cause { FailsByDisk D.faults store.old store.new (IsErr result) }
-    ensures told { TellsOfDisk D.faults store.old store.new (IsErr result) }
+    ensures upheld { Upholds D.files D.faults evaluation.now store.old store.new (IsErr result) }
 {
     let _indexes = evaluation.space.index_count();
     let from = block.from.as_slice();

@@ -8,7 +8,7 @@ ghost use Rattle.tce_cache.specs.Transfer.{HasFile};
 ghost use Rattle.tce_cache.specs.Touch.{KeepsArrays, with_held};
 ghost use Rattle.tce_exec.specs.NodeStates.{current_cell};
 ghost use Rattle.tce_exec.specs.Elements.{coordinates_at, InArray, IsElementAt, IsElementTouched};
-ghost use Rattle.tce_exec.specs.Storages.{IsSame, FailsByDisk, TellsOfDisk};
+ghost use Rattle.tce_exec.specs.Storages.{IsSame, ReportsFaults};
 
 use crate::element::{ElementPlace, coordinates_of, place_of_element};
 use crate::storage::Storage;
@@ -62,8 +62,7 @@ pub(crate) fn touch_element<D: Disk>(
     ensures others { OnlyWritableDiffers store.old.cache.now
         (D.files store.old.disk.now) (D.files store.new.disk.now) }
     ensures same { IsSame store.old store.new }
-    ensures cause { FailsByDisk D.faults store.old store.new (IsErr result) }
-    ensures told { TellsOfDisk D.faults store.old store.new (IsErr result) }
+    ensures fault_reported { ReportsFaults D.faults store.old store.new (IsErr result) }
 {
     // The length of the block bounds all places.
     let _len = store.words.len();

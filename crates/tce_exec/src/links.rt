@@ -10,7 +10,7 @@ ghost use Rattle.tce_exec.specs.TileCounts.{tile_count_of_operand, tile_count_of
 ghost use Rattle.tce_exec.specs.Operands.{IsReadable};
 ghost use Rattle.tce_exec.specs.Positions.{IsPosition, numbers_of};
 ghost use Rattle.tce_exec.specs.Prepared.{IsPrepared};
-ghost use Rattle.tce_exec.specs.Storages.{work_of, setting_of, IsSame, Keeps, Reads, FailsByDisk, TellsOfDisk};
+ghost use Rattle.tce_exec.specs.Storages.{work_of, setting_of, Reads, Upholds};
 
 use crate::evaluation::Evaluation;
 use crate::operand_windows::{node_window, operand_window, place_window};
@@ -125,10 +125,7 @@ fn find_source<D: Disk>(
     ensures source { IfOk result (IsSource 1 (places_of evaluation.now) store.new.cache.now (numbers_of first.now) operand.now) }
     ensures last { OnOk result (KeepsMore (tile_count_of_operand operand.now) store.old.cache.now store.new.cache.now) }
     ensures read { OnOk result (Reads 1 D.files evaluation.now store.old store.new) }
-    ensures kept { Keeps D.files evaluation.now store.old store.new }
-    ensures same { IsSame store.old store.new }
-    ensures cause { FailsByDisk D.faults store.old store.new (IsErr result) }
-    ensures told { TellsOfDisk D.faults store.old store.new (IsErr result) }
+    ensures upheld { Upholds D.files D.faults evaluation.now store.old store.new (IsErr result) }
 {
     if let Operand::Constant(number) = operand {
         let word = *number;
@@ -160,10 +157,7 @@ fn find_target<D: Disk>(
         evaluation.now.result.now.tensor (numbers_of first.now) v) }
     ensures last { OnOk result (KeepsMore (tile_count_of_place evaluation.now.tree.now v) store.old.cache.now store.new.cache.now) }
     ensures read { OnOk result (Reads 1 D.files evaluation.now store.old store.new) }
-    ensures kept { Keeps D.files evaluation.now store.old store.new }
-    ensures same { IsSame store.old store.new }
-    ensures cause { FailsByDisk D.faults store.old store.new (IsErr result) }
-    ensures told { TellsOfDisk D.faults store.old store.new (IsErr result) }
+    ensures upheld { Upholds D.files D.faults evaluation.now store.old store.new (IsErr result) }
 {
     let count = evaluation.tree.count();
     let mut window = blank();
@@ -191,10 +185,7 @@ fn find_link<D: Disk>(
         evaluation.now.result.now.tensor (numbers_of first.now) v) }
     ensures last { OnOk result (KeepsMore (tile_count_of_node evaluation.now.tree.now v) store.old.cache.now store.new.cache.now) }
     ensures read { OnOk result (Reads 3 D.files evaluation.now store.old store.new) }
-    ensures kept { Keeps D.files evaluation.now store.old store.new }
-    ensures same { IsSame store.old store.new }
-    ensures cause { FailsByDisk D.faults store.old store.new (IsErr result) }
-    ensures told { TellsOfDisk D.faults store.old store.new (IsErr result) }
+    ensures upheld { Upholds D.files D.faults evaluation.now store.old store.new (IsErr result) }
 {
     let _nodes = evaluation.tree.count();
     let kind = evaluation.tree.kind(v);
@@ -243,10 +234,7 @@ pub(crate) fn find_links<D: Disk>(
     ensures links { OnOk result (AreLinks (3 * length ops.now) (places_of evaluation.now) store.new.cache.now
         evaluation.now.result.now.tensor (numbers_of first.now) ops.now links.new.items) }
     ensures read { OnOk result (Reads (3 * length ops.now) D.files evaluation.now store.old store.new) }
-    ensures kept { Keeps D.files evaluation.now store.old store.new }
-    ensures same { IsSame store.old store.new }
-    ensures cause { FailsByDisk D.faults store.old store.new (IsErr result) }
-    ensures told { TellsOfDisk D.faults store.old store.new (IsErr result) }
+    ensures upheld { Upholds D.files D.faults evaluation.now store.old store.new (IsErr result) }
 {
     let _nodes = evaluation.tree.count();
     for op in ops {

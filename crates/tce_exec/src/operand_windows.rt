@@ -10,7 +10,7 @@ ghost use Rattle.tce_exec.specs.Elements.{coordinates_at};
 ghost use Rattle.tce_exec.specs.EvaluationSlots.{IsLaid, slot_of, HasSlotAt, HasRoomIn};
 ghost use Rattle.tce_exec.specs.Prepared.{IsPrepared, IsStored};
 ghost use Rattle.tce_exec.specs.Operands.{IsPlaceOf};
-ghost use Rattle.tce_exec.specs.Storages.{work_of, setting_of, IsSame, Keeps, Reads, FailsByDisk, TellsOfDisk};
+ghost use Rattle.tce_exec.specs.Storages.{work_of, setting_of, Reads, Upholds};
 ghost use Rattle.tce_exec.specs.Evaluations.{places_of, shape_of, ReadsNone};
 ghost use Rattle.tce_exec.specs.OperandWindows.{IsSlotWindow};
 ghost use Rattle.tce_exec.specs.Positions.{IsPosition, numbers_of};
@@ -92,10 +92,7 @@ fn touch_window<D: Disk>(
     ensures steps { window.new.steps ≡ window.old.steps }
     ensures last { OnOk result (KeepsLast store.old.cache.now store.new.cache.now) }
     ensures read { OnOk result (Reads 1 D.files evaluation.now store.old store.new) }
-    ensures kept { Keeps D.files evaluation.now store.old store.new }
-    ensures same { IsSame store.old store.new }
-    ensures cause { FailsByDisk D.faults store.old store.new (IsErr result) }
-    ensures told { TellsOfDisk D.faults store.old store.new (IsErr result) }
+    ensures upheld { Upholds D.files D.faults evaluation.now store.old store.new (IsErr result) }
 {
     // The length of the block bounds all places.
     let _len = store.words.len();
@@ -126,10 +123,7 @@ pub(crate) fn operand_window<D: Disk>(
     ensures steps { window.new.steps ≡ window.old.steps }
     ensures last { OnOk result (KeepsLast store.old.cache.now store.new.cache.now) }
     ensures read { OnOk result (Reads 1 D.files evaluation.now store.old store.new) }
-    ensures kept { Keeps D.files evaluation.now store.old store.new }
-    ensures same { IsSame store.old store.new }
-    ensures cause { FailsByDisk D.faults store.old store.new (IsErr result) }
-    ensures told { TellsOfDisk D.faults store.old store.new (IsErr result) }
+    ensures upheld { Upholds D.files D.faults evaluation.now store.old store.new (IsErr result) }
 {
     match operand {
         Operand::Leaf(leaf) => touch_window(evaluation, store, leaf, first, false, window),
@@ -160,10 +154,7 @@ pub(crate) fn place_window<D: Disk>(
     ensures steps { window.new.steps ≡ window.old.steps }
     ensures last { OnOk result (KeepsLast store.old.cache.now store.new.cache.now) }
     ensures read { OnOk result (Reads 1 D.files evaluation.now store.old store.new) }
-    ensures kept { Keeps D.files evaluation.now store.old store.new }
-    ensures same { IsSame store.old store.new }
-    ensures cause { FailsByDisk D.faults store.old store.new (IsErr result) }
-    ensures told { TellsOfDisk D.faults store.old store.new (IsErr result) }
+    ensures upheld { Upholds D.files D.faults evaluation.now store.old store.new (IsErr result) }
 {
     let count = evaluation.tree.count();
     if v + 1 == count {
@@ -193,10 +184,7 @@ pub(crate) fn sum_windows<D: Disk>(
     ensures windows { OnOk result (AreSumWindows (work_of D.files evaluation.now store.new)
         (left_of evaluation.now.tree.now v) v (numbers_of first.now) windows.new) }
     ensures read { OnOk result (Reads 2 D.files evaluation.now store.old store.new) }
-    ensures kept { Keeps D.files evaluation.now store.old store.new }
-    ensures same { IsSame store.old store.new }
-    ensures cause { FailsByDisk D.faults store.old store.new (IsErr result) }
-    ensures told { TellsOfDisk D.faults store.old store.new (IsErr result) }
+    ensures upheld { Upholds D.files D.faults evaluation.now store.old store.new (IsErr result) }
 {
     let _nodes = evaluation.tree.count();
     let left = evaluation.tree.left(v);
@@ -233,10 +221,7 @@ pub(crate) fn pair_windows<D: Disk>(
     ensures windows { OnOk result (ArePairWindows (work_of D.files evaluation.now store.new)
         (left_of evaluation.now.tree.now v) pairing.now.right.now pairing.now.out (numbers_of first.now) windows.new) }
     ensures read { OnOk result (Reads 3 D.files evaluation.now store.old store.new) }
-    ensures kept { Keeps D.files evaluation.now store.old store.new }
-    ensures same { IsSame store.old store.new }
-    ensures cause { FailsByDisk D.faults store.old store.new (IsErr result) }
-    ensures told { TellsOfDisk D.faults store.old store.new (IsErr result) }
+    ensures upheld { Upholds D.files D.faults evaluation.now store.old store.new (IsErr result) }
 {
     let _nodes = evaluation.tree.count();
     let operand = evaluation.tree.left(v);

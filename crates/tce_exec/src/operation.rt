@@ -5,7 +5,7 @@ ghost use Rattle.tce_code.specs.Execution.{exec};
 ghost use Rattle.tce_walk.specs.Machine.{operation_of_node, IsNodeAt};
 ghost use Rattle.tce_exec.specs.Prepared.{IsPrepared};
 ghost use Rattle.tce_exec.specs.Operands.{combined, second_word, word_of_operation};
-ghost use Rattle.tce_exec.specs.Storages.{work_of, setting_of, ForState, IsSame, Keeps, Reads, Changes, FailsByDisk, TellsOfDisk};
+ghost use Rattle.tce_exec.specs.Storages.{work_of, setting_of, ForState, Reads, Changes, Upholds};
 
 use crate::evaluation::Evaluation;
 use crate::places::{read_operand, read_place};
@@ -41,10 +41,7 @@ fn read_second<D: Disk>(
     ensures word { IfOk result (λ word. ForState D.files evaluation.now store.old (λ s state.
         word ≡ second_word s v (right_of evaluation.now.tree.now v) state (slice_index numbers.now))) }
     ensures read { OnOk result (Reads 1 D.files evaluation.now store.old store.new) }
-    ensures kept { Keeps D.files evaluation.now store.old store.new }
-    ensures same { IsSame store.old store.new }
-    ensures cause { FailsByDisk D.faults store.old store.new (IsErr result) }
-    ensures told { TellsOfDisk D.faults store.old store.new (IsErr result) }
+    ensures upheld { Upholds D.files D.faults evaluation.now store.old store.new (IsErr result) }
 {
     let _nodes = evaluation.tree.count();
     match evaluation.tree.right(v) {
@@ -67,10 +64,7 @@ fn read_operation<D: Disk>(
     ensures word { IfOk result (λ word. ForState D.files evaluation.now store.old (λ s state.
         word ≡ word_of_operation s v state (slice_index numbers.now))) }
     ensures read { OnOk result (Reads 2 D.files evaluation.now store.old store.new) }
-    ensures kept { Keeps D.files evaluation.now store.old store.new }
-    ensures same { IsSame store.old store.new }
-    ensures cause { FailsByDisk D.faults store.old store.new (IsErr result) }
-    ensures told { TellsOfDisk D.faults store.old store.new (IsErr result) }
+    ensures upheld { Upholds D.files D.faults evaluation.now store.old store.new (IsErr result) }
 {
     let _nodes = evaluation.tree.count();
     let operand = evaluation.tree.left(v);
@@ -92,10 +86,7 @@ pub fn operate<D: Disk>(
     requires few { store.old.cache.now.touches + 3 ≤ 2 ^ 100 }
     ensures changed { OnOk result (Changes (λ state. exec
         (setting_of D.files evaluation.now store.old) (operation_of_node evaluation.now.tree.now v) state (slice_index numbers.now)) 3 D.files evaluation.now store.old store.new) }
-    ensures kept { Keeps D.files evaluation.now store.old store.new }
-    ensures same { IsSame store.old store.new }
-    ensures cause { FailsByDisk D.faults store.old store.new (IsErr result) }
-    ensures told { TellsOfDisk D.faults store.old store.new (IsErr result) }
+    ensures upheld { Upholds D.files D.faults evaluation.now store.old store.new (IsErr result) }
 {
     let word = read_operation(evaluation, store, v, numbers)?;
     put_place(evaluation, store, v, numbers, word)

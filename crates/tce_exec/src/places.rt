@@ -5,7 +5,7 @@ ghost use Rattle.tce_exec.specs.Slots.{slot_word};
 ghost use Rattle.tce_exec.specs.EvaluationSlots.{IsLaid, slot_of, HasSlotAt, HasRoomIn};
 ghost use Rattle.tce_exec.specs.Prepared.{IsPrepared};
 ghost use Rattle.tce_exec.specs.Operands.{word_of_node, word_of_operand, IsPlaceOf, IsElementOf, IsReadable};
-ghost use Rattle.tce_exec.specs.Storages.{work_of, ForState, IsSame, Keeps, Reads, FailsByDisk, TellsOfDisk};
+ghost use Rattle.tce_exec.specs.Storages.{work_of, ForState, Reads, Upholds};
 
 use crate::elements::touch_element;
 use crate::evaluation::Evaluation;
@@ -42,10 +42,7 @@ fn read_root<D: Disk>(
     ensures word { IfOk result (λ word. ForState D.files evaluation.now store.old (λ s state.
         word ≡ word_of_node s (operations evaluation.now.tree.now - 1) state (slice_index numbers.now))) }
     ensures read { OnOk result (Reads 1 D.files evaluation.now store.old store.new) }
-    ensures kept { Keeps D.files evaluation.now store.old store.new }
-    ensures same { IsSame store.old store.new }
-    ensures cause { FailsByDisk D.faults store.old store.new (IsErr result) }
-    ensures told { TellsOfDisk D.faults store.old store.new (IsErr result) }
+    ensures upheld { Upholds D.files D.faults evaluation.now store.old store.new (IsErr result) }
 {
     let at = touch_element(store, evaluation.result, numbers, false)?;
     Ok(store.words.get(at))
@@ -65,10 +62,7 @@ pub(crate) fn read_place<D: Disk>(
     ensures word { IfOk result (λ word. ForState D.files evaluation.now store.old (λ s state.
         word ≡ word_of_node s v state (slice_index numbers.now))) }
     ensures read { OnOk result (Reads 1 D.files evaluation.now store.old store.new) }
-    ensures kept { Keeps D.files evaluation.now store.old store.new }
-    ensures same { IsSame store.old store.new }
-    ensures cause { FailsByDisk D.faults store.old store.new (IsErr result) }
-    ensures told { TellsOfDisk D.faults store.old store.new (IsErr result) }
+    ensures upheld { Upholds D.files D.faults evaluation.now store.old store.new (IsErr result) }
 {
     let count = evaluation.tree.count();
     if v + 1 == count {
@@ -92,10 +86,7 @@ fn read_leaf<D: Disk>(
     ensures word { IfOk result (λ word. ForState D.files evaluation.now store.old (λ s state.
         word ≡ word_of_operand s (Operand.Leaf leaf.now) state (slice_index numbers.now))) }
     ensures read { OnOk result (Reads 1 D.files evaluation.now store.old store.new) }
-    ensures kept { Keeps D.files evaluation.now store.old store.new }
-    ensures same { IsSame store.old store.new }
-    ensures cause { FailsByDisk D.faults store.old store.new (IsErr result) }
-    ensures told { TellsOfDisk D.faults store.old store.new (IsErr result) }
+    ensures upheld { Upholds D.files D.faults evaluation.now store.old store.new (IsErr result) }
 {
     let at = touch_element(store, leaf, numbers, false)?;
     // All words are below 2^64.
@@ -117,10 +108,7 @@ pub(crate) fn read_operand<D: Disk>(
     ensures word { IfOk result (λ word. ForState D.files evaluation.now store.old (λ s state.
         word ≡ word_of_operand s operand.now state (slice_index numbers.now))) }
     ensures read { OnOk result (Reads 1 D.files evaluation.now store.old store.new) }
-    ensures kept { Keeps D.files evaluation.now store.old store.new }
-    ensures same { IsSame store.old store.new }
-    ensures cause { FailsByDisk D.faults store.old store.new (IsErr result) }
-    ensures told { TellsOfDisk D.faults store.old store.new (IsErr result) }
+    ensures upheld { Upholds D.files D.faults evaluation.now store.old store.new (IsErr result) }
 {
     match operand {
         Operand::Leaf(leaf) => read_leaf(evaluation, store, leaf, numbers),

@@ -10,7 +10,7 @@ ghost use Rattle.tce_exec.specs.EvaluationSlots.{IsLaid, HasRoomIn};
 ghost use Rattle.tce_exec.specs.Prepared.{IsPrepared};
 ghost use Rattle.tce_exec.specs.Operands.{IsPlaceOf};
 ghost use Rattle.tce_exec.specs.Steps.{IsKept, IsChanged};
-ghost use Rattle.tce_exec.specs.Storages.{work_of, IsSame, Keeps, Changes, FailsByDisk, TellsOfDisk};
+ghost use Rattle.tce_exec.specs.Storages.{work_of, Changes, Upholds};
 
 use crate::elements::touch_element;
 use crate::evaluation::Evaluation;
@@ -34,10 +34,7 @@ fn put_root<D: Disk>(
     ensures changed { OnOk result (Changes (λ state.
         with_word state (operations evaluation.now.tree.now - 1) (coordinates (kept_dims evaluation.now.tree.now evaluation.now.fusion.now.0.items (operations evaluation.now.tree.now - 1)) (slice_index numbers.now)) word)
         1 D.files evaluation.now store.old store.new) }
-    ensures kept { Keeps D.files evaluation.now store.old store.new }
-    ensures same { IsSame store.old store.new }
-    ensures cause { FailsByDisk D.faults store.old store.new (IsErr result) }
-    ensures told { TellsOfDisk D.faults store.old store.new (IsErr result) }
+    ensures upheld { Upholds D.files D.faults evaluation.now store.old store.new (IsErr result) }
 {
     let at = touch_element(store, evaluation.result, numbers, true)?;
     store.words.put(at, word);
@@ -59,10 +56,7 @@ pub(crate) fn put_place<D: Disk>(
     ensures changed { OnOk result (Changes (λ state. with_word state v
         (coordinates (kept_dims evaluation.now.tree.now evaluation.now.fusion.now.0.items v) (slice_index numbers.now)) word)
         1 D.files evaluation.now store.old store.new) }
-    ensures kept { Keeps D.files evaluation.now store.old store.new }
-    ensures same { IsSame store.old store.new }
-    ensures cause { FailsByDisk D.faults store.old store.new (IsErr result) }
-    ensures told { TellsOfDisk D.faults store.old store.new (IsErr result) }
+    ensures upheld { Upholds D.files D.faults evaluation.now store.old store.new (IsErr result) }
 {
     let count = evaluation.tree.count();
     if v + 1 == count {

@@ -1,6 +1,6 @@
 // Whole runs of loop code.
 ghost use Rattle.std.specs.Prelude.{◌≡◌, ◌+◌, ◌≤◌, ◌^◌, false, IsTrue, OnOk, IsErr};
-ghost use Rattle.tce_outside.specs.Fault.{HasCause, TellsFaults};
+ghost use Rattle.tce_outside.specs.Fault.{FaultReported};
 ghost use Rattle.tce_tree.specs.Fusion.{OrdersFit};
 ghost use Rattle.tce_tree.specs.Orders.{lists_of};
 ghost use Rattle.tce_tree.specs.WellFormed.{is_distinct};
@@ -11,7 +11,7 @@ ghost use Rattle.tce_walk.specs.Touches.{touch_bound};
 ghost use Rattle.tce_walk.specs.Run.{IsCodeOf};
 ghost use Rattle.tce_exec.specs.Prepared.{IsPrepared};
 ghost use Rattle.tce_exec.specs.Steps.{IsKept};
-ghost use Rattle.tce_exec.specs.Storages.{work_of, Keeps, FailsByDisk, TellsOfDisk};
+ghost use Rattle.tce_exec.specs.Storages.{work_of, Keeps, ReportsFaults};
 ghost use Rattle.tce_exec.specs.Evaluations.{places_of};
 ghost use Rattle.tce_exec.specs.Plans.{AreKept};
 ghost use Rattle.tce_exec.specs.Run.{workspace_of, IsZero, IsRun};
@@ -46,8 +46,7 @@ fn run_on<D: Disk>(runner: &mut Runner<'_, D>, code: &Code) -> Result<(), Failed
     ensures words { runner.new.store.words.ghost_name ≡ runner.old.store.words.ghost_name }
     ensures cache { runner.new.store.cache.ghost_name ≡ runner.old.store.cache.ghost_name }
     ensures disk { runner.new.store.disk.ghost_name ≡ runner.old.store.disk.ghost_name }
-    ensures cause { FailsByDisk D.faults runner.old.store runner.new.store (IsErr result) }
-    ensures told { TellsOfDisk D.faults runner.old.store runner.new.store (IsErr result) }
+    ensures fault_reported { ReportsFaults D.faults runner.old.store runner.new.store (IsErr result) }
 {
     let evaluation = runner.evaluation;
     let _nodes = evaluation.tree.count();
@@ -94,8 +93,7 @@ pub fn run_code<D: Disk>(
     ensures kept { IsKept (workspace_of space.now tree.now
         fusion.now.0.items layout.now.0.items output.now words.old cache.old (D.files disk.old))
         (workspace_of space.now tree.now fusion.now.0.items layout.now.0.items output.now words.new cache.new (D.files disk.new)) }
-    ensures cause { HasCause (D.faults disk.old) (D.faults disk.new) (IsErr result) }
-    ensures told { TellsFaults (D.faults disk.old) (D.faults disk.new) (IsErr result) }
+    ensures fault_reported { FaultReported D.faults disk.old disk.new (IsErr result) }
 {
     let evaluation = Evaluation {
         space,

@@ -2,7 +2,7 @@
 ghost use Rattle.std.specs.Prelude.{◌≡◌, ◌+◌, ◌≤◌, ◌^◌, slice_index, OnOk, IsErr, IsTrue};
 ghost use Rattle.tce_walk.specs.Machine.{assignment_of, touches_of_tail, IsTailAt};
 ghost use Rattle.tce_exec.specs.Prepared.{IsPrepared};
-ghost use Rattle.tce_exec.specs.Storages.{work_of, setting_of, IsSame, Keeps, Changes, FailsByDisk, TellsOfDisk};
+ghost use Rattle.tce_exec.specs.Storages.{work_of, setting_of, Changes, Upholds};
 ghost use Rattle.tce_exec.specs.Evaluations.{places_of};
 ghost use Rattle.tce_exec.specs.Positions.{IsPosition};
 ghost use Rattle.tce_exec.specs.Plans.{IsPlanFor, AreKept};
@@ -38,12 +38,9 @@ fn run_listed<D: Disk>(
     requires plan { IsPlanFor (places_of evaluation.now) tail.now plan.old }
     ensures changed { OnOk result (Changes
         (after_tail D.files evaluation.now store.old tail.now numbers.now) (touches_of_tail evaluation.now.space.now tail.now) D.files evaluation.now store.old store.new) }
-    ensures kept { Keeps D.files evaluation.now store.old store.new }
     ensures position { OnOk result (IsPosition evaluation.now.space.now first.new) }
     ensures plan { OnOk result (IsPlanFor (places_of evaluation.now) tail.now plan.new) }
-    ensures same { IsSame store.old store.new }
-    ensures cause { FailsByDisk D.faults store.old store.new (IsErr result) }
-    ensures told { TellsOfDisk D.faults store.old store.new (IsErr result) }
+    ensures upheld { Upholds D.files D.faults evaluation.now store.old store.new (IsErr result) }
 {
     // The limits of spaces, trees and words.
     let _indexes = evaluation.space.index_count();
@@ -79,12 +76,9 @@ fn run_blocks<D: Disk>(
     requires plan { IsPlanFor (places_of evaluation.now) tail.now plan.old }
     ensures changed { OnOk result (Changes
         (after_tail D.files evaluation.now store.old tail.now numbers.now) (touches_of_tail evaluation.now.space.now tail.now) D.files evaluation.now store.old store.new) }
-    ensures kept { Keeps D.files evaluation.now store.old store.new }
     ensures position { OnOk result (IsPosition evaluation.now.space.now first.new) }
     ensures plan { OnOk result (IsPlanFor (places_of evaluation.now) tail.now plan.new) }
-    ensures same { IsSame store.old store.new }
-    ensures cause { FailsByDisk D.faults store.old store.new (IsErr result) }
-    ensures told { TellsOfDisk D.faults store.old store.new (IsErr result) }
+    ensures upheld { Upholds D.files D.faults evaluation.now store.old store.new (IsErr result) }
 {
     // The limits of spaces, trees and words.
     let _indexes = evaluation.space.index_count();
@@ -123,11 +117,8 @@ pub(crate) fn run_tail<D: Disk>(
     requires right { AreKept (places_of evaluation.now) kept.old }
     ensures changed { OnOk result (Changes
         (after_tail D.files evaluation.now store.old tail.now numbers.now) (touches_of_tail evaluation.now.space.now tail.now) D.files evaluation.now store.old store.new) }
-    ensures kept { Keeps D.files evaluation.now store.old store.new }
     ensures right { OnOk result (AreKept (places_of evaluation.now) kept.new) }
-    ensures same { IsSame store.old store.new }
-    ensures cause { FailsByDisk D.faults store.old store.new (IsErr result) }
-    ensures told { TellsOfDisk D.faults store.old store.new (IsErr result) }
+    ensures upheld { Upholds D.files D.faults evaluation.now store.old store.new (IsErr result) }
 {
     let _indexes = evaluation.space.index_count();
     let _nodes = evaluation.tree.count();

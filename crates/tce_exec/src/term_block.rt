@@ -3,7 +3,7 @@ ghost use Rattle.std.specs.Prelude.{◌+◌, ◌≤◌, ◌^◌, length, IsTrue,
 ghost use Rattle.tce_exec.specs.Loops.{AreLoops, IsWindowWithin};
 ghost use Rattle.tce_exec.specs.Sequences.{IsLoopSequence};
 ghost use Rattle.tce_exec.specs.Prepared.{IsPrepared};
-ghost use Rattle.tce_exec.specs.Storages.{work_of, setting_of, IsSame, Keeps, Changes, FailsByDisk, TellsOfDisk};
+ghost use Rattle.tce_exec.specs.Storages.{work_of, setting_of, Changes, Upholds};
 ghost use Rattle.tce_exec.specs.Evaluations.{places_of};
 ghost use Rattle.tce_exec.specs.Positions.{IsPosition, numbers_of};
 ghost use Rattle.tce_exec.specs.Blocks.{AreOutside};
@@ -129,14 +129,11 @@ pub(crate) fn run_term_block<D: Disk>(
     requires few { store.old.cache.now.touches + 3 ≤ 2 ^ 100 }
     ensures changed { OnOk result (Changes (after_term_block (setting_of D.files evaluation.now store.old) at.now) 3
         D.files evaluation.now store.old store.new) }
-    ensures kept { Keeps D.files evaluation.now store.old store.new }
     ensures position { IsPosition evaluation.now.space.now first.new }
     ensures others { AreOutside at.now.loops.now (around at.now.run) (numbers_of first.new) }
     ensures nest { OnOk result (IsTermNest (places_of evaluation.now) at.now.run at.now.loops.now
         nest.new) }
-    ensures same { IsSame store.old store.new }
-    ensures cause { FailsByDisk D.faults store.old store.new (IsErr result) }
-    ensures told { TellsOfDisk D.faults store.old store.new (IsErr result) }
+    ensures upheld { Upholds D.files D.faults evaluation.now store.old store.new (IsErr result) }
 {
     let run = &at.run;
     let factors = at.factors;

@@ -3,7 +3,7 @@ ghost use Rattle.std.specs.Prelude.{◌≡◌, ◌+◌, ◌≤◌, ◌^◌, fals
 ghost use Rattle.tce_walk.specs.Terms.{IsTermOperand};
 ghost use Rattle.tce_exec.specs.Prepared.{IsPrepared};
 ghost use Rattle.tce_exec.specs.Operands.{IsPlaceOf};
-ghost use Rattle.tce_exec.specs.Storages.{work_of, IsSame, Keeps, Reads, FailsByDisk, TellsOfDisk};
+ghost use Rattle.tce_exec.specs.Storages.{work_of, Reads, Upholds};
 ghost use Rattle.tce_exec.specs.Evaluations.{places_of};
 ghost use Rattle.tce_exec.specs.Positions.{IsPosition, numbers_of};
 ghost use Rattle.tce_exec.specs.TermWindows.{AreOperandsOf, HaveElements, AreTermSteps, AreTermWindows, CanStepTerm};
@@ -110,10 +110,7 @@ fn single_windows<D: Disk>(
     ensures windows { OnOk result (AreTermWindows (work_of D.files evaluation.now store.new)
         operands.now (numbers_of first.now) windows.new) }
     ensures read { OnOk result (Reads 3 D.files evaluation.now store.old store.new) }
-    ensures kept { Keeps D.files evaluation.now store.old store.new }
-    ensures same { IsSame store.old store.new }
-    ensures cause { FailsByDisk D.faults store.old store.new (IsErr result) }
-    ensures told { TellsOfDisk D.faults store.old store.new (IsErr result) }
+    ensures upheld { Upholds D.files D.faults evaluation.now store.old store.new (IsErr result) }
 {
     operand_window(evaluation, store, operands.left, first, &mut windows.left)?;
     place_window(evaluation, store, operands.out, first, &mut windows.out)
@@ -139,10 +136,7 @@ fn both_windows<D: Disk>(
     ensures windows { OnOk result (AreTermWindows (work_of D.files evaluation.now store.new)
         operands.now (numbers_of first.now) windows.new) }
     ensures read { OnOk result (Reads 3 D.files evaluation.now store.old store.new) }
-    ensures kept { Keeps D.files evaluation.now store.old store.new }
-    ensures same { IsSame store.old store.new }
-    ensures cause { FailsByDisk D.faults store.old store.new (IsErr result) }
-    ensures told { TellsOfDisk D.faults store.old store.new (IsErr result) }
+    ensures upheld { Upholds D.files D.faults evaluation.now store.old store.new (IsErr result) }
 {
     operand_window(evaluation, store, operands.left, first, &mut windows.left)?;
     operand_window(evaluation, store, operands.right, first, &mut windows.right)?;
@@ -168,10 +162,7 @@ pub(crate) fn term_windows<D: Disk>(
     ensures windows { OnOk result (AreTermWindows (work_of D.files evaluation.now store.new)
         operands.now (numbers_of first.now) windows.new) }
     ensures read { OnOk result (Reads 3 D.files evaluation.now store.old store.new) }
-    ensures kept { Keeps D.files evaluation.now store.old store.new }
-    ensures same { IsSame store.old store.new }
-    ensures cause { FailsByDisk D.faults store.old store.new (IsErr result) }
-    ensures told { TellsOfDisk D.faults store.old store.new (IsErr result) }
+    ensures upheld { Upholds D.files D.faults evaluation.now store.old store.new (IsErr result) }
 {
     if operands.pair {
         both_windows(evaluation, store, operands, first, windows)

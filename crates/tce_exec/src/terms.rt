@@ -9,7 +9,7 @@ ghost use Rattle.tce_walk.specs.Terms.{touches_of_terms, IsCombinationAt};
 ghost use Rattle.tce_exec.specs.Evaluations.{places_of};
 ghost use Rattle.tce_exec.specs.Positions.{IsPosition};
 ghost use Rattle.tce_exec.specs.Prepared.{IsPrepared};
-ghost use Rattle.tce_exec.specs.Storages.{work_of, setting_of, IsSame, Keeps, Changes, FailsByDisk, TellsOfDisk};
+ghost use Rattle.tce_exec.specs.Storages.{work_of, setting_of, Changes, Upholds};
 ghost use Rattle.tce_exec.specs.TermBlocks.{IsTermRun};
 ghost use Rattle.tce_exec.specs.TermPlans.{after_term, touches_of_run, IsTermPlan};
 
@@ -55,11 +55,8 @@ fn run_term<D: Disk>(
         + touches_of_run evaluation.now.space.now run.now ≤ 2 ^ 100 }
     ensures changed { OnOk result (Changes (after_term (setting_of D.files evaluation.now store.old) run.now)
         (touches_of_run evaluation.now.space.now run.now) D.files evaluation.now store.old store.new) }
-    ensures kept { Keeps D.files evaluation.now store.old store.new }
     ensures position { OnOk result (IsPosition evaluation.now.space.now first.new) }
-    ensures same { IsSame store.old store.new }
-    ensures cause { FailsByDisk D.faults store.old store.new (IsErr result) }
-    ensures told { TellsOfDisk D.faults store.old store.new (IsErr result) }
+    ensures upheld { Upholds D.files D.faults evaluation.now store.old store.new (IsErr result) }
 {
     // All words are below 2^64.
     let _words = store.words.len();
@@ -105,11 +102,8 @@ pub(crate) fn run_terms<D: Disk>(
         (value (setting_of D.files evaluation.now store.old).elements (node evaluation.now.tree.now sum.now.node))
         (assignment_of numbers.now) (part_of block.now)) (touches_of_terms evaluation.now.space.now sum.now.terms.now)
         D.files evaluation.now store.old store.new) }
-    ensures kept { Keeps D.files evaluation.now store.old store.new }
     ensures position { OnOk result (IsPosition evaluation.now.space.now position.new) }
-    ensures same { IsSame store.old store.new }
-    ensures cause { FailsByDisk D.faults store.old store.new (IsErr result) }
-    ensures told { TellsOfDisk D.faults store.old store.new (IsErr result) }
+    ensures upheld { Upholds D.files D.faults evaluation.now store.old store.new (IsErr result) }
 {
     // The limits of spaces and trees.
     let _indexes = evaluation.space.index_count();

@@ -1,7 +1,7 @@
 // The commands.
 ghost use Rattle.std.specs.Prelude.{◌≡◌, Err, IfErr};
 ghost use Rattle.tce_outside.specs.Files.{others};
-ghost use Rattle.tce_outside.specs.Fault.{HasCause, TellsFaults};
+ghost use Rattle.tce_outside.specs.Fault.{FaultReported};
 ghost use Rattle.tce_command.specs.Command as commands;
 ghost use Rattle.tce_command.specs.Command.{KeepsRules};
 ghost use Rattle.tce_flat.specs.Done.{IsPacked, IsUnpacked, IsConverted, IsExpanded};
@@ -33,8 +33,7 @@ pub fn pack<D: Disk>(
     ensures no_half { LeavesPack spec.now tensor.now flat.now
         (D.files disk.old) (D.files disk.new) }
     ensures others { ArrayAlone tensor.now (D.files disk.old) (D.files disk.new) }
-    ensures cause { HasCause (D.faults disk.old) (D.faults disk.new) (result ≡ Err Refusal.Disk) }
-    ensures told { TellsFaults (D.faults disk.old) (D.faults disk.new) (result ≡ Err Refusal.Disk) }
+    ensures fault_reported { FaultReported D.faults disk.old disk.new (result ≡ Err Refusal.Disk) }
 {
     let shape = find_shape(alloc, spec, tensor, disk)?;
     let done = pack_tensor(alloc, &shape, tensor, flat, disk);
@@ -60,8 +59,7 @@ pub fn unpack<D: Disk>(
     ensures no_half { LeavesUnpack spec.now tensor.now flat.now
         (D.files disk.old) (D.files disk.new) }
     ensures others { others flat.now (D.files disk.new) ≡ others flat.now (D.files disk.old) }
-    ensures cause { HasCause (D.faults disk.old) (D.faults disk.new) (result ≡ Err Refusal.Disk) }
-    ensures told { TellsFaults (D.faults disk.old) (D.faults disk.new) (result ≡ Err Refusal.Disk) }
+    ensures fault_reported { FaultReported D.faults disk.old disk.new (result ≡ Err Refusal.Disk) }
 {
     let shape = find_shape(alloc, spec, tensor, disk)?;
     let done = unpack_tensor(alloc, &shape, tensor, flat, disk);
@@ -87,8 +85,7 @@ pub fn convert<D: Disk>(
     ensures unchanged { KeepsFiles result (D.files disk.old) (D.files disk.new) }
     ensures no_half { LeavesConvert spec.now tensor.now form (D.files disk.old) (D.files disk.new) }
     ensures others { ConvertedAlone tensor.now (D.files disk.old) (D.files disk.new) }
-    ensures cause { HasCause (D.faults disk.old) (D.faults disk.new) (result ≡ Err Refusal.Disk) }
-    ensures told { TellsFaults (D.faults disk.old) (D.faults disk.new) (result ≡ Err Refusal.Disk) }
+    ensures fault_reported { FaultReported D.faults disk.old disk.new (result ≡ Err Refusal.Disk) }
 {
     let shape = find_shape(alloc, spec, tensor, disk)?;
     let done = convert_tensor(alloc, &shape, tensor, form, disk);
@@ -113,8 +110,7 @@ pub fn expand<D: Disk>(
     ensures unchanged { KeepsFiles result (D.files disk.old) (D.files disk.new) }
     ensures no_half { LeavesExpand spec.now tensor.now (D.files disk.old) (D.files disk.new) }
     ensures others { ArrayAlone tensor.now (D.files disk.old) (D.files disk.new) }
-    ensures cause { HasCause (D.faults disk.old) (D.faults disk.new) (result ≡ Err Refusal.Disk) }
-    ensures told { TellsFaults (D.faults disk.old) (D.faults disk.new) (result ≡ Err Refusal.Disk) }
+    ensures fault_reported { FaultReported D.faults disk.old disk.new (result ≡ Err Refusal.Disk) }
 {
     let shape = find_shape(alloc, spec, tensor, disk)?;
     let done = expand_tensor(alloc, &shape, tensor, disk);

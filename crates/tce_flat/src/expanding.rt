@@ -2,7 +2,7 @@
 ghost use Rattle.std.specs.Prelude.{◌≡◌, ◌≢◌, ◌≤◌, Err, IfErr, OnOk, IsErrOf, length};
 ghost use Rattle.tce_space.specs.Limits.{max_name_bytes};
 ghost use Rattle.tce_outside.specs.Files.{file, others};
-ghost use Rattle.tce_outside.specs.Fault.{HasCause, HasFailed, TellsFaults};
+ghost use Rattle.tce_outside.specs.Fault.{FaultReported, HasFailed};
 ghost use Rattle.tce_sym.specs.Storage.{AreRight};
 ghost use Rattle.tce_sym.specs.Told.{IsStoredIn, Expands, MayExpand};
 ghost use Rattle.tce_flat.specs.Tensors.{sym_file};
@@ -61,8 +61,7 @@ fn expand_file<D: Disk>(
     ensures no_half { MayExpand packed.now s.now array.now shape.now
         (D.files disk.old) (D.files disk.new) }
     ensures others { others array.now (D.files disk.new) ≡ others array.now (D.files disk.old) }
-    ensures cause { HasCause (D.faults disk.old) (D.faults disk.new) (HasFailed result) }
-    ensures told { TellsFaults (D.faults disk.old) (D.faults disk.new) (HasFailed result) }
+    ensures fault_reported { FaultReported D.faults disk.old disk.new (HasFailed result) }
 {
     let Ok(mut lines) = vec![in alloc; 0; line_words(shape)] else {
         return expand(disk, shape, s, packed, array);
@@ -85,8 +84,7 @@ pub fn expand_tensor<D: Disk>(
     ensures unchanged { KeepsFiles result (D.files disk.old) (D.files disk.new) }
     ensures no_half { LeavesExpanding tensor.now shape.now (D.files disk.old) (D.files disk.new) }
     ensures others { ArrayAlone tensor.now (D.files disk.old) (D.files disk.new) }
-    ensures cause { HasCause (D.faults disk.old) (D.faults disk.new) (result ≡ Err Refusal.Disk) }
-    ensures told { TellsFaults (D.faults disk.old) (D.faults disk.new) (result ≡ Err Refusal.Disk) }
+    ensures fault_reported { FaultReported D.faults disk.old disk.new (result ≡ Err Refusal.Disk) }
 {
     let packed = file_of(tensor, ".sym");
     let array = file_of(tensor, ".tca");

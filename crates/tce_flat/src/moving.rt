@@ -2,7 +2,7 @@
 ghost use Rattle.std.specs.Prelude.{◌≡◌, ◌≢◌, ◌≤◌, Err, IfErr, length};
 ghost use Rattle.tce_space.specs.Limits.{max_name_bytes};
 ghost use Rattle.tce_outside.specs.Files.{others};
-ghost use Rattle.tce_outside.specs.Fault.{HasCause, TellsFaults};
+ghost use Rattle.tce_outside.specs.Fault.{FaultReported};
 ghost use Rattle.tce_flat.specs.Tensors.{array_file};
 ghost use Rattle.tce_flat.specs.Done.{IsPacking, IsUnpacking, IsConverting};
 ghost use Rattle.tce_flat.specs.NoHalf.{LeavesPacking, LeavesUnpacking, LeavesConverting};
@@ -35,8 +35,7 @@ pub fn pack_tensor<D: Disk>(
     ensures no_half { LeavesPacking tensor.now flat.now shape.now
         (D.files disk.old) (D.files disk.new) }
     ensures others { ArrayAlone tensor.now (D.files disk.old) (D.files disk.new) }
-    ensures cause { HasCause (D.faults disk.old) (D.faults disk.new) (result ≡ Err Refusal.Disk) }
-    ensures told { TellsFaults (D.faults disk.old) (D.faults disk.new) (result ≡ Err Refusal.Disk) }
+    ensures fault_reported { FaultReported D.faults disk.old disk.new (result ≡ Err Refusal.Disk) }
 {
     let array = file_of(tensor, ".tca");
     let Ok(text) = report(alloc, "pack", array.as_str(), form_len(Form::One, shape)) else {
@@ -68,8 +67,7 @@ pub fn unpack_tensor<D: Disk>(
     ensures no_half { LeavesUnpacking tensor.now flat.now shape.now
         (D.files disk.old) (D.files disk.new) }
     ensures others { others flat.now (D.files disk.new) ≡ others flat.now (D.files disk.old) }
-    ensures cause { HasCause (D.faults disk.old) (D.faults disk.new) (result ≡ Err Refusal.Disk) }
-    ensures told { TellsFaults (D.faults disk.old) (D.faults disk.new) (result ≡ Err Refusal.Disk) }
+    ensures fault_reported { FaultReported D.faults disk.old disk.new (result ≡ Err Refusal.Disk) }
 {
     let array = file_of(tensor, ".tca");
     let Ok(text) = report(alloc, "unpack", flat, 8 * shape.elements()) else {
@@ -100,8 +98,7 @@ pub fn convert_tensor<D: Disk>(
     ensures no_half { LeavesConverting tensor.now form shape.now
         (D.files disk.old) (D.files disk.new) }
     ensures others { ConvertedAlone tensor.now (D.files disk.old) (D.files disk.new) }
-    ensures cause { HasCause (D.faults disk.old) (D.faults disk.new) (result ≡ Err Refusal.Disk) }
-    ensures told { TellsFaults (D.faults disk.old) (D.faults disk.new) (result ≡ Err Refusal.Disk) }
+    ensures fault_reported { FaultReported D.faults disk.old disk.new (result ≡ Err Refusal.Disk) }
 {
     let array = file_of(tensor, ".tca");
     let converted = file_of(tensor, ".v2.tca");

@@ -1,7 +1,7 @@
 // Tensors, found by their names in the file of a specification.
 ghost use Rattle.std.specs.Prelude.{◌≡◌, ◌≤◌, Err, IfOk, IfErr, length};
 ghost use Rattle.tce_space.specs.Limits.{max_name_bytes};
-ghost use Rattle.tce_outside.specs.Fault.{HasCause, TellsFaults};
+ghost use Rattle.tce_outside.specs.Fault.{FaultReported};
 ghost use Rattle.tce_flat.specs.Tensors.{DeclaresTensor};
 ghost use Rattle.tce_flat.specs.Refusals.{IsUndeclared};
 ghost use Rattle.tce_flat.specs.Told.{FindsTensor, RefusesTensor};
@@ -41,8 +41,7 @@ pub fn find_shape<D: Disk>(
     ensures found { IfOk result (FindsTensor (D.files disk.old) spec.now tensor.now) }
     ensures refused { IfErr result (RefusesTensor (D.files disk.old) spec.now tensor.now) }
     ensures same { D.files disk.new ≡ D.files disk.old }
-    ensures cause { HasCause (D.faults disk.old) (D.faults disk.new) (result ≡ Err Refusal.Disk) }
-    ensures told { TellsFaults (D.faults disk.old) (D.faults disk.new) (result ≡ Err Refusal.Disk) }
+    ensures fault_reported { FaultReported D.faults disk.old disk.new (result ≡ Err Refusal.Disk) }
 {
     let source = read_source(alloc, disk, spec)?;
     let found = shape_named(&source, tensor);

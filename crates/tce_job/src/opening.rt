@@ -1,6 +1,6 @@
 // The files of the operands.
 ghost use Rattle.std.specs.Prelude.{◌≡◌, ◌<◌, IfOk, IfErr, length};
-ghost use Rattle.tce_outside.specs.Fault.{HasCause, TellsFaults};
+ghost use Rattle.tce_outside.specs.Fault.{FaultReported};
 ghost use Rattle.tce_job.specs.TensorFiles.{file_of};
 ghost use Rattle.tce_job.specs.Opened.{HasArrayOn, HasFaultOn, AreOpenedOn, IsRefusedOn, IsOfDeclared, IsDiskFault};
 
@@ -29,8 +29,7 @@ fn open_tensor<D: Disk>(spec: &Spec, t: u8, disk: &mut D) -> Result<Form, Refuse
     ensures declared { IfErr result (IsOfDeclared spec.now) }
     ensures fault { IfErr result (HasFaultOn (D.files disk.old) spec.now t) }
     ensures same { D.files disk.new ≡ D.files disk.old }
-    ensures cause { HasCause (D.faults disk.old) (D.faults disk.new) (IsDiskFault result) }
-    ensures told { TellsFaults (D.faults disk.old) (D.faults disk.new) (IsDiskFault result) }
+    ensures fault_reported { FaultReported D.faults disk.old disk.new (IsDiskFault result) }
 {
     let name = file_of(spec, t);
     match open(disk, name.as_str(), &spec.tensor(t).shape) {
@@ -47,8 +46,7 @@ pub fn open_operands<D: Disk>(spec: &Spec, disk: &mut D) -> Result<Forms, Refuse
     ensures refused { IfErr result (IsRefusedOn (D.files disk.old) spec.now) }
     ensures declared { IfErr result (IsOfDeclared spec.now) }
     ensures same { D.files disk.new ≡ D.files disk.old }
-    ensures cause { HasCause (D.faults disk.old) (D.faults disk.new) (IsDiskFault result) }
-    ensures told { TellsFaults (D.faults disk.old) (D.faults disk.new) (IsDiskFault result) }
+    ensures fault_reported { FaultReported D.faults disk.old disk.new (IsDiskFault result) }
 {
     let operands = spec.operands();
     // A specification keeps its rules.

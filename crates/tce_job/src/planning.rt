@@ -1,7 +1,7 @@
 // What a run tests before it takes its memory: the budget, the memory for intermediates, and the operands.
 ghost use Rattle.std.specs.Prelude.{◌≡◌, ◌≢◌, ◌≤◌, Err, IfOk, IfErr, OnOk};
 ghost use Rattle.tce_space.specs.Limits.{max_memory};
-ghost use Rattle.tce_outside.specs.Fault.{HasCause, TellsFaults};
+ghost use Rattle.tce_outside.specs.Fault.{FaultReported};
 ghost use Rattle.tce_array.specs.declared.fault.ArrayFault.TheVariants as array_fault;
 ghost use Rattle.tce_search.specs.LeastPlan.{IsLeastPlan};
 ghost use Rattle.tce_job.specs.Opened.{AreOpenedOn};
@@ -66,8 +66,7 @@ pub fn opened_forms<D: Disk>(spec: &Spec, disk: &mut D) -> Result<Forms, JobFaul
     ensures opened { IfOk result (λ forms. AreOpenedOn (D.files disk.old) spec.now forms.0) }
     ensures refused { IfErr result (IsOpeningFault (D.files disk.old) spec.now) }
     ensures same { D.files disk.new ≡ D.files disk.old }
-    ensures cause { HasCause (D.faults disk.old) (D.faults disk.new) (result ≡ Err Fault.Disk) }
-    ensures quiet { TellsFaults (D.faults disk.old) (D.faults disk.new) (result ≡ Err Fault.Disk) }
+    ensures fault_reported { FaultReported D.faults disk.old disk.new (result ≡ Err Fault.Disk) }
 {
     match open_operands(spec, disk) {
         Ok(forms) => Ok(forms),
@@ -88,8 +87,7 @@ pub fn tested<D: Disk>(
     ensures opened { IfOk result (λ pair. AreOpenedOn (D.files disk.old) spec.now pair.1.0) }
     ensures refused { IfErr result (IsRefusalOf (D.files disk.old) spec.now budget) }
     ensures same { D.files disk.new ≡ D.files disk.old }
-    ensures cause { HasCause (D.faults disk.old) (D.faults disk.new) (result ≡ Err Fault.Disk) }
-    ensures quiet { TellsFaults (D.faults disk.old) (D.faults disk.new) (result ≡ Err Fault.Disk) }
+    ensures fault_reported { FaultReported D.faults disk.old disk.new (result ≡ Err Fault.Disk) }
 {
     let plan = affordable_plan(alloc, spec, budget)?;
     match opened_forms(spec, disk) {

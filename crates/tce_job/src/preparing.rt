@@ -2,7 +2,7 @@
 ghost use Rattle.std.specs.Prelude.{◌≡◌, ◌≤◌, ◌+◌, [], ◌∷◌, ◌++◌, replicate, Err, IfOk, IfErr, OnOk, OnErr};
 ghost use Rattle.tce_space.specs.Limits.{max_memory};
 ghost use Rattle.tce_outside.specs.Files.{others};
-ghost use Rattle.tce_outside.specs.Fault.{HasCause, TellsFaults};
+ghost use Rattle.tce_outside.specs.Fault.{FaultReported};
 ghost use Rattle.tce_tree.specs.Fusion.{Carries, OrdersFit};
 ghost use Rattle.tce_tree.specs.Orders.{lists_of};
 ghost use Rattle.tce_code.specs.CodeFor.{IsCodeFor};
@@ -207,8 +207,7 @@ fn make_result<D: Disk>(spec: &Spec, disk: &mut D) -> Result<(), JobFault>
     ensures unchanged { FailsOrKeeps result (D.files disk.old) (D.files disk.new) }
     ensures no_half { LeavesNoHalfResult spec.now (D.files disk.old) (D.files disk.new) }
     ensures others { ResultAlone spec.now (D.files disk.old) (D.files disk.new) }
-    ensures cause { HasCause (D.faults disk.old) (D.faults disk.new) (result ≡ Err Fault.Disk) }
-    ensures quiet { TellsFaults (D.faults disk.old) (D.faults disk.new) (result ≡ Err Fault.Disk) }
+    ensures fault_reported { FaultReported D.faults disk.old disk.new (result ≡ Err Fault.Disk) }
 {
     let result = spec.result().tensor;
     let name = file_of(spec, result);
@@ -252,8 +251,7 @@ pub fn begin<D: Disk, R: Room>(
     ensures takings { MayTake result spec.now budget planned.plan
         (R.takings room.old) (R.takings room.new) }
     ensures others { ResultAlone spec.now (D.files disk.old) (D.files disk.new) }
-    ensures cause { HasCause (D.faults disk.old) (D.faults disk.new) (result ≡ Err Fault.Disk) }
-    ensures quiet { TellsFaults (D.faults disk.old) (D.faults disk.new) (result ≡ Err Fault.Disk) }
+    ensures fault_reported { FaultReported D.faults disk.old disk.new (result ≡ Err Fault.Disk) }
 {
     // Specifications keep their rules.
     let _space = spec.space();

@@ -2,7 +2,7 @@
 ghost use Rattle.std.specs.Prelude.{◌≡◌, ◌⊎◌, ◌≤◌, IfOk, IfErr, OnOk, IsErr, Err};
 ghost use Rattle.tce_space.specs.Limits.{max_memory};
 ghost use Rattle.tce_outside.specs.Files.{others};
-ghost use Rattle.tce_outside.specs.Fault.{HasCause, TellsFaults};
+ghost use Rattle.tce_outside.specs.Fault.{FaultReported};
 ghost use Rattle.tce_array.specs.declared.form.Form.TheVariants.{One};
 ghost use Rattle.tce_array.specs.OnDisk.{HasRoomForHead, HoldsHead, SameBehindHead};
 ghost use Rattle.tce_spec.specs.Operands.{shape_of};
@@ -45,8 +45,7 @@ pub fn run_prepared<D: Disk>(
     ensures report { prepared.new.report ≡ prepared.old.report }
     ensures touches { OnOk result (TouchesWithin spec.now prepared.old prepared.new) }
     ensures others { ResultAlone spec.now (D.files disk.old) (D.files disk.new) }
-    ensures cause { HasCause (D.faults disk.old) (D.faults disk.new) (IsErr result) }
-    ensures quiet { TellsFaults (D.faults disk.old) (D.faults disk.new) (IsErr result) }
+    ensures fault_reported { FaultReported D.faults disk.old disk.new (IsErr result) }
 {
     let tree = spec.tree();
     let _nodes = tree.count();
@@ -75,8 +74,7 @@ fn write_result_head<D: Disk>(spec: &Spec, disk: &mut D) -> Result<(), Failed>
     ensures behind { SameBehindHead (file_of spec.now spec.now.result) One
         (shape_of spec.now spec.now.result) (D.files disk.old) (D.files disk.new) }
     ensures others { ResultAlone spec.now (D.files disk.old) (D.files disk.new) }
-    ensures cause { HasCause (D.faults disk.old) (D.faults disk.new) (IsErr result) }
-    ensures quiet { TellsFaults (D.faults disk.old) (D.faults disk.new) (IsErr result) }
+    ensures fault_reported { FaultReported D.faults disk.old disk.new (IsErr result) }
 {
     let number = spec.result().tensor;
     let name = file_of(spec, number);
@@ -112,8 +110,7 @@ pub fn run_by<D: Disk, R: Room>(
     ensures takings { MayTake result spec.now budget planned.plan
         (R.takings room.old) (R.takings room.new) }
     ensures others { ResultAlone spec.now (D.files disk.old) (D.files disk.new) }
-    ensures cause { HasCause (D.faults disk.old) (D.faults disk.new) (result ≡ Err Fault.Disk) }
-    ensures quiet { TellsFaults (D.faults disk.old) (D.faults disk.new) (result ≡ Err Fault.Disk) }
+    ensures fault_reported { FaultReported D.faults disk.old disk.new (result ≡ Err Fault.Disk) }
 {
     // Specifications keep their rules.
     let _space = spec.space();
@@ -155,8 +152,7 @@ pub fn run_job<D: Disk, R: Room>(
     ensures refused { IfErr result (IsRefusalOf (D.files disk.old) spec.now budget) }
     ensures exactly { RefusesExactly (D.files disk.old) spec.now budget result }
     ensures granted { GrantsAble (D.files disk.old) spec.now budget result }
-    ensures cause { HasCause (D.faults disk.old) (D.faults disk.new) (result ≡ Err Fault.Disk) }
-    ensures quiet { TellsFaults (D.faults disk.old) (D.faults disk.new) (result ≡ Err Fault.Disk) }
+    ensures fault_reported { FaultReported D.faults disk.old disk.new (result ≡ Err Fault.Disk) }
 
     // What a refused run leaves.
     ensures unchanged { FailsOrKeeps result (D.files disk.old) (D.files disk.new) }

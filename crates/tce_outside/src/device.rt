@@ -2,7 +2,7 @@
 ghost use Rattle.std.specs.Prelude.{◌≡◌, ◌+◌, List, ℕ, length, Option, IfOk, OnOk, IsErr, IsErrOf, take};
 ghost use Rattle.std.specs.Option.{ForSome};
 ghost use Rattle.tce_outside.specs.Files.{Files, HasPart, others, written, IsKeptOrZeros, holding_zeros, appended, IsLengthIn, IsPartIn, KeepsBefore, KeepsFrom};
-ghost use Rattle.tce_outside.specs.Fault.{HasCause, TellsFaults, HasFailed};
+ghost use Rattle.tce_outside.specs.Fault.{FaultReported, HasFailed};
 
 use thiserror::Error;
 
@@ -42,8 +42,7 @@ pub trait Disk {
     fn size(&mut self, name: &str) -> Result<Option<u64>, Failed>
         ensures length { IfOk result (IsLengthIn (files self.old) name.now) }
         ensures same { files self.new ≡ files self.old }
-        ensures cause { HasCause (faults self.old) (faults self.new) (IsErr result) }
-        ensures told { TellsFaults (faults self.old) (faults self.new) (IsErr result) };
+        ensures fault_reported { FaultReported faults self.old self.new (IsErr result) };
 
     /// Puts a file of `len` zero bytes in the place of whatever has this name.
     ///
@@ -54,8 +53,7 @@ pub trait Disk {
         ensures memory { IsErrOf result OutFault.Memory → files self.new ≡ files self.old }
         ensures zeros { IsKeptOrZeros name.now (files self.old) (files self.new) }
         ensures others { others name.now (files self.new) ≡ others name.now (files self.old) }
-        ensures cause { HasCause (faults self.old) (faults self.new) (HasFailed result) }
-        ensures told { TellsFaults (faults self.old) (faults self.new) (HasFailed result) };
+        ensures fault_reported { FaultReported faults self.old self.new (HasFailed result) };
 
     /// Reads the bytes of a file from place `at` on until `out` is full. Where the disk fails, `out` may hold
     /// anything. Nothing changes on the disk.
@@ -64,8 +62,7 @@ pub trait Disk {
         ensures read { OnOk result
             (IsPartIn (files self.old) name.now at (length out.old) out.new) }
         ensures same { files self.new ≡ files self.old }
-        ensures cause { HasCause (faults self.old) (faults self.new) (IsErr result) }
-        ensures told { TellsFaults (faults self.old) (faults self.new) (IsErr result) };
+        ensures fault_reported { FaultReported faults self.old self.new (IsErr result) };
 
     /// Writes all of `bytes` over the same number of bytes of a file from place `at` on.
     ///
@@ -79,8 +76,7 @@ pub trait Disk {
         ensures behind { KeepsFrom name.now (at + length bytes.now)
             (files self.old) (files self.new) }
         ensures others { others name.now (files self.new) ≡ others name.now (files self.old) }
-        ensures cause { HasCause (faults self.old) (faults self.new) (IsErr result) }
-        ensures told { TellsFaults (faults self.old) (faults self.new) (IsErr result) };
+        ensures fault_reported { FaultReported faults self.old self.new (IsErr result) };
 }
 
 /// Where text is put.
@@ -100,6 +96,5 @@ pub trait Sink {
         ensures whole { OnOk result (bytes self.new ≡ appended piece.now (bytes self.old)) }
         ensures memory { IsErrOf result OutFault.Memory → bytes self.new ≡ bytes self.old }
         ensures prefix { (k : ℕ) × (bytes self.new ≡ appended (take k piece.now) (bytes self.old)) }
-        ensures cause { HasCause (faults self.old) (faults self.new) (HasFailed result) }
-        ensures told { TellsFaults (faults self.old) (faults self.new) (HasFailed result) };
+        ensures fault_reported { FaultReported faults self.old self.new (HasFailed result) };
 }

@@ -2,7 +2,7 @@
 ghost use Rattle.std.specs.Prelude.{◌≡◌, Err, IfOk, IfErr};
 ghost use Rattle.std.specs.String.{string_bytes};
 ghost use Rattle.tce_outside.specs.Files.{others};
-ghost use Rattle.tce_outside.specs.Fault.{HasCause, TellsFaults};
+ghost use Rattle.tce_outside.specs.Fault.{FaultReported};
 ghost use Rattle.tce_command.specs.Command.{NamesCertificate, NamesSpec};
 ghost use Rattle.tce_command.specs.Refusals.{IsFree, SameUnlessDisk};
 ghost use Rattle.tce_plan.specs.CertificateDone.{IsCertified, IsSaved};
@@ -32,8 +32,7 @@ pub fn certify<D: Disk>(
     ensures refused { IfErr result (IsCertifyRefusalIfTold (D.files disk.old) spec.now) }
     ensures unchanged { IfErr result (SameUnlessDisk (D.files disk.old) (D.files disk.new)) }
     ensures others { others cert.now (D.files disk.new) ≡ others cert.now (D.files disk.old) }
-    ensures cause { HasCause (D.faults disk.old) (D.faults disk.new) (result ≡ Err Refusal.Disk) }
-    ensures told { TellsFaults (D.faults disk.old) (D.faults disk.new) (result ≡ Err Refusal.Disk) }
+    ensures fault_reported { FaultReported D.faults disk.old disk.new (result ≡ Err Refusal.Disk) }
 {
     let source = read_source(alloc, disk, spec)?;
     let done = certify_source(alloc, &source, cert, disk);
@@ -53,8 +52,7 @@ fn certify_source<D: Disk>(
     ensures free { IfErr result IsFree }
     ensures unchanged { IfErr result (SameUnlessDisk (D.files disk.old) (D.files disk.new)) }
     ensures others { others cert.now (D.files disk.new) ≡ others cert.now (D.files disk.old) }
-    ensures cause { HasCause (D.faults disk.old) (D.faults disk.new) (result ≡ Err Refusal.Disk) }
-    ensures told { TellsFaults (D.faults disk.old) (D.faults disk.new) (result ≡ Err Refusal.Disk) }
+    ensures fault_reported { FaultReported D.faults disk.old disk.new (result ≡ Err Refusal.Disk) }
 {
     let Ok(made) = certificate_of(alloc, source, cert) else {
         return Err(Refusal::Memory);

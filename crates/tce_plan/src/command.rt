@@ -1,6 +1,6 @@
 // The command `plan`.
 ghost use Rattle.std.specs.Prelude.{◌≡◌, Err, IfOk, IfErr};
-ghost use Rattle.tce_outside.specs.Fault.{HasCause, TellsFaults};
+ghost use Rattle.tce_outside.specs.Fault.{FaultReported};
 ghost use Rattle.tce_command.specs.Command as commands;
 ghost use Rattle.tce_command.specs.Command.{KeepsRules};
 ghost use Rattle.tce_plan.specs.Done.{IsPlanReport, IsPlanned};
@@ -21,8 +21,7 @@ pub fn plan<D: Disk>(alloc: Global, spec: &str, disk: &mut D) -> Result<Vec<u8>,
     ensures done { IfOk result (λ report. IsPlanned (D.files disk.old) spec.now report.items) }
     ensures refused { IfErr result (IsPlanRefusalOn (D.files disk.old) spec.now) }
     ensures unchanged { D.files disk.new ≡ D.files disk.old }
-    ensures cause { HasCause (D.faults disk.old) (D.faults disk.new) (result ≡ Err Refusal.Disk) }
-    ensures told { TellsFaults (D.faults disk.old) (D.faults disk.new) (result ≡ Err Refusal.Disk) }
+    ensures fault_reported { FaultReported D.faults disk.old disk.new (result ≡ Err Refusal.Disk) }
 {
     let source = read_source(alloc, disk, spec)?;
     let made = plan_source(alloc, &source);

@@ -2,7 +2,7 @@
 ghost use Rattle.std.specs.Prelude.{◌≡◌, ◌≢◌, length, Err, IfOk, IfErr};
 ghost use Rattle.std.specs.String.{string_bytes};
 ghost use Rattle.tce_outside.specs.Files.{others};
-ghost use Rattle.tce_outside.specs.Fault.{HasCause, TellsFaults};
+ghost use Rattle.tce_outside.specs.Fault.{FaultReported};
 ghost use Rattle.tce_tree.specs.ContractionTree.{operations};
 ghost use Rattle.tce_plan.specs.EinsumDone.{IsEinsumWritten, IsProducedWritten, einsum_report};
 ghost use Rattle.tce_plan.specs.EinsumRefusals.{IsEinsumRefusal, TellsFault};
@@ -31,8 +31,7 @@ pub fn write_einsum<D: Disk>(
     ensures refused { IfErr result (IsEinsumRefusal text.now path.now) }
     ensures unchanged { IfErr result (SameUnlessDisk (D.files disk.old) (D.files disk.new)) }
     ensures others { others spec.now (D.files disk.new) ≡ others spec.now (D.files disk.old) }
-    ensures cause { HasCause (D.faults disk.old) (D.faults disk.new) (result ≡ Err Refusal.Disk) }
-    ensures told { TellsFaults (D.faults disk.old) (D.faults disk.new) (result ≡ Err Refusal.Disk) }
+    ensures fault_reported { FaultReported D.faults disk.old disk.new (result ≡ Err Refusal.Disk) }
 {
     let produced = match from_einsum(alloc, text.as_bytes(), path.as_bytes()) {
         Ok(produced) => produced,
@@ -55,8 +54,7 @@ fn write_produced<D: Disk>(
     ensures free { IfErr result IsFree }
     ensures unchanged { IfErr result (SameUnlessDisk (D.files disk.old) (D.files disk.new)) }
     ensures others { others spec.now (D.files disk.new) ≡ others spec.now (D.files disk.old) }
-    ensures cause { HasCause (D.faults disk.old) (D.faults disk.new) (result ≡ Err Refusal.Disk) }
-    ensures told { TellsFaults (D.faults disk.old) (D.faults disk.new) (result ≡ Err Refusal.Disk) }
+    ensures fault_reported { FaultReported D.faults disk.old disk.new (result ≡ Err Refusal.Disk) }
 {
     let Ok(written) = print_spec(alloc, produced) else {
         return Err(Refusal::Memory);

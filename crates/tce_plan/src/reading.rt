@@ -2,7 +2,7 @@
 ghost use Rattle.std.specs.Prelude.{◌≡◌, ◌≤◌, length, Some, Err, IfOk, IfErr};
 ghost use Rattle.std.specs.Option.{ForSome};
 ghost use Rattle.tce_outside.specs.Files.{file};
-ghost use Rattle.tce_outside.specs.Fault.{HasCause, TellsFaults};
+ghost use Rattle.tce_outside.specs.Fault.{FaultReported};
 ghost use Rattle.tce_plan.specs.VerificationRefusals.{IsUnreadOn};
 
 use std::alloc::Global;
@@ -15,8 +15,7 @@ pub fn read_file<D: Disk>(alloc: Global, disk: &mut D, name: &str) -> Result<Vec
     ensures bytes { IfOk result (λ bytes. ForSome (D.files disk.old) (λ files. file files name.now ≡ Some bytes.items)) }
     ensures refused { IfErr result (IsUnreadOn (D.files disk.old) name.now) }
     ensures same { D.files disk.new ≡ D.files disk.old }
-    ensures cause { HasCause (D.faults disk.old) (D.faults disk.new) (result ≡ Err Refusal.Disk) }
-    ensures told { TellsFaults (D.faults disk.old) (D.faults disk.new) (result ≡ Err Refusal.Disk) }
+    ensures fault_reported { FaultReported D.faults disk.old disk.new (result ≡ Err Refusal.Disk) }
 {
     let Ok(size) = disk.size(name) else {
         return Err(Refusal::Disk);

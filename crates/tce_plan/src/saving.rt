@@ -1,7 +1,7 @@
 // The file that a command writes.
 ghost use Rattle.std.specs.Prelude.{◌≡◌, Err, OnOk, IfErr};
 ghost use Rattle.tce_outside.specs.Files.{holding, others};
-ghost use Rattle.tce_outside.specs.Fault.{HasCause, TellsFaults};
+ghost use Rattle.tce_outside.specs.Fault.{FaultReported};
 ghost use Rattle.tce_command.specs.Refusals.{IsFree, SameUnlessDisk};
 
 use tce_command::Refusal;
@@ -14,8 +14,7 @@ pub fn save<D: Disk>(disk: &mut D, name: &str, bytes: &[u8]) -> Result<(), Refus
     ensures free { IfErr result IsFree }
     ensures unchanged { IfErr result (SameUnlessDisk (D.files disk.old) (D.files disk.new)) }
     ensures others { others name.now (D.files disk.new) ≡ others name.now (D.files disk.old) }
-    ensures cause { HasCause (D.faults disk.old) (D.faults disk.new) (result ≡ Err Refusal.Disk) }
-    ensures told { TellsFaults (D.faults disk.old) (D.faults disk.new) (result ≡ Err Refusal.Disk) }
+    ensures fault_reported { FaultReported D.faults disk.old disk.new (result ≡ Err Refusal.Disk) }
 {
     match write_file(disk, name, bytes) {
         Ok(()) => Ok(()),

@@ -1,7 +1,7 @@
 // The command `check`.
 ghost use Rattle.std.specs.Prelude.{◌≡◌, ◌≤◌, length, Err, IfOk, IfErr};
 ghost use Rattle.std.specs.String.{string_bytes};
-ghost use Rattle.tce_outside.specs.Fault.{HasCause, TellsFaults};
+ghost use Rattle.tce_outside.specs.Fault.{FaultReported};
 ghost use Rattle.tce_command.specs.Command.{NamesCertificate, NamesSpec};
 ghost use Rattle.tce_command.specs.CommandRefusals.{IsWrittenOver};
 ghost use Rattle.tce_plan.specs.VerificationDone.{report_text, IsVerified};
@@ -33,8 +33,7 @@ pub fn verify<D: Disk>(
     ensures refused { IfErr result (IsVerifyRefusalOn (D.files disk.old) spec.now cert.now) }
     ensures line { IfErr result (λ refusal. IsWrittenFor (D.files disk.old) spec.now refusal) }
     ensures unchanged { D.files disk.new ≡ D.files disk.old }
-    ensures cause { HasCause (D.faults disk.old) (D.faults disk.new) (IsDiskFault result) }
-    ensures told { TellsFaults (D.faults disk.old) (D.faults disk.new) (IsDiskFault result) }
+    ensures fault_reported { FaultReported D.faults disk.old disk.new (IsDiskFault result) }
 {
     let source = read_source(alloc, disk, spec)?;
     let verified = verify_file(alloc, &source, cert, disk);
@@ -55,8 +54,7 @@ fn verify_file<D: Disk>(
     ensures refused { IfErr result (IsRefusedForOn (D.files disk.old) spec.now cert.now) }
     ensures line { IfErr result (IsWrittenOver spec.now.declarations.space) }
     ensures unchanged { D.files disk.new ≡ D.files disk.old }
-    ensures cause { HasCause (D.faults disk.old) (D.faults disk.new) (IsDiskFault result) }
-    ensures told { TellsFaults (D.faults disk.old) (D.faults disk.new) (IsDiskFault result) }
+    ensures fault_reported { FaultReported D.faults disk.old disk.new (IsDiskFault result) }
 {
     let text = read_file(alloc, disk, cert)?;
     let verified = text_report(alloc, spec, &text);

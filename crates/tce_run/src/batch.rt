@@ -1,7 +1,7 @@
 // The command that runs several formulas.
 ghost use Rattle.std.specs.Prelude.{◌≡◌, ◌≤◌, Err, IfOk, IfErr};
 ghost use Rattle.tce_space.specs.Limits.{max_memory};
-ghost use Rattle.tce_outside.specs.Fault.{HasCause, TellsFaults};
+ghost use Rattle.tce_outside.specs.Fault.{FaultReported};
 ghost use Rattle.tce_command.specs.Command.{NamesSpec};
 ghost use Rattle.tce_job.specs.Several.{OnlyResultsDiffer};
 ghost use Rattle.tce_run.specs.BatchDone.{IsBatchLeft, IsBatchRoomLeft, IsBatchRun, OnlyBatchDiffers};
@@ -39,8 +39,7 @@ pub fn run_all<D: Disk, R: Room>(
     ensures left { IfErr result (λ refusal. IsBatchLeft refusal (D.files disk.old) (D.files disk.new) spec.now) }
     ensures takings { IfErr result (λ refusal. IsBatchRoomLeft refusal (D.files disk.old) (D.files disk.new) (R.takings room.old) (R.takings room.new) spec.now budget) }
     ensures others { OnlyBatchDiffers spec.now (D.files disk.old) (D.files disk.new) }
-    ensures cause { HasCause (D.faults disk.old) (D.faults disk.new) (result ≡ Err Refusal.Disk) }
-    ensures told { TellsFaults (D.faults disk.old) (D.faults disk.new) (result ≡ Err Refusal.Disk) }
+    ensures fault_reported { FaultReported D.faults disk.old disk.new (result ≡ Err Refusal.Disk) }
 {
     let batch = read_batch_source(alloc, disk, spec)?;
     let ran = run_formulas(alloc, &batch, budget, disk, room);
@@ -60,8 +59,7 @@ fn run_formulas<D: Disk, R: Room>(
     ensures done { IfOk result (λ report. AreRun (D.files disk.old) (D.files disk.new) (R.takings room.old) (R.takings room.new) batch.now budget report.items) }
     ensures refused { IfErr result (IsFormulaFault (D.files disk.old) (D.files disk.new) (R.takings room.old) (R.takings room.new) batch.now budget) }
     ensures others { OnlyResultsDiffer batch.now (D.files disk.old) (D.files disk.new) }
-    ensures cause { HasCause (D.faults disk.old) (D.faults disk.new) (result ≡ Err Refusal.Disk) }
-    ensures told { TellsFaults (D.faults disk.old) (D.faults disk.new) (result ≡ Err Refusal.Disk) }
+    ensures fault_reported { FaultReported D.faults disk.old disk.new (result ≡ Err Refusal.Disk) }
 {
     match run_batch(alloc, batch, budget, disk, room) {
         Ok(report) => Ok(report.text.into_vec()),

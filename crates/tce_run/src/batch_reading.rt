@@ -1,6 +1,6 @@
 // Files of several formulas.
 ghost use Rattle.std.specs.Prelude.{◌≡◌, ◌≤◌, length, Err, IfOk, IfErr};
-ghost use Rattle.tce_outside.specs.Fault.{HasCause, TellsFaults};
+ghost use Rattle.tce_outside.specs.Fault.{FaultReported};
 ghost use Rattle.tce_run.specs.BatchSource.{HasBatchOn, IsBatchSourceRefusalOn};
 
 use std::alloc::Global;
@@ -16,8 +16,7 @@ pub fn read_batch_source<D: Disk>(alloc: Global, disk: &mut D, name: &str) -> Re
     ensures read { IfOk result (HasBatchOn (D.files disk.old) name.now) }
     ensures refused { IfErr result (IsBatchSourceRefusalOn (D.files disk.old) name.now) }
     ensures same { D.files disk.new ≡ D.files disk.old }
-    ensures cause { HasCause (D.faults disk.old) (D.faults disk.new) (result ≡ Err Refusal.Disk) }
-    ensures told { TellsFaults (D.faults disk.old) (D.faults disk.new) (result ≡ Err Refusal.Disk) }
+    ensures fault_reported { FaultReported D.faults disk.old disk.new (result ≡ Err Refusal.Disk) }
 {
     let text = read_text(alloc, disk, name)?;
     match read_batch(alloc, &text) {

@@ -1,7 +1,7 @@
 // The command.
 ghost use Rattle.std.specs.Prelude.{◌≡◌, ◌≤◌, Err, IfOk, IfErr};
 ghost use Rattle.tce_space.specs.Limits.{max_memory};
-ghost use Rattle.tce_outside.specs.Fault.{HasCause, TellsFaults};
+ghost use Rattle.tce_outside.specs.Fault.{FaultReported};
 ghost use Rattle.tce_command.specs.Command.{NamesSpec};
 ghost use Rattle.tce_command.specs.Refusals.{SameOrDisk};
 ghost use Rattle.tce_job.specs.Laws.{LeavesNoHalfResult};
@@ -41,8 +41,7 @@ pub fn run<D: Disk, R: Room>(
     ensures takings { IfErr result (λ refusal. IsRoomLeft refusal (D.files disk.old)
         (R.takings room.old) (R.takings room.new) spec.now budget) }
     ensures others { OnlyResultDiffers spec.now (D.files disk.old) (D.files disk.new) }
-    ensures cause { HasCause (D.faults disk.old) (D.faults disk.new) (result ≡ Err Refusal.Disk) }
-    ensures told { TellsFaults (D.faults disk.old) (D.faults disk.new) (result ≡ Err Refusal.Disk) }
+    ensures fault_reported { FaultReported D.faults disk.old disk.new (result ≡ Err Refusal.Disk) }
 {
     let source = read_source(alloc, disk, spec)?;
     let ran = run_source(alloc, &source, budget, disk, room);
@@ -65,8 +64,7 @@ fn run_source<D: Disk, R: Room>(
         (R.takings room.old) (R.takings room.new) source.now budget) }
     ensures no_half { LeavesNoHalfResult source.now (D.files disk.old) (D.files disk.new) }
     ensures others { ResultAlone source.now (D.files disk.old) (D.files disk.new) }
-    ensures cause { HasCause (D.faults disk.old) (D.faults disk.new) (result ≡ Err Refusal.Disk) }
-    ensures told { TellsFaults (D.faults disk.old) (D.faults disk.new) (result ≡ Err Refusal.Disk) }
+    ensures fault_reported { FaultReported D.faults disk.old disk.new (result ≡ Err Refusal.Disk) }
 {
     match run_job(alloc, source, budget, disk, room) {
         Ok(report) => Ok(report.text.into_vec()),

@@ -2,7 +2,7 @@
 ghost use Rattle.std.specs.Prelude.{◌≡◌, ◌≤◌, Err, IfOk, IfErr};
 ghost use Rattle.std.specs.Option.{ForSome};
 ghost use Rattle.std.specs.String.{string_bytes};
-ghost use Rattle.tce_outside.specs.Fault.{HasCause, TellsFaults};
+ghost use Rattle.tce_outside.specs.Fault.{FaultReported};
 ghost use Rattle.tce_command.specs.Refusals.{IsFree};
 ghost use Rattle.tce_run.specs.DemoSpecification.{IsDemo};
 ghost use Rattle.tce_run.specs.DemoFiles.{IsSeed, DemoOthersStay, LeavesOperands};
@@ -32,8 +32,7 @@ fn put_input<D: Disk>(
     ensures free { IfErr result IsFree }
     ensures no_half { LeavesOperands made.now.spec seed (D.files disk.old) (D.files disk.new) }
     ensures others { DemoOthersStay (D.files disk.old) (D.files disk.new) }
-    ensures cause { HasCause (D.faults disk.old) (D.faults disk.new) (result ≡ Err Refusal.Disk) }
-    ensures told { TellsFaults (D.faults disk.old) (D.faults disk.new) (result ≡ Err Refusal.Disk) }
+    ensures fault_reported { FaultReported D.faults disk.old disk.new (result ≡ Err Refusal.Disk) }
 {
     match write_input(disk, made, seed, buffers) {
         Ok(()) => Ok(()),
@@ -61,8 +60,7 @@ fn demonstrate<D: Disk, R: Room>(
     ensures takings { LeavesRoom made.now.spec (R.takings room.old) (R.takings room.new) result }
     ensures no_half { LeavesExample made.now seed (D.files disk.old) (D.files disk.new) }
     ensures others { DemoOthersStay (D.files disk.old) (D.files disk.new) }
-    ensures cause { HasCause (D.faults disk.old) (D.faults disk.new) (result ≡ Err Refusal.Disk) }
-    ensures told { TellsFaults (D.faults disk.old) (D.faults disk.new) (result ≡ Err Refusal.Disk) }
+    ensures fault_reported { FaultReported D.faults disk.old disk.new (result ≡ Err Refusal.Disk) }
 {
     put_input(disk, made, seed, buffers)?;
     let run = run_example(alloc, &made.spec, disk, room)?;
@@ -99,8 +97,7 @@ pub fn demo<D: Disk, R: Room>(
     ensures takings { LeavesDemoRoom v o (R.takings room.old) (R.takings room.new) result }
     ensures no_half { LeavesDemonstration seed v o (D.files disk.old) (D.files disk.new) }
     ensures others { DemoOthersStay (D.files disk.old) (D.files disk.new) }
-    ensures cause { HasCause (D.faults disk.old) (D.faults disk.new) (result ≡ Err Refusal.Disk) }
-    ensures told { TellsFaults (D.faults disk.old) (D.faults disk.new) (result ≡ Err Refusal.Disk) }
+    ensures fault_reported { FaultReported D.faults disk.old disk.new (result ≡ Err Refusal.Disk) }
 {
     let Ok(made) = make_example(alloc, v, o) else {
         return Err(Refusal::Memory);

@@ -1,7 +1,7 @@
 // What is run: a specification, and the arrays of its operands.
-ghost use Rattle.std.specs.Prelude.{◌≡◌, ◌≤◌, ◌<◌, IfOk, IsErrOf};
+ghost use Rattle.std.specs.Prelude.{◌≡◌, ◌≤◌, ◌<◌, IfOk};
 ghost use Rattle.tce_outside.specs.Files.{others};
-ghost use Rattle.tce_outside.specs.Fault.{HasCause, TellsFaults};
+ghost use Rattle.tce_outside.specs.Fault.{FaultReported, HasFailed};
 ghost use Rattle.tce_tools.specs.Demo.{demo_text};
 ghost use Rattle.tce_run.specs.DemoSpecification.{IsDemo, demo_specification};
 ghost use Rattle.tce_run.specs.DemoFiles.{IsSeed, DemoOthersStay, LeavesArray, LeavesOperands, number_after, OnlyArrayDiffers, PutsArray, PutsOperands};
@@ -52,10 +52,7 @@ fn write_array<D: Disk>(
     ensures no_half { LeavesArray spec.now t number (D.files disk.old) (D.files disk.new) }
     ensures alone { OnlyArrayDiffers spec.now t (D.files disk.old) (D.files disk.new) }
     ensures others { DemoOthersStay (D.files disk.old) (D.files disk.new) }
-    ensures cause { HasCause (D.faults disk.old) (D.faults disk.new)
-        (IsErrOf result OutFault.Failed) }
-    ensures told { TellsFaults (D.faults disk.old) (D.faults disk.new)
-        (IsErrOf result OutFault.Failed) }
+    ensures fault_reported { FaultReported D.faults disk.old disk.new (HasFailed result) }
 {
     let file = file_of(spec, t);
     demo_array(disk, &spec.tensor(t).shape, file.as_str(), number, buffers)
@@ -73,10 +70,7 @@ fn write_operands<D: Disk>(
     ensures written { PutsOperands spec.now seed (D.files disk.old) (D.files disk.new) result }
     ensures no_half { LeavesOperands spec.now seed (D.files disk.old) (D.files disk.new) }
     ensures others { DemoOthersStay (D.files disk.old) (D.files disk.new) }
-    ensures cause { HasCause (D.faults disk.old) (D.faults disk.new)
-        (IsErrOf result OutFault.Failed) }
-    ensures told { TellsFaults (D.faults disk.old) (D.faults disk.new)
-        (IsErrOf result OutFault.Failed) }
+    ensures fault_reported { FaultReported D.faults disk.old disk.new (HasFailed result) }
 {
     let number = write_array(disk, spec, 0, seed, buffers)?;
     let number = write_array(disk, spec, 1, number, buffers)?;
@@ -97,10 +91,7 @@ pub fn write_input<D: Disk>(
     ensures written { PutsInput example.now seed (D.files disk.old) (D.files disk.new) result }
     ensures no_half { LeavesOperands example.now.spec seed (D.files disk.old) (D.files disk.new) }
     ensures others { DemoOthersStay (D.files disk.old) (D.files disk.new) }
-    ensures cause { HasCause (D.faults disk.old) (D.faults disk.new)
-        (IsErrOf result OutFault.Failed) }
-    ensures told { TellsFaults (D.faults disk.old) (D.faults disk.new)
-        (IsErrOf result OutFault.Failed) }
+    ensures fault_reported { FaultReported D.faults disk.old disk.new (HasFailed result) }
 {
     write_file(disk, "demo.tce", &example.text)?;
     write_operands(disk, &example.spec, seed, buffers)

@@ -1,6 +1,6 @@
 // The sum of a result.
 ghost use Rattle.std.specs.Prelude.{◌≡◌, IfOk, IsErr};
-ghost use Rattle.tce_outside.specs.Fault.{HasCause, TellsFaults};
+ghost use Rattle.tce_outside.specs.Fault.{FaultReported};
 ghost use Rattle.tce_run.specs.DemoDone.{HasResultArray, IsSumOfResult};
 
 use tce_array::Form;
@@ -14,8 +14,7 @@ pub fn result_sum<D: Disk>(disk: &mut D, spec: &Spec, buffers: &mut Buffers) -> 
     requires { HasResultArray (D.files disk.old) spec.now }
     ensures sum { IfOk result (IsSumOfResult (D.files disk.old) spec.now) }
     ensures same { D.files disk.new ≡ D.files disk.old }
-    ensures cause { HasCause (D.faults disk.old) (D.faults disk.new) (IsErr result) }
-    ensures told { TellsFaults (D.faults disk.old) (D.faults disk.new) (IsErr result) }
+    ensures fault_reported { FaultReported D.faults disk.old disk.new (IsErr result) }
 {
     let result = spec.result().tensor;
     let file = file_of(spec, result);

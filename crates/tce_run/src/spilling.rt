@@ -1,7 +1,7 @@
 // The command that runs a tree in pieces.
 ghost use Rattle.std.specs.Prelude.{◌≡◌, ◌≤◌, Err, IfOk, IfErr};
 ghost use Rattle.tce_space.specs.Limits.{max_memory};
-ghost use Rattle.tce_outside.specs.Fault.{HasCause, TellsFaults};
+ghost use Rattle.tce_outside.specs.Fault.{FaultReported};
 ghost use Rattle.tce_command.specs.Command.{NamesSpec};
 ghost use Rattle.tce_spec.specs.Declarations.{HaveNames};
 ghost use Rattle.tce_spill.specs.Left.{OnlyPiecesDiffer as OnlyFilesOfPiecesDiffer};
@@ -42,8 +42,7 @@ pub fn spill<D: Disk, R: Room>(
     ensures left { IfErr result (λ refusal. IsSpillLeft refusal (D.files disk.old) (D.files disk.new) spec.now limit) }
     ensures takings { IfErr result (λ refusal. IsSpillRoomLeft refusal (D.files disk.old) (D.files disk.new) (R.takings room.old) (R.takings room.new) spec.now budget limit) }
     ensures others { OnlyPiecesDiffer spec.now limit (D.files disk.old) (D.files disk.new) }
-    ensures cause { HasCause (D.faults disk.old) (D.faults disk.new) (result ≡ Err Refusal.Disk) }
-    ensures told { TellsFaults (D.faults disk.old) (D.faults disk.new) (result ≡ Err Refusal.Disk) }
+    ensures fault_reported { FaultReported D.faults disk.old disk.new (result ≡ Err Refusal.Disk) }
 {
     let source = read_source(alloc, disk, spec)?;
     let ran = run_pieces(alloc, &source, budget, limit, disk, room);
@@ -66,8 +65,7 @@ fn run_pieces<D: Disk, R: Room>(
     ensures done { IfOk result (λ report. ArePiecesRun (D.files disk.old) (D.files disk.new) (R.takings room.old) (R.takings room.new) source.now budget limit report.items) }
     ensures refused { IfErr result (IsPieceFault (D.files disk.old) (D.files disk.new) (R.takings room.old) (R.takings room.new) source.now budget limit) }
     ensures others { OnlyFilesOfPiecesDiffer (D.files disk.old) (D.files disk.new) source.now limit }
-    ensures cause { HasCause (D.faults disk.old) (D.faults disk.new) (result ≡ Err Refusal.Disk) }
-    ensures told { TellsFaults (D.faults disk.old) (D.faults disk.new) (result ≡ Err Refusal.Disk) }
+    ensures fault_reported { FaultReported D.faults disk.old disk.new (result ≡ Err Refusal.Disk) }
 {
     // A specification keeps its rules.
     let _space = source.space();

@@ -1,7 +1,7 @@
 // The files of a specification's operands.
 ghost use Rattle.std.specs.Prelude.{◌≡◌, Err, IfOk, IfErr};
 ghost use Rattle.std.specs.Option.{ForSome};
-ghost use Rattle.tce_outside.specs.Fault.{HasCause, TellsFaults};
+ghost use Rattle.tce_outside.specs.Fault.{FaultReported};
 ghost use Rattle.tce_job.specs.Opened.{AreOpened, operand_count};
 ghost use Rattle.tce_spill.specs.declared.fault.SpillFault.{SpillFault as Fault};
 ghost use Rattle.tce_spill.specs.RunRefusals.{IsOpeningFault};
@@ -18,8 +18,7 @@ pub(crate) fn open_all<D: Disk>(spec: &Spec, disk: &mut D) -> Result<Forms, Spil
     ensures opened { IfOk result (λ forms. ForSome (D.files disk.old) (λ files. AreOpened files spec.now forms.0 (operand_count spec.now))) }
     ensures refused { IfErr result (IsOpeningFault (D.files disk.old) spec.now) }
     ensures same { D.files disk.new ≡ D.files disk.old }
-    ensures cause { HasCause (D.faults disk.old) (D.faults disk.new) (result ≡ Err Fault.Disk) }
-    ensures quiet { TellsFaults (D.faults disk.old) (D.faults disk.new) (result ≡ Err Fault.Disk) }
+    ensures fault_reported { FaultReported D.faults disk.old disk.new (result ≡ Err Fault.Disk) }
 {
     match opened_forms(spec, disk) {
         Ok(forms) => Ok(forms),

@@ -4,7 +4,7 @@ ghost use Rattle.std.specs.Option.{ForSome, option_map};
 ghost use Rattle.tce_space.specs.Limits.{max_memory};
 ghost use Rattle.tce_space.specs.IndexSet.{has};
 ghost use Rattle.tce_outside.specs.Files.{others};
-ghost use Rattle.tce_outside.specs.Fault.{HasCause, TellsFaults};
+ghost use Rattle.tce_outside.specs.Fault.{FaultReported};
 ghost use Rattle.tce_tree.specs.ContractionTree.{operations};
 ghost use Rattle.tce_spec.specs.Declarations.{HaveNames};
 ghost use Rattle.tce_spec.specs.Pieces.{is_root};
@@ -58,8 +58,7 @@ fn run_one<D: Disk, R: Room>(
     ensures takings { IfErr result (λ _. (R.takings room.new ≡ R.takings room.old) ⊎ HasTaken spec.now budget (R.takings room.old) (R.takings room.new)) }
     ensures no_half { LeavesNoHalfResult spec.now (D.files disk.old) (D.files disk.new) }
     ensures others { others (file_of spec.now spec.now.result) (D.files disk.new) ≡ others (file_of spec.now spec.now.result) (D.files disk.old) }
-    ensures cause { HasCause (D.faults disk.old) (D.faults disk.new) (result ≡ Err Fault.Disk) }
-    ensures quiet { TellsFaults (D.faults disk.old) (D.faults disk.new) (result ≡ Err Fault.Disk) }
+    ensures fault_reported { FaultReported D.faults disk.old disk.new (result ≡ Err Fault.Disk) }
 {
     let forms = match open_all(spec, disk) {
         Ok(forms) => forms,
@@ -98,8 +97,7 @@ fn run_piece<D: Disk, R: Room>(
     ensures no_half { LeavesNoHalfResult (piece_of spec.now (has spilling.cuts) turn.root) (D.files disk.old) (D.files disk.new) }
     ensures others { others (file_of (piece_of spec.now (has spilling.cuts) turn.root) (piece_of spec.now (has spilling.cuts) turn.root).result) (D.files disk.new)
         ≡ others (file_of (piece_of spec.now (has spilling.cuts) turn.root) (piece_of spec.now (has spilling.cuts) turn.root).result) (D.files disk.old) }
-    ensures cause { HasCause (D.faults disk.old) (D.faults disk.new) (result ≡ Err Fault.Disk) }
-    ensures quiet { TellsFaults (D.faults disk.old) (D.faults disk.new) (result ≡ Err Fault.Disk) }
+    ensures fault_reported { FaultReported D.faults disk.old disk.new (result ≡ Err Fault.Disk) }
 {
     // Specifications keep their rules.
     let _tree = spec.tree();
@@ -130,8 +128,7 @@ fn run_all<D: Disk, R: Room>(
     ensures refused { IfErr result (IsLateFault (D.files disk.old) spec.now (has spilling.cuts)) }
     ensures left { IfErr result (IsLeftBy (D.files disk.old) (D.files disk.new)
         (R.takings room.old) (R.takings room.new) spec.now (has spilling.cuts) spilling.budget) }
-    ensures cause { HasCause (D.faults disk.old) (D.faults disk.new) (result ≡ Err Fault.Disk) }
-    ensures quiet { TellsFaults (D.faults disk.old) (D.faults disk.new) (result ≡ Err Fault.Disk) }
+    ensures fault_reported { FaultReported D.faults disk.old disk.new (result ≡ Err Fault.Disk) }
 {
     let count = spec.tree().count();
     let Ok(mut text) = first_line(alloc) else {
@@ -172,8 +169,7 @@ fn test_budget<D: Disk>(
     ensures opened { OnOk result (ForSome (D.files disk.old) (λ files. HasOperands files spec.now (operand_count spec.now))) }
     ensures refused { IfErr result (IsTestFault (D.files disk.old) spec.now (has spilling.cuts) spilling.budget) }
     ensures same { D.files disk.new ≡ D.files disk.old }
-    ensures cause { HasCause (D.faults disk.old) (D.faults disk.new) (result ≡ Err Fault.Disk) }
-    ensures quiet { TellsFaults (D.faults disk.old) (D.faults disk.new) (result ≡ Err Fault.Disk) }
+    ensures fault_reported { FaultReported D.faults disk.old disk.new (result ≡ Err Fault.Disk) }
 {
     let Ok(largest) = largest_tile(alloc, spec, spilling.cuts) else {
         return Err(SpillFault::Memory);
@@ -212,8 +208,7 @@ pub fn run_spill<D: Disk, R: Room>(
     ensures left { IfErr result (IsLeft (D.files disk.old) (D.files disk.new)
         (R.takings room.old) (R.takings room.new) spec.now budget limit) }
     ensures others { OnlyPiecesDiffer (D.files disk.old) (D.files disk.new) spec.now limit }
-    ensures cause { HasCause (D.faults disk.old) (D.faults disk.new) (result ≡ Err Fault.Disk) }
-    ensures quiet { TellsFaults (D.faults disk.old) (D.faults disk.new) (result ≡ Err Fault.Disk) }
+    ensures fault_reported { FaultReported D.faults disk.old disk.new (result ≡ Err Fault.Disk) }
 {
     let planned = planned_cuts(alloc, spec, limit)?;
     let spilling = Spilling {

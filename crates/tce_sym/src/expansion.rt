@@ -3,7 +3,7 @@ ghost use Rattle.std.specs.Prelude.{◌≡◌, ◌≢◌, ◌+◌, ◌<◌, ◌�
 ghost use Rattle.tce_space.specs.Limits.{max_array_words};
 ghost use Rattle.tce_space.specs.Tiling.{padded_words};
 ghost use Rattle.tce_outside.specs.Files.{file, others};
-ghost use Rattle.tce_outside.specs.Fault.{HasCause, HasFailed, TellsFaults};
+ghost use Rattle.tce_outside.specs.Fault.{FaultReported, HasFailed};
 ghost use Rattle.tce_sym.specs.Storage.{AreRight};
 ghost use Rattle.tce_sym.specs.Lines.{HasRoomAt};
 ghost use Rattle.tce_sym.specs.Cells.{AreTriangles};
@@ -49,8 +49,7 @@ fn hold_words<D: Disk>(
     requires file { HasStoredWords (D.files disk.old) packed.now grid.now.count }
     ensures held { OnOk result (AreHeldOf (D.files disk.old) packed.now grid.now lines.new) }
     ensures same { D.files disk.new ≡ D.files disk.old }
-    ensures cause { HasCause (D.faults disk.old) (D.faults disk.new) (IsErr result) }
-    ensures told { TellsFaults (D.faults disk.old) (D.faults disk.new) (IsErr result) }
+    ensures fault_reported { FaultReported D.faults disk.old disk.new (IsErr result) }
 {
     match grid.layout {
         Layout::Lines => {
@@ -94,8 +93,7 @@ fn read_piece<D: Disk>(
     ensures lines { OnOk result (AreHeldFor (D.files disk.old) source.now lines.new) }
     ensures len { length words.new ≡ length words.old }
     ensures same { D.files disk.new ≡ D.files disk.old }
-    ensures cause { HasCause (D.faults disk.old) (D.faults disk.new) (IsErr result) }
-    ensures told { TellsFaults (D.faults disk.old) (D.faults disk.new) (IsErr result) }
+    ensures fault_reported { FaultReported D.faults disk.old disk.new (IsErr result) }
 {
     let shape = source.shape;
     clear(words);
@@ -131,8 +129,7 @@ fn expand_elements<D: Disk>(
     ensures no_half { MayExpand packed.now s.now array.now shape.now
         (D.files disk.old) (D.files disk.new) }
     ensures others { others array.now (D.files disk.new) ≡ others array.now (D.files disk.old) }
-    ensures cause { HasCause (D.faults disk.old) (D.faults disk.new) (HasFailed result) }
-    ensures told { TellsFaults (D.faults disk.old) (D.faults disk.new) (HasFailed result) }
+    ensures fault_reported { FaultReported D.faults disk.old disk.new (HasFailed result) }
 {
     let triangles = triangles_of(shape, s, lines.len());
     let Ok(()) = hold_words(disk, packed, &triangles.slots.grid, lines) else {
@@ -187,8 +184,7 @@ pub fn expand<D: Disk>(
     ensures no_half { MayExpand packed.now s.now array.now shape.now
         (D.files disk.old) (D.files disk.new) }
     ensures others { others array.now (D.files disk.new) ≡ others array.now (D.files disk.old) }
-    ensures cause { HasCause (D.faults disk.old) (D.faults disk.new) (HasFailed result) }
-    ensures told { TellsFaults (D.faults disk.old) (D.faults disk.new) (HasFailed result) }
+    ensures fault_reported { FaultReported D.faults disk.old disk.new (HasFailed result) }
 {
     let mut lines = [0; SHORT_LINES];
     expand_through(disk, shape, s, packed, array, &mut lines)
@@ -215,8 +211,7 @@ pub fn expand_through<D: Disk>(
     ensures no_half { MayExpand packed.now s.now array.now shape.now
         (D.files disk.old) (D.files disk.new) }
     ensures others { others array.now (D.files disk.new) ≡ others array.now (D.files disk.old) }
-    ensures cause { HasCause (D.faults disk.old) (D.faults disk.new) (HasFailed result) }
-    ensures told { TellsFaults (D.faults disk.old) (D.faults disk.new) (HasFailed result) }
+    ensures fault_reported { FaultReported D.faults disk.old disk.new (HasFailed result) }
 {
     let _limits = shape.elements();
     expand_elements(disk, shape, s, packed, array, lines)?;

@@ -3,7 +3,7 @@
 ghost use Rattle.std.specs.Prelude.{◌≡◌, ◌+◌, ◌*◌, ◌<◌, ◌≤◌, length, IfOk, OnOk, IsErr};
 ghost use Rattle.tce_space.specs.Limits.{max_array_words};
 ghost use Rattle.tce_outside.specs.Files.{file};
-ghost use Rattle.tce_outside.specs.Fault.{HasCause, TellsFaults};
+ghost use Rattle.tce_outside.specs.Fault.{FaultReported};
 ghost use Rattle.tce_sym.specs.Lines.{IsGrid, IsWanted, HasLine, IsHeldWord, PutsWords};
 ghost use Rattle.tce_sym.specs.Told.{HasStoredWords, IsStoredWord, AreLinesOf};
 
@@ -138,8 +138,7 @@ fn read_through<D: Disk>(
     ensures word { IfOk result (IsStoredWord (D.files disk.old) packed.now wanted.place) }
     ensures lines { OnOk result (AreLinesOf (D.files disk.old) packed.now grid.now lines.new) }
     ensures same { D.files disk.new ≡ D.files disk.old }
-    ensures cause { HasCause (D.faults disk.old) (D.faults disk.new) (IsErr result) }
-    ensures told { TellsFaults (D.faults disk.old) (D.faults disk.new) (IsErr result) }
+    ensures fault_reported { FaultReported D.faults disk.old disk.new (IsErr result) }
 {
     let len = (grid.count - wanted.start).min(wanted.span as u64) as usize;
     let Buffers { bytes, words } = buffers;
@@ -165,8 +164,7 @@ fn read_few<D: Disk>(
     ensures word { IfOk result (IsStoredWord (D.files disk.old) packed.now wanted.place) }
     ensures lines { OnOk result (AreLinesOf (D.files disk.old) packed.now grid.now lines.new) }
     ensures same { D.files disk.new ≡ D.files disk.old }
-    ensures cause { HasCause (D.faults disk.old) (D.faults disk.new) (IsErr result) }
-    ensures told { TellsFaults (D.faults disk.old) (D.faults disk.new) (IsErr result) }
+    ensures fault_reported { FaultReported D.faults disk.old disk.new (IsErr result) }
 {
     let mut bytes = [0; 8 * LONGEST_LINE];
     let mut words = [0; LONGEST_LINE];
@@ -193,8 +191,7 @@ fn read_many<D: Disk>(
     ensures word { IfOk result (IsStoredWord (D.files disk.old) packed.now wanted.place) }
     ensures lines { OnOk result (AreLinesOf (D.files disk.old) packed.now grid.now lines.new) }
     ensures same { D.files disk.new ≡ D.files disk.old }
-    ensures cause { HasCause (D.faults disk.old) (D.faults disk.new) (IsErr result) }
-    ensures told { TellsFaults (D.faults disk.old) (D.faults disk.new) (IsErr result) }
+    ensures fault_reported { FaultReported D.faults disk.old disk.new (IsErr result) }
 {
     let mut bytes = [0; 8 * WINDOW];
     let mut words = [0; WINDOW];
@@ -220,8 +217,7 @@ pub fn read_word<D: Disk>(
     ensures word { IfOk result (IsStoredWord (D.files disk.old) packed.now wanted.place) }
     ensures lines { OnOk result (AreLinesOf (D.files disk.old) packed.now grid.now lines.new) }
     ensures same { D.files disk.new ≡ D.files disk.old }
-    ensures cause { HasCause (D.faults disk.old) (D.faults disk.new) (IsErr result) }
-    ensures told { TellsFaults (D.faults disk.old) (D.faults disk.new) (IsErr result) }
+    ensures fault_reported { FaultReported D.faults disk.old disk.new (IsErr result) }
 {
     if wanted.span <= LONGEST_LINE {
         read_few(disk, packed, grid, lines, wanted)

@@ -1,6 +1,6 @@
 // Opening files of stored elements.
 ghost use Rattle.std.specs.Prelude.{◌≡◌, ◌+◌, ◌<◌, ◌≤◌, false, IsTrue, length, take, codes, IfOk, IfErr, IsErr, MatchOption};
-ghost use Rattle.tce_outside.specs.Fault.{HasCause, TellsFaults};
+ghost use Rattle.tce_outside.specs.Fault.{FaultReported};
 ghost use Rattle.tce_array.specs.Faults.{DifferFirst};
 ghost use Rattle.tce_sym.specs.Storage.{AreRight, IsHead, number_at};
 ghost use Rattle.tce_sym.specs.Faults.{ArePositions, IsWrongAt};
@@ -89,8 +89,7 @@ pub fn open_sym<D: Disk>(disk: &mut D, name: &str, shape: &Shape) -> Result<Symm
     ensures fault { IfErr result (IsFaultOf (D.files disk.old) name.now shape.now.extents) }
     ensures exact { IsOnlyAnswerTo (D.files disk.old) name.now shape.now.extents result }
     ensures same { D.files disk.new ≡ D.files disk.old }
-    ensures cause { HasCause (D.faults disk.old) (D.faults disk.new) (IsDiskFault result) }
-    ensures told { TellsFaults (D.faults disk.old) (D.faults disk.new) (IsDiskFault result) }
+    ensures fault_reported { FaultReported D.faults disk.old disk.new (IsDiskFault result) }
 {
     let Ok(size) = disk.size(name) else {
         return Err(SymFault::Disk);

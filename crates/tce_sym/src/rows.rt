@@ -2,7 +2,7 @@
 ghost use Rattle.std.specs.Prelude.{◌≡◌, ℕ, ◌+◌, ◌<◌, ◌≤◌, ◌^◌, Bool, IsTrue, false, length, replicate, slice_index, OnOk, IsErr};
 ghost use Rattle.tce_space.specs.Box.{IsInside};
 ghost use Rattle.tce_outside.specs.Files.{file};
-ghost use Rattle.tce_outside.specs.Fault.{HasCause, TellsFaults};
+ghost use Rattle.tce_outside.specs.Fault.{FaultReported};
 ghost use Rattle.tce_tools.specs.Runs.{EachWordIs};
 ghost use Rattle.tce_sym.specs.Storage.{AreRight, IsPair, turned};
 ghost use Rattle.tce_sym.specs.Lines.{HasRoomAt};
@@ -210,8 +210,7 @@ fn read_stored<D: Disk>(
     ensures lines { OnOk result
         (AreHeldOf (D.files disk.old) packed.now triangles.now.slots.grid lines.new) }
     ensures same { D.files disk.new ≡ D.files disk.old }
-    ensures cause { HasCause (D.faults disk.old) (D.faults disk.new) (IsErr result) }
-    ensures told { TellsFaults (D.faults disk.old) (D.faults disk.new) (IsErr result) }
+    ensures fault_reported { FaultReported D.faults disk.old disk.new (IsErr result) }
 {
     if words.is_empty() {
         return Ok(());
@@ -241,8 +240,7 @@ fn read_mirrored<D: Disk>(
     ensures lines { OnOk result
         (AreHeldOf (D.files disk.old) packed.now triangles.now.slots.grid lines.new) }
     ensures same { D.files disk.new ≡ D.files disk.old }
-    ensures cause { HasCause (D.faults disk.old) (D.faults disk.new) (IsErr result) }
-    ensures told { TellsFaults (D.faults disk.old) (D.faults disk.new) (IsErr result) }
+    ensures fault_reported { FaultReported D.faults disk.old disk.new (IsErr result) }
 {
     if words.is_empty() {
         return Ok(());
@@ -274,8 +272,7 @@ fn read_others<D: Disk>(
     ensures lines { OnOk result
         (AreHeldOf (D.files disk.old) packed.now triangles.now.slots.grid lines.new) }
     ensures same { D.files disk.new ≡ D.files disk.old }
-    ensures cause { HasCause (D.faults disk.old) (D.faults disk.new) (IsErr result) }
-    ensures told { TellsFaults (D.faults disk.old) (D.faults disk.new) (IsErr result) }
+    ensures fault_reported { FaultReported D.faults disk.old disk.new (IsErr result) }
 {
     if words.is_empty() {
         return Ok(());
@@ -307,8 +304,7 @@ pub fn read_row<D: Disk>(
     ensures lines { OnOk result
         (AreHeldOf (D.files disk.old) packed.now triangles.now.slots.grid lines.new) }
     ensures same { D.files disk.new ≡ D.files disk.old }
-    ensures cause { HasCause (D.faults disk.old) (D.faults disk.new) (IsErr result) }
-    ensures told { TellsFaults (D.faults disk.old) (D.faults disk.new) (IsErr result) }
+    ensures fault_reported { FaultReported D.faults disk.old disk.new (IsErr result) }
 {
     if words.is_empty() {
         return Ok(());

@@ -2,7 +2,7 @@
 ghost use Rattle.std.specs.Prelude.{◌≡◌, ℕ, ◌<◌, ◌≤◌, ◌^◌, List, length, OnOk, IsErr};
 ghost use Rattle.tce_space.specs.Limits.{max_array_words};
 ghost use Rattle.tce_outside.specs.Files.{file};
-ghost use Rattle.tce_outside.specs.Fault.{HasCause, TellsFaults};
+ghost use Rattle.tce_outside.specs.Fault.{FaultReported};
 ghost use Rattle.tce_sym.specs.Lines.{IsGrid, IsWanted, AreLines, walk_place, HasRoomAt, WalkedBelow};
 ghost use Rattle.tce_sym.specs.Told.{HasStoredWords, AreLinesOf, AreHeldOf, AreWalked};
 
@@ -157,8 +157,7 @@ fn read_lines<D: Disk>(
     ensures read { OnOk result (AreWalked (D.files disk.old) packed.now walk.now words.new) }
     ensures lines { OnOk result (AreLinesOf (D.files disk.old) packed.now grid.now lines.new) }
     ensures same { D.files disk.new ≡ D.files disk.old }
-    ensures cause { HasCause (D.faults disk.old) (D.faults disk.new) (IsErr result) }
-    ensures told { TellsFaults (D.faults disk.old) (D.faults disk.new) (IsErr result) }
+    ensures fault_reported { FaultReported D.faults disk.old disk.new (IsErr result) }
 {
     let mut done = held(grid, lines, walk, words, 0);
     while done < words.len() {
@@ -188,8 +187,7 @@ pub fn read_walk<D: Disk>(
     ensures read { OnOk result (AreWalked (D.files disk.old) packed.now walk.now words.new) }
     ensures lines { OnOk result (AreHeldOf (D.files disk.old) packed.now grid.now lines.new) }
     ensures same { D.files disk.new ≡ D.files disk.old }
-    ensures cause { HasCause (D.faults disk.old) (D.faults disk.new) (IsErr result) }
-    ensures told { TellsFaults (D.faults disk.old) (D.faults disk.new) (IsErr result) }
+    ensures fault_reported { FaultReported D.faults disk.old disk.new (IsErr result) }
 {
     match grid.layout {
         Layout::Lines => read_lines(disk, packed, grid, lines, walk, words),

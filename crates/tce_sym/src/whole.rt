@@ -2,7 +2,7 @@
 ghost use Rattle.std.specs.Prelude.{◌≡◌, ℕ, ◌+◌, ◌*◌, ◌/◌, ◌%◌, ◌<◌, ◌≤◌, ◌^◌, length, slice_index, IfOk, OnOk, IsErr};
 ghost use Rattle.tce_space.specs.Limits.{max_array_words};
 ghost use Rattle.tce_outside.specs.Files.{file};
-ghost use Rattle.tce_outside.specs.Fault.{HasCause, TellsFaults};
+ghost use Rattle.tce_outside.specs.Fault.{FaultReported};
 ghost use Rattle.tce_tools.specs.Runs.{EachWordIs};
 ghost use Rattle.tce_sym.specs.Lines.{IsAcross, walk_place, ArePut, KeepsOtherWords, walk_across};
 ghost use Rattle.tce_sym.specs.Told.{HasStoredWords, AreWholeOf, ArePairsOf, AddPairs};
@@ -28,8 +28,7 @@ pub fn read_whole<D: Disk>(
     requires file { HasStoredWords (D.files disk.old) packed.now grid.now.count }
     ensures read { OnOk result (AreWholeOf (D.files disk.old) packed.now grid.now lines.new) }
     ensures same { D.files disk.new ≡ D.files disk.old }
-    ensures cause { HasCause (D.faults disk.old) (D.faults disk.new) (IsErr result) }
-    ensures told { TellsFaults (D.faults disk.old) (D.faults disk.new) (IsErr result) }
+    ensures fault_reported { FaultReported D.faults disk.old disk.new (IsErr result) }
 {
     let mut bytes = [0; 8 * WINDOW];
     let mut done = 0;
@@ -71,8 +70,7 @@ fn read_strip<D: Disk>(
     ensures read { IfOk result
         (λ len. AddPairs (D.files disk.old) packed.now grid.now from len lines.old lines.new) }
     ensures same { D.files disk.new ≡ D.files disk.old }
-    ensures cause { HasCause (D.faults disk.old) (D.faults disk.new) (IsErr result) }
-    ensures told { TellsFaults (D.faults disk.old) (D.faults disk.new) (IsErr result) }
+    ensures fault_reported { FaultReported D.faults disk.old disk.new (IsErr result) }
 {
     let len = (grid.pairs - from).min(STRIP as u64);
     let mut bytes = [0; 8 * STRIP];
@@ -104,8 +102,7 @@ pub fn read_across<D: Disk>(
     requires file { HasStoredWords (D.files disk.old) packed.now grid.now.count }
     ensures read { OnOk result (ArePairsOf (D.files disk.old) packed.now grid.now lines.new) }
     ensures same { D.files disk.new ≡ D.files disk.old }
-    ensures cause { HasCause (D.faults disk.old) (D.faults disk.new) (IsErr result) }
-    ensures told { TellsFaults (D.faults disk.old) (D.faults disk.new) (IsErr result) }
+    ensures fault_reported { FaultReported D.faults disk.old disk.new (IsErr result) }
 {
     let pairs = grid.pairs;
     let mut from = 0;

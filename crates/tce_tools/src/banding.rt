@@ -1,7 +1,7 @@
 // Bands of elements between files and memory.
 ghost use Rattle.std.specs.Prelude.{◌≡◌, ℕ, ◌+◌, ◌*◌, ◌<◌, ◌≤◌, List, length, Option, Some, OnOk, IsErr};
 ghost use Rattle.tce_outside.specs.Files.{Files, file, others};
-ghost use Rattle.tce_outside.specs.Fault.{HasCause, TellsFaults};
+ghost use Rattle.tce_outside.specs.Fault.{FaultReported};
 ghost use Rattle.tce_array.specs.Forms.{width, head_len};
 ghost use Rattle.tce_tools.specs.Runs.{AreElements};
 ghost use Rattle.tce_tools.specs.Bands.{IsBand, AreTiled, AreZerosBetween, KeepsOutside};
@@ -39,8 +39,7 @@ fn read_pieces<D: Disk>(
     requires file { IsArrayThere (D.files disk.old) file.now form }
     ensures read { OnOk result (AreTiledIn (D.files disk.old) file.now form band tiled.new) }
     ensures same { D.files disk.new ≡ D.files disk.old }
-    ensures cause { HasCause (D.faults disk.old) (D.faults disk.new) (IsErr result) }
-    ensures told { TellsFaults (D.faults disk.old) (D.faults disk.new) (IsErr result) }
+    ensures fault_reported { FaultReported D.faults disk.old disk.new (IsErr result) }
 {
     for piece in 0..band.pieces {
         let from = (piece * band.piece_len) as usize;
@@ -78,8 +77,7 @@ fn write_pieces<D: Disk>(
         → D.files disk.new ≡ bare_array file.now form new before) }
     ensures ahead { KeepsHead file.now form (D.files disk.old) (D.files disk.new) }
     ensures others { OthersStay file.now (D.files disk.old) (D.files disk.new) }
-    ensures cause { HasCause (D.faults disk.old) (D.faults disk.new) (IsErr result) }
-    ensures told { TellsFaults (D.faults disk.old) (D.faults disk.new) (IsErr result) }
+    ensures fault_reported { FaultReported D.faults disk.old disk.new (IsErr result) }
 {
     for piece in 0..band.pieces {
         let from = (piece * band.piece_len) as usize;
@@ -113,8 +111,7 @@ pub fn read_band<D: Disk>(
     ensures read { OnOk result (AreElementsIn (D.files disk.old) file.now band.start words.new) }
     ensures len { length words.new ≡ band.len }
     ensures same { D.files disk.new ≡ D.files disk.old }
-    ensures cause { HasCause (D.faults disk.old) (D.faults disk.new) (IsErr result) }
-    ensures told { TellsFaults (D.faults disk.old) (D.faults disk.new) (IsErr result) }
+    ensures fault_reported { FaultReported D.faults disk.old disk.new (IsErr result) }
 {
     match file.storage {
         Storage::Flat => read_words(disk, file.name, Form::One, 8 * band.start, bytes, words)?,
@@ -154,8 +151,7 @@ pub fn write_band<D: Disk>(
     ensures ahead { KeepsAhead file.now band (D.files disk.old) (D.files disk.new) }
     ensures behind { KeepsBehind file.now band (D.files disk.old) (D.files disk.new) }
     ensures others { OthersStay file.now (D.files disk.old) (D.files disk.new) }
-    ensures cause { HasCause (D.faults disk.old) (D.faults disk.new) (IsErr result) }
-    ensures told { TellsFaults (D.faults disk.old) (D.faults disk.new) (IsErr result) }
+    ensures fault_reported { FaultReported D.faults disk.old disk.new (IsErr result) }
 {
     match file.storage {
         Storage::Flat => write_words(disk, file.name, Form::One, 8 * band.start, bytes, words),

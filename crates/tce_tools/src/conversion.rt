@@ -1,7 +1,7 @@
 // Array files in other forms.
 ghost use Rattle.std.specs.Prelude.{◌≡◌, ◌≢◌, ℕ, false, IsTrue, Ok, Some, None, OnOk, IfSome, IfNone, IsErr, length};
 ghost use Rattle.tce_outside.specs.Files.{others};
-ghost use Rattle.tce_outside.specs.Fault.{HasCause, TellsFaults};
+ghost use Rattle.tce_outside.specs.Fault.{FaultReported};
 ghost use Rattle.tce_array.specs.Forms.{Fits};
 ghost use Rattle.tce_tools.specs.Answers.{IsOfConvert, AllNarrow, IsFirstWide};
 ghost use Rattle.tce_tools.specs.Told.{HasStoredIn, AllFit, IsFirstMisfitIn, IsConvertAnswerTo, Converts, MayConvert, KeepsFiles, IsDiskFault};
@@ -51,8 +51,7 @@ fn find_misfit<D: Disk>(
     ensures some { (k : ℕ) → result ≡ Ok (Some k)
         → IsFirstMisfitIn Form.Narrow (D.files disk.old) name.now form shape.now k }
     ensures same { D.files disk.new ≡ D.files disk.old }
-    ensures cause { HasCause (D.faults disk.old) (D.faults disk.new) (IsErr result) }
-    ensures told { TellsFaults (D.faults disk.old) (D.faults disk.new) (IsErr result) }
+    ensures fault_reported { FaultReported D.faults disk.old disk.new (IsErr result) }
 {
     let bytes = buffers.bytes.as_mut_slice();
     let tiled = buffers.tiled.as_mut_slice();
@@ -91,8 +90,7 @@ fn misfit_for<D: Disk>(
     ensures some { (k : ℕ) → result ≡ Ok (Some k) → (wanted ≡ Form.Narrow)
         × IsFirstMisfitIn wanted (D.files disk.old) name.now form shape.now k }
     ensures same { D.files disk.new ≡ D.files disk.old }
-    ensures cause { HasCause (D.faults disk.old) (D.faults disk.new) (IsErr result) }
-    ensures told { TellsFaults (D.faults disk.old) (D.faults disk.new) (IsErr result) }
+    ensures fault_reported { FaultReported D.faults disk.old disk.new (IsErr result) }
 {
     match wanted {
         Form::Narrow => find_misfit(disk, shape, name, form, buffers),
@@ -123,8 +121,7 @@ pub fn convert<D: Disk>(
     ensures no_half { MayConvert array.now form to.now shape.now
         (D.files disk.old) (D.files disk.new) }
     ensures others { others to.now (D.files disk.new) ≡ others to.now (D.files disk.old) }
-    ensures cause { HasCause (D.faults disk.old) (D.faults disk.new) (IsDiskFault result) }
-    ensures told { TellsFaults (D.faults disk.old) (D.faults disk.new) (IsDiskFault result) }
+    ensures fault_reported { FaultReported D.faults disk.old disk.new (IsDiskFault result) }
 {
     let found = open(disk, array, shape)?;
     if let Some(place) = misfit_for(disk, shape, array, found, form, buffers)? {

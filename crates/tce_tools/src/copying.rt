@@ -1,7 +1,7 @@
 // The elements of one file, stored in another.
 ghost use Rattle.std.specs.Prelude.{◌≡◌, ◌≢◌, ◌≤◌, length, OnOk, IsErrOf};
 ghost use Rattle.tce_outside.specs.Files.{others};
-ghost use Rattle.tce_outside.specs.Fault.{HasCause, HasFailed, TellsFaults};
+ghost use Rattle.tce_outside.specs.Fault.{FaultReported, HasFailed};
 ghost use Rattle.tce_tools.specs.Answers.{IsOfCopy};
 ghost use Rattle.tce_tools.specs.Told.{HasStoredIn, Copies, CopiesBare, MayCopy, KeepsFiles, IsDiskFault};
 
@@ -48,8 +48,7 @@ fn copy_elements<D: Disk>(
         files.entry.shape.now (D.files disk.old) (D.files disk.new) }
     ensures others { others files.entry.target.now (D.files disk.new)
         ≡ others files.entry.target.now (D.files disk.old) }
-    ensures cause { HasCause (D.faults disk.old) (D.faults disk.new) (HasFailed result) }
-    ensures told { TellsFaults (D.faults disk.old) (D.faults disk.new) (HasFailed result) }
+    ensures fault_reported { FaultReported D.faults disk.old disk.new (HasFailed result) }
 {
     make(disk, files.target, files.to, files.shape)?;
     let read = ElementFile {
@@ -103,8 +102,7 @@ pub fn copy<D: Disk>(disk: &mut D, files: Copying, buffers: &mut Buffers) -> Res
         files.entry.shape.now (D.files disk.old) (D.files disk.new) }
     ensures others { others files.entry.target.now (D.files disk.new)
         ≡ others files.entry.target.now (D.files disk.old) }
-    ensures cause { HasCause (D.faults disk.old) (D.faults disk.new) (IsDiskFault result) }
-    ensures told { TellsFaults (D.faults disk.old) (D.faults disk.new) (IsDiskFault result) }
+    ensures fault_reported { FaultReported D.faults disk.old disk.new (IsDiskFault result) }
 {
     let _limits = files.shape.elements();
     copy_elements(

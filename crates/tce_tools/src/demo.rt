@@ -2,7 +2,7 @@
 ghost use Rattle.std.specs.Prelude.{◌≡◌, ℕ, ◌+◌, ◌<◌, ◌≤◌, length, slice_index, OnOk, IfOk, IsErrOf};
 ghost use Rattle.tce_space.specs.Tiling.{elements};
 ghost use Rattle.tce_outside.specs.Files.{others};
-ghost use Rattle.tce_outside.specs.Fault.{HasCause, HasFailed, TellsFaults};
+ghost use Rattle.tce_outside.specs.Fault.{FaultReported, HasFailed};
 ghost use Rattle.std.specs.String.{string_bytes};
 ghost use Rattle.tce_tools.specs.Demo.{drawn, digit, range_line, demo_text};
 ghost use Rattle.tce_tools.specs.Told.{Draws, DrawsBare, MayDraw};
@@ -88,8 +88,7 @@ fn demo_elements<D: Disk>(
     ensures memory { IsErrOf result OutFault.Memory → D.files disk.new ≡ D.files disk.old }
     ensures no_half { MayDraw array.now shape.now x (D.files disk.old) (D.files disk.new) }
     ensures others { others array.now (D.files disk.new) ≡ others array.now (D.files disk.old) }
-    ensures cause { HasCause (D.faults disk.old) (D.faults disk.new) (HasFailed result) }
-    ensures told { TellsFaults (D.faults disk.old) (D.faults disk.new) (HasFailed result) }
+    ensures fault_reported { FaultReported D.faults disk.old disk.new (HasFailed result) }
 {
     make(disk, array, Storage::Array(Form::One), shape)?;
     let bytes = buffers.bytes.as_mut_slice();
@@ -135,8 +134,7 @@ pub fn demo_array<D: Disk>(
     ensures memory { IsErrOf result OutFault.Memory → D.files disk.new ≡ D.files disk.old }
     ensures no_half { MayDraw array.now shape.now x (D.files disk.old) (D.files disk.new) }
     ensures others { others array.now (D.files disk.new) ≡ others array.now (D.files disk.old) }
-    ensures cause { HasCause (D.faults disk.old) (D.faults disk.new) (HasFailed result) }
-    ensures told { TellsFaults (D.faults disk.old) (D.faults disk.new) (HasFailed result) }
+    ensures fault_reported { FaultReported D.faults disk.old disk.new (HasFailed result) }
 {
     let _limits = shape.elements();
     let number = demo_elements(disk, shape, array, x, buffers)?;

@@ -1,7 +1,7 @@
 // Array files from flat files, and back.
 ghost use Rattle.std.specs.Prelude.{◌≡◌, ◌≢◌, OnOk};
 ghost use Rattle.tce_outside.specs.Files.{others};
-ghost use Rattle.tce_outside.specs.Fault.{HasCause, TellsFaults};
+ghost use Rattle.tce_outside.specs.Fault.{FaultReported};
 ghost use Rattle.tce_tools.specs.Answers.{IsOfPack, IsOfUnpack};
 ghost use Rattle.tce_tools.specs.Told.{IsPackAnswerTo, IsUnpackAnswerTo, Packs, Unpacks, MayPack, MayUnpack, KeepsFiles, IsDiskFault};
 
@@ -34,8 +34,7 @@ pub fn pack<D: Disk>(
     ensures refused { KeepsFiles result (D.files disk.old) (D.files disk.new) }
     ensures no_half { MayPack flat.now array.now shape.now (D.files disk.old) (D.files disk.new) }
     ensures others { others array.now (D.files disk.new) ≡ others array.now (D.files disk.old) }
-    ensures cause { HasCause (D.faults disk.old) (D.faults disk.new) (IsDiskFault result) }
-    ensures told { TellsFaults (D.faults disk.old) (D.faults disk.new) (IsDiskFault result) }
+    ensures fault_reported { FaultReported D.faults disk.old disk.new (IsDiskFault result) }
 {
     let Some(len) = disk.size(flat)? else {
         return Err(ToolFault::NoFlat);
@@ -74,8 +73,7 @@ pub fn unpack<D: Disk>(
     ensures refused { KeepsFiles result (D.files disk.old) (D.files disk.new) }
     ensures no_half { MayUnpack array.now flat.now shape.now (D.files disk.old) (D.files disk.new) }
     ensures others { others flat.now (D.files disk.new) ≡ others flat.now (D.files disk.old) }
-    ensures cause { HasCause (D.faults disk.old) (D.faults disk.new) (IsDiskFault result) }
-    ensures told { TellsFaults (D.faults disk.old) (D.faults disk.new) (IsDiskFault result) }
+    ensures fault_reported { FaultReported D.faults disk.old disk.new (IsDiskFault result) }
 {
     let form = open(disk, array, shape)?;
     let files = Copying {

@@ -1,7 +1,7 @@
 // The two ways in which a file stores the elements of an array.
 ghost use Rattle.std.specs.Prelude.{◌≡◌, ℕ, List, Option, OnOk, IsErr, IsErrOf};
 ghost use Rattle.tce_outside.specs.Files.{Files, others, IsKeptOrZeros, KeepsFrom};
-ghost use Rattle.tce_outside.specs.Fault.{HasCause, HasFailed, TellsFaults};
+ghost use Rattle.tce_outside.specs.Fault.{FaultReported, HasFailed};
 ghost use Rattle.tce_tools.specs.Storage.{start_len};
 ghost use Rattle.tce_tools.specs.Told.{HasStoredIn, MakesZeros, holding_bare, holding_whole};
 
@@ -44,8 +44,7 @@ pub fn make<D: Disk>(
     ensures memory { IsErrOf result OutFault.Memory → D.files disk.new ≡ D.files disk.old }
     ensures zeros { IsKeptOrZeros name.now (D.files disk.old) (D.files disk.new) }
     ensures others { others name.now (D.files disk.new) ≡ others name.now (D.files disk.old) }
-    ensures cause { HasCause (D.faults disk.old) (D.faults disk.new) (HasFailed result) }
-    ensures told { TellsFaults (D.faults disk.old) (D.faults disk.new) (HasFailed result) }
+    ensures fault_reported { FaultReported D.faults disk.old disk.new (HasFailed result) }
 {
     match storage {
         Storage::Flat => disk.make(name, 8 * shape.elements()),
@@ -70,8 +69,7 @@ pub fn write_start<D: Disk>(
     ensures behind { KeepsFrom name.now (start_len storage shape.now)
         (D.files disk.old) (D.files disk.new) }
     ensures others { others name.now (D.files disk.new) ≡ others name.now (D.files disk.old) }
-    ensures cause { HasCause (D.faults disk.old) (D.faults disk.new) (IsErr result) }
-    ensures told { TellsFaults (D.faults disk.old) (D.faults disk.new) (IsErr result) }
+    ensures fault_reported { FaultReported D.faults disk.old disk.new (IsErr result) }
 {
     match storage {
         Storage::Flat => Ok(()),

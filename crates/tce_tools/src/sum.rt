@@ -1,7 +1,7 @@
 // The sum of an array's elements.
 ghost use Rattle.std.specs.Prelude.{◌≡◌, IfOk, IsErr};
 ghost use Rattle.tce_base.specs.Word.{wrapping_sum};
-ghost use Rattle.tce_outside.specs.Fault.{HasCause, TellsFaults};
+ghost use Rattle.tce_outside.specs.Fault.{FaultReported};
 ghost use Rattle.tce_tools.specs.Told.{HasFormIn, IsSumOf};
 
 use crate::band::band_at;
@@ -34,8 +34,7 @@ pub fn cell_sum<D: Disk>(
     requires { HasFormIn (D.files disk.old) array.now form shape.now }
     ensures sum { IfOk result (IsSumOf (D.files disk.old) array.now form shape.now) }
     ensures same { D.files disk.new ≡ D.files disk.old }
-    ensures cause { HasCause (D.faults disk.old) (D.faults disk.new) (IsErr result) }
-    ensures told { TellsFaults (D.faults disk.old) (D.faults disk.new) (IsErr result) }
+    ensures fault_reported { FaultReported D.faults disk.old disk.new (IsErr result) }
 {
     let bytes = buffers.bytes.as_mut_slice();
     let tiled = buffers.tiled.as_mut_slice();

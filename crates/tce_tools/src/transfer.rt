@@ -3,7 +3,7 @@ ghost use Rattle.std.specs.Prelude.{◌≡◌, ◌+◌, ◌*◌, ◌≤◌, leng
 ghost use Rattle.std.specs.List.{flat_map};
 ghost use Rattle.tce_base.specs.Word.{word_bytes, word_of_bytes, widened};
 ghost use Rattle.tce_outside.specs.Files.{file, written, others, KeepsBefore, KeepsFrom};
-ghost use Rattle.tce_outside.specs.Fault.{HasCause, TellsFaults};
+ghost use Rattle.tce_outside.specs.Fault.{FaultReported};
 ghost use Rattle.tce_array.specs.Forms.{width, word_in};
 ghost use Rattle.tce_tools.specs.Told.{HasWordsIn, AreWordsIn, WritesWords};
 ghost use Rattle.tce_tools.specs.Runs.{EachWordIs};
@@ -80,8 +80,7 @@ pub fn read_words<D: Disk>(
     requires file { HasWordsIn (D.files disk.old) name.now form at (length words.old) }
     ensures read { OnOk result (AreWordsIn (D.files disk.old) name.now form at words.new) }
     ensures same { D.files disk.new ≡ D.files disk.old }
-    ensures cause { HasCause (D.faults disk.old) (D.faults disk.new) (IsErr result) }
-    ensures told { TellsFaults (D.faults disk.old) (D.faults disk.new) (IsErr result) }
+    ensures fault_reported { FaultReported D.faults disk.old disk.new (IsErr result) }
 {
     let piece = &mut bytes[..form.width() as usize * words.len()];
     disk.read_at(name, at, piece)?;
@@ -106,8 +105,7 @@ pub fn write_words<D: Disk>(
     ensures behind { KeepsFrom name.now (at + width form * length words.now)
         (D.files disk.old) (D.files disk.new) }
     ensures others { others name.now (D.files disk.new) ≡ others name.now (D.files disk.old) }
-    ensures cause { HasCause (D.faults disk.old) (D.faults disk.new) (IsErr result) }
-    ensures told { TellsFaults (D.faults disk.old) (D.faults disk.new) (IsErr result) }
+    ensures fault_reported { FaultReported D.faults disk.old disk.new (IsErr result) }
 {
     let piece = &mut bytes[..form.width() as usize * words.len()];
     encode(form, words, piece);

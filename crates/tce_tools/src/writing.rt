@@ -1,7 +1,7 @@
 // New files.
 ghost use Rattle.std.specs.Prelude.{◌≡◌, OnOk, IsErrOf};
 ghost use Rattle.tce_outside.specs.Files.{holding, others};
-ghost use Rattle.tce_outside.specs.Fault.{HasCause, HasFailed, TellsFaults};
+ghost use Rattle.tce_outside.specs.Fault.{FaultReported, HasFailed};
 
 use tce_outside::{Disk, OutFault};
 
@@ -10,8 +10,7 @@ pub fn write_file<D: Disk>(disk: &mut D, name: &str, bytes: &[u8]) -> Result<(),
     ensures made { OnOk result (D.files disk.new ≡ holding name.now bytes.now (D.files disk.old)) }
     ensures memory { IsErrOf result OutFault.Memory → D.files disk.new ≡ D.files disk.old }
     ensures others { others name.now (D.files disk.new) ≡ others name.now (D.files disk.old) }
-    ensures cause { HasCause (D.faults disk.old) (D.faults disk.new) (HasFailed result) }
-    ensures told { TellsFaults (D.faults disk.old) (D.faults disk.new) (HasFailed result) }
+    ensures fault_reported { FaultReported D.faults disk.old disk.new (HasFailed result) }
 {
     disk.make(name, bytes.len() as u64)?;
     match disk.write_at(name, 0, bytes) {

@@ -81,8 +81,10 @@ calls bytes items command this before after given answer Done Refused is quiet s
       untaken = inr (quiet.keeps before.files before.takings after.takings called.untaken);
       no_half = called.no_half;
       others = called.others;
-      cause = cause_as given cause before.faults after.faults err called.cause;
-      told = told_as given cause before.faults after.faults err called.told;
+      fault_reported = record {
+        cause = cause_as given cause before.faults after.faults err called.cause;
+        quiet = told_as given cause before.faults after.faults err called.told;
+      };
     })
 
 -- the line of a certificate that is refused
@@ -114,6 +116,8 @@ verifies bytes items command before after given answer spec file is same done re
       untaken = inr untaken;
       no_half = tt;
       others = unchanged;
-      cause = record { later = cause.later; rose = λ failed. cause.rose (err ∙ ap Err failed) };
-      told = λ none. told (λ failed. none (same_err given r (Common Disk) err failed));
+      fault_reported = record {
+        cause = record { later = cause.later; rose = λ failed. cause.rose (err ∙ ap Err failed) };
+        quiet = λ none. told (λ failed. none (same_err given r (Common Disk) err failed));
+      };
     })

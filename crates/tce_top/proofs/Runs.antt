@@ -75,8 +75,10 @@ runs bytes items command before after given answer spec budget is same done refu
       untaken = run_untaken r _ _ _ spec budget room;
       no_half = others;
       others = others;
-      cause = cause_as given r before.faults after.faults err fails.cause;
-      told = told_as given r before.faults after.faults err fails.told;
+      fault_reported = record {
+        cause = cause_as given r before.faults after.faults err fails.cause;
+        quiet = told_as given r before.faults after.faults err fails.told;
+      };
     })
 
 -- Several formulas.
@@ -122,8 +124,10 @@ batches bytes items command before after given answer spec budget is same done r
       untaken = untaken_or_free _ r room.untaken;
       no_half = tt;
       others = others;
-      cause = cause_as given r before.faults after.faults err fails.cause;
-      told = told_as given r before.faults after.faults err fails.told;
+      fault_reported = record {
+        cause = cause_as given r before.faults after.faults err fails.cause;
+        quiet = told_as given r before.faults after.faults err fails.told;
+      };
     })
 
 -- The pieces of a tree.
@@ -161,8 +165,10 @@ spills bytes items command before after given answer spec budget limit is same d
       untaken = untaken_or_free _ r room.untaken;
       no_half = tt;
       others = others;
-      cause = cause_as given r before.faults after.faults err fails.cause;
-      told = told_as given r before.faults after.faults err fails.told;
+      fault_reported = record {
+        cause = cause_as given r before.faults after.faults err fails.cause;
+        quiet = told_as given r before.faults after.faults err fails.told;
+      };
     })
 
 -- A demonstration.
@@ -208,6 +214,8 @@ demonstrates bytes items command before after given answer seed v o is same done
       untaken = demo_untaken v o before.takings after.takings r room;
       no_half = no_half;
       others = others;
-      cause = cause_as given r before.faults after.faults err fails.cause;
-      told = told_as given r before.faults after.faults err fails.told;
+      fault_reported = record {
+        cause = cause_as given r before.faults after.faults err fails.cause;
+        quiet = told_as given r before.faults after.faults err fails.told;
+      };
     })

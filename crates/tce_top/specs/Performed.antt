@@ -1,7 +1,7 @@
 -- What each command needs, why it is refused, and what it leaves, by cases over the commands.
 use Rattle.std.specs.Prelude.{◌≡◌, ◌⊎◌, ⊤, ℕ, List, Option, Result, Ok, Err}
 use Rattle.std.specs.Option.{ForSome}
-use Rattle.tce_outside.specs.Fault.{HasCause, TellsFaults}
+use Rattle.tce_outside.specs.Fault.{FaultReported}
 use Rattle.tce_outside.specs.Files.{Files, others}
 use Rattle.tce_space.specs.Space.{IndexSpace}
 use Rattle.tce_spec.specs.Specification.{Specification}
@@ -195,8 +195,7 @@ pub record Refuses (command : Command) (before after : Seen) (refusal : CommandR
   pub untaken : MayReplace refusal ⊎ KeepsRoom command before.files before.takings after.takings
   pub no_half : LeavesNoHalf command before.files after.files
   pub others : OthersStay command before.files after.files
-  pub cause : HasCause before.faults after.faults (refusal ≡ Common Disk)
-  pub told : TellsFaults before.faults after.faults (refusal ≡ Common Disk)
+  pub fault_reported : FaultReported (λ (s : Seen). s.faults) before after (refusal ≡ Common Disk)
 
 -- what a command calls answers with a report or a refusal, and the command with the same bytes, or with that refusal as one of commands
 abbrev pub Carries : {T S E : Type 0} → (T → List ℕ) → (S → List ℕ) → (E → CommandRefusal) → Result T E → Result S CommandRefusal → Type 0

@@ -1,7 +1,7 @@
 // The top call.
 ghost use Rattle.std.specs.Prelude.{◌≡◌, ◌⊎◌, ℕ, List, Some, map};
 ghost use Rattle.std.specs.String.{string_bytes};
-ghost use Rattle.tce_outside.specs.Fault.{HasCause, TellsFaults};
+ghost use Rattle.tce_outside.specs.Fault.{FaultReported, HasCause};
 ghost use Rattle.tce_outside.specs.Files.{Files};
 ghost use Rattle.tce_command.specs.Command.{batch, einsum, run, spill, IsCommand, IsNoCommand};
 ghost use Rattle.tce_command.specs.Report.{IsWellFormed, LineNames, NamesNoIndex};
@@ -63,8 +63,7 @@ pub fn tce<D: Disk, K: Sink, R: Room>(
     // Whatever the disk tells: how a command may be refused, and no fault that is told by another status.
     ensures refused { IsRefusal result → OfCommand (map string_bytes words.now) (λ command. MayEnd command result) }
     ensures well_formed { IsWellFormed result }
-    ensures disk_fault { HasCause (D.faults disk.old) (D.faults disk.new) (result ≡ Status.DiskFault) }
-    ensures disk_told { TellsFaults (D.faults disk.old) (D.faults disk.new) (result ≡ Status.DiskFault) }
+    ensures disk_fault { FaultReported D.faults disk.old disk.new (result ≡ Status.DiskFault) }
     ensures sink_fault { HasCause (K.faults out.old) (K.faults out.new) (result ≡ Status.SinkFault) }
 
     // What each outcome leaves.

@@ -2,6 +2,7 @@
 use Rattle.std.specs.Prelude.{◌≡◌, ℕ, ◌+◌, ◌*◌, ◌<◌, ◌≤◌, IsTrue, false, Option, List, length, map, slice_index}
 use Rattle.std.specs.declared.option.Option.TheVariants.{Some, None}
 use Rattle.std.specs.Option.{option_map}
+use Rattle.tce_outside.specs.Fault.{FaultReported}
 use Rattle.tce_space.specs.Limits.{max_volume}
 use Rattle.tce_space.specs.Box.{product}
 use Rattle.tce_space.specs.IndexSet.{has}
@@ -76,3 +77,10 @@ pub record IsTailAt (s : Setting) (tail : Tail) (a : Assignment) : Type 0 where
 -- three touches for each block of a tail
 abbrev pub touches_of_tail : IndexSpace → Tail → ℕ
 touches_of_tail space tail = 3 * block_count space tail.loops.0.items
+
+-- what a call leaves of a machine, also where it fails
+pub record Upholds {M : Type 0} (space_of : M → IndexSpace) (setting_of : M → Setting) (keeps : M → M → Type 0) (faults : M → ℕ) (before after : M) (failed : Type 0) : Type 0 where
+  pub space : space_of after ≡ space_of before
+  pub setting : setting_of after ≡ setting_of before
+  pub kept : keeps before after
+  pub fault_reported : FaultReported faults before after failed

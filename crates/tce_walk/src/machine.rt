@@ -1,13 +1,12 @@
 // What loop code runs on.
 ghost use Rattle.std.specs.Prelude.{◌≡◌, ◌+◌, ◌≤◌, ◌^◌, ℕ, Option, OnOk, IsErr};
 ghost use Rattle.std.specs.Option.{option_map};
-ghost use Rattle.tce_outside.specs.Fault.{HasCause, TellsFaults};
 ghost use Rattle.tce_space.specs.Space.{IndexSpace};
 ghost use Rattle.tce_block.specs.Cuts.{part_of};
 ghost use Rattle.tce_code.specs.Execution.{Setting, State, cleared};
 ghost use Rattle.tce_walk.specs.Bodies.{after_body, touches_of_body, IsBodyAt};
 ghost use Rattle.tce_walk.specs.Terms.{after_combination, touches_of_terms, IsCombinationAt};
-ghost use Rattle.tce_walk.specs.Machine.{assignment_of, after, operation_of_node, tail_program, touches_of_tail, IsNodeAt, IsInnerSum, IsTailAt};
+ghost use Rattle.tce_walk.specs.Machine.{assignment_of, after, operation_of_node, tail_program, touches_of_tail, IsNodeAt, IsInnerSum, IsTailAt, Upholds};
 
 use crate::terms::Combination;
 use tce_block::Block;
@@ -68,10 +67,7 @@ pub trait Machine {
         ensures state { state self.new
             ≡ option_map (λ before. cleared before v) (state self.old) }
         ensures touches { touches self.new ≤ touches self.old }
-        ensures faults { faults self.new ≡ faults self.old }
-        ensures space { space self.new ≡ space self.old }
-        ensures setting { setting self.new ≡ setting self.old }
-        ensures kept { keeps self.old self.new };
+        ensures upheld { Upholds space setting keeps faults self.old self.new ⊥ };
 
     /// Does the operation of one node at the numbers of its loops, with at most three touches.
     fn operate(&mut self, v: u8, numbers: &Numbers) -> Result<(), Failed>
@@ -82,11 +78,7 @@ pub trait Machine {
         ensures state { OnOk result (state self.new
             ≡ after (setting self.old) (operation_of_node (setting self.old).tree v) (assignment_of numbers.now) (state self.old)) }
         ensures touches { OnOk result (touches self.new ≤ touches self.old + 3) }
-        ensures cause { HasCause (faults self.old) (faults self.new) (IsErr result) }
-        ensures told { TellsFaults (faults self.old) (faults self.new) (IsErr result) }
-        ensures space { space self.new ≡ space self.old }
-        ensures setting { setting self.new ≡ setting self.old }
-        ensures kept { keeps self.old self.new };
+        ensures upheld { Upholds space setting keeps faults self.old self.new (IsErr result) };
 
     /// Runs a whole tail at the numbers of the loops round it, with at most three touches for each block of its loops.
     fn run_tail(&mut self, tail: &Tail, numbers: &Numbers) -> Result<(), Failed>
@@ -98,11 +90,7 @@ pub trait Machine {
             ≡ after (setting self.old) (tail_program (setting self.old).tree tail.now) (assignment_of numbers.now) (state self.old)) }
         ensures touches { OnOk result (touches self.new
             ≤ touches self.old + touches_of_tail (space self.old) tail.now) }
-        ensures cause { HasCause (faults self.old) (faults self.new) (IsErr result) }
-        ensures told { TellsFaults (faults self.old) (faults self.new) (IsErr result) }
-        ensures space { space self.new ≡ space self.old }
-        ensures setting { setting self.new ≡ setting self.old }
-        ensures kept { keeps self.old self.new };
+        ensures upheld { Upholds space setting keeps faults self.old self.new (IsErr result) };
 
     /// Runs a body at each assignment of one block of the loops round it, the last loop the fastest, with at most three
     /// touches for each operation at each assignment. `numbers` has the numbers of all other loops.
@@ -116,11 +104,7 @@ pub trait Machine {
             body.now.loops.now body.now.ops.now (part_of block.now) (assignment_of numbers.now) (state self.old)) }
         ensures touches { OnOk result (touches self.new
             ≤ touches self.old + touches_of_body body.now.ops.now (part_of block.now)) }
-        ensures cause { HasCause (faults self.old) (faults self.new) (IsErr result) }
-        ensures told { TellsFaults (faults self.old) (faults self.new) (IsErr result) }
-        ensures space { space self.new ≡ space self.old }
-        ensures setting { setting self.new ≡ setting self.old }
-        ensures kept { keeps self.old self.new };
+        ensures upheld { Upholds space setting keeps faults self.old self.new (IsErr result) };
 
     /// Sets the places of a combination's node in one block of its loops to the node's values, with at most three touches for
     /// each block of each term's loops. No other place changes. `numbers` has the numbers of all other loops.
@@ -139,11 +123,7 @@ pub trait Machine {
             sum.now (part_of block.now) (assignment_of numbers.now) (state self.old)) }
         ensures touches { OnOk result (touches self.new
             ≤ touches self.old + touches_of_terms (space self.old) sum.now.terms.now) }
-        ensures cause { HasCause (faults self.old) (faults self.new) (IsErr result) }
-        ensures told { TellsFaults (faults self.old) (faults self.new) (IsErr result) }
-        ensures space { space self.new ≡ space self.old }
-        ensures setting { setting self.new ≡ setting self.old }
-        ensures kept { keeps self.old self.new };
+        ensures upheld { Upholds space setting keeps faults self.old self.new (IsErr result) };
 
     /// Each machine keeps its own, and what is kept twice is kept.
     ghost keeps_own: { (x : Self) → keeps x x };

@@ -1,10 +1,9 @@
 // Runs loop code from position to position.
 ghost use Rattle.std.specs.Prelude.{◌≡◌, ◌+◌, ◌<◌, ◌≤◌, ◌^◌, drop, length, IfOk, OnOk, IsErr};
-ghost use Rattle.tce_outside.specs.Fault.{HasCause, TellsFaults};
 ghost use Rattle.tce_code.specs.Program.{program_of};
 ghost use Rattle.tce_space.specs.Space.{extent_at};
 ghost use Rattle.tce_walk.specs.Touches.{touch_bound};
-ghost use Rattle.tce_walk.specs.Machine.{assignment_of, after};
+ghost use Rattle.tce_walk.specs.Machine.{assignment_of, after, Upholds};
 ghost use Rattle.tce_walk.specs.Opened.{loop_at};
 ghost use Rattle.tce_walk.specs.Positions.{program_at, IsPlain, plain_program};
 ghost use Rattle.tce_walk.specs.Run.{zeros, IsCodeOf, RunsOver, AreKept, IsPart, IsRun, IsEnd};
@@ -59,11 +58,7 @@ pub fn run_program<M: Machine>(
         ≡ after (M.setting machine.old) (program_of ops.now) zeros (M.state machine.old)) }
     ensures touches { OnOk result (M.touches machine.new
         ≤ M.touches machine.old + touch_bound space.now tree.now (program_of ops.now)) }
-    ensures cause { HasCause (M.faults machine.old) (M.faults machine.new) (IsErr result) }
-    ensures told { TellsFaults (M.faults machine.old) (M.faults machine.new) (IsErr result) }
-    ensures space { M.space machine.new ≡ M.space machine.old }
-    ensures setting { M.setting machine.new ≡ M.setting machine.old }
-    ensures kept { M.keeps machine.old machine.new }
+    ensures upheld { Upholds M.space M.setting M.keeps M.faults machine.old machine.new (IsErr result) }
 {
     let _indexes = space.index_count();
     let _nodes = tree.count();
@@ -91,11 +86,7 @@ fn run_action<M: Machine>(machine: &mut M, op: Op, numbers: &Numbers) -> Result<
     ensures run { OnOk result (IsRun (M.space machine.old) (M.setting machine.old).tree
         (M.setting machine.old) (plain_program op) (assignment_of numbers.now)
         (M.state machine.old) (M.state machine.new) (M.touches machine.old) (M.touches machine.new)) }
-    ensures cause { HasCause (M.faults machine.old) (M.faults machine.new) (IsErr result) }
-    ensures told { TellsFaults (M.faults machine.old) (M.faults machine.new) (IsErr result) }
-    ensures space { M.space machine.new ≡ M.space machine.old }
-    ensures setting { M.setting machine.new ≡ M.setting machine.old }
-    ensures kept { M.keeps machine.old machine.new }
+    ensures upheld { Upholds M.space M.setting M.keeps M.faults machine.old machine.new (IsErr result) }
 {
     match op {
         Op::Open(_) | Op::Close => Ok(()),
@@ -130,11 +121,7 @@ fn run_part<M: Machine>(
         (M.state machine.old) (M.state machine.new) (M.touches machine.old) (M.touches machine.new)) }
     ensures end { IfOk result (IsEnd walk.now.ops.now start) }
     ensures numbers { OnOk result (numbers.new ≡ numbers.old) }
-    ensures cause { HasCause (M.faults machine.old) (M.faults machine.new) (IsErr result) }
-    ensures told { TellsFaults (M.faults machine.old) (M.faults machine.new) (IsErr result) }
-    ensures space { M.space machine.new ≡ M.space machine.old }
-    ensures setting { M.setting machine.new ≡ M.setting machine.old }
-    ensures kept { M.keeps machine.old machine.new }
+    ensures upheld { Upholds M.space M.setting M.keeps M.faults machine.old machine.new (IsErr result) }
 {
     let mut at = start;
     while at < walk.ops.len() {
@@ -176,11 +163,7 @@ fn run_loop<M: Machine>(
         (M.state machine.old) (M.state machine.new) (M.touches machine.old) (M.touches machine.new)) }
     ensures end { IfOk result (IsEnd walk.now.ops.now (head.at + 1)) }
     ensures numbers { OnOk result (numbers.new ≡ numbers.old) }
-    ensures cause { HasCause (M.faults machine.old) (M.faults machine.new) (IsErr result) }
-    ensures told { TellsFaults (M.faults machine.old) (M.faults machine.new) (IsErr result) }
-    ensures space { M.space machine.new ≡ M.space machine.old }
-    ensures setting { M.setting machine.new ≡ M.setting machine.old }
-    ensures kept { M.keeps machine.old machine.new }
+    ensures upheld { Upholds M.space M.setting M.keeps M.faults machine.old machine.new (IsErr result) }
 {
     if let Some(found) = find_tail(walk.tree, walk.ops, head.at, head.index) {
         machine.run_tail(&found.tail, numbers)?;
@@ -215,11 +198,7 @@ fn run_band<M: Machine>(
         walk.now.ops.now band.now (assignment_of numbers.old)
         (M.state machine.old) (M.state machine.new) (M.touches machine.old) (M.touches machine.new)) }
     ensures numbers { OnOk result (numbers.new ≡ numbers.old) }
-    ensures cause { HasCause (M.faults machine.old) (M.faults machine.new) (IsErr result) }
-    ensures told { TellsFaults (M.faults machine.old) (M.faults machine.new) (IsErr result) }
-    ensures space { M.space machine.new ≡ M.space machine.old }
-    ensures setting { M.setting machine.new ≡ M.setting machine.old }
-    ensures kept { M.keeps machine.old machine.new }
+    ensures upheld { Upholds M.space M.setting M.keeps M.faults machine.old machine.new (IsErr result) }
 {
     if let Some(terms) = find_terms(walk, band) {
         run_terms_of_band(walk, machine, band, &terms, numbers)?;
@@ -267,11 +246,7 @@ fn run_block_of_band<M: Machine>(
         (program_at walk.now.ops.now band.now.at) band.now.loops.0.items (part_of block.now) (assignment_of numbers.old)
         (M.state machine.old) (M.state machine.new) (M.touches machine.old) (M.touches machine.new)) }
     ensures numbers { OnOk result (numbers.new ≡ numbers.old) }
-    ensures cause { HasCause (M.faults machine.old) (M.faults machine.new) (IsErr result) }
-    ensures told { TellsFaults (M.faults machine.old) (M.faults machine.new) (IsErr result) }
-    ensures space { M.space machine.new ≡ M.space machine.old }
-    ensures setting { M.setting machine.new ≡ M.setting machine.old }
-    ensures kept { M.keeps machine.old machine.new }
+    ensures upheld { Upholds M.space M.setting M.keeps M.faults machine.old machine.new (IsErr result) }
 {
     if let Some(body) = straight_body(walk.ops, band.at) {
         return run_straight(walk, machine, band, body, block, numbers);
@@ -301,11 +276,7 @@ fn run_straight<M: Machine>(
     ensures run { OnOk result (IsPartRun walk.now.space.now walk.now.tree.now (M.setting machine.old)
         (program_at walk.now.ops.now band.now.at) band.now.loops.0.items (part_of block.now) (assignment_of numbers.now)
         (M.state machine.old) (M.state machine.new) (M.touches machine.old) (M.touches machine.new)) }
-    ensures cause { HasCause (M.faults machine.old) (M.faults machine.new) (IsErr result) }
-    ensures told { TellsFaults (M.faults machine.old) (M.faults machine.new) (IsErr result) }
-    ensures space { M.space machine.new ≡ M.space machine.old }
-    ensures setting { M.setting machine.new ≡ M.setting machine.old }
-    ensures kept { M.keeps machine.old machine.new }
+    ensures upheld { Upholds M.space M.setting M.keeps M.faults machine.old machine.new (IsErr result) }
 {
     let body = Body {
         loops: band.loops.0.as_slice(),
@@ -342,11 +313,7 @@ fn run_along<M: Machine>(
         (part_from (part_of block.now) d) (assignment_of numbers.old)
         (M.state machine.old) (M.state machine.new) (M.touches machine.old) (M.touches machine.new)) }
     ensures numbers { OnOk result (numbers.new ≡ numbers.old) }
-    ensures cause { HasCause (M.faults machine.old) (M.faults machine.new) (IsErr result) }
-    ensures told { TellsFaults (M.faults machine.old) (M.faults machine.new) (IsErr result) }
-    ensures space { M.space machine.new ≡ M.space machine.old }
-    ensures setting { M.setting machine.new ≡ M.setting machine.old }
-    ensures kept { M.keeps machine.old machine.new }
+    ensures upheld { Upholds M.space M.setting M.keeps M.faults machine.old machine.new (IsErr result) }
 {
     if d >= band.loops.0.len() {
         let _end = run_part(walk, machine, band.at, numbers)?;
@@ -386,11 +353,7 @@ fn run_turns<M: Machine>(
         (M.state machine.old) (M.state machine.new) (M.touches machine.old) (M.touches machine.new)) }
     ensures end { IfOk result (IsEnd walk.now.ops.now (head.at + 1)) }
     ensures numbers { OnOk result (numbers.new ≡ numbers.old) }
-    ensures cause { HasCause (M.faults machine.old) (M.faults machine.new) (IsErr result) }
-    ensures told { TellsFaults (M.faults machine.old) (M.faults machine.new) (IsErr result) }
-    ensures space { M.space machine.new ≡ M.space machine.old }
-    ensures setting { M.setting machine.new ≡ M.setting machine.old }
-    ensures kept { M.keeps machine.old machine.new }
+    ensures upheld { Upholds M.space M.setting M.keeps M.faults machine.old machine.new (IsErr result) }
 {
     let i = head.index;
     let extent = walk.space.extent(i);

@@ -1,9 +1,8 @@
 // Runs the terms of a band's node block by block.
 ghost use Rattle.std.specs.Prelude.{◌≡◌, ◌+◌, ◌*◌, ◌≤◌, ◌^◌, OnOk, IsErr};
-ghost use Rattle.tce_outside.specs.Fault.{HasCause, TellsFaults};
 ghost use Rattle.tce_walk.specs.BandSearch.{band_program};
 ghost use Rattle.tce_walk.specs.FoundTerms.{AreTermsOf};
-ghost use Rattle.tce_walk.specs.Machine.{assignment_of};
+ghost use Rattle.tce_walk.specs.Machine.{assignment_of, Upholds};
 ghost use Rattle.tce_walk.specs.Run.{AreKept, IsPart, RunsOver};
 ghost use Rattle.tce_walk.specs.TermRuns.{IsTermsRun};
 ghost use Rattle.tce_walk.specs.Terms.{touches_of_terms};
@@ -41,11 +40,7 @@ pub(crate) fn run_terms_of_band<M: Machine>(
     ensures run { OnOk result (IsTermsRun walk.now.space.now (M.setting machine.old)
         band.now.carrier band.now.loops.0.items terms.now.terms.items (assignment_of numbers.now)
         (M.state machine.old) (M.state machine.new) (M.touches machine.old) (M.touches machine.new)) }
-    ensures cause { HasCause (M.faults machine.old) (M.faults machine.new) (IsErr result) }
-    ensures told { TellsFaults (M.faults machine.old) (M.faults machine.new) (IsErr result) }
-    ensures space { M.space machine.new ≡ M.space machine.old }
-    ensures setting { M.setting machine.new ≡ M.setting machine.old }
-    ensures kept { M.keeps machine.old machine.new }
+    ensures upheld { Upholds M.space M.setting M.keeps M.faults machine.old machine.new (IsErr result) }
 {
     let sum = Combination {
         node: band.carrier,

@@ -1,7 +1,7 @@
 // Writing marked tiles back to their files.
 ghost use Rattle.std.specs.Prelude.{◌≡◌, ◌+◌, ◌^◌, ◌<◌, ◌≤◌, length, IfOk, OnOk, IsErr, IsTrue};
 ghost use Rattle.std.specs.Option.{ForSome};
-ghost use Rattle.tce_outside.specs.Fault.{HasCause, TellsFaults};
+ghost use Rattle.tce_outside.specs.Fault.{FaultReported};
 ghost use Rattle.tce_cache.specs.Frames.{HasTile, IsCleaned};
 
 use super::Cache;
@@ -66,8 +66,7 @@ impl Cache {
         ensures written { OnOk result (WritesRun self.old (D.files disk.old) (D.files disk.new)
             words.now run) }
         ensures others { OnlyWritableDiffers self.old (D.files disk.old) (D.files disk.new) }
-        ensures cause { HasCause (D.faults disk.old) (D.faults disk.new) (IsErr result) }
-        ensures told { TellsFaults (D.faults disk.old) (D.faults disk.new) (IsErr result) }
+        ensures fault_reported { FaultReported D.faults disk.old disk.new (IsErr result) }
     {
         let at = self.place(run.frame);
         let array = &self.arrays[run.array as usize];
@@ -127,8 +126,7 @@ impl Cache {
             (D.files disk.old) (D.files disk.new) words.now words.now) }
         ensures cache { IsCache self.new }
         ensures others { OnlyWritableDiffers self.old (D.files disk.old) (D.files disk.new) }
-        ensures cause { HasCause (D.faults disk.old) (D.faults disk.new) (IsErr result) }
-        ensures told { TellsFaults (D.faults disk.old) (D.faults disk.new) (IsErr result) }
+        ensures fault_reported { FaultReported D.faults disk.old disk.new (IsErr result) }
     {
         let held = self.table.frame(frame);
         if !held.marked {
@@ -158,8 +156,7 @@ impl Cache {
         ensures same { self.new ≡ with_held self.old self.new.held self.old.touches }
         ensures cache { IsCache self.new }
         ensures others { OnlyWritableDiffers self.old (D.files disk.old) (D.files disk.new) }
-        ensures cause { HasCause (D.faults disk.old) (D.faults disk.new) (IsErr result) }
-        ensures told { TellsFaults (D.faults disk.old) (D.faults disk.new) (IsErr result) }
+        ensures fault_reported { FaultReported D.faults disk.old disk.new (IsErr result) }
     {
         // The length of the block bounds all places.
         let _len = words.len();

@@ -19,14 +19,14 @@ returns-in_default-clause-exact g c = λ x told answer right other. inr refl
 pub returns-in_default-clause-same : goal.returns-in_default-clause-same
 returns-in_default-clause-same g c = c.size.ensures.same
 
-pub returns-in_default-clause-cause : goal.returns-in_default-clause-cause
-returns-in_default-clause-cause g c =
-    failed_after (g.D.Disk.faults c.args.disk.now) (g.D.Disk.faults c.args.disk.now) (g.D.Disk.faults c.size.new.self)
-    refl
-    c.in_default.ensures.cause
-
-pub returns-in_default-clause-told : goal.returns-in_default-clause-told
-returns-in_default-clause-told g c = λ none. absurd (none refl)
+pub returns-in_default-clause-fault_reported : goal.returns-in_default-clause-fault_reported
+returns-in_default-clause-fault_reported g c = record {
+  cause =
+      failed_after (g.D.Disk.faults c.args.disk.now) (g.D.Disk.faults c.args.disk.now) (g.D.Disk.faults c.size.new.self)
+      refl
+      c.in_default.ensures.fault_reported.cause;
+  quiet = λ none. absurd (none refl);
+}
 
 pub returns-in_default-size-clause-form : goal.returns-in_default-size-clause-form
 returns-in_default-size-clause-form g c = tt
@@ -43,14 +43,14 @@ returns-in_default-size-clause-exact g c x told =
 pub returns-in_default-size-clause-same : goal.returns-in_default-size-clause-same
 returns-in_default-size-clause-same g c = c.size.ensures.same
 
-pub returns-in_default-size-clause-cause : goal.returns-in_default-size-clause-cause
-returns-in_default-size-clause-cause g c =
-    no_cause (g.D.Disk.faults c.args.disk.now) (g.D.Disk.faults c.size.new.self)
-    (c.in-Ok.ensures.told false≢true)
-    no_file_is_no_disk_fault
-
-pub returns-in_default-size-clause-told : goal.returns-in_default-size-clause-told
-returns-in_default-size-clause-told g c = λ none. c.in-Ok.ensures.told false≢true
+pub returns-in_default-size-clause-fault_reported : goal.returns-in_default-size-clause-fault_reported
+returns-in_default-size-clause-fault_reported g c = record {
+  cause =
+      no_cause (g.D.Disk.faults c.args.disk.now) (g.D.Disk.faults c.size.new.self)
+      (c.in-Ok.ensures.fault_reported.quiet false≢true)
+      no_file_is_no_disk_fault;
+  quiet = λ none. c.in-Ok.ensures.fault_reported.quiet false≢true;
+}
 
 pub find_form-requires : goal.find_form-requires
 find_form-requires g c =
@@ -69,14 +69,14 @@ returns-in_default-find_form-clause-exact g c = λ x told answer right other. in
 pub returns-in_default-find_form-clause-same : goal.returns-in_default-find_form-clause-same
 returns-in_default-find_form-clause-same g c = c.find_form.ensures.same ∙ c.size.ensures.same
 
-pub returns-in_default-find_form-clause-cause : goal.returns-in_default-find_form-clause-cause
-returns-in_default-find_form-clause-cause g c =
-    failed_after (g.D.Disk.faults c.args.disk.now) (g.D.Disk.faults c.size.new.self) (g.D.Disk.faults c.find_form.new.disk)
-    (c.in-Ok.ensures.told false≢true)
-    c.in_default-find_form.ensures.cause
-
-pub returns-in_default-find_form-clause-told : goal.returns-in_default-find_form-clause-told
-returns-in_default-find_form-clause-told g c = λ none. absurd (none refl)
+pub returns-in_default-find_form-clause-fault_reported : goal.returns-in_default-find_form-clause-fault_reported
+returns-in_default-find_form-clause-fault_reported g c = record {
+  cause =
+      failed_after (g.D.Disk.faults c.args.disk.now) (g.D.Disk.faults c.size.new.self) (g.D.Disk.faults c.find_form.new.disk)
+      (c.in-Ok.ensures.fault_reported.quiet false≢true)
+      c.in_default-find_form.ensures.fault_reported.cause;
+  quiet = λ none. absurd (none refl);
+}
 
 pub returns-then-len-form_len-clause-form : goal.returns-then-len-form_len-clause-form
 returns-then-len-form_len-clause-form g c = tt
@@ -97,14 +97,14 @@ returns-then-len-form_len-clause-exact g c x told =
 pub returns-then-len-form_len-clause-same : goal.returns-then-len-form_len-clause-same
 returns-then-len-form_len-clause-same g c = c.find_form.ensures.same ∙ c.size.ensures.same
 
-pub returns-then-len-form_len-clause-cause : goal.returns-then-len-form_len-clause-cause
-returns-then-len-form_len-clause-cause g c =
-    no_cause (g.D.Disk.faults c.args.disk.now) (g.D.Disk.faults c.find_form.new.disk)
-    (c.in-Ok-find_form.ensures.told false≢true ∙ c.in-Ok.ensures.told false≢true)
-    (length_is_no_disk_fault c.in-Some.len)
-
-pub returns-then-len-form_len-clause-told : goal.returns-then-len-form_len-clause-told
-returns-then-len-form_len-clause-told g c = λ none. c.in-Ok-find_form.ensures.told false≢true ∙ c.in-Ok.ensures.told false≢true
+pub returns-then-len-form_len-clause-fault_reported : goal.returns-then-len-form_len-clause-fault_reported
+returns-then-len-form_len-clause-fault_reported g c = record {
+  cause =
+      no_cause (g.D.Disk.faults c.args.disk.now) (g.D.Disk.faults c.find_form.new.disk)
+      (c.in-Ok-find_form.ensures.fault_reported.quiet false≢true ∙ c.in-Ok.ensures.fault_reported.quiet false≢true)
+      (length_is_no_disk_fault c.in-Some.len);
+  quiet = λ none. c.in-Ok-find_form.ensures.fault_reported.quiet false≢true ∙ c.in-Ok.ensures.fault_reported.quiet false≢true;
+}
 
 pub slice_bounds-buffer-end : goal.slice_bounds-buffer-end
 slice_bounds-buffer-end g c = c.len.ensures.fits
@@ -130,14 +130,14 @@ returns-in_default-read_at-clause-exact g c = λ x told answer right other. inr 
 pub returns-in_default-read_at-clause-same : goal.returns-in_default-read_at-clause-same
 returns-in_default-read_at-clause-same g c = c.read_at.ensures.same ∙ c.find_form.ensures.same ∙ c.size.ensures.same
 
-pub returns-in_default-read_at-clause-cause : goal.returns-in_default-read_at-clause-cause
-returns-in_default-read_at-clause-cause g c =
-    failed_after (g.D.Disk.faults c.args.disk.now) (g.D.Disk.faults c.find_form.new.disk) (g.D.Disk.faults c.read_at.new.self)
-    (c.in-Ok-find_form.ensures.told false≢true ∙ c.in-Ok.ensures.told false≢true)
-    c.in_default-read_at.ensures.cause
-
-pub returns-in_default-read_at-clause-told : goal.returns-in_default-read_at-clause-told
-returns-in_default-read_at-clause-told g c = λ none. absurd (none refl)
+pub returns-in_default-read_at-clause-fault_reported : goal.returns-in_default-read_at-clause-fault_reported
+returns-in_default-read_at-clause-fault_reported g c = record {
+  cause =
+      failed_after (g.D.Disk.faults c.args.disk.now) (g.D.Disk.faults c.find_form.new.disk) (g.D.Disk.faults c.read_at.new.self)
+      (c.in-Ok-find_form.ensures.fault_reported.quiet false≢true ∙ c.in-Ok.ensures.fault_reported.quiet false≢true)
+      c.in_default-read_at.ensures.fault_reported.cause;
+  quiet = λ none. absurd (none refl);
+}
 
 pub returns-in-Some-first_difference-clause-form : goal.returns-in-Some-first_difference-clause-form
 returns-in-Some-first_difference-clause-form g c = tt
@@ -164,14 +164,14 @@ returns-in-Some-first_difference-clause-exact g c x told =
 pub returns-in-Some-first_difference-clause-same : goal.returns-in-Some-first_difference-clause-same
 returns-in-Some-first_difference-clause-same g c = c.read_at.ensures.same ∙ c.find_form.ensures.same ∙ c.size.ensures.same
 
-pub returns-in-Some-first_difference-clause-cause : goal.returns-in-Some-first_difference-clause-cause
-returns-in-Some-first_difference-clause-cause g c =
-    no_cause (g.D.Disk.faults c.args.disk.now) (g.D.Disk.faults c.read_at.new.self)
-    (c.in-Ok-read_at.ensures.told false≢true ∙ c.in-Ok-find_form.ensures.told false≢true ∙ c.in-Ok.ensures.told false≢true)
-    (header_is_no_disk_fault c.in-Some-first_difference.place)
-
-pub returns-in-Some-first_difference-clause-told : goal.returns-in-Some-first_difference-clause-told
-returns-in-Some-first_difference-clause-told g c = λ none. c.in-Ok-read_at.ensures.told false≢true ∙ c.in-Ok-find_form.ensures.told false≢true ∙ c.in-Ok.ensures.told false≢true
+pub returns-in-Some-first_difference-clause-fault_reported : goal.returns-in-Some-first_difference-clause-fault_reported
+returns-in-Some-first_difference-clause-fault_reported g c = record {
+  cause =
+      no_cause (g.D.Disk.faults c.args.disk.now) (g.D.Disk.faults c.read_at.new.self)
+      (c.in-Ok-read_at.ensures.fault_reported.quiet false≢true ∙ c.in-Ok-find_form.ensures.fault_reported.quiet false≢true ∙ c.in-Ok.ensures.fault_reported.quiet false≢true)
+      (header_is_no_disk_fault c.in-Some-first_difference.place);
+  quiet = λ none. c.in-Ok-read_at.ensures.fault_reported.quiet false≢true ∙ c.in-Ok-find_form.ensures.fault_reported.quiet false≢true ∙ c.in-Ok.ensures.fault_reported.quiet false≢true;
+}
 
 pub returns-in-None-clause-fault : goal.returns-in-None-clause-fault
 returns-in-None-clause-fault g c = tt
@@ -198,11 +198,11 @@ returns-in-None-clause-exact g c x told =
 pub returns-in-None-clause-same : goal.returns-in-None-clause-same
 returns-in-None-clause-same g c = c.read_at.ensures.same ∙ c.find_form.ensures.same ∙ c.size.ensures.same
 
-pub returns-in-None-clause-cause : goal.returns-in-None-clause-cause
-returns-in-None-clause-cause g c =
-    no_cause (g.D.Disk.faults c.args.disk.now) (g.D.Disk.faults c.read_at.new.self)
-    (c.in-Ok-read_at.ensures.told false≢true ∙ c.in-Ok-find_form.ensures.told false≢true ∙ c.in-Ok.ensures.told false≢true)
-    (form_is_no_disk_fault c.in-Ok-find_form.form)
-
-pub returns-in-None-clause-told : goal.returns-in-None-clause-told
-returns-in-None-clause-told g c = λ none. c.in-Ok-read_at.ensures.told false≢true ∙ c.in-Ok-find_form.ensures.told false≢true ∙ c.in-Ok.ensures.told false≢true
+pub returns-in-None-clause-fault_reported : goal.returns-in-None-clause-fault_reported
+returns-in-None-clause-fault_reported g c = record {
+  cause =
+      no_cause (g.D.Disk.faults c.args.disk.now) (g.D.Disk.faults c.read_at.new.self)
+      (c.in-Ok-read_at.ensures.fault_reported.quiet false≢true ∙ c.in-Ok-find_form.ensures.fault_reported.quiet false≢true ∙ c.in-Ok.ensures.fault_reported.quiet false≢true)
+      (form_is_no_disk_fault c.in-Ok-find_form.form);
+  quiet = λ none. c.in-Ok-read_at.ensures.fault_reported.quiet false≢true ∙ c.in-Ok-find_form.ensures.fault_reported.quiet false≢true ∙ c.in-Ok.ensures.fault_reported.quiet false≢true;
+}

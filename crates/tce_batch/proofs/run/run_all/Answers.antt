@@ -126,23 +126,23 @@ loop-number-preserved g c =
       told = told_more (g.D.Disk.files c.args.disk.now) (g.D.Disk.files c.loop-number.disk) (g.D.Disk.files c.run_formula.new.disk) c.args.batch.now number s at c.loop-number.invariant.told (c.in-Ok-run_formula.ensures.told s here);
       run = run_more c.args.budget c.args.batch.now number s (g.R.Room.takings c.args.room.now) (g.R.Room.takings c.loop-number.room) (g.R.Room.takings c.run_formula.new.room) text c.push_section-pushed.new.text.items c.in-Ok-run_formula.report at
           c.loop-number.invariant.run (c.in-Ok-run_formula.ensures.reported s here) (c.in-Ok-pushed.ensures ∙ ap (λ (xs : List ℕ). text ++ section_of (number + 1) xs) c.as_slice.ensures);
-      counted = answered_quiet _ _ c.in-Ok-run_formula.report _ refl c.in-Ok-run_formula.ensures.quiet ∙ c.loop-number.invariant.counted;
+      counted = answered_quiet _ _ c.in-Ok-run_formula.report _ refl c.in-Ok-run_formula.ensures.fault_reported.quiet ∙ c.loop-number.invariant.counted;
     }
 
-pub returns-in_default-pushed-clause-cause : goal.returns-in_default-pushed-clause-cause
-returns-in_default-pushed-clause-cause g c = cause_after _ _ _ c.loop-number.invariant.counted (cause_as _ _ (λ failed. absurd (cc)) c.in-Ok-run_formula.ensures.cause)
+pub returns-in_default-pushed-clause-fault_reported : goal.returns-in_default-pushed-clause-fault_reported
+returns-in_default-pushed-clause-fault_reported g c = record {
+  cause = cause_after _ _ _ c.loop-number.invariant.counted (cause_as _ _ (λ failed. absurd (cc)) c.in-Ok-run_formula.ensures.fault_reported.cause);
+  quiet = λ none. answered_quiet _ _ c.in-Ok-run_formula.report _ refl c.in-Ok-run_formula.ensures.fault_reported.quiet ∙ c.loop-number.invariant.counted;
+}
 
-pub returns-in_default-pushed-clause-quiet : goal.returns-in_default-pushed-clause-quiet
-returns-in_default-pushed-clause-quiet g c = λ none. answered_quiet _ _ c.in-Ok-run_formula.report _ refl c.in-Ok-run_formula.ensures.quiet ∙ c.loop-number.invariant.counted
+pub returns-in-Err-clause-fault_reported : goal.returns-in-Err-clause-fault_reported
+returns-in-Err-clause-fault_reported g c = record {
+  cause = cause_after _ _ _ c.loop-number.invariant.counted (cause_as _ _ (fault_of c.in-Err.fault _ refl) c.in-Err.ensures.fault_reported.cause);
+  quiet = λ none. c.in-Err.ensures.fault_reported.quiet (λ failed. none (fault_is c.in-Err.fault _ refl failed)) ∙ c.loop-number.invariant.counted;
+}
 
-pub returns-in-Err-clause-cause : goal.returns-in-Err-clause-cause
-returns-in-Err-clause-cause g c = cause_after _ _ _ c.loop-number.invariant.counted (cause_as _ _ (fault_of c.in-Err.fault _ refl) c.in-Err.ensures.cause)
-
-pub returns-in-Err-clause-quiet : goal.returns-in-Err-clause-quiet
-returns-in-Err-clause-quiet g c = λ none. c.in-Err.ensures.quiet (λ failed. none (fault_is c.in-Err.fault _ refl failed)) ∙ c.loop-number.invariant.counted
-
-pub returns-clause-cause : goal.returns-clause-cause
-returns-clause-cause g c = no_cause _ _ c.loop-number.invariant.counted (λ failed. failed)
-
-pub returns-clause-quiet : goal.returns-clause-quiet
-returns-clause-quiet g c = λ none. c.loop-number.invariant.counted
+pub returns-clause-fault_reported : goal.returns-clause-fault_reported
+returns-clause-fault_reported g c = record {
+  cause = no_cause _ _ c.loop-number.invariant.counted (λ failed. failed);
+  quiet = λ none. c.loop-number.invariant.counted;
+}

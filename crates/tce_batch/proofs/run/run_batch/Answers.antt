@@ -19,11 +19,14 @@ returns-in_err-plans-clause-left g c =
     let p = err_from_is_err_and c.from_residual.result c.from_residual.ensures.1 in
     rw (p.1, p.2) (left_before (g.D.Disk.files c.args.disk.now) (g.D.Disk.files c.args.disk.now) c.args.batch.now c.args.budget r.formula r.fault (g.R.Room.takings c.args.room.now) refl why.1 why.2)
 
-pub returns-in_err-plans-clause-cause : goal.returns-in_err-plans-clause-cause
-returns-in_err-plans-clause-cause g c =
-    let why = c.in_err-plans.ensures.refused (g.D.Disk.files c.args.disk.now) in
-    let p = err_from_is_err_and c.from_residual.result c.from_residual.ensures.1 in
-    rw (p.1, p.2) (record { later = omega arith; rose = λ failed. absurd (why.0 failed) })
+pub returns-in_err-plans-clause-fault_reported : goal.returns-in_err-plans-clause-fault_reported
+returns-in_err-plans-clause-fault_reported g c = record {
+  cause =
+      let why = c.in_err-plans.ensures.refused (g.D.Disk.files c.args.disk.now) in
+      let p = err_from_is_err_and c.from_residual.result c.from_residual.ensures.1 in
+      rw (p.1, p.2) (record { later = omega arith; rose = λ failed. absurd (why.0 failed) });
+  quiet = λ none. refl;
+}
 
 pub returns-in_err-plans-clause-exactly : goal.returns-in_err-plans-clause-exactly
 returns-in_err-plans-clause-exactly g c =
@@ -56,11 +59,8 @@ returns-clause-left g c = c.run_planned-ran.ensures.left
 pub returns-clause-others : goal.returns-clause-others
 returns-clause-others g c = c.run_planned-ran.ensures.others
 
-pub returns-clause-cause : goal.returns-clause-cause
-returns-clause-cause g c = c.run_planned-ran.ensures.cause
-
-pub returns-clause-quiet : goal.returns-clause-quiet
-returns-clause-quiet g c = c.run_planned-ran.ensures.quiet
+pub returns-clause-fault_reported : goal.returns-clause-fault_reported
+returns-clause-fault_reported g c = c.run_planned-ran.ensures.fault_reported
 
 pub returns-clause-affordable : goal.returns-clause-affordable
 returns-clause-affordable g c = on_ok_as c.run_planned-ran.result c.in_ok-plans.ensures.affordable
@@ -76,9 +76,6 @@ returns-in_err-plans-clause-affordable g c = IfOk-from_err c.from_residual.resul
 
 pub returns-in_err-plans-clause-sources : goal.returns-in_err-plans-clause-sources
 returns-in_err-plans-clause-sources g c = IfOk-from_err c.from_residual.result _ c.from_residual.ensures.0
-
-pub returns-in_err-plans-clause-quiet : goal.returns-in_err-plans-clause-quiet
-returns-in_err-plans-clause-quiet g c = λ none. refl
 
 pub run_planned-ran-requires-clause-budget : goal.run_planned-ran-requires-clause-budget
 run_planned-ran-requires-clause-budget g c = c.requires

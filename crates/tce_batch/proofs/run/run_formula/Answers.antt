@@ -52,20 +52,17 @@ returns-in_default-clause-no_half g c = λ s at. same_is_no_half s (g.D.Disk.fil
 pub returns-in_default-clause-others : goal.returns-in_default-clause-others
 returns-in_default-clause-others g c = λ s at. refl
 
-pub returns-in_default-clause-cause : goal.returns-in_default-clause-cause
-returns-in_default-clause-cause g c = no_cause _ _ refl (wanting _ refl)
-
-pub returns-in_default-clause-quiet : goal.returns-in_default-clause-quiet
-returns-in_default-clause-quiet g c = λ none. refl
+pub returns-in_default-clause-fault_reported : goal.returns-in_default-clause-fault_reported
+returns-in_default-clause-fault_reported g c = record {
+  cause = no_cause _ _ refl (wanting _ refl);
+  quiet = λ none. refl;
+}
 
 pub returns-clause-unchanged : goal.returns-clause-unchanged
 returns-clause-unchanged g c = c.run_kept-ran.ensures.unchanged
 
-pub returns-clause-cause : goal.returns-clause-cause
-returns-clause-cause g c = c.run_kept-ran.ensures.cause
-
-pub returns-clause-quiet : goal.returns-clause-quiet
-returns-clause-quiet g c = c.run_kept-ran.ensures.quiet
+pub returns-clause-fault_reported : goal.returns-clause-fault_reported
+returns-clause-fault_reported g c = c.run_kept-ran.ensures.fault_reported
 
 pub returns-clause-others : goal.returns-clause-others
 returns-clause-others g c = λ s at.

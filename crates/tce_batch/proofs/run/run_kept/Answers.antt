@@ -51,11 +51,11 @@ pub returns-in-Ok-opened_forms-clause-others : goal.returns-in-Ok-opened_forms-c
 returns-in-Ok-opened_forms-clause-others g c =
     subst (λ (told : Option Files). ResultAlone c.args.spec.now told (g.D.Disk.files c.run_by.new.disk)) c.in-Ok-opened_forms.ensures.same c.run_by.ensures.others
 
-pub returns-in-Ok-opened_forms-clause-cause : goal.returns-in-Ok-opened_forms-clause-cause
-returns-in-Ok-opened_forms-clause-cause g c = cause_since _ _ _ c.in-Ok-opened_forms.ensures.cause.later c.run_by.ensures.cause
-
-pub returns-in-Ok-opened_forms-clause-quiet : goal.returns-in-Ok-opened_forms-clause-quiet
-returns-in-Ok-opened_forms-clause-quiet g c = λ none. c.run_by.ensures.quiet none ∙ answered_quiet _ _ c.in-Ok-opened_forms.forms _ refl c.in-Ok-opened_forms.ensures.quiet
+pub returns-in-Ok-opened_forms-clause-fault_reported : goal.returns-in-Ok-opened_forms-clause-fault_reported
+returns-in-Ok-opened_forms-clause-fault_reported g c = record {
+  cause = cause_since _ _ _ c.in-Ok-opened_forms.ensures.fault_reported.cause.later c.run_by.ensures.fault_reported.cause;
+  quiet = λ none. c.run_by.ensures.fault_reported.quiet none ∙ answered_quiet _ _ c.in-Ok-opened_forms.forms _ refl c.in-Ok-opened_forms.ensures.fault_reported.quiet;
+}
 
 pub returns-in-Err-clause-unchanged : goal.returns-in-Err-clause-unchanged
 returns-in-Err-clause-unchanged g c = inr c.in-Err.ensures.same
@@ -66,11 +66,11 @@ returns-in-Err-clause-no_half g c = same_is_no_half c.args.spec.now (g.D.Disk.fi
 pub returns-in-Err-clause-others : goal.returns-in-Err-clause-others
 returns-in-Err-clause-others g c = ap (λ (told : Option Files). others (file_of c.args.spec.now c.args.spec.now.result) told) c.in-Err.ensures.same
 
-pub returns-in-Err-clause-cause : goal.returns-in-Err-clause-cause
-returns-in-Err-clause-cause g c = cause_as _ _ (same_fault c.in-Err.fault _ _ refl refl) c.in-Err.ensures.cause
-
-pub returns-in-Err-clause-quiet : goal.returns-in-Err-clause-quiet
-returns-in-Err-clause-quiet g c = λ none. c.in-Err.ensures.quiet (λ failed. none (same_fault c.in-Err.fault _ _ refl refl failed))
+pub returns-in-Err-clause-fault_reported : goal.returns-in-Err-clause-fault_reported
+returns-in-Err-clause-fault_reported g c = record {
+  cause = cause_as _ _ (same_fault c.in-Err.fault _ _ refl refl) c.in-Err.ensures.fault_reported.cause;
+  quiet = λ none. c.in-Err.ensures.fault_reported.quiet (λ failed. none (same_fault c.in-Err.fault _ _ refl refl failed));
+}
 
 pub returns-in_default-clause-unchanged : goal.returns-in_default-clause-unchanged
 returns-in_default-clause-unchanged g c = inr refl
@@ -84,11 +84,11 @@ returns-in_default-clause-no_half g c = same_is_no_half c.args.spec.now (g.D.Dis
 pub returns-in_default-clause-others : goal.returns-in_default-clause-others
 returns-in_default-clause-others g c = refl
 
-pub returns-in_default-clause-cause : goal.returns-in_default-clause-cause
-returns-in_default-clause-cause g c = no_cause _ _ refl (wanting _ refl)
-
-pub returns-in_default-clause-quiet : goal.returns-in_default-clause-quiet
-returns-in_default-clause-quiet g c = λ none. refl
+pub returns-in_default-clause-fault_reported : goal.returns-in_default-clause-fault_reported
+returns-in_default-clause-fault_reported g c = record {
+  cause = no_cause _ _ refl (wanting _ refl);
+  quiet = λ none. refl;
+}
 
 pub run_by-requires-clause-enough : goal.run_by-requires-clause-enough
 run_by-requires-clause-enough g c = c.requires.affordable.enough

@@ -91,15 +91,15 @@ returns-in_err-open_sources-clause-reported g c = IfOk-from_err c.from_residual.
 pub returns-in_err-open_sources-clause-sources : goal.returns-in_err-open_sources-clause-sources
 returns-in_err-open_sources-clause-sources g c = IfOk-from_err c.from_residual.result _ c.from_residual.ensures.0
 
-pub returns-in_err-open_sources-clause-cause : goal.returns-in_err-open_sources-clause-cause
-returns-in_err-open_sources-clause-cause g c =
-    let p = err_from_is_err_and c.from_residual.result c.from_residual.ensures.1 in
-    rw (p.1, p.2) c.in_err-open_sources.ensures.cause
-
-pub returns-in_err-open_sources-clause-quiet : goal.returns-in_err-open_sources-clause-quiet
-returns-in_err-open_sources-clause-quiet g c =
-    let p = err_from_is_err_and c.from_residual.result c.from_residual.ensures.1 in
-    rw (p.1, p.2) c.in_err-open_sources.ensures.quiet
+pub returns-in_err-open_sources-clause-fault_reported : goal.returns-in_err-open_sources-clause-fault_reported
+returns-in_err-open_sources-clause-fault_reported g c = record {
+  cause =
+      let p = err_from_is_err_and c.from_residual.result c.from_residual.ensures.1 in
+      rw (p.1, p.2) c.in_err-open_sources.ensures.fault_reported.cause;
+  quiet =
+      let p = err_from_is_err_and c.from_residual.result c.from_residual.ensures.1 in
+      rw (p.1, p.2) c.in_err-open_sources.ensures.fault_reported.quiet;
+}
 
 pub returns-in_err-text-clause-told : goal.returns-in_err-text-clause-told
 returns-in_err-text-clause-told g c = IfOk-from_err c.from_residual-in_err-text.result _ c.from_residual-in_err-text.ensures.0
@@ -110,22 +110,22 @@ returns-in_err-text-clause-reported g c = IfOk-from_err c.from_residual-in_err-t
 pub returns-in_err-text-clause-sources : goal.returns-in_err-text-clause-sources
 returns-in_err-text-clause-sources g c = IfOk-from_err c.from_residual-in_err-text.result _ c.from_residual-in_err-text.ensures.0
 
-pub returns-in_err-text-clause-cause : goal.returns-in_err-text-clause-cause
-returns-in_err-text-clause-cause g c =
-    let p = err_from_is_err_and c.from_residual-in_err-text.result c.from_residual-in_err-text.ensures.1 in
-    rw (p.1, p.2) (cause_since _ _ _ c.in_ok-open_sources.ensures.cause.later c.in_err-text.ensures.cause)
+pub returns-in_err-text-clause-fault_reported : goal.returns-in_err-text-clause-fault_reported
+returns-in_err-text-clause-fault_reported g c = record {
+  cause =
+      let p = err_from_is_err_and c.from_residual-in_err-text.result c.from_residual-in_err-text.ensures.1 in
+      rw (p.1, p.2) (cause_since _ _ _ c.in_ok-open_sources.ensures.fault_reported.cause.later c.in_err-text.ensures.fault_reported.cause);
+  quiet =
+      let p = err_from_is_err_and c.from_residual-in_err-text.result c.from_residual-in_err-text.ensures.1 in
+      rw (p.1, p.2) (λ none. c.in_err-text.ensures.fault_reported.quiet none ∙ c.in_ok-open_sources.ensures.fault_reported.quiet (λ failed. absurd failed));
+}
 
-pub returns-in_err-text-clause-quiet : goal.returns-in_err-text-clause-quiet
-returns-in_err-text-clause-quiet g c =
-    let p = err_from_is_err_and c.from_residual-in_err-text.result c.from_residual-in_err-text.ensures.1 in
-    rw (p.1, p.2) (λ none. c.in_err-text.ensures.quiet none ∙ c.in_ok-open_sources.ensures.quiet (λ failed. absurd failed))
-
-pub returns-clause-cause : goal.returns-clause-cause
-returns-clause-cause g c =
-    cause_since _ _ _ c.in_ok-open_sources.ensures.cause.later (cause_as _ _ (λ failed. absurd failed) c.in_ok-text.ensures.cause)
-
-pub returns-clause-quiet : goal.returns-clause-quiet
-returns-clause-quiet g c = λ none. c.in_ok-text.ensures.quiet (λ failed. absurd failed) ∙ c.in_ok-open_sources.ensures.quiet (λ failed. absurd failed)
+pub returns-clause-fault_reported : goal.returns-clause-fault_reported
+returns-clause-fault_reported g c = record {
+  cause =
+      cause_since _ _ _ c.in_ok-open_sources.ensures.fault_reported.cause.later (cause_as _ _ (λ failed. absurd failed) c.in_ok-text.ensures.fault_reported.cause);
+  quiet = λ none. c.in_ok-text.ensures.fault_reported.quiet (λ failed. absurd failed) ∙ c.in_ok-open_sources.ensures.fault_reported.quiet (λ failed. absurd failed);
+}
 
 pub run_all-requires-clause-budget : goal.run_all-requires-clause-budget
 run_all-requires-clause-budget g c = c.requires.budget

@@ -33,7 +33,7 @@ loop-t-preserved g c =
     let same : c.as_slice-t-items.result.now ≡ operands c.args.spec.now = c.as_slice-t-items.ensures.value ∙ c.operands-operands.ensures in
     let t = get_or c.as_slice-t-items.result.now c.loop-t.t-index 0 in record {
       same = c.open_source.ensures.same ∙ c.loop-t.invariant.same;
-      counted = answered_quiet _ _ c.in_ok-open_source.field-0 _ refl c.in_ok-open_source.ensures.quiet ∙ c.loop-t.invariant.counted;
+      counted = answered_quiet _ _ c.in_ok-open_source.field-0 _ refl c.in_ok-open_source.ensures.fault_reported.quiet ∙ c.loop-t.invariant.counted;
       opened = sources_more (g.D.Disk.files c.args.disk.now) (g.D.Disk.files c.loop-t.disk) c.args.spec.now (results_before c.args.batch.now c.args.number) c.loop-t.t-index t
           (ap (λ (ts : List ℕ). get_or ts c.loop-t.t-index 0) same) c.loop-t.invariant.same c.loop-t.invariant.opened c.in_ok-open_source.ensures.opened;
     }

@@ -34,11 +34,11 @@ returns-in_err-read_at-clause-others g c = λ p out. refl
 pub returns-in_err-read_at-clause-same : goal.returns-in_err-read_at-clause-same
 returns-in_err-read_at-clause-same g c = c.read_at.ensures.same
 
-pub returns-in_err-read_at-clause-cause : goal.returns-in_err-read_at-clause-cause
-returns-in_err-read_at-clause-cause g c = cause_of (g.D.Disk.faults c.args.disk.now) (g.D.Disk.faults c.read_at.new.self) c.in_err-read_at.ensures.cause
-
-pub returns-in_err-read_at-clause-told : goal.returns-in_err-read_at-clause-told
-returns-in_err-read_at-clause-told g c = λ none. absurd (none c.from_residual.ensures.0)
+pub returns-in_err-read_at-clause-fault_reported : goal.returns-in_err-read_at-clause-fault_reported
+returns-in_err-read_at-clause-fault_reported g c = record {
+  cause = cause_of (g.D.Disk.faults c.args.disk.now) (g.D.Disk.faults c.read_at.new.self) c.in_err-read_at.ensures.fault_reported.cause;
+  quiet = λ none. absurd (none c.from_residual.ensures.0);
+}
 
 pub load_piece-requires-clause-whole : goal.load_piece-requires-clause-whole
 load_piece-requires-clause-whole g c = (piece_words c.args.array.now.form c.args.span.n (length c.read_at.new.out) (c.read_at.auto.out ∙ c.requires.whole)).0
@@ -66,8 +66,5 @@ returns-clause-others g c = others_loaded c.args.array.now.form c.args.span.n c.
 pub returns-clause-same : goal.returns-clause-same
 returns-clause-same g c = c.read_at.ensures.same
 
-pub returns-clause-cause : goal.returns-clause-cause
-returns-clause-cause g c = c.in_ok-read_at.ensures.cause
-
-pub returns-clause-told : goal.returns-clause-told
-returns-clause-told g c = c.in_ok-read_at.ensures.told
+pub returns-clause-fault_reported : goal.returns-clause-fault_reported
+returns-clause-fault_reported g c = c.in_ok-read_at.ensures.fault_reported

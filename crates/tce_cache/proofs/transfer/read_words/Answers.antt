@@ -67,7 +67,7 @@ loop-done-preserved g c =
       done = omega (arith, c.min-count.ensures);
       len = read.len ∙ before.len;
       files = read.same ∙ before.files;
-      counted = read.told false≢true ∙ before.counted;
+      counted = read.fault_reported.quiet false≢true ∙ before.counted;
       read = λ x told. words_joined c.args.array.now x c.args.span.from c.args.span.at c.loop-done.done c.min-count.result c.loop-done.words c.read_piece.new.words (before.read x told) (read.read x (before.files ∙ told)) read.others;
       others = others_joined c.args.span.at c.loop-done.done c.min-count.result c.args.span.n c.args.words.now c.loop-done.words c.read_piece.new.words (omega (arith, c.min-count.ensures)) before.others read.others;
     }
@@ -85,11 +85,11 @@ returns-in_err-read_piece-clause-others g c =
 pub returns-in_err-read_piece-clause-same : goal.returns-in_err-read_piece-clause-same
 returns-in_err-read_piece-clause-same g c = c.read_piece.ensures.same ∙ c.loop-done.invariant.files
 
-pub returns-in_err-read_piece-clause-cause : goal.returns-in_err-read_piece-clause-cause
-returns-in_err-read_piece-clause-cause g c = failed_after (g.D.Disk.faults c.args.disk.now) (g.D.Disk.faults c.loop-done.disk) (g.D.Disk.faults c.read_piece.new.disk) c.loop-done.invariant.counted c.in_err-read_piece.ensures.cause
-
-pub returns-in_err-read_piece-clause-told : goal.returns-in_err-read_piece-clause-told
-returns-in_err-read_piece-clause-told g c = λ none. absurd (none c.from_residual.ensures.0)
+pub returns-in_err-read_piece-clause-fault_reported : goal.returns-in_err-read_piece-clause-fault_reported
+returns-in_err-read_piece-clause-fault_reported g c = record {
+  cause = failed_after (g.D.Disk.faults c.args.disk.now) (g.D.Disk.faults c.loop-done.disk) (g.D.Disk.faults c.read_piece.new.disk) c.loop-done.invariant.counted c.in_err-read_piece.ensures.fault_reported.cause;
+  quiet = λ none. absurd (none c.from_residual.ensures.0);
+}
 
 pub returns-clause-read : goal.returns-clause-read
 returns-clause-read g c = λ x told k l. c.loop-done.invariant.read x told k (omega (arith, l, c.loop-done-test.false))
@@ -103,8 +103,8 @@ returns-clause-others g c = c.loop-done.invariant.others
 pub returns-clause-same : goal.returns-clause-same
 returns-clause-same g c = c.loop-done.invariant.files
 
-pub returns-clause-cause : goal.returns-clause-cause
-returns-clause-cause g c = no_cause (g.D.Disk.faults c.args.disk.now) (g.D.Disk.faults c.loop-done.disk) c.loop-done.invariant.counted false≢true
-
-pub returns-clause-told : goal.returns-clause-told
-returns-clause-told g c = λ _. c.loop-done.invariant.counted
+pub returns-clause-fault_reported : goal.returns-clause-fault_reported
+returns-clause-fault_reported g c = record {
+  cause = no_cause (g.D.Disk.faults c.args.disk.now) (g.D.Disk.faults c.loop-done.disk) c.loop-done.invariant.counted false≢true;
+  quiet = λ _. c.loop-done.invariant.counted;
+}

@@ -40,11 +40,11 @@ returns-in_err-write_at-clause-written g c = IfOk-from_err c.from_residual.resul
 pub returns-in_err-write_at-clause-others : goal.returns-in_err-write_at-clause-others
 returns-in_err-write_at-clause-others g c = subst (λ name. others name (g.D.Disk.files c.write_at.new.self) ≡ others name (g.D.Disk.files c.args.disk.now)) c.as_str.ensures.value c.write_at.ensures.others
 
-pub returns-in_err-write_at-clause-cause : goal.returns-in_err-write_at-clause-cause
-returns-in_err-write_at-clause-cause g c = cause_of (g.D.Disk.faults c.args.disk.now) (g.D.Disk.faults c.write_at.new.self) c.in_err-write_at.ensures.cause
-
-pub returns-in_err-write_at-clause-told : goal.returns-in_err-write_at-clause-told
-returns-in_err-write_at-clause-told g c = λ none. absurd (none c.from_residual.ensures.0)
+pub returns-in_err-write_at-clause-fault_reported : goal.returns-in_err-write_at-clause-fault_reported
+returns-in_err-write_at-clause-fault_reported g c = record {
+  cause = cause_of (g.D.Disk.faults c.args.disk.now) (g.D.Disk.faults c.write_at.new.self) c.in_err-write_at.ensures.fault_reported.cause;
+  quiet = λ none. absurd (none c.from_residual.ensures.0);
+}
 
 pub returns-clause-written : goal.returns-clause-written
 returns-clause-written g c x told y now =
@@ -81,8 +81,5 @@ returns-in_err-write_at-clause-begins g c =
 pub returns-clause-others : goal.returns-clause-others
 returns-clause-others g c = subst (λ name. others name (g.D.Disk.files c.write_at.new.self) ≡ others name (g.D.Disk.files c.args.disk.now)) c.as_str.ensures.value c.write_at.ensures.others
 
-pub returns-clause-cause : goal.returns-clause-cause
-returns-clause-cause g c = c.in_ok-write_at.ensures.cause
-
-pub returns-clause-told : goal.returns-clause-told
-returns-clause-told g c = c.in_ok-write_at.ensures.told
+pub returns-clause-fault_reported : goal.returns-clause-fault_reported
+returns-clause-fault_reported g c = c.in_ok-write_at.ensures.fault_reported

@@ -71,7 +71,7 @@ loop-done-preserved g c =
       done = omega (arith, c.min-count.ensures);
       others = piece.others ∙ before.others;
       begins = piece.begins ∙ before.begins;
-      counted = piece.told false≢true ∙ before.counted;
+      counted = piece.fault_reported.quiet false≢true ∙ before.counted;
       written = λ x told y now.
           let middle = told_before c.args.array.now.file.bytes _ _ y piece.others now in
           written_joined c.args.array.now x middle.0 y c.args.span.from c.args.span.at c.loop-done.done c.min-count.result c.args.words.now
@@ -87,11 +87,11 @@ returns-in_err-write_piece-clause-others g c = c.write_piece.ensures.others ∙ 
 pub returns-in_err-write_piece-clause-begins : goal.returns-in_err-write_piece-clause-begins
 returns-in_err-write_piece-clause-begins g c = c.write_piece.ensures.begins ∙ c.loop-done.invariant.begins
 
-pub returns-in_err-write_piece-clause-cause : goal.returns-in_err-write_piece-clause-cause
-returns-in_err-write_piece-clause-cause g c = failed_after (g.D.Disk.faults c.args.disk.now) (g.D.Disk.faults c.loop-done.disk) (g.D.Disk.faults c.write_piece.new.disk) c.loop-done.invariant.counted c.in_err-write_piece.ensures.cause
-
-pub returns-in_err-write_piece-clause-told : goal.returns-in_err-write_piece-clause-told
-returns-in_err-write_piece-clause-told g c = λ none. absurd (none c.from_residual.ensures.0)
+pub returns-in_err-write_piece-clause-fault_reported : goal.returns-in_err-write_piece-clause-fault_reported
+returns-in_err-write_piece-clause-fault_reported g c = record {
+  cause = failed_after (g.D.Disk.faults c.args.disk.now) (g.D.Disk.faults c.loop-done.disk) (g.D.Disk.faults c.write_piece.new.disk) c.loop-done.invariant.counted c.in_err-write_piece.ensures.fault_reported.cause;
+  quiet = λ none. absurd (none c.from_residual.ensures.0);
+}
 
 pub returns-clause-written : goal.returns-clause-written
 returns-clause-written g c x told y now =
@@ -104,8 +104,8 @@ returns-clause-others g c = c.loop-done.invariant.others
 pub returns-clause-begins : goal.returns-clause-begins
 returns-clause-begins g c = c.loop-done.invariant.begins
 
-pub returns-clause-cause : goal.returns-clause-cause
-returns-clause-cause g c = no_cause (g.D.Disk.faults c.args.disk.now) (g.D.Disk.faults c.loop-done.disk) c.loop-done.invariant.counted false≢true
-
-pub returns-clause-told : goal.returns-clause-told
-returns-clause-told g c = λ _. c.loop-done.invariant.counted
+pub returns-clause-fault_reported : goal.returns-clause-fault_reported
+returns-clause-fault_reported g c = record {
+  cause = no_cause (g.D.Disk.faults c.args.disk.now) (g.D.Disk.faults c.loop-done.disk) c.loop-done.invariant.counted false≢true;
+  quiet = λ _. c.loop-done.invariant.counted;
+}

@@ -18,20 +18,11 @@ run_sum-requires-clause-nest g c = c.requires.nest
 pub returns-in_default-clause-changed : goal.returns-in_default-clause-changed
 returns-in_default-clause-changed g c = c.run_sum.ensures.changed
 
-pub returns-in_default-clause-kept : goal.returns-in_default-clause-kept
-returns-in_default-clause-kept g c = c.run_sum.ensures.kept
+pub returns-in_default-clause-upheld : goal.returns-in_default-clause-upheld
+returns-in_default-clause-upheld g c = c.run_sum.ensures.upheld
 
 pub returns-in_default-clause-nest : goal.returns-in_default-clause-nest
 returns-in_default-clause-nest g c = c.run_sum.ensures.nest
-
-pub returns-in_default-clause-same : goal.returns-in_default-clause-same
-returns-in_default-clause-same g c = c.run_sum.ensures.same
-
-pub returns-in_default-clause-cause : goal.returns-in_default-clause-cause
-returns-in_default-clause-cause g c = c.run_sum.ensures.cause
-
-pub returns-in_default-clause-told : goal.returns-in_default-clause-told
-returns-in_default-clause-told g c = c.run_sum.ensures.told
 
 pub run_pair-requires-clause-at : goal.run_pair-requires-clause-at
 run_pair-requires-clause-at g c = c.requires.at
@@ -51,20 +42,11 @@ run_pair-requires-clause-nest g c = c.requires.nest
 pub returns-in-None-clause-changed : goal.returns-in-None-clause-changed
 returns-in-None-clause-changed g c = c.run_pair.ensures.changed
 
-pub returns-in-None-clause-kept : goal.returns-in-None-clause-kept
-returns-in-None-clause-kept g c = c.run_pair.ensures.kept
+pub returns-in-None-clause-upheld : goal.returns-in-None-clause-upheld
+returns-in-None-clause-upheld g c = c.run_pair.ensures.upheld
 
 pub returns-in-None-clause-nest : goal.returns-in-None-clause-nest
 returns-in-None-clause-nest g c = c.run_pair.ensures.nest
-
-pub returns-in-None-clause-same : goal.returns-in-None-clause-same
-returns-in-None-clause-same g c = c.run_pair.ensures.same
-
-pub returns-in-None-clause-cause : goal.returns-in-None-clause-cause
-returns-in-None-clause-cause g c = c.run_pair.ensures.cause
-
-pub returns-in-None-clause-told : goal.returns-in-None-clause-told
-returns-in-None-clause-told g c = c.run_pair.ensures.told
 
 pub run_joined-requires-clause-at : goal.run_joined-requires-clause-at
 run_joined-requires-clause-at g c = c.requires.at
@@ -84,17 +66,8 @@ run_joined-requires-clause-nest g c = c.requires.nest
 pub returns-in-Some-sum-clause-changed : goal.returns-in-Some-sum-clause-changed
 returns-in-Some-sum-clause-changed g c = c.run_joined.ensures.changed
 
-pub returns-in-Some-sum-clause-kept : goal.returns-in-Some-sum-clause-kept
-returns-in-Some-sum-clause-kept g c = c.run_joined.ensures.kept
+pub returns-in-Some-sum-clause-upheld : goal.returns-in-Some-sum-clause-upheld
+returns-in-Some-sum-clause-upheld g c = c.run_joined.ensures.upheld
 
 pub returns-in-Some-sum-clause-nest : goal.returns-in-Some-sum-clause-nest
 returns-in-Some-sum-clause-nest g c = c.run_joined.ensures.nest
-
-pub returns-in-Some-sum-clause-same : goal.returns-in-Some-sum-clause-same
-returns-in-Some-sum-clause-same g c = c.run_joined.ensures.same
-
-pub returns-in-Some-sum-clause-cause : goal.returns-in-Some-sum-clause-cause
-returns-in-Some-sum-clause-cause g c = c.run_joined.ensures.cause
-
-pub returns-in-Some-sum-clause-told : goal.returns-in-Some-sum-clause-told
-returns-in-Some-sum-clause-told g c = c.run_joined.ensures.told

@@ -50,8 +50,8 @@ run_begun-requires-clause-nest g c = c.requires.nest
 pub returns-clause-changed : goal.returns-clause-changed
 returns-clause-changed g c = c.run_begun.ensures.changed
 
-pub returns-clause-kept : goal.returns-clause-kept
-returns-clause-kept g c = c.run_begun.ensures.kept
+pub returns-clause-upheld : goal.returns-clause-upheld
+returns-clause-upheld g c = c.run_begun.ensures.upheld
 
 pub returns-clause-nest : goal.returns-clause-nest
 returns-clause-nest g c = c.run_begun.ensures.nest
@@ -63,12 +63,3 @@ returns-clause-others g c =
 
 pub returns-clause-position : goal.returns-clause-position
 returns-clause-position g c = c.begin_block.ensures.position
-
-pub returns-clause-same : goal.returns-clause-same
-returns-clause-same g c = c.run_begun.ensures.same
-
-pub returns-clause-cause : goal.returns-clause-cause
-returns-clause-cause g c = c.run_begun.ensures.cause
-
-pub returns-clause-told : goal.returns-clause-told
-returns-clause-told g c = c.run_begun.ensures.told

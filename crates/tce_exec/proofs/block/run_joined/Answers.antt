@@ -58,7 +58,7 @@ join_turns-requires-clause-own g c =
     let a : Assignment = assignment_of c.args.at.now.numbers.now in
     let part : Part = part_of c.args.at.now.block.now in
     let h : IsAtBlock x c.args.at.now.tail.now a part = c.requires.at in
-    let ready = operands_ready x y c.args.at.now.tail.now a part c.args.pairing.now.right.now c.args.pairing.now.out (slice_index c.args.first.now.numbers) c.pair_windows.new.windows h c.in_ok-pair_windows.ensures.kept c.in_ok-pair_windows.ensures.read
+    let ready = operands_ready x y c.args.at.now.tail.now a part c.args.pairing.now.right.now c.args.pairing.now.out (slice_index c.args.first.now.numbers) c.pair_windows.new.windows h c.in_ok-pair_windows.ensures.upheld.kept c.in_ok-pair_windows.ensures.read
     c.requires.first c.requires.right c.in_ok-pair_windows.ensures.windows in
     let own = slot_places_ready y c.args.at.now.tail.now a part c.args.pairing.now.right.now c.args.pairing.now.out (slice_index c.args.first.now.numbers) c.pair_windows.new.windows.left c.pair_windows.new.windows.right c.node_window.new.window ready
     c.requires.first c.requires.joined c.node_window.ensures in
@@ -71,7 +71,7 @@ join_turns-requires-clause-out g c =
     let a : Assignment = assignment_of c.args.at.now.numbers.now in
     let part : Part = part_of c.args.at.now.block.now in
     let h : IsAtBlock x c.args.at.now.tail.now a part = c.requires.at in
-    let ready = operands_ready x y c.args.at.now.tail.now a part c.args.pairing.now.right.now c.args.pairing.now.out (slice_index c.args.first.now.numbers) c.pair_windows.new.windows h c.in_ok-pair_windows.ensures.kept c.in_ok-pair_windows.ensures.read
+    let ready = operands_ready x y c.args.at.now.tail.now a part c.args.pairing.now.right.now c.args.pairing.now.out (slice_index c.args.first.now.numbers) c.pair_windows.new.windows h c.in_ok-pair_windows.ensures.upheld.kept c.in_ok-pair_windows.ensures.read
     c.requires.first c.requires.right c.in_ok-pair_windows.ensures.windows in
     let places = sum_places_ready y c.args.at.now.tail.now a part c.args.pairing.now.right.now c.args.pairing.now.out (slice_index c.args.first.now.numbers) c.pair_windows.new.windows ready c.requires.first c.requires.joined
     c.in_ok-pair_windows.ensures.windows in
@@ -84,7 +84,7 @@ join_turns-requires-clause-left g c =
     let a : Assignment = assignment_of c.args.at.now.numbers.now in
     let part : Part = part_of c.args.at.now.block.now in
     let h : IsAtBlock x c.args.at.now.tail.now a part = c.requires.at in
-    let ready = operands_ready x y c.args.at.now.tail.now a part c.args.pairing.now.right.now c.args.pairing.now.out (slice_index c.args.first.now.numbers) c.pair_windows.new.windows h c.in_ok-pair_windows.ensures.kept c.in_ok-pair_windows.ensures.read
+    let ready = operands_ready x y c.args.at.now.tail.now a part c.args.pairing.now.right.now c.args.pairing.now.out (slice_index c.args.first.now.numbers) c.pair_windows.new.windows h c.in_ok-pair_windows.ensures.upheld.kept c.in_ok-pair_windows.ensures.read
     c.requires.first c.requires.right c.in_ok-pair_windows.ensures.windows in
     ready.left_in
 
@@ -95,7 +95,7 @@ join_turns-requires-clause-right g c =
     let a : Assignment = assignment_of c.args.at.now.numbers.now in
     let part : Part = part_of c.args.at.now.block.now in
     let h : IsAtBlock x c.args.at.now.tail.now a part = c.requires.at in
-    let ready = operands_ready x y c.args.at.now.tail.now a part c.args.pairing.now.right.now c.args.pairing.now.out (slice_index c.args.first.now.numbers) c.pair_windows.new.windows h c.in_ok-pair_windows.ensures.kept c.in_ok-pair_windows.ensures.read
+    let ready = operands_ready x y c.args.at.now.tail.now a part c.args.pairing.now.right.now c.args.pairing.now.out (slice_index c.args.first.now.numbers) c.pair_windows.new.windows h c.in_ok-pair_windows.ensures.upheld.kept c.in_ok-pair_windows.ensures.read
     c.requires.first c.requires.right c.in_ok-pair_windows.ensures.windows in
     ready.right_in
 
@@ -106,30 +106,34 @@ returns-clause-changed g c =
     let a : Assignment = assignment_of c.args.at.now.numbers.now in
     let part : Part = part_of c.args.at.now.block.now in
     let h : IsAtBlock x c.args.at.now.tail.now a part = c.requires.at in
-    let ready = operands_ready x y c.args.at.now.tail.now a part c.args.pairing.now.right.now c.args.pairing.now.out (slice_index c.args.first.now.numbers) c.pair_windows.new.windows h c.in_ok-pair_windows.ensures.kept c.in_ok-pair_windows.ensures.read
+    let ready = operands_ready x y c.args.at.now.tail.now a part c.args.pairing.now.right.now c.args.pairing.now.out (slice_index c.args.first.now.numbers) c.pair_windows.new.windows h c.in_ok-pair_windows.ensures.upheld.kept c.in_ok-pair_windows.ensures.read
     c.requires.first c.requires.right c.in_ok-pair_windows.ensures.windows in
     let places = sum_places_ready y c.args.at.now.tail.now a part c.args.pairing.now.right.now c.args.pairing.now.out (slice_index c.args.first.now.numbers) c.pair_windows.new.windows ready c.requires.first c.requires.joined
     c.in_ok-pair_windows.ensures.windows in
     let own = slot_places_ready y c.args.at.now.tail.now a part c.args.pairing.now.right.now c.args.pairing.now.out (slice_index c.args.first.now.numbers) c.pair_windows.new.windows.left c.pair_windows.new.windows.right c.node_window.new.window ready
     c.requires.first c.requires.joined c.node_window.ensures in
     (joined_runs x y c.args.at.now.tail.now a part c.args.pairing.now.right.now c.args.pairing.now.out c.pair_windows.new.windows c.node_window.new.window c.join_turns.new.words c.requires.at.prepared
-    c.in_ok-pair_windows.ensures.kept c.in_ok-pair_windows.ensures.read ready own places c.len-len.ensures.words c.requires.joined c.join_turns.ensures.made).changed
+    c.in_ok-pair_windows.ensures.upheld.kept c.in_ok-pair_windows.ensures.read ready own places c.len-len.ensures.words c.requires.joined c.join_turns.ensures.made).changed
 
-pub returns-clause-kept : goal.returns-clause-kept
-returns-clause-kept g c =
-    let x : Workspace = work_of g.D.Disk.files c.args.evaluation.now c.args.store.now in
-    let y : Workspace = work_of g.D.Disk.files c.args.evaluation.now c.pair_windows.new.store in
-    let a : Assignment = assignment_of c.args.at.now.numbers.now in
-    let part : Part = part_of c.args.at.now.block.now in
-    let h : IsAtBlock x c.args.at.now.tail.now a part = c.requires.at in
-    let ready = operands_ready x y c.args.at.now.tail.now a part c.args.pairing.now.right.now c.args.pairing.now.out (slice_index c.args.first.now.numbers) c.pair_windows.new.windows h c.in_ok-pair_windows.ensures.kept c.in_ok-pair_windows.ensures.read
-    c.requires.first c.requires.right c.in_ok-pair_windows.ensures.windows in
-    let places = sum_places_ready y c.args.at.now.tail.now a part c.args.pairing.now.right.now c.args.pairing.now.out (slice_index c.args.first.now.numbers) c.pair_windows.new.windows ready c.requires.first c.requires.joined
-    c.in_ok-pair_windows.ensures.windows in
-    let own = slot_places_ready y c.args.at.now.tail.now a part c.args.pairing.now.right.now c.args.pairing.now.out (slice_index c.args.first.now.numbers) c.pair_windows.new.windows.left c.pair_windows.new.windows.right c.node_window.new.window ready
-    c.requires.first c.requires.joined c.node_window.ensures in
-    (joined_runs x y c.args.at.now.tail.now a part c.args.pairing.now.right.now c.args.pairing.now.out c.pair_windows.new.windows c.node_window.new.window c.join_turns.new.words c.requires.at.prepared
-    c.in_ok-pair_windows.ensures.kept c.in_ok-pair_windows.ensures.read ready own places c.len-len.ensures.words c.requires.joined c.join_turns.ensures.made).kept
+pub returns-clause-upheld : goal.returns-clause-upheld
+returns-clause-upheld g c = record {
+  kept =
+      let x : Workspace = work_of g.D.Disk.files c.args.evaluation.now c.args.store.now in
+      let y : Workspace = work_of g.D.Disk.files c.args.evaluation.now c.pair_windows.new.store in
+      let a : Assignment = assignment_of c.args.at.now.numbers.now in
+      let part : Part = part_of c.args.at.now.block.now in
+      let h : IsAtBlock x c.args.at.now.tail.now a part = c.requires.at in
+      let ready = operands_ready x y c.args.at.now.tail.now a part c.args.pairing.now.right.now c.args.pairing.now.out (slice_index c.args.first.now.numbers) c.pair_windows.new.windows h c.in_ok-pair_windows.ensures.upheld.kept c.in_ok-pair_windows.ensures.read
+      c.requires.first c.requires.right c.in_ok-pair_windows.ensures.windows in
+      let places = sum_places_ready y c.args.at.now.tail.now a part c.args.pairing.now.right.now c.args.pairing.now.out (slice_index c.args.first.now.numbers) c.pair_windows.new.windows ready c.requires.first c.requires.joined
+      c.in_ok-pair_windows.ensures.windows in
+      let own = slot_places_ready y c.args.at.now.tail.now a part c.args.pairing.now.right.now c.args.pairing.now.out (slice_index c.args.first.now.numbers) c.pair_windows.new.windows.left c.pair_windows.new.windows.right c.node_window.new.window ready
+      c.requires.first c.requires.joined c.node_window.ensures in
+      (joined_runs x y c.args.at.now.tail.now a part c.args.pairing.now.right.now c.args.pairing.now.out c.pair_windows.new.windows c.node_window.new.window c.join_turns.new.words c.requires.at.prepared
+      c.in_ok-pair_windows.ensures.upheld.kept c.in_ok-pair_windows.ensures.read ready own places c.len-len.ensures.words c.requires.joined c.join_turns.ensures.made).kept;
+  same = c.in_ok-pair_windows.ensures.upheld.same;
+  fault_reported = c.in_ok-pair_windows.ensures.upheld.fault_reported;
+}
 
 pub returns-clause-nest : goal.returns-clause-nest
 returns-clause-nest g c =
@@ -162,26 +166,15 @@ returns-in_err-pair_windows-clause-changed g c = none_given _ _ c.from_residual.
 pub returns-in_err-pair_windows-clause-nest : goal.returns-in_err-pair_windows-clause-nest
 returns-in_err-pair_windows-clause-nest g c = none_given _ _ c.from_residual.result c.from_residual.ensures.1
 
-pub returns-in_err-pair_windows-clause-kept : goal.returns-in_err-pair_windows-clause-kept
-returns-in_err-pair_windows-clause-kept g c = c.in_err-pair_windows.ensures.kept
-
-pub returns-in_err-pair_windows-clause-same : goal.returns-in_err-pair_windows-clause-same
-returns-in_err-pair_windows-clause-same g c = c.in_err-pair_windows.ensures.same
-
-pub returns-in_err-pair_windows-clause-cause : goal.returns-in_err-pair_windows-clause-cause
-returns-in_err-pair_windows-clause-cause g c = cause_of _ _ c.in_err-pair_windows.ensures.cause
-
-pub returns-in_err-pair_windows-clause-told : goal.returns-in_err-pair_windows-clause-told
-returns-in_err-pair_windows-clause-told g c = told_of _ _ _ c.from_residual.result c.from_residual.ensures.1
-
-pub returns-clause-same : goal.returns-clause-same
-returns-clause-same g c = c.in_ok-pair_windows.ensures.same
-
-pub returns-clause-cause : goal.returns-clause-cause
-returns-clause-cause g c = c.in_ok-pair_windows.ensures.cause
-
-pub returns-clause-told : goal.returns-clause-told
-returns-clause-told g c = c.in_ok-pair_windows.ensures.told
+pub returns-in_err-pair_windows-clause-upheld : goal.returns-in_err-pair_windows-clause-upheld
+returns-in_err-pair_windows-clause-upheld g c = record {
+  kept = c.in_err-pair_windows.ensures.upheld.kept;
+  same = c.in_err-pair_windows.ensures.upheld.same;
+  fault_reported = record {
+    cause = cause_of _ _ c.in_err-pair_windows.ensures.upheld.fault_reported.cause;
+    quiet = told_of _ _ _ c.from_residual.result c.from_residual.ensures.1;
+  };
+}
 
 pub pair_windows-requires-clause-prepared : goal.pair_windows-requires-clause-prepared
 pair_windows-requires-clause-prepared g c = c.requires.at.prepared

@@ -51,7 +51,7 @@ compute_turns-requires-clause-out g c =
     let a : Assignment = assignment_of c.args.at.now.numbers.now in
     let part : Part = part_of c.args.at.now.block.now in
     let h : IsAtBlock x c.args.at.now.tail.now a part = c.requires.at in
-    let ready = operands_ready x y c.args.at.now.tail.now a part c.args.right.now c.args.at.now.tail.now.node (slice_index c.args.first.now.numbers) c.pair_windows.new.windows h c.in_ok-pair_windows.ensures.kept c.in_ok-pair_windows.ensures.read
+    let ready = operands_ready x y c.args.at.now.tail.now a part c.args.right.now c.args.at.now.tail.now.node (slice_index c.args.first.now.numbers) c.pair_windows.new.windows h c.in_ok-pair_windows.ensures.upheld.kept c.in_ok-pair_windows.ensures.read
     c.requires.first c.requires.right c.in_ok-pair_windows.ensures.windows in
     let places = own_ready y c.args.at.now.tail.now a part c.args.right.now (slice_index c.args.first.now.numbers) c.pair_windows.new.windows ready c.requires.first c.in_ok-pair_windows.ensures.windows in
     places.out_is
@@ -63,7 +63,7 @@ compute_turns-requires-clause-left g c =
     let a : Assignment = assignment_of c.args.at.now.numbers.now in
     let part : Part = part_of c.args.at.now.block.now in
     let h : IsAtBlock x c.args.at.now.tail.now a part = c.requires.at in
-    let ready = operands_ready x y c.args.at.now.tail.now a part c.args.right.now c.args.at.now.tail.now.node (slice_index c.args.first.now.numbers) c.pair_windows.new.windows h c.in_ok-pair_windows.ensures.kept c.in_ok-pair_windows.ensures.read
+    let ready = operands_ready x y c.args.at.now.tail.now a part c.args.right.now c.args.at.now.tail.now.node (slice_index c.args.first.now.numbers) c.pair_windows.new.windows h c.in_ok-pair_windows.ensures.upheld.kept c.in_ok-pair_windows.ensures.read
     c.requires.first c.requires.right c.in_ok-pair_windows.ensures.windows in
     ready.left_in
 
@@ -74,7 +74,7 @@ compute_turns-requires-clause-right g c =
     let a : Assignment = assignment_of c.args.at.now.numbers.now in
     let part : Part = part_of c.args.at.now.block.now in
     let h : IsAtBlock x c.args.at.now.tail.now a part = c.requires.at in
-    let ready = operands_ready x y c.args.at.now.tail.now a part c.args.right.now c.args.at.now.tail.now.node (slice_index c.args.first.now.numbers) c.pair_windows.new.windows h c.in_ok-pair_windows.ensures.kept c.in_ok-pair_windows.ensures.read
+    let ready = operands_ready x y c.args.at.now.tail.now a part c.args.right.now c.args.at.now.tail.now.node (slice_index c.args.first.now.numbers) c.pair_windows.new.windows h c.in_ok-pair_windows.ensures.upheld.kept c.in_ok-pair_windows.ensures.read
     c.requires.first c.requires.right c.in_ok-pair_windows.ensures.windows in
     ready.right_in
 
@@ -85,7 +85,7 @@ compute_turns-requires-clause-apart_from_left g c =
     let a : Assignment = assignment_of c.args.at.now.numbers.now in
     let part : Part = part_of c.args.at.now.block.now in
     let h : IsAtBlock x c.args.at.now.tail.now a part = c.requires.at in
-    let ready = operands_ready x y c.args.at.now.tail.now a part c.args.right.now c.args.at.now.tail.now.node (slice_index c.args.first.now.numbers) c.pair_windows.new.windows h c.in_ok-pair_windows.ensures.kept c.in_ok-pair_windows.ensures.read
+    let ready = operands_ready x y c.args.at.now.tail.now a part c.args.right.now c.args.at.now.tail.now.node (slice_index c.args.first.now.numbers) c.pair_windows.new.windows h c.in_ok-pair_windows.ensures.upheld.kept c.in_ok-pair_windows.ensures.read
     c.requires.first c.requires.right c.in_ok-pair_windows.ensures.windows in
     let places = own_ready y c.args.at.now.tail.now a part c.args.right.now (slice_index c.args.first.now.numbers) c.pair_windows.new.windows ready c.requires.first c.in_ok-pair_windows.ensures.windows in
     places.from_left
@@ -97,7 +97,7 @@ compute_turns-requires-clause-apart_from_right g c =
     let a : Assignment = assignment_of c.args.at.now.numbers.now in
     let part : Part = part_of c.args.at.now.block.now in
     let h : IsAtBlock x c.args.at.now.tail.now a part = c.requires.at in
-    let ready = operands_ready x y c.args.at.now.tail.now a part c.args.right.now c.args.at.now.tail.now.node (slice_index c.args.first.now.numbers) c.pair_windows.new.windows h c.in_ok-pair_windows.ensures.kept c.in_ok-pair_windows.ensures.read
+    let ready = operands_ready x y c.args.at.now.tail.now a part c.args.right.now c.args.at.now.tail.now.node (slice_index c.args.first.now.numbers) c.pair_windows.new.windows h c.in_ok-pair_windows.ensures.upheld.kept c.in_ok-pair_windows.ensures.read
     c.requires.first c.requires.right c.in_ok-pair_windows.ensures.windows in
     let places = own_ready y c.args.at.now.tail.now a part c.args.right.now (slice_index c.args.first.now.numbers) c.pair_windows.new.windows ready c.requires.first c.in_ok-pair_windows.ensures.windows in
     places.from_right
@@ -109,24 +109,28 @@ returns-clause-changed g c =
     let a : Assignment = assignment_of c.args.at.now.numbers.now in
     let part : Part = part_of c.args.at.now.block.now in
     let h : IsAtBlock x c.args.at.now.tail.now a part = c.requires.at in
-    let ready = operands_ready x y c.args.at.now.tail.now a part c.args.right.now c.args.at.now.tail.now.node (slice_index c.args.first.now.numbers) c.pair_windows.new.windows h c.in_ok-pair_windows.ensures.kept c.in_ok-pair_windows.ensures.read
+    let ready = operands_ready x y c.args.at.now.tail.now a part c.args.right.now c.args.at.now.tail.now.node (slice_index c.args.first.now.numbers) c.pair_windows.new.windows h c.in_ok-pair_windows.ensures.upheld.kept c.in_ok-pair_windows.ensures.read
     c.requires.first c.requires.right c.in_ok-pair_windows.ensures.windows in
     let places = own_ready y c.args.at.now.tail.now a part c.args.right.now (slice_index c.args.first.now.numbers) c.pair_windows.new.windows ready c.requires.first c.in_ok-pair_windows.ensures.windows in
-    (pair_runs x y c.args.at.now.tail.now a part c.args.right.now c.operation_of-operation.result c.kind.result c.pair_windows.new.windows c.compute_turns.new.words c.requires.at.prepared c.in_ok-pair_windows.ensures.kept
+    (pair_runs x y c.args.at.now.tail.now a part c.args.right.now c.operation_of-operation.result c.kind.result c.pair_windows.new.windows c.compute_turns.new.words c.requires.at.prepared c.in_ok-pair_windows.ensures.upheld.kept
     c.in_ok-pair_windows.ensures.read ready places c.len-len.ensures.words c.requires.alone c.kind.ensures c.operation_of-operation.ensures c.compute_turns.ensures.made).changed
 
-pub returns-clause-kept : goal.returns-clause-kept
-returns-clause-kept g c =
-    let x : Workspace = work_of g.D.Disk.files c.args.evaluation.now c.args.store.now in
-    let y : Workspace = work_of g.D.Disk.files c.args.evaluation.now c.pair_windows.new.store in
-    let a : Assignment = assignment_of c.args.at.now.numbers.now in
-    let part : Part = part_of c.args.at.now.block.now in
-    let h : IsAtBlock x c.args.at.now.tail.now a part = c.requires.at in
-    let ready = operands_ready x y c.args.at.now.tail.now a part c.args.right.now c.args.at.now.tail.now.node (slice_index c.args.first.now.numbers) c.pair_windows.new.windows h c.in_ok-pair_windows.ensures.kept c.in_ok-pair_windows.ensures.read
-    c.requires.first c.requires.right c.in_ok-pair_windows.ensures.windows in
-    let places = own_ready y c.args.at.now.tail.now a part c.args.right.now (slice_index c.args.first.now.numbers) c.pair_windows.new.windows ready c.requires.first c.in_ok-pair_windows.ensures.windows in
-    (pair_runs x y c.args.at.now.tail.now a part c.args.right.now c.operation_of-operation.result c.kind.result c.pair_windows.new.windows c.compute_turns.new.words c.requires.at.prepared c.in_ok-pair_windows.ensures.kept
-    c.in_ok-pair_windows.ensures.read ready places c.len-len.ensures.words c.requires.alone c.kind.ensures c.operation_of-operation.ensures c.compute_turns.ensures.made).kept
+pub returns-clause-upheld : goal.returns-clause-upheld
+returns-clause-upheld g c = record {
+  kept =
+      let x : Workspace = work_of g.D.Disk.files c.args.evaluation.now c.args.store.now in
+      let y : Workspace = work_of g.D.Disk.files c.args.evaluation.now c.pair_windows.new.store in
+      let a : Assignment = assignment_of c.args.at.now.numbers.now in
+      let part : Part = part_of c.args.at.now.block.now in
+      let h : IsAtBlock x c.args.at.now.tail.now a part = c.requires.at in
+      let ready = operands_ready x y c.args.at.now.tail.now a part c.args.right.now c.args.at.now.tail.now.node (slice_index c.args.first.now.numbers) c.pair_windows.new.windows h c.in_ok-pair_windows.ensures.upheld.kept c.in_ok-pair_windows.ensures.read
+      c.requires.first c.requires.right c.in_ok-pair_windows.ensures.windows in
+      let places = own_ready y c.args.at.now.tail.now a part c.args.right.now (slice_index c.args.first.now.numbers) c.pair_windows.new.windows ready c.requires.first c.in_ok-pair_windows.ensures.windows in
+      (pair_runs x y c.args.at.now.tail.now a part c.args.right.now c.operation_of-operation.result c.kind.result c.pair_windows.new.windows c.compute_turns.new.words c.requires.at.prepared c.in_ok-pair_windows.ensures.upheld.kept
+      c.in_ok-pair_windows.ensures.read ready places c.len-len.ensures.words c.requires.alone c.kind.ensures c.operation_of-operation.ensures c.compute_turns.ensures.made).kept;
+  same = c.in_ok-pair_windows.ensures.upheld.same;
+  fault_reported = c.in_ok-pair_windows.ensures.upheld.fault_reported;
+}
 
 pub returns-clause-nest : goal.returns-clause-nest
 returns-clause-nest g c =
@@ -149,26 +153,15 @@ returns-in_err-pair_windows-clause-changed g c = none_given _ _ c.from_residual.
 pub returns-in_err-pair_windows-clause-nest : goal.returns-in_err-pair_windows-clause-nest
 returns-in_err-pair_windows-clause-nest g c = none_given _ _ c.from_residual.result c.from_residual.ensures.1
 
-pub returns-in_err-pair_windows-clause-kept : goal.returns-in_err-pair_windows-clause-kept
-returns-in_err-pair_windows-clause-kept g c = c.in_err-pair_windows.ensures.kept
-
-pub returns-in_err-pair_windows-clause-same : goal.returns-in_err-pair_windows-clause-same
-returns-in_err-pair_windows-clause-same g c = c.in_err-pair_windows.ensures.same
-
-pub returns-in_err-pair_windows-clause-cause : goal.returns-in_err-pair_windows-clause-cause
-returns-in_err-pair_windows-clause-cause g c = cause_of _ _ c.in_err-pair_windows.ensures.cause
-
-pub returns-in_err-pair_windows-clause-told : goal.returns-in_err-pair_windows-clause-told
-returns-in_err-pair_windows-clause-told g c = told_of _ _ _ c.from_residual.result c.from_residual.ensures.1
-
-pub returns-clause-same : goal.returns-clause-same
-returns-clause-same g c = c.in_ok-pair_windows.ensures.same
-
-pub returns-clause-cause : goal.returns-clause-cause
-returns-clause-cause g c = c.in_ok-pair_windows.ensures.cause
-
-pub returns-clause-told : goal.returns-clause-told
-returns-clause-told g c = c.in_ok-pair_windows.ensures.told
+pub returns-in_err-pair_windows-clause-upheld : goal.returns-in_err-pair_windows-clause-upheld
+returns-in_err-pair_windows-clause-upheld g c = record {
+  kept = c.in_err-pair_windows.ensures.upheld.kept;
+  same = c.in_err-pair_windows.ensures.upheld.same;
+  fault_reported = record {
+    cause = cause_of _ _ c.in_err-pair_windows.ensures.upheld.fault_reported.cause;
+    quiet = told_of _ _ _ c.from_residual.result c.from_residual.ensures.1;
+  };
+}
 
 pub pair_windows-requires-clause-prepared : goal.pair_windows-requires-clause-prepared
 pair_windows-requires-clause-prepared g c = c.requires.at.prepared

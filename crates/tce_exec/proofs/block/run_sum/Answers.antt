@@ -37,7 +37,7 @@ grow_turns-requires-clause-out g c =
     let a : Assignment = assignment_of c.args.at.now.numbers.now in
     let part : Part = part_of c.args.at.now.block.now in
     let h : IsAtBlock x c.args.at.now.tail.now a part = c.requires.at in
-    let ready = sum_ready x y c.args.at.now.tail.now a part (slice_index c.args.first.now.numbers) c.sum_windows.new.windows h c.in_ok-sum_windows.ensures.kept c.in_ok-sum_windows.ensures.read c.requires.first
+    let ready = sum_ready x y c.args.at.now.tail.now a part (slice_index c.args.first.now.numbers) c.sum_windows.new.windows h c.in_ok-sum_windows.ensures.upheld.kept c.in_ok-sum_windows.ensures.read c.requires.first
     c.in_ok-sum_windows.ensures.windows in
     ready.out
 
@@ -48,7 +48,7 @@ grow_turns-requires-clause-operand g c =
     let a : Assignment = assignment_of c.args.at.now.numbers.now in
     let part : Part = part_of c.args.at.now.block.now in
     let h : IsAtBlock x c.args.at.now.tail.now a part = c.requires.at in
-    let ready = sum_ready x y c.args.at.now.tail.now a part (slice_index c.args.first.now.numbers) c.sum_windows.new.windows h c.in_ok-sum_windows.ensures.kept c.in_ok-sum_windows.ensures.read c.requires.first
+    let ready = sum_ready x y c.args.at.now.tail.now a part (slice_index c.args.first.now.numbers) c.sum_windows.new.windows h c.in_ok-sum_windows.ensures.upheld.kept c.in_ok-sum_windows.ensures.read c.requires.first
     c.in_ok-sum_windows.ensures.windows in
     ready.operand
 
@@ -59,7 +59,7 @@ grow_turns-requires-clause-apart g c =
     let a : Assignment = assignment_of c.args.at.now.numbers.now in
     let part : Part = part_of c.args.at.now.block.now in
     let h : IsAtBlock x c.args.at.now.tail.now a part = c.requires.at in
-    let ready = sum_ready x y c.args.at.now.tail.now a part (slice_index c.args.first.now.numbers) c.sum_windows.new.windows h c.in_ok-sum_windows.ensures.kept c.in_ok-sum_windows.ensures.read c.requires.first
+    let ready = sum_ready x y c.args.at.now.tail.now a part (slice_index c.args.first.now.numbers) c.sum_windows.new.windows h c.in_ok-sum_windows.ensures.upheld.kept c.in_ok-sum_windows.ensures.read c.requires.first
     c.in_ok-sum_windows.ensures.windows in
     ready.apart
 
@@ -70,22 +70,26 @@ returns-clause-changed g c =
     let a : Assignment = assignment_of c.args.at.now.numbers.now in
     let part : Part = part_of c.args.at.now.block.now in
     let h : IsAtBlock x c.args.at.now.tail.now a part = c.requires.at in
-    let ready = sum_ready x y c.args.at.now.tail.now a part (slice_index c.args.first.now.numbers) c.sum_windows.new.windows h c.in_ok-sum_windows.ensures.kept c.in_ok-sum_windows.ensures.read c.requires.first
+    let ready = sum_ready x y c.args.at.now.tail.now a part (slice_index c.args.first.now.numbers) c.sum_windows.new.windows h c.in_ok-sum_windows.ensures.upheld.kept c.in_ok-sum_windows.ensures.read c.requires.first
     c.in_ok-sum_windows.ensures.windows in
-    (sum_runs x y c.args.at.now.tail.now a part c.sum_windows.new.windows c.grow_turns.new.words c.requires.at.prepared c.in_ok-sum_windows.ensures.kept c.in_ok-sum_windows.ensures.read ready c.len-len.ensures.words c.requires.sum
+    (sum_runs x y c.args.at.now.tail.now a part c.sum_windows.new.windows c.grow_turns.new.words c.requires.at.prepared c.in_ok-sum_windows.ensures.upheld.kept c.in_ok-sum_windows.ensures.read ready c.len-len.ensures.words c.requires.sum
     c.grow_turns.ensures.made).changed
 
-pub returns-clause-kept : goal.returns-clause-kept
-returns-clause-kept g c =
-    let x : Workspace = work_of g.D.Disk.files c.args.evaluation.now c.args.store.now in
-    let y : Workspace = work_of g.D.Disk.files c.args.evaluation.now c.sum_windows.new.store in
-    let a : Assignment = assignment_of c.args.at.now.numbers.now in
-    let part : Part = part_of c.args.at.now.block.now in
-    let h : IsAtBlock x c.args.at.now.tail.now a part = c.requires.at in
-    let ready = sum_ready x y c.args.at.now.tail.now a part (slice_index c.args.first.now.numbers) c.sum_windows.new.windows h c.in_ok-sum_windows.ensures.kept c.in_ok-sum_windows.ensures.read c.requires.first
-    c.in_ok-sum_windows.ensures.windows in
-    (sum_runs x y c.args.at.now.tail.now a part c.sum_windows.new.windows c.grow_turns.new.words c.requires.at.prepared c.in_ok-sum_windows.ensures.kept c.in_ok-sum_windows.ensures.read ready c.len-len.ensures.words c.requires.sum
-    c.grow_turns.ensures.made).kept
+pub returns-clause-upheld : goal.returns-clause-upheld
+returns-clause-upheld g c = record {
+  kept =
+      let x : Workspace = work_of g.D.Disk.files c.args.evaluation.now c.args.store.now in
+      let y : Workspace = work_of g.D.Disk.files c.args.evaluation.now c.sum_windows.new.store in
+      let a : Assignment = assignment_of c.args.at.now.numbers.now in
+      let part : Part = part_of c.args.at.now.block.now in
+      let h : IsAtBlock x c.args.at.now.tail.now a part = c.requires.at in
+      let ready = sum_ready x y c.args.at.now.tail.now a part (slice_index c.args.first.now.numbers) c.sum_windows.new.windows h c.in_ok-sum_windows.ensures.upheld.kept c.in_ok-sum_windows.ensures.read c.requires.first
+      c.in_ok-sum_windows.ensures.windows in
+      (sum_runs x y c.args.at.now.tail.now a part c.sum_windows.new.windows c.grow_turns.new.words c.requires.at.prepared c.in_ok-sum_windows.ensures.upheld.kept c.in_ok-sum_windows.ensures.read ready c.len-len.ensures.words c.requires.sum
+      c.grow_turns.ensures.made).kept;
+  same = c.in_ok-sum_windows.ensures.upheld.same;
+  fault_reported = c.in_ok-sum_windows.ensures.upheld.fault_reported;
+}
 
 pub returns-clause-nest : goal.returns-clause-nest
 returns-clause-nest g c =
@@ -105,26 +109,15 @@ returns-in_err-sum_windows-clause-changed g c = none_given _ _ c.from_residual.r
 pub returns-in_err-sum_windows-clause-nest : goal.returns-in_err-sum_windows-clause-nest
 returns-in_err-sum_windows-clause-nest g c = none_given _ _ c.from_residual.result c.from_residual.ensures.1
 
-pub returns-in_err-sum_windows-clause-kept : goal.returns-in_err-sum_windows-clause-kept
-returns-in_err-sum_windows-clause-kept g c = c.in_err-sum_windows.ensures.kept
-
-pub returns-in_err-sum_windows-clause-same : goal.returns-in_err-sum_windows-clause-same
-returns-in_err-sum_windows-clause-same g c = c.in_err-sum_windows.ensures.same
-
-pub returns-in_err-sum_windows-clause-cause : goal.returns-in_err-sum_windows-clause-cause
-returns-in_err-sum_windows-clause-cause g c = cause_of _ _ c.in_err-sum_windows.ensures.cause
-
-pub returns-in_err-sum_windows-clause-told : goal.returns-in_err-sum_windows-clause-told
-returns-in_err-sum_windows-clause-told g c = told_of _ _ _ c.from_residual.result c.from_residual.ensures.1
-
-pub returns-clause-same : goal.returns-clause-same
-returns-clause-same g c = c.in_ok-sum_windows.ensures.same
-
-pub returns-clause-cause : goal.returns-clause-cause
-returns-clause-cause g c = c.in_ok-sum_windows.ensures.cause
-
-pub returns-clause-told : goal.returns-clause-told
-returns-clause-told g c = c.in_ok-sum_windows.ensures.told
+pub returns-in_err-sum_windows-clause-upheld : goal.returns-in_err-sum_windows-clause-upheld
+returns-in_err-sum_windows-clause-upheld g c = record {
+  kept = c.in_err-sum_windows.ensures.upheld.kept;
+  same = c.in_err-sum_windows.ensures.upheld.same;
+  fault_reported = record {
+    cause = cause_of _ _ c.in_err-sum_windows.ensures.upheld.fault_reported.cause;
+    quiet = told_of _ _ _ c.from_residual.result c.from_residual.ensures.1;
+  };
+}
 
 pub sum_windows-requires-clause-prepared : goal.sum_windows-requires-clause-prepared
 sum_windows-requires-clause-prepared g c = c.requires.at.prepared

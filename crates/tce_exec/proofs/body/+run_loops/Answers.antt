@@ -1,4 +1,4 @@
-use Rattle.std.proofs.Common.{◌≡◌, ◌+◌, ◌-◌, ◌<◌, ◌≤◌, ℕ, get_or, set, length, slice_index, refl, sym, ap, ◌∙◌, subst, arith}
+use Rattle.std.proofs.Common.{◌≡◌, ◌+◌, ◌-◌, ◌<◌, ◌≤◌, ℕ, get_or, set, length, slice_index, refl, sym, ap, ◌∙◌, subst, arith, rules}
 use Rattle.std.proofs.lemmas.Bool.{false≢true}
 use Rattle.tce_walk.specs.Machine.{assignment_of}
 use Rattle.tce_exec.specs.Workspace.{Workspace, setting_in}
@@ -25,12 +25,16 @@ run_loops-requires g t c κs within =
     let few = turn_few x y b.ops.now b.loops.now b.from.now b.len.now c.args.depth c.loop-x.x a at c.loop-x-test.true c.loop-x.invariant.turns c.requires.few in
     (omega (arith, low), (within, (omega (arith, low), (c.loop-x.invariant.turns.changed.prepared, (body_now, few)))))
 
-pub returns-in_err-run_loops-clause-kept : goal.returns-in_err-run_loops-clause-kept
-returns-in_err-run_loops-clause-kept g t c =
-    let x : Workspace = work_of g.D.Disk.files c.args.evaluation.now c.args.store.now in
-    let y : Workspace = work_of g.D.Disk.files c.args.evaluation.now c.loop-x.store in
-    let z : Workspace = work_of g.D.Disk.files c.args.evaluation.now c.run_loops.new.store in
-    kept_on x y z c.loop-x.invariant.turns.kept c.in_err-run_loops.ensures.kept
+pub returns-in_err-run_loops-clause-upheld : goal.returns-in_err-run_loops-clause-upheld
+returns-in_err-run_loops-clause-upheld g t c = record {
+  kept =
+      let x : Workspace = work_of g.D.Disk.files c.args.evaluation.now c.args.store.now in
+      let y : Workspace = work_of g.D.Disk.files c.args.evaluation.now c.loop-x.store in
+      let z : Workspace = work_of g.D.Disk.files c.args.evaluation.now c.run_loops.new.store in
+      kept_on x y z c.loop-x.invariant.turns.kept c.in_err-run_loops.ensures.upheld.kept;
+  same = search rules;
+  fault_reported = search rules;
+}
 
 pub loop-x-preserved : goal.loop-x-preserved
 loop-x-preserved g t c =
@@ -47,10 +51,10 @@ loop-x-preserved g t c =
     loop_at (setting_in x) x.places.space b.loops.now b.from.now b.len.now b.ops.now c.args.depth a c.index_count-indexes.ensures.limits low c.requires.body in
     let next = set_number c.args.numbers.now c.loop-x.numbers i y_is (omega (arith, here.small, c.told-numbers)) c.loop-x.invariant.numbers_set in
     record {
-      turns = next_turn x y z b.ops.now b.loops.now b.from.now b.len.now c.args.depth c.loop-x.x a (assignment_of (set c.loop-x.numbers i y_is)) c.requires.prepared c.loop-x.invariant.turns next e.kept e.changed;
+      turns = next_turn x y z b.ops.now b.loops.now b.from.now b.len.now c.args.depth c.loop-x.x a (assignment_of (set c.loop-x.numbers i y_is)) c.requires.prepared c.loop-x.invariant.turns next e.upheld.kept e.changed;
       numbers_set = λ n. ap (λ ns. set ns i n) e.numbers ∙ set_on c.args.numbers.now c.loop-x.numbers i y_is c.loop-x.invariant.numbers_set n;
-      same = same_on c.args.store.now c.loop-x.store c.run_loops.new.store c.loop-x.invariant.same e.same;
-      counted = e.told false≢true ∙ c.loop-x.invariant.counted;
+      same = same_on c.args.store.now c.loop-x.store c.run_loops.new.store c.loop-x.invariant.same e.upheld.same;
+      counted = e.upheld.fault_reported.quiet false≢true ∙ c.loop-x.invariant.counted;
     }
 
 pub returns-clause-changed : goal.returns-clause-changed

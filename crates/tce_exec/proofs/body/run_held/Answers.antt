@@ -15,7 +15,7 @@ returns-clause-changed g c =
     let x : Workspace = work_of g.D.Disk.files c.args.evaluation.now c.args.store.now in
     let y : Workspace = work_of g.D.Disk.files c.args.evaluation.now c.find_links.new.store in
     let z : Workspace = work_of g.D.Disk.files c.args.evaluation.now c.turn_loops.new.store in
-    held_done x y z c.args.at.now (slice_index c.args.first.now.numbers) (touches_from c.args.at.now 0) c.requires.prepared c.in_ok-find_links.ensures.kept c.in_ok-find_links.ensures.read c.requires.begun.some
+    held_done x y z c.args.at.now (slice_index c.args.first.now.numbers) (touches_from c.args.at.now 0) c.requires.prepared c.in_ok-find_links.ensures.upheld.kept c.in_ok-find_links.ensures.read c.requires.begun.some
     c.turn_loops.ensures.changed c.turn_loops.ensures.cache
 
 pub offset_bounds-at-depth : goal.offset_bounds-at-depth

@@ -28,35 +28,24 @@ returns-in-Leaf-clause-last g c = c.touch_window.ensures.last
 pub returns-in-Leaf-clause-read : goal.returns-in-Leaf-clause-read
 returns-in-Leaf-clause-read g c = c.touch_window.ensures.read
 
-pub returns-in-Leaf-clause-kept : goal.returns-in-Leaf-clause-kept
-returns-in-Leaf-clause-kept g c = c.touch_window.ensures.kept
-
-pub returns-in-Leaf-clause-same : goal.returns-in-Leaf-clause-same
-returns-in-Leaf-clause-same g c = c.touch_window.ensures.same
-
-pub returns-in-Leaf-clause-cause : goal.returns-in-Leaf-clause-cause
-returns-in-Leaf-clause-cause g c = c.touch_window.ensures.cause
-
-pub returns-in-Leaf-clause-told : goal.returns-in-Leaf-clause-told
-returns-in-Leaf-clause-told g c = c.touch_window.ensures.told
+pub returns-in-Leaf-clause-upheld : goal.returns-in-Leaf-clause-upheld
+returns-in-Leaf-clause-upheld g c = c.touch_window.ensures.upheld
 
 pub returns-in-Node-clause-last : goal.returns-in-Node-clause-last
 returns-in-Node-clause-last g c = keeps_last_own c.args.store.now.cache.now
 
-pub returns-in-Node-clause-cause : goal.returns-in-Node-clause-cause
-returns-in-Node-clause-cause g c = no_cause _ _ refl false≢true
-
-pub returns-in-Node-clause-told : goal.returns-in-Node-clause-told
-returns-in-Node-clause-told g c = λ fine. refl
-
-pub returns-in-Node-clause-same : goal.returns-in-Node-clause-same
-returns-in-Node-clause-same g c = (refl, refl, refl)
+pub returns-in-Node-clause-upheld : goal.returns-in-Node-clause-upheld
+returns-in-Node-clause-upheld g c = record {
+  kept = kept_own (work_of g.D.Disk.files c.args.evaluation.now c.args.store.now);
+  same = (refl, refl, refl);
+  fault_reported = record {
+    cause = no_cause _ _ refl false≢true;
+    quiet = λ fine. refl;
+  };
+}
 
 pub returns-in-Node-clause-read : goal.returns-in-Node-clause-read
 returns-in-Node-clause-read g c = read_own 1 (work_of g.D.Disk.files c.args.evaluation.now c.args.store.now) c.requires.prepared
-
-pub returns-in-Node-clause-kept : goal.returns-in-Node-clause-kept
-returns-in-Node-clause-kept g c = kept_own (work_of g.D.Disk.files c.args.evaluation.now c.args.store.now)
 
 pub touch_window-requires-clause-known : goal.touch_window-requires-clause-known
 touch_window-requires-clause-known g c = (rw c.in-Leaf.is at c.requires.place).known

@@ -31,7 +31,7 @@ place_window-requires-clause-place g c =
     let x : Workspace = work_of g.D.Disk.files c.args.evaluation.now c.args.store.now in
     let y : Workspace = work_of g.D.Disk.files c.args.evaluation.now c.operand_window.new.store in
     let z : Workspace = work_of g.D.Disk.files c.args.evaluation.now c.operand_window-2.new.store in
-    node_after x z c.args.pairing.now.out (slice_index c.args.first.now.numbers) (kept_on x y z c.in_ok-operand_window.ensures.kept c.in_ok-operand_window-2.ensures.kept) c.requires.place
+    node_after x z c.args.pairing.now.out (slice_index c.args.first.now.numbers) (kept_on x y z c.in_ok-operand_window.ensures.upheld.kept c.in_ok-operand_window-2.ensures.upheld.kept) c.requires.place
 
 pub returns-in_err-operand_window-clause-steps : goal.returns-in_err-operand_window-clause-steps
 returns-in_err-operand_window-clause-steps g c = none_given _ _ c.from_residual.result c.from_residual.ensures.1
@@ -42,17 +42,15 @@ returns-in_err-operand_window-clause-windows g c = none_given _ _ c.from_residua
 pub returns-in_err-operand_window-clause-read : goal.returns-in_err-operand_window-clause-read
 returns-in_err-operand_window-clause-read g c = none_given _ _ c.from_residual.result c.from_residual.ensures.1
 
-pub returns-in_err-operand_window-clause-kept : goal.returns-in_err-operand_window-clause-kept
-returns-in_err-operand_window-clause-kept g c = c.in_err-operand_window.ensures.kept
-
-pub returns-in_err-operand_window-clause-same : goal.returns-in_err-operand_window-clause-same
-returns-in_err-operand_window-clause-same g c = c.in_err-operand_window.ensures.same
-
-pub returns-in_err-operand_window-clause-cause : goal.returns-in_err-operand_window-clause-cause
-returns-in_err-operand_window-clause-cause g c = cause_of _ _ c.in_err-operand_window.ensures.cause
-
-pub returns-in_err-operand_window-clause-told : goal.returns-in_err-operand_window-clause-told
-returns-in_err-operand_window-clause-told g c = told_of _ _ _ c.from_residual.result c.from_residual.ensures.1
+pub returns-in_err-operand_window-clause-upheld : goal.returns-in_err-operand_window-clause-upheld
+returns-in_err-operand_window-clause-upheld g c = record {
+  kept = c.in_err-operand_window.ensures.upheld.kept;
+  same = c.in_err-operand_window.ensures.upheld.same;
+  fault_reported = record {
+    cause = cause_of _ _ c.in_err-operand_window.ensures.upheld.fault_reported.cause;
+    quiet = told_of _ _ _ c.from_residual.result c.from_residual.ensures.1;
+  };
+}
 
 pub returns-in_err-operand_window-2-clause-steps : goal.returns-in_err-operand_window-2-clause-steps
 returns-in_err-operand_window-2-clause-steps g c = none_given _ _ c.from_residual-in_err-operand_window-2.result c.from_residual-in_err-operand_window-2.ensures.1
@@ -63,21 +61,19 @@ returns-in_err-operand_window-2-clause-windows g c = none_given _ _ c.from_resid
 pub returns-in_err-operand_window-2-clause-read : goal.returns-in_err-operand_window-2-clause-read
 returns-in_err-operand_window-2-clause-read g c = none_given _ _ c.from_residual-in_err-operand_window-2.result c.from_residual-in_err-operand_window-2.ensures.1
 
-pub returns-in_err-operand_window-2-clause-kept : goal.returns-in_err-operand_window-2-clause-kept
-returns-in_err-operand_window-2-clause-kept g c =
-    let x : Workspace = work_of g.D.Disk.files c.args.evaluation.now c.args.store.now in
-    let y : Workspace = work_of g.D.Disk.files c.args.evaluation.now c.operand_window.new.store in
-    let z : Workspace = work_of g.D.Disk.files c.args.evaluation.now c.operand_window-2.new.store in
-    kept_on x y z c.in_ok-operand_window.ensures.kept c.in_err-operand_window-2.ensures.kept
-
-pub returns-in_err-operand_window-2-clause-same : goal.returns-in_err-operand_window-2-clause-same
-returns-in_err-operand_window-2-clause-same g c = same_on c.args.store.now c.operand_window.new.store c.operand_window-2.new.store c.in_ok-operand_window.ensures.same c.in_err-operand_window-2.ensures.same
-
-pub returns-in_err-operand_window-2-clause-cause : goal.returns-in_err-operand_window-2-clause-cause
-returns-in_err-operand_window-2-clause-cause g c = cause_since _ _ _ c.in_ok-operand_window.ensures.cause.later (cause_of _ _ c.in_err-operand_window-2.ensures.cause)
-
-pub returns-in_err-operand_window-2-clause-told : goal.returns-in_err-operand_window-2-clause-told
-returns-in_err-operand_window-2-clause-told g c = told_of _ _ _ c.from_residual-in_err-operand_window-2.result c.from_residual-in_err-operand_window-2.ensures.1
+pub returns-in_err-operand_window-2-clause-upheld : goal.returns-in_err-operand_window-2-clause-upheld
+returns-in_err-operand_window-2-clause-upheld g c = record {
+  kept =
+      let x : Workspace = work_of g.D.Disk.files c.args.evaluation.now c.args.store.now in
+      let y : Workspace = work_of g.D.Disk.files c.args.evaluation.now c.operand_window.new.store in
+      let z : Workspace = work_of g.D.Disk.files c.args.evaluation.now c.operand_window-2.new.store in
+      kept_on x y z c.in_ok-operand_window.ensures.upheld.kept c.in_err-operand_window-2.ensures.upheld.kept;
+  same = same_on c.args.store.now c.operand_window.new.store c.operand_window-2.new.store c.in_ok-operand_window.ensures.upheld.same c.in_err-operand_window-2.ensures.upheld.same;
+  fault_reported = record {
+    cause = cause_since _ _ _ c.in_ok-operand_window.ensures.upheld.fault_reported.cause.later (cause_of _ _ c.in_err-operand_window-2.ensures.upheld.fault_reported.cause);
+    quiet = told_of _ _ _ c.from_residual-in_err-operand_window-2.result c.from_residual-in_err-operand_window-2.ensures.1;
+  };
+}
 
 pub returns-clause-steps : goal.returns-clause-steps
 returns-clause-steps g c =
@@ -94,10 +90,10 @@ returns-clause-windows g c =
     let z : Workspace = work_of g.D.Disk.files c.args.evaluation.now c.operand_window-2.new.store in
     let v : Workspace = work_of g.D.Disk.files c.args.evaluation.now c.place_window.new.store in
     on_both c.place_window.result c.place_window.ensures.window c.place_window.ensures.last (λ window last. record {
-      left_is = operand_twice z v (left_of y.places.tree c.args.v) (slice_index c.args.first.now.numbers) c.operand_window.new.window c.in_ok-operand_window-2.ensures.read.prepared.cache.frames c.place_window.ensures.kept last
-          (operand_once y z (left_of y.places.tree c.args.v) (slice_index c.args.first.now.numbers) c.operand_window.new.window c.in_ok-operand_window.ensures.read.prepared.cache.frames c.in_ok-operand_window-2.ensures.kept c.in_ok-operand_window-2.ensures.last
+      left_is = operand_twice z v (left_of y.places.tree c.args.v) (slice_index c.args.first.now.numbers) c.operand_window.new.window c.in_ok-operand_window-2.ensures.read.prepared.cache.frames c.place_window.ensures.upheld.kept last
+          (operand_once y z (left_of y.places.tree c.args.v) (slice_index c.args.first.now.numbers) c.operand_window.new.window c.in_ok-operand_window.ensures.read.prepared.cache.frames c.in_ok-operand_window-2.ensures.upheld.kept c.in_ok-operand_window-2.ensures.last
           (subst (λ o. IsOperandWindow 1 y o (slice_index c.args.first.now.numbers) c.operand_window.new.window) c.left-operand.ensures.value c.in_ok-operand_window.ensures.window));
-      right_is = operand_once z v c.args.pairing.now.right.now (slice_index c.args.first.now.numbers) c.operand_window-2.new.window c.in_ok-operand_window-2.ensures.read.prepared.cache.frames c.place_window.ensures.kept last c.in_ok-operand_window-2.ensures.window;
+      right_is = operand_once z v c.args.pairing.now.right.now (slice_index c.args.first.now.numbers) c.operand_window-2.new.window c.in_ok-operand_window-2.ensures.read.prepared.cache.frames c.place_window.ensures.upheld.kept last c.in_ok-operand_window-2.ensures.window;
       out_is = window;
     })
 
@@ -107,27 +103,25 @@ returns-clause-read g c =
     let y : Workspace = work_of g.D.Disk.files c.args.evaluation.now c.operand_window.new.store in
     let z : Workspace = work_of g.D.Disk.files c.args.evaluation.now c.operand_window-2.new.store in
     let v : Workspace = work_of g.D.Disk.files c.args.evaluation.now c.place_window.new.store in
-    on_ok_weaker c.place_window.result (read_on 2 1 3 x z v (as_many 3) (kept_on x y z c.in_ok-operand_window.ensures.kept c.in_ok-operand_window-2.ensures.kept)
-    (read_on 1 1 2 x y z (as_many 2) c.in_ok-operand_window.ensures.kept c.in_ok-operand_window.ensures.read c.in_ok-operand_window-2.ensures.read)) c.place_window.ensures.read
+    on_ok_weaker c.place_window.result (read_on 2 1 3 x z v (as_many 3) (kept_on x y z c.in_ok-operand_window.ensures.upheld.kept c.in_ok-operand_window-2.ensures.upheld.kept)
+    (read_on 1 1 2 x y z (as_many 2) c.in_ok-operand_window.ensures.upheld.kept c.in_ok-operand_window.ensures.read c.in_ok-operand_window-2.ensures.read)) c.place_window.ensures.read
 
-pub returns-clause-kept : goal.returns-clause-kept
-returns-clause-kept g c =
-    let x : Workspace = work_of g.D.Disk.files c.args.evaluation.now c.args.store.now in
-    let y : Workspace = work_of g.D.Disk.files c.args.evaluation.now c.operand_window.new.store in
-    let z : Workspace = work_of g.D.Disk.files c.args.evaluation.now c.operand_window-2.new.store in
-    let v : Workspace = work_of g.D.Disk.files c.args.evaluation.now c.place_window.new.store in
-    kept_on x z v (kept_on x y z c.in_ok-operand_window.ensures.kept c.in_ok-operand_window-2.ensures.kept) c.place_window.ensures.kept
-
-pub returns-clause-same : goal.returns-clause-same
-returns-clause-same g c =
-    same_on c.args.store.now c.operand_window-2.new.store c.place_window.new.store
-    (same_on c.args.store.now c.operand_window.new.store c.operand_window-2.new.store c.in_ok-operand_window.ensures.same c.in_ok-operand_window-2.ensures.same) c.place_window.ensures.same
-
-pub returns-clause-cause : goal.returns-clause-cause
-returns-clause-cause g c = cause_since _ _ _ c.in_ok-operand_window.ensures.cause.later (cause_since _ _ _ c.in_ok-operand_window-2.ensures.cause.later c.place_window.ensures.cause)
-
-pub returns-clause-told : goal.returns-clause-told
-returns-clause-told g c = told_after _ _ _ (c.in_ok-operand_window.ensures.told false≢true) (told_after _ _ _ (c.in_ok-operand_window-2.ensures.told false≢true) c.place_window.ensures.told)
+pub returns-clause-upheld : goal.returns-clause-upheld
+returns-clause-upheld g c = record {
+  kept =
+      let x : Workspace = work_of g.D.Disk.files c.args.evaluation.now c.args.store.now in
+      let y : Workspace = work_of g.D.Disk.files c.args.evaluation.now c.operand_window.new.store in
+      let z : Workspace = work_of g.D.Disk.files c.args.evaluation.now c.operand_window-2.new.store in
+      let v : Workspace = work_of g.D.Disk.files c.args.evaluation.now c.place_window.new.store in
+      kept_on x z v (kept_on x y z c.in_ok-operand_window.ensures.upheld.kept c.in_ok-operand_window-2.ensures.upheld.kept) c.place_window.ensures.upheld.kept;
+  same =
+      same_on c.args.store.now c.operand_window-2.new.store c.place_window.new.store
+      (same_on c.args.store.now c.operand_window.new.store c.operand_window-2.new.store c.in_ok-operand_window.ensures.upheld.same c.in_ok-operand_window-2.ensures.upheld.same) c.place_window.ensures.upheld.same;
+  fault_reported = record {
+    cause = cause_since _ _ _ c.in_ok-operand_window.ensures.upheld.fault_reported.cause.later (cause_since _ _ _ c.in_ok-operand_window-2.ensures.upheld.fault_reported.cause.later c.place_window.ensures.upheld.fault_reported.cause);
+    quiet = told_after _ _ _ (c.in_ok-operand_window.ensures.upheld.fault_reported.quiet false≢true) (told_after _ _ _ (c.in_ok-operand_window-2.ensures.upheld.fault_reported.quiet false≢true) c.place_window.ensures.upheld.fault_reported.quiet);
+  };
+}
 
 pub operand_window-requires-clause-prepared : goal.operand_window-requires-clause-prepared
 operand_window-requires-clause-prepared g c = c.requires.prepared

@@ -55,35 +55,24 @@ returns-then-v-count-clause-last g c = c.touch_window.ensures.last
 pub returns-then-v-count-clause-read : goal.returns-then-v-count-clause-read
 returns-then-v-count-clause-read g c = c.touch_window.ensures.read
 
-pub returns-then-v-count-clause-kept : goal.returns-then-v-count-clause-kept
-returns-then-v-count-clause-kept g c = c.touch_window.ensures.kept
-
-pub returns-then-v-count-clause-same : goal.returns-then-v-count-clause-same
-returns-then-v-count-clause-same g c = c.touch_window.ensures.same
-
-pub returns-then-v-count-clause-cause : goal.returns-then-v-count-clause-cause
-returns-then-v-count-clause-cause g c = c.touch_window.ensures.cause
-
-pub returns-then-v-count-clause-told : goal.returns-then-v-count-clause-told
-returns-then-v-count-clause-told g c = c.touch_window.ensures.told
+pub returns-then-v-count-clause-upheld : goal.returns-then-v-count-clause-upheld
+returns-then-v-count-clause-upheld g c = c.touch_window.ensures.upheld
 
 pub returns-clause-last : goal.returns-clause-last
 returns-clause-last g c = keeps_last_own c.args.store.now.cache.now
 
-pub returns-clause-cause : goal.returns-clause-cause
-returns-clause-cause g c = no_cause _ _ refl false≢true
-
-pub returns-clause-told : goal.returns-clause-told
-returns-clause-told g c = λ fine. refl
-
-pub returns-clause-same : goal.returns-clause-same
-returns-clause-same g c = (refl, refl, refl)
+pub returns-clause-upheld : goal.returns-clause-upheld
+returns-clause-upheld g c = record {
+  kept = kept_own (work_of g.D.Disk.files c.args.evaluation.now c.args.store.now);
+  same = (refl, refl, refl);
+  fault_reported = record {
+    cause = no_cause _ _ refl false≢true;
+    quiet = λ fine. refl;
+  };
+}
 
 pub returns-clause-read : goal.returns-clause-read
 returns-clause-read g c = read_own 1 (work_of g.D.Disk.files c.args.evaluation.now c.args.store.now) c.requires.prepared
-
-pub returns-clause-kept : goal.returns-clause-kept
-returns-clause-kept g c = kept_own (work_of g.D.Disk.files c.args.evaluation.now c.args.store.now)
 
 pub node_window-requires-clause-laid : goal.node_window-requires-clause-laid
 node_window-requires-clause-laid g c = c.requires.prepared.laid

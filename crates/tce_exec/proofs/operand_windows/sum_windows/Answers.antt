@@ -24,7 +24,7 @@ pub place_window-requires-clause-place : goal.place_window-requires-clause-place
 place_window-requires-clause-place g c =
     let x : Workspace = work_of g.D.Disk.files c.args.evaluation.now c.args.store.now in
     let y : Workspace = work_of g.D.Disk.files c.args.evaluation.now c.operand_window.new.store in
-    node_after x y c.args.v (slice_index c.args.first.now.numbers) c.in_ok-operand_window.ensures.kept (own_place x c.args.v (slice_index c.args.first.now.numbers) c.requires.node)
+    node_after x y c.args.v (slice_index c.args.first.now.numbers) c.in_ok-operand_window.ensures.upheld.kept (own_place x c.args.v (slice_index c.args.first.now.numbers) c.requires.node)
 
 pub returns-in_err-operand_window-clause-windows : goal.returns-in_err-operand_window-clause-windows
 returns-in_err-operand_window-clause-windows g c = none_given _ _ c.from_residual.result c.from_residual.ensures.1
@@ -32,24 +32,22 @@ returns-in_err-operand_window-clause-windows g c = none_given _ _ c.from_residua
 pub returns-in_err-operand_window-clause-read : goal.returns-in_err-operand_window-clause-read
 returns-in_err-operand_window-clause-read g c = none_given _ _ c.from_residual.result c.from_residual.ensures.1
 
-pub returns-in_err-operand_window-clause-kept : goal.returns-in_err-operand_window-clause-kept
-returns-in_err-operand_window-clause-kept g c = c.in_err-operand_window.ensures.kept
-
-pub returns-in_err-operand_window-clause-same : goal.returns-in_err-operand_window-clause-same
-returns-in_err-operand_window-clause-same g c = c.in_err-operand_window.ensures.same
-
-pub returns-in_err-operand_window-clause-cause : goal.returns-in_err-operand_window-clause-cause
-returns-in_err-operand_window-clause-cause g c = cause_of _ _ c.in_err-operand_window.ensures.cause
-
-pub returns-in_err-operand_window-clause-told : goal.returns-in_err-operand_window-clause-told
-returns-in_err-operand_window-clause-told g c = told_of _ _ _ c.from_residual.result c.from_residual.ensures.1
+pub returns-in_err-operand_window-clause-upheld : goal.returns-in_err-operand_window-clause-upheld
+returns-in_err-operand_window-clause-upheld g c = record {
+  kept = c.in_err-operand_window.ensures.upheld.kept;
+  same = c.in_err-operand_window.ensures.upheld.same;
+  fault_reported = record {
+    cause = cause_of _ _ c.in_err-operand_window.ensures.upheld.fault_reported.cause;
+    quiet = told_of _ _ _ c.from_residual.result c.from_residual.ensures.1;
+  };
+}
 
 pub returns-clause-windows : goal.returns-clause-windows
 returns-clause-windows g c =
     let y : Workspace = work_of g.D.Disk.files c.args.evaluation.now c.operand_window.new.store in
     let z : Workspace = work_of g.D.Disk.files c.args.evaluation.now c.place_window.new.store in
     on_both c.place_window.result c.place_window.ensures.window c.place_window.ensures.last (λ window last. record {
-      left_is = operand_once y z (left_of y.places.tree c.args.v) (slice_index c.args.first.now.numbers) c.operand_window.new.window c.in_ok-operand_window.ensures.read.prepared.cache.frames c.place_window.ensures.kept last
+      left_is = operand_once y z (left_of y.places.tree c.args.v) (slice_index c.args.first.now.numbers) c.operand_window.new.window c.in_ok-operand_window.ensures.read.prepared.cache.frames c.place_window.ensures.upheld.kept last
           (subst (λ o. IsOperandWindow 1 y o (slice_index c.args.first.now.numbers) c.operand_window.new.window) c.left-left.ensures.value c.in_ok-operand_window.ensures.window);
       out_is = window;
     })
@@ -59,23 +57,21 @@ returns-clause-read g c =
     let x : Workspace = work_of g.D.Disk.files c.args.evaluation.now c.args.store.now in
     let y : Workspace = work_of g.D.Disk.files c.args.evaluation.now c.operand_window.new.store in
     let z : Workspace = work_of g.D.Disk.files c.args.evaluation.now c.place_window.new.store in
-    on_ok_weaker c.place_window.result (read_on 1 1 2 x y z (as_many 2) c.in_ok-operand_window.ensures.kept c.in_ok-operand_window.ensures.read) c.place_window.ensures.read
+    on_ok_weaker c.place_window.result (read_on 1 1 2 x y z (as_many 2) c.in_ok-operand_window.ensures.upheld.kept c.in_ok-operand_window.ensures.read) c.place_window.ensures.read
 
-pub returns-clause-kept : goal.returns-clause-kept
-returns-clause-kept g c =
-    let x : Workspace = work_of g.D.Disk.files c.args.evaluation.now c.args.store.now in
-    let y : Workspace = work_of g.D.Disk.files c.args.evaluation.now c.operand_window.new.store in
-    let z : Workspace = work_of g.D.Disk.files c.args.evaluation.now c.place_window.new.store in
-    kept_on x y z c.in_ok-operand_window.ensures.kept c.place_window.ensures.kept
-
-pub returns-clause-same : goal.returns-clause-same
-returns-clause-same g c = same_on c.args.store.now c.operand_window.new.store c.place_window.new.store c.in_ok-operand_window.ensures.same c.place_window.ensures.same
-
-pub returns-clause-cause : goal.returns-clause-cause
-returns-clause-cause g c = cause_since _ _ _ c.in_ok-operand_window.ensures.cause.later c.place_window.ensures.cause
-
-pub returns-clause-told : goal.returns-clause-told
-returns-clause-told g c = told_after _ _ _ (c.in_ok-operand_window.ensures.told false≢true) c.place_window.ensures.told
+pub returns-clause-upheld : goal.returns-clause-upheld
+returns-clause-upheld g c = record {
+  kept =
+      let x : Workspace = work_of g.D.Disk.files c.args.evaluation.now c.args.store.now in
+      let y : Workspace = work_of g.D.Disk.files c.args.evaluation.now c.operand_window.new.store in
+      let z : Workspace = work_of g.D.Disk.files c.args.evaluation.now c.place_window.new.store in
+      kept_on x y z c.in_ok-operand_window.ensures.upheld.kept c.place_window.ensures.upheld.kept;
+  same = same_on c.args.store.now c.operand_window.new.store c.place_window.new.store c.in_ok-operand_window.ensures.upheld.same c.place_window.ensures.upheld.same;
+  fault_reported = record {
+    cause = cause_since _ _ _ c.in_ok-operand_window.ensures.upheld.fault_reported.cause.later c.place_window.ensures.upheld.fault_reported.cause;
+    quiet = told_after _ _ _ (c.in_ok-operand_window.ensures.upheld.fault_reported.quiet false≢true) c.place_window.ensures.upheld.fault_reported.quiet;
+  };
+}
 
 pub operand_window-requires-clause-prepared : goal.operand_window-requires-clause-prepared
 operand_window-requires-clause-prepared g c = c.requires.prepared

@@ -94,35 +94,28 @@ returns-in_err-at-clause-read g c = none_given _ _ c.from_residual.result c.from
 pub returns-in_err-at-clause-steps : goal.returns-in_err-at-clause-steps
 returns-in_err-at-clause-steps g c = refl
 
-pub returns-in_err-at-clause-kept : goal.returns-in_err-at-clause-kept
-returns-in_err-at-clause-kept g c =
-    let x : Workspace = work_of g.D.Disk.files c.args.evaluation.now c.args.store.now in
-    let e = c.in_err-at.ensures in
-    touched_keeps x c.touch.new.words c.touch.new.self (g.D.Disk.files c.touch.new.disk) e.same e.outside e.others
-
-pub returns-in_err-at-clause-same : goal.returns-in_err-at-clause-same
-returns-in_err-at-clause-same g c = (refl, refl, refl)
-
-pub returns-in_err-at-clause-cause : goal.returns-in_err-at-clause-cause
-returns-in_err-at-clause-cause g c = cause_of _ _ c.in_err-at.ensures.cause
-
-pub returns-in_err-at-clause-told : goal.returns-in_err-at-clause-told
-returns-in_err-at-clause-told g c = told_of _ _ _ c.from_residual.result c.from_residual.ensures.1
+pub returns-in_err-at-clause-upheld : goal.returns-in_err-at-clause-upheld
+returns-in_err-at-clause-upheld g c = record {
+  kept =
+      let x : Workspace = work_of g.D.Disk.files c.args.evaluation.now c.args.store.now in
+      let e = c.in_err-at.ensures in
+      touched_keeps x c.touch.new.words c.touch.new.self (g.D.Disk.files c.touch.new.disk) e.same e.outside e.others;
+  same = (refl, refl, refl);
+  fault_reported = record {
+    cause = cause_of _ _ c.in_err-at.ensures.fault_reported.cause;
+    quiet = told_of _ _ _ c.from_residual.result c.from_residual.ensures.1;
+  };
+}
 
 pub returns-clause-steps : goal.returns-clause-steps
 returns-clause-steps g c = refl
 
-pub returns-clause-kept : goal.returns-clause-kept
-returns-clause-kept g c =
-    let x : Workspace = work_of g.D.Disk.files c.args.evaluation.now c.args.store.now in
-    let e = c.in_ok-at.ensures in
-    touched_keeps x c.touch.new.words c.touch.new.self (g.D.Disk.files c.touch.new.disk) e.same e.outside e.others
-
-pub returns-clause-same : goal.returns-clause-same
-returns-clause-same g c = (refl, refl, refl)
-
-pub returns-clause-cause : goal.returns-clause-cause
-returns-clause-cause g c = c.in_ok-at.ensures.cause
-
-pub returns-clause-told : goal.returns-clause-told
-returns-clause-told g c = c.in_ok-at.ensures.told
+pub returns-clause-upheld : goal.returns-clause-upheld
+returns-clause-upheld g c = record {
+  kept =
+      let x : Workspace = work_of g.D.Disk.files c.args.evaluation.now c.args.store.now in
+      let e = c.in_ok-at.ensures in
+      touched_keeps x c.touch.new.words c.touch.new.self (g.D.Disk.files c.touch.new.disk) e.same e.outside e.others;
+  same = (refl, refl, refl);
+  fault_reported = c.in_ok-at.ensures.fault_reported;
+}

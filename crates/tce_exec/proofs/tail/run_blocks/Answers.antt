@@ -57,25 +57,32 @@ loop-plan-preserved g c =
     record {
       along = subst (IsAlong x z c.args.tail.now (slice_index c.args.numbers.now)) (sym c.next_in.ensures.rest)
           (stepped x y z c.args.tail.now (slice_index c.args.numbers.now) c.loop-plan.plan.blocks (part_of c.next_in.new.block) c.requires.prepared c.loop-plan.invariant.along (first_told c.next_in.result (part_of c.next_in.new.block) c.loop-plan.plan.blocks c.next_in.ensures.block c.loop-plan-test.true)
-          e.kept e.changed);
+          e.upheld.kept e.changed);
       others = e.others;
       position = e.position;
       nest = e.nest;
-      same = same_on c.args.store.now c.loop-plan.store c.run_block.new.store c.loop-plan.invariant.same e.same;
+      same = same_on c.args.store.now c.loop-plan.store c.run_block.new.store c.loop-plan.invariant.same e.upheld.same;
       made = c.loop-plan.invariant.made;
       tail_is = c.loop-plan.invariant.tail_is;
       cuts_are = c.loop-plan.invariant.cuts_are;
       few_are = c.loop-plan.invariant.few_are;
       list_is = c.loop-plan.invariant.list_is;
-      counted = e.told false≢true ∙ c.loop-plan.invariant.counted;
+      counted = e.upheld.fault_reported.quiet false≢true ∙ c.loop-plan.invariant.counted;
     }
 
-pub returns-in_err-run_block-clause-kept : goal.returns-in_err-run_block-clause-kept
-returns-in_err-run_block-clause-kept g c =
-    let x : Workspace = work_of g.D.Disk.files c.args.evaluation.now c.args.store.now in
-    let y : Workspace = work_of g.D.Disk.files c.args.evaluation.now c.loop-plan.store in
-    let z : Workspace = work_of g.D.Disk.files c.args.evaluation.now c.run_block.new.store in
-    kept_on x y z c.loop-plan.invariant.along.kept c.in_err-run_block.ensures.kept
+pub returns-in_err-run_block-clause-upheld : goal.returns-in_err-run_block-clause-upheld
+returns-in_err-run_block-clause-upheld g c = record {
+  kept =
+      let x : Workspace = work_of g.D.Disk.files c.args.evaluation.now c.args.store.now in
+      let y : Workspace = work_of g.D.Disk.files c.args.evaluation.now c.loop-plan.store in
+      let z : Workspace = work_of g.D.Disk.files c.args.evaluation.now c.run_block.new.store in
+      kept_on x y z c.loop-plan.invariant.along.kept c.in_err-run_block.ensures.upheld.kept;
+  same = same_on c.args.store.now c.loop-plan.store c.run_block.new.store c.loop-plan.invariant.same c.in_err-run_block.ensures.upheld.same;
+  fault_reported = record {
+    cause = failed_after _ _ _ c.loop-plan.invariant.counted c.in_err-run_block.ensures.upheld.fault_reported.cause;
+    quiet = told_of _ _ _ c.from_residual.result c.from_residual.ensures.1;
+  };
+}
 
 pub returns-clause-changed : goal.returns-clause-changed
 returns-clause-changed g c =
@@ -93,29 +100,18 @@ returns-in_err-run_block-clause-position g c = none_given _ _ c.from_residual.re
 pub returns-in_err-run_block-clause-plan : goal.returns-in_err-run_block-clause-plan
 returns-in_err-run_block-clause-plan g c = none_given _ _ c.from_residual.result c.from_residual.ensures.1
 
-pub returns-in_err-run_block-clause-same : goal.returns-in_err-run_block-clause-same
-returns-in_err-run_block-clause-same g c = same_on c.args.store.now c.loop-plan.store c.run_block.new.store c.loop-plan.invariant.same c.in_err-run_block.ensures.same
-
-pub returns-in_err-run_block-clause-cause : goal.returns-in_err-run_block-clause-cause
-returns-in_err-run_block-clause-cause g c = failed_after _ _ _ c.loop-plan.invariant.counted c.in_err-run_block.ensures.cause
-
-pub returns-in_err-run_block-clause-told : goal.returns-in_err-run_block-clause-told
-returns-in_err-run_block-clause-told g c = told_of _ _ _ c.from_residual.result c.from_residual.ensures.1
-
-pub returns-clause-kept : goal.returns-clause-kept
-returns-clause-kept g c = c.loop-plan.invariant.along.kept
+pub returns-clause-upheld : goal.returns-clause-upheld
+returns-clause-upheld g c = record {
+  kept = c.loop-plan.invariant.along.kept;
+  same = c.loop-plan.invariant.same;
+  fault_reported = record {
+    cause = no_cause _ _ c.loop-plan.invariant.counted false≢true;
+    quiet = λ fine. c.loop-plan.invariant.counted;
+  };
+}
 
 pub returns-clause-position : goal.returns-clause-position
 returns-clause-position g c = c.loop-plan.invariant.position
-
-pub returns-clause-same : goal.returns-clause-same
-returns-clause-same g c = c.loop-plan.invariant.same
-
-pub returns-clause-cause : goal.returns-clause-cause
-returns-clause-cause g c = no_cause _ _ c.loop-plan.invariant.counted false≢true
-
-pub returns-clause-told : goal.returns-clause-told
-returns-clause-told g c = λ fine. c.loop-plan.invariant.counted
 
 pub run_block-requires-clause-prepared : goal.run_block-requires-clause-prepared
 run_block-requires-clause-prepared g c = c.loop-plan.invariant.along.changed.prepared

@@ -1,4 +1,4 @@
-use Rattle.std.proofs.Common.{◌≡◌, map, drop, drop-drop, get_or, slice_index, refl, sym, ap, ap₂, ◌∙◌, subst, arith}
+use Rattle.std.proofs.Common.{◌≡◌, map, drop, drop-drop, get_or, slice_index, refl, sym, ap, ap₂, ◌∙◌, subst, arith, rules}
 use Rattle.std.proofs.lemmas.Bool.{false≢true}
 use Rattle.tce_block.specs.Parts.{blocks}
 use Rattle.tce_block.specs.Cuts.{part_of}
@@ -72,26 +72,30 @@ loop-k-preserved g c =
     let e = c.in_ok-run_block.ensures in
     record {
       along = subst (IsAlong x z c.args.tail.now (slice_index c.args.numbers.now)) (drop-drop 1 c.loop-k.k (map part_of list))
-          (stepped x y z c.args.tail.now (slice_index c.args.numbers.now) (drop c.loop-k.k (map part_of list)) (part_of c.index-deref-k.result) c.requires.prepared c.loop-k.invariant.along there e.kept e.changed);
+          (stepped x y z c.args.tail.now (slice_index c.args.numbers.now) (drop c.loop-k.k (map part_of list)) (part_of c.index-deref-k.result) c.requires.prepared c.loop-k.invariant.along there e.upheld.kept e.changed);
       others = e.others;
       position = e.position;
       nest = e.nest;
-      same = same_on c.args.store.now c.loop-k.store c.run_block.new.store c.loop-k.invariant.same e.same;
+      same = same_on c.args.store.now c.loop-k.store c.run_block.new.store c.loop-k.invariant.same e.upheld.same;
       made = c.loop-k.invariant.made;
       tail_is = c.loop-k.invariant.tail_is;
       cuts_are = c.loop-k.invariant.cuts_are;
       few_are = c.loop-k.invariant.few_are;
       list_is = c.loop-k.invariant.list_is;
       last = c.loop-k.invariant.last;
-      counted = e.told false≢true ∙ c.loop-k.invariant.counted;
+      counted = e.upheld.fault_reported.quiet false≢true ∙ c.loop-k.invariant.counted;
     }
 
-pub returns-in_err-run_block-clause-kept : goal.returns-in_err-run_block-clause-kept
-returns-in_err-run_block-clause-kept g c =
-    let x : Workspace = work_of g.D.Disk.files c.args.evaluation.now c.args.store.now in
-    let y : Workspace = work_of g.D.Disk.files c.args.evaluation.now c.loop-k.store in
-    let z : Workspace = work_of g.D.Disk.files c.args.evaluation.now c.run_block.new.store in
-    kept_on x y z c.loop-k.invariant.along.kept c.in_err-run_block.ensures.kept
+pub returns-in_err-run_block-clause-upheld : goal.returns-in_err-run_block-clause-upheld
+returns-in_err-run_block-clause-upheld g c = record {
+  kept =
+      let x : Workspace = work_of g.D.Disk.files c.args.evaluation.now c.args.store.now in
+      let y : Workspace = work_of g.D.Disk.files c.args.evaluation.now c.loop-k.store in
+      let z : Workspace = work_of g.D.Disk.files c.args.evaluation.now c.run_block.new.store in
+      kept_on x y z c.loop-k.invariant.along.kept c.in_err-run_block.ensures.upheld.kept;
+  same = search rules;
+  fault_reported = search rules;
+}
 
 pub returns-clause-changed : goal.returns-clause-changed
 returns-clause-changed g c =

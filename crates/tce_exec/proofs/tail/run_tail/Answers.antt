@@ -38,32 +38,21 @@ returns-in_err-run_blocks-clause-changed g c = none_given _ _ c.from_residual.re
 pub returns-in_err-run_blocks-clause-right : goal.returns-in_err-run_blocks-clause-right
 returns-in_err-run_blocks-clause-right g c = none_given _ _ c.from_residual.result c.from_residual.ensures.1
 
-pub returns-in_err-run_blocks-clause-kept : goal.returns-in_err-run_blocks-clause-kept
-returns-in_err-run_blocks-clause-kept g c = c.in_err-run_blocks.ensures.kept
-
-pub returns-in_err-run_blocks-clause-same : goal.returns-in_err-run_blocks-clause-same
-returns-in_err-run_blocks-clause-same g c = c.in_err-run_blocks.ensures.same
-
-pub returns-in_err-run_blocks-clause-cause : goal.returns-in_err-run_blocks-clause-cause
-returns-in_err-run_blocks-clause-cause g c = cause_of _ _ c.in_err-run_blocks.ensures.cause
-
-pub returns-in_err-run_blocks-clause-told : goal.returns-in_err-run_blocks-clause-told
-returns-in_err-run_blocks-clause-told g c = told_of _ _ _ c.from_residual.result c.from_residual.ensures.1
+pub returns-in_err-run_blocks-clause-upheld : goal.returns-in_err-run_blocks-clause-upheld
+returns-in_err-run_blocks-clause-upheld g c = record {
+  kept = c.in_err-run_blocks.ensures.upheld.kept;
+  same = c.in_err-run_blocks.ensures.upheld.same;
+  fault_reported = record {
+    cause = cause_of _ _ c.in_err-run_blocks.ensures.upheld.fault_reported.cause;
+    quiet = told_of _ _ _ c.from_residual.result c.from_residual.ensures.1;
+  };
+}
 
 pub returns-clause-changed : goal.returns-clause-changed
 returns-clause-changed g c = c.in_ok-run_blocks.ensures.changed
 
-pub returns-clause-kept : goal.returns-clause-kept
-returns-clause-kept g c = c.in_ok-run_blocks.ensures.kept
-
-pub returns-clause-same : goal.returns-clause-same
-returns-clause-same g c = c.in_ok-run_blocks.ensures.same
-
-pub returns-clause-cause : goal.returns-clause-cause
-returns-clause-cause g c = c.in_ok-run_blocks.ensures.cause
-
-pub returns-clause-told : goal.returns-clause-told
-returns-clause-told g c = c.in_ok-run_blocks.ensures.told
+pub returns-clause-upheld : goal.returns-clause-upheld
+returns-clause-upheld g c = c.in_ok-run_blocks.ensures.upheld
 
 pub run_blocks-requires-clause-prepared : goal.run_blocks-requires-clause-prepared
 run_blocks-requires-clause-prepared g c = c.requires.prepared

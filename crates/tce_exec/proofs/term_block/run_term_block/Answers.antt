@@ -125,20 +125,24 @@ returns-clause-changed g c =
     let is = c.in_ok-term_windows.ensures.read.prepared in
     let same = c.begin.ensures.numbers ∙ ap (λ (fs : List ℕ). λ i. if among c.args.at.now.loops.now i then assignment c.args.at.now.loops.now fs i else slice_index c.args.first.now.numbers i) c.as_slice.ensures.value ∙ begun_first c.args.at.now.loops.now (around b.run) (slice_index c.args.first.now.numbers) (block_part b) c.requires.others in
     let at = ready y b (slice_index c.begin.new.self.numbers) w c.requires.block is same c.in_ok-term_windows.ensures.windows in
-    (block_runs x y b w c.scale_places.new.words c.add_term.new.words c.scale_places-2.new.words c.requires.block c.requires.prepared c.in_ok-term_windows.ensures.kept c.in_ok-term_windows.ensures.read at
+    (block_runs x y b w c.scale_places.new.words c.add_term.new.words c.scale_places-2.new.words c.requires.block c.requires.prepared c.in_ok-term_windows.ensures.upheld.kept c.in_ok-term_windows.ensures.read at
     c.len-read.ensures.words c.len-scaled.ensures.words c.len-added.ensures.words c.scale_places.ensures.made c.add_term.ensures.made c.scale_places-2.ensures.made).changed
 
-pub returns-clause-kept : goal.returns-clause-kept
-returns-clause-kept g c =
-    let x : Workspace = work_of g.D.Disk.files c.args.evaluation.now c.args.store.now in
-    let y : Workspace = work_of g.D.Disk.files c.args.evaluation.now c.term_windows.new.store in
-    let b = c.args.at.now in
-    let w = c.term_windows.new.windows in
-    let is = c.in_ok-term_windows.ensures.read.prepared in
-    let same = c.begin.ensures.numbers ∙ ap (λ (fs : List ℕ). λ i. if among c.args.at.now.loops.now i then assignment c.args.at.now.loops.now fs i else slice_index c.args.first.now.numbers i) c.as_slice.ensures.value ∙ begun_first c.args.at.now.loops.now (around b.run) (slice_index c.args.first.now.numbers) (block_part b) c.requires.others in
-    let at = ready y b (slice_index c.begin.new.self.numbers) w c.requires.block is same c.in_ok-term_windows.ensures.windows in
-    (block_runs x y b w c.scale_places.new.words c.add_term.new.words c.scale_places-2.new.words c.requires.block c.requires.prepared c.in_ok-term_windows.ensures.kept c.in_ok-term_windows.ensures.read at
-    c.len-read.ensures.words c.len-scaled.ensures.words c.len-added.ensures.words c.scale_places.ensures.made c.add_term.ensures.made c.scale_places-2.ensures.made).kept
+pub returns-clause-upheld : goal.returns-clause-upheld
+returns-clause-upheld g c = record {
+  kept =
+      let x : Workspace = work_of g.D.Disk.files c.args.evaluation.now c.args.store.now in
+      let y : Workspace = work_of g.D.Disk.files c.args.evaluation.now c.term_windows.new.store in
+      let b = c.args.at.now in
+      let w = c.term_windows.new.windows in
+      let is = c.in_ok-term_windows.ensures.read.prepared in
+      let same = c.begin.ensures.numbers ∙ ap (λ (fs : List ℕ). λ i. if among c.args.at.now.loops.now i then assignment c.args.at.now.loops.now fs i else slice_index c.args.first.now.numbers i) c.as_slice.ensures.value ∙ begun_first c.args.at.now.loops.now (around b.run) (slice_index c.args.first.now.numbers) (block_part b) c.requires.others in
+      let at = ready y b (slice_index c.begin.new.self.numbers) w c.requires.block is same c.in_ok-term_windows.ensures.windows in
+      (block_runs x y b w c.scale_places.new.words c.add_term.new.words c.scale_places-2.new.words c.requires.block c.requires.prepared c.in_ok-term_windows.ensures.upheld.kept c.in_ok-term_windows.ensures.read at
+      c.len-read.ensures.words c.len-scaled.ensures.words c.len-added.ensures.words c.scale_places.ensures.made c.add_term.ensures.made c.scale_places-2.ensures.made).kept;
+  same = c.in_ok-term_windows.ensures.upheld.same;
+  fault_reported = c.in_ok-term_windows.ensures.upheld.fault_reported;
+}
 
 pub returns-clause-others : goal.returns-clause-others
 returns-clause-others g c =
@@ -148,26 +152,21 @@ returns-clause-others g c =
 pub returns-clause-position : goal.returns-clause-position
 returns-clause-position g c = c.begin.ensures.position
 
-pub returns-clause-same : goal.returns-clause-same
-returns-clause-same g c = c.in_ok-term_windows.ensures.same
-
-pub returns-clause-cause : goal.returns-clause-cause
-returns-clause-cause g c = c.in_ok-term_windows.ensures.cause
-
-pub returns-clause-told : goal.returns-clause-told
-returns-clause-told g c = c.in_ok-term_windows.ensures.told
-
 pub returns-in_err-term_windows-clause-changed : goal.returns-in_err-term_windows-clause-changed
 returns-in_err-term_windows-clause-changed g c = none_given _ _ c.from_residual.result c.from_residual.ensures.1
 
 pub returns-in_err-term_windows-clause-nest : goal.returns-in_err-term_windows-clause-nest
 returns-in_err-term_windows-clause-nest g c = none_given _ _ c.from_residual.result c.from_residual.ensures.1
 
-pub returns-in_err-term_windows-clause-kept : goal.returns-in_err-term_windows-clause-kept
-returns-in_err-term_windows-clause-kept g c = c.in_err-term_windows.ensures.kept
-
-pub returns-in_err-term_windows-clause-same : goal.returns-in_err-term_windows-clause-same
-returns-in_err-term_windows-clause-same g c = c.in_err-term_windows.ensures.same
+pub returns-in_err-term_windows-clause-upheld : goal.returns-in_err-term_windows-clause-upheld
+returns-in_err-term_windows-clause-upheld g c = record {
+  kept = c.in_err-term_windows.ensures.upheld.kept;
+  same = c.in_err-term_windows.ensures.upheld.same;
+  fault_reported = record {
+    cause = cause_of _ _ c.in_err-term_windows.ensures.upheld.fault_reported.cause;
+    quiet = told_of _ _ _ c.from_residual.result c.from_residual.ensures.1;
+  };
+}
 
 pub returns-in_err-term_windows-clause-position : goal.returns-in_err-term_windows-clause-position
 returns-in_err-term_windows-clause-position g c = c.begin.ensures.position
@@ -176,9 +175,3 @@ pub returns-in_err-term_windows-clause-others : goal.returns-in_err-term_windows
 returns-in_err-term_windows-clause-others g c =
     outside_still c.args.at.now.loops.now (around c.args.at.now.run) (slice_index c.begin.new.self.numbers) (block_part c.args.at.now)
     (c.begin.ensures.numbers ∙ ap (λ (fs : List ℕ). λ i. if among c.args.at.now.loops.now i then assignment c.args.at.now.loops.now fs i else slice_index c.args.first.now.numbers i) c.as_slice.ensures.value ∙ begun_first c.args.at.now.loops.now (around c.args.at.now.run) (slice_index c.args.first.now.numbers) (block_part c.args.at.now) c.requires.others)
-
-pub returns-in_err-term_windows-clause-cause : goal.returns-in_err-term_windows-clause-cause
-returns-in_err-term_windows-clause-cause g c = cause_of _ _ c.in_err-term_windows.ensures.cause
-
-pub returns-in_err-term_windows-clause-told : goal.returns-in_err-term_windows-clause-told
-returns-in_err-term_windows-clause-told g c = told_of _ _ _ c.from_residual.result c.from_residual.ensures.1

@@ -22,7 +22,7 @@ pub place_window-requires-clause-place : goal.place_window-requires-clause-place
 place_window-requires-clause-place g c =
     let x : Workspace = work_of g.D.Disk.files c.args.evaluation.now c.args.store.now in
     let y : Workspace = work_of g.D.Disk.files c.args.evaluation.now c.operand_window.new.store in
-    node_after x y c.args.operands.now.out (slice_index c.args.first.now.numbers) c.in_ok-operand_window.ensures.kept c.requires.place
+    node_after x y c.args.operands.now.out (slice_index c.args.first.now.numbers) c.in_ok-operand_window.ensures.upheld.kept c.requires.place
 
 pub returns-in_err-operand_window-clause-windows : goal.returns-in_err-operand_window-clause-windows
 returns-in_err-operand_window-clause-windows g c = none_given _ _ c.from_residual.result c.from_residual.ensures.1
@@ -30,17 +30,15 @@ returns-in_err-operand_window-clause-windows g c = none_given _ _ c.from_residua
 pub returns-in_err-operand_window-clause-read : goal.returns-in_err-operand_window-clause-read
 returns-in_err-operand_window-clause-read g c = none_given _ _ c.from_residual.result c.from_residual.ensures.1
 
-pub returns-in_err-operand_window-clause-kept : goal.returns-in_err-operand_window-clause-kept
-returns-in_err-operand_window-clause-kept g c = c.in_err-operand_window.ensures.kept
-
-pub returns-in_err-operand_window-clause-same : goal.returns-in_err-operand_window-clause-same
-returns-in_err-operand_window-clause-same g c = c.in_err-operand_window.ensures.same
-
-pub returns-in_err-operand_window-clause-cause : goal.returns-in_err-operand_window-clause-cause
-returns-in_err-operand_window-clause-cause g c = cause_of _ _ c.in_err-operand_window.ensures.cause
-
-pub returns-in_err-operand_window-clause-told : goal.returns-in_err-operand_window-clause-told
-returns-in_err-operand_window-clause-told g c = told_of _ _ _ c.from_residual.result c.from_residual.ensures.1
+pub returns-in_err-operand_window-clause-upheld : goal.returns-in_err-operand_window-clause-upheld
+returns-in_err-operand_window-clause-upheld g c = record {
+  kept = c.in_err-operand_window.ensures.upheld.kept;
+  same = c.in_err-operand_window.ensures.upheld.same;
+  fault_reported = record {
+    cause = cause_of _ _ c.in_err-operand_window.ensures.upheld.fault_reported.cause;
+    quiet = told_of _ _ _ c.from_residual.result c.from_residual.ensures.1;
+  };
+}
 
 pub returns-clause-windows : goal.returns-clause-windows
 returns-clause-windows g c =
@@ -49,7 +47,7 @@ returns-clause-windows g c =
     on_both c.place_window.result c.place_window.ensures.window c.place_window.ensures.last (λ window last.
     one_found z c.args.operands.now (slice_index c.args.first.now.numbers)
     (record { left = c.operand_window.new.window; right = c.args.windows.now.right; out = c.place_window.new.window; own = c.args.windows.now.own }) c.requires.single
-    (operand_once y z c.args.operands.now.left.now (slice_index c.args.first.now.numbers) c.operand_window.new.window c.in_ok-operand_window.ensures.read.prepared.cache.frames c.place_window.ensures.kept last
+    (operand_once y z c.args.operands.now.left.now (slice_index c.args.first.now.numbers) c.operand_window.new.window c.in_ok-operand_window.ensures.read.prepared.cache.frames c.place_window.ensures.upheld.kept last
     c.in_ok-operand_window.ensures.window)
     window)
 
@@ -58,23 +56,21 @@ returns-clause-read g c =
     let x : Workspace = work_of g.D.Disk.files c.args.evaluation.now c.args.store.now in
     let y : Workspace = work_of g.D.Disk.files c.args.evaluation.now c.operand_window.new.store in
     let z : Workspace = work_of g.D.Disk.files c.args.evaluation.now c.place_window.new.store in
-    on_ok_weaker c.place_window.result (read_on 1 1 3 x y z (omega arith) c.in_ok-operand_window.ensures.kept c.in_ok-operand_window.ensures.read) c.place_window.ensures.read
+    on_ok_weaker c.place_window.result (read_on 1 1 3 x y z (omega arith) c.in_ok-operand_window.ensures.upheld.kept c.in_ok-operand_window.ensures.read) c.place_window.ensures.read
 
-pub returns-clause-kept : goal.returns-clause-kept
-returns-clause-kept g c =
-    let x : Workspace = work_of g.D.Disk.files c.args.evaluation.now c.args.store.now in
-    let y : Workspace = work_of g.D.Disk.files c.args.evaluation.now c.operand_window.new.store in
-    let z : Workspace = work_of g.D.Disk.files c.args.evaluation.now c.place_window.new.store in
-    kept_on x y z c.in_ok-operand_window.ensures.kept c.place_window.ensures.kept
-
-pub returns-clause-same : goal.returns-clause-same
-returns-clause-same g c = same_on c.args.store.now c.operand_window.new.store c.place_window.new.store c.in_ok-operand_window.ensures.same c.place_window.ensures.same
-
-pub returns-clause-cause : goal.returns-clause-cause
-returns-clause-cause g c = cause_since _ _ _ c.in_ok-operand_window.ensures.cause.later c.place_window.ensures.cause
-
-pub returns-clause-told : goal.returns-clause-told
-returns-clause-told g c = told_after _ _ _ (c.in_ok-operand_window.ensures.told false≢true) c.place_window.ensures.told
+pub returns-clause-upheld : goal.returns-clause-upheld
+returns-clause-upheld g c = record {
+  kept =
+      let x : Workspace = work_of g.D.Disk.files c.args.evaluation.now c.args.store.now in
+      let y : Workspace = work_of g.D.Disk.files c.args.evaluation.now c.operand_window.new.store in
+      let z : Workspace = work_of g.D.Disk.files c.args.evaluation.now c.place_window.new.store in
+      kept_on x y z c.in_ok-operand_window.ensures.upheld.kept c.place_window.ensures.upheld.kept;
+  same = same_on c.args.store.now c.operand_window.new.store c.place_window.new.store c.in_ok-operand_window.ensures.upheld.same c.place_window.ensures.upheld.same;
+  fault_reported = record {
+    cause = cause_since _ _ _ c.in_ok-operand_window.ensures.upheld.fault_reported.cause.later c.place_window.ensures.upheld.fault_reported.cause;
+    quiet = told_after _ _ _ (c.in_ok-operand_window.ensures.upheld.fault_reported.quiet false≢true) c.place_window.ensures.upheld.fault_reported.quiet;
+  };
+}
 
 pub operand_window-requires-clause-prepared : goal.operand_window-requires-clause-prepared
 operand_window-requires-clause-prepared g c = c.requires.prepared

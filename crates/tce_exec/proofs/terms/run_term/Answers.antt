@@ -108,13 +108,13 @@ loop-more-preserved g c =
     } in
     record {
       along = term_stepped x y z r q rest c.loop-more.before c.factor_after-after.result b c.requires.prepared c.len-len.ensures.words along block refl refl refl refl
-          (last_told r c.next_in-more-in-loop-more.result (part_of c.next_in-more-in-loop-more.new.block) c.next_in-more-in-loop-more.new.self c.factor_after-after.result c.factor_after-after.ensures) e.kept e.changed;
+          (last_told r c.next_in-more-in-loop-more.result (part_of c.next_in-more-in-loop-more.new.block) c.next_in-more-in-loop-more.new.self c.factor_after-after.result c.factor_after-after.ensures) e.upheld.kept e.changed;
       loops_are = c.loop-more.invariant.loops_are;
       others = subst (λ ls. AreOutside ls (around r) (slice_index c.run_term_block.new.first.numbers)) c.as_slice.ensures.value e.others;
       position = e.position;
       nest = subst (λ ls. IsTermNest (places_of c.args.evaluation.now) r ls c.run_term_block.new.nest) c.as_slice.ensures.value e.nest;
-      same = same_on c.args.store.now c.loop-more.store c.run_term_block.new.store c.loop-more.invariant.same e.same;
-      counted = e.told false≢true ∙ c.loop-more.invariant.counted;
+      same = same_on c.args.store.now c.loop-more.store c.run_term_block.new.store c.loop-more.invariant.same e.upheld.same;
+      counted = e.upheld.fault_reported.quiet false≢true ∙ c.loop-more.invariant.counted;
     }
 
 pub loop-more-smaller : goal.loop-more-smaller
@@ -131,20 +131,18 @@ returns-clause-changed g c =
     term_ended x y c.args.run.now c.loop-more.before c.requires.prepared c.len-words.ensures.words c.requires.run
     (subst (λ t. IsAlongTerm x y c.args.run.now (left_blocks t (part_of c.loop-more.plan.next) c.loop-more.plan.blocks) c.loop-more.before) c.loop-more-test.false c.loop-more.invariant.along)
 
-pub returns-clause-kept : goal.returns-clause-kept
-returns-clause-kept g c = c.loop-more.invariant.along.kept
+pub returns-clause-upheld : goal.returns-clause-upheld
+returns-clause-upheld g c = record {
+  kept = c.loop-more.invariant.along.kept;
+  same = c.loop-more.invariant.same;
+  fault_reported = record {
+    cause = no_cause _ _ c.loop-more.invariant.counted false≢true;
+    quiet = λ fine. c.loop-more.invariant.counted;
+  };
+}
 
 pub returns-clause-position : goal.returns-clause-position
 returns-clause-position g c = c.loop-more.invariant.position
-
-pub returns-clause-same : goal.returns-clause-same
-returns-clause-same g c = c.loop-more.invariant.same
-
-pub returns-clause-cause : goal.returns-clause-cause
-returns-clause-cause g c = no_cause _ _ c.loop-more.invariant.counted false≢true
-
-pub returns-clause-told : goal.returns-clause-told
-returns-clause-told g c = λ fine. c.loop-more.invariant.counted
 
 pub returns-in_err-run_term_block-clause-changed : goal.returns-in_err-run_term_block-clause-changed
 returns-in_err-run_term_block-clause-changed g c = none_given _ _ c.from_residual.result c.from_residual.ensures.1
@@ -152,18 +150,16 @@ returns-in_err-run_term_block-clause-changed g c = none_given _ _ c.from_residua
 pub returns-in_err-run_term_block-clause-position : goal.returns-in_err-run_term_block-clause-position
 returns-in_err-run_term_block-clause-position g c = none_given _ _ c.from_residual.result c.from_residual.ensures.1
 
-pub returns-in_err-run_term_block-clause-kept : goal.returns-in_err-run_term_block-clause-kept
-returns-in_err-run_term_block-clause-kept g c =
-    let x : Workspace = work_of g.D.Disk.files c.args.evaluation.now c.args.store.now in
-    let y : Workspace = work_of g.D.Disk.files c.args.evaluation.now c.loop-more.store in
-    let z : Workspace = work_of g.D.Disk.files c.args.evaluation.now c.run_term_block.new.store in
-    kept_on x y z c.loop-more.invariant.along.kept c.in_err-run_term_block.ensures.kept
-
-pub returns-in_err-run_term_block-clause-same : goal.returns-in_err-run_term_block-clause-same
-returns-in_err-run_term_block-clause-same g c = same_on c.args.store.now c.loop-more.store c.run_term_block.new.store c.loop-more.invariant.same c.in_err-run_term_block.ensures.same
-
-pub returns-in_err-run_term_block-clause-cause : goal.returns-in_err-run_term_block-clause-cause
-returns-in_err-run_term_block-clause-cause g c = failed_after _ _ _ c.loop-more.invariant.counted c.in_err-run_term_block.ensures.cause
-
-pub returns-in_err-run_term_block-clause-told : goal.returns-in_err-run_term_block-clause-told
-returns-in_err-run_term_block-clause-told g c = told_of _ _ _ c.from_residual.result c.from_residual.ensures.1
+pub returns-in_err-run_term_block-clause-upheld : goal.returns-in_err-run_term_block-clause-upheld
+returns-in_err-run_term_block-clause-upheld g c = record {
+  kept =
+      let x : Workspace = work_of g.D.Disk.files c.args.evaluation.now c.args.store.now in
+      let y : Workspace = work_of g.D.Disk.files c.args.evaluation.now c.loop-more.store in
+      let z : Workspace = work_of g.D.Disk.files c.args.evaluation.now c.run_term_block.new.store in
+      kept_on x y z c.loop-more.invariant.along.kept c.in_err-run_term_block.ensures.upheld.kept;
+  same = same_on c.args.store.now c.loop-more.store c.run_term_block.new.store c.loop-more.invariant.same c.in_err-run_term_block.ensures.upheld.same;
+  fault_reported = record {
+    cause = failed_after _ _ _ c.loop-more.invariant.counted c.in_err-run_term_block.ensures.upheld.fault_reported.cause;
+    quiet = told_of _ _ _ c.from_residual.result c.from_residual.ensures.1;
+  };
+}

@@ -145,10 +145,10 @@ loop-n-preserved g c =
     record {
       along = terms_stepped x y z sum n term r c.requires.prepared low more c.term_operands.ensures.out refl c.as_slice.ensures.value
           (λ b. value_of (setting_in x).elements x.places.tree term.operand r.operands b at.operand c.term_operands.ensures.operands) c.factor_before-before.ensures c.factor_after-after.ensures
-          c.loop-n.invariant.along e.kept e.changed;
+          c.loop-n.invariant.along e.upheld.kept e.changed;
       position = e.position;
-      same = same_on c.args.store.now c.loop-n.store c.run_term.new.store c.loop-n.invariant.same e.same;
-      counted = e.told false≢true ∙ c.loop-n.invariant.counted;
+      same = same_on c.args.store.now c.loop-n.store c.run_term.new.store c.loop-n.invariant.same e.upheld.same;
+      counted = e.upheld.fault_reported.quiet false≢true ∙ c.loop-n.invariant.counted;
     }
 
 pub returns-clause-changed : goal.returns-clause-changed
@@ -157,20 +157,18 @@ returns-clause-changed g c =
     let y : Workspace = work_of g.D.Disk.files c.args.evaluation.now c.loop-n.store in
     terms_ended x y c.args.sum.now (assignment_of c.args.numbers.now) (part_of c.args.block.now) c.loop-n.n (omega (arith, c.loop-n-test.false, c.loop-n.auto.n-end)) c.requires.terms c.loop-n.invariant.along
 
-pub returns-clause-kept : goal.returns-clause-kept
-returns-clause-kept g c = c.loop-n.invariant.along.kept
+pub returns-clause-upheld : goal.returns-clause-upheld
+returns-clause-upheld g c = record {
+  kept = c.loop-n.invariant.along.kept;
+  same = c.loop-n.invariant.same;
+  fault_reported = record {
+    cause = no_cause _ _ c.loop-n.invariant.counted false≢true;
+    quiet = λ fine. c.loop-n.invariant.counted;
+  };
+}
 
 pub returns-clause-position : goal.returns-clause-position
 returns-clause-position g c = c.loop-n.invariant.position
-
-pub returns-clause-same : goal.returns-clause-same
-returns-clause-same g c = c.loop-n.invariant.same
-
-pub returns-clause-cause : goal.returns-clause-cause
-returns-clause-cause g c = no_cause _ _ c.loop-n.invariant.counted false≢true
-
-pub returns-clause-told : goal.returns-clause-told
-returns-clause-told g c = λ fine. c.loop-n.invariant.counted
 
 pub returns-in_err-run_term-clause-changed : goal.returns-in_err-run_term-clause-changed
 returns-in_err-run_term-clause-changed g c = none_given _ _ c.from_residual.result c.from_residual.ensures.1
@@ -178,18 +176,16 @@ returns-in_err-run_term-clause-changed g c = none_given _ _ c.from_residual.resu
 pub returns-in_err-run_term-clause-position : goal.returns-in_err-run_term-clause-position
 returns-in_err-run_term-clause-position g c = none_given _ _ c.from_residual.result c.from_residual.ensures.1
 
-pub returns-in_err-run_term-clause-kept : goal.returns-in_err-run_term-clause-kept
-returns-in_err-run_term-clause-kept g c =
-    let x : Workspace = work_of g.D.Disk.files c.args.evaluation.now c.args.store.now in
-    let y : Workspace = work_of g.D.Disk.files c.args.evaluation.now c.loop-n.store in
-    let z : Workspace = work_of g.D.Disk.files c.args.evaluation.now c.run_term.new.store in
-    kept_on x y z c.loop-n.invariant.along.kept c.in_err-run_term.ensures.kept
-
-pub returns-in_err-run_term-clause-same : goal.returns-in_err-run_term-clause-same
-returns-in_err-run_term-clause-same g c = same_on c.args.store.now c.loop-n.store c.run_term.new.store c.loop-n.invariant.same c.in_err-run_term.ensures.same
-
-pub returns-in_err-run_term-clause-cause : goal.returns-in_err-run_term-clause-cause
-returns-in_err-run_term-clause-cause g c = failed_after _ _ _ c.loop-n.invariant.counted c.in_err-run_term.ensures.cause
-
-pub returns-in_err-run_term-clause-told : goal.returns-in_err-run_term-clause-told
-returns-in_err-run_term-clause-told g c = told_of _ _ _ c.from_residual.result c.from_residual.ensures.1
+pub returns-in_err-run_term-clause-upheld : goal.returns-in_err-run_term-clause-upheld
+returns-in_err-run_term-clause-upheld g c = record {
+  kept =
+      let x : Workspace = work_of g.D.Disk.files c.args.evaluation.now c.args.store.now in
+      let y : Workspace = work_of g.D.Disk.files c.args.evaluation.now c.loop-n.store in
+      let z : Workspace = work_of g.D.Disk.files c.args.evaluation.now c.run_term.new.store in
+      kept_on x y z c.loop-n.invariant.along.kept c.in_err-run_term.ensures.upheld.kept;
+  same = same_on c.args.store.now c.loop-n.store c.run_term.new.store c.loop-n.invariant.same c.in_err-run_term.ensures.upheld.same;
+  fault_reported = record {
+    cause = failed_after _ _ _ c.loop-n.invariant.counted c.in_err-run_term.ensures.upheld.fault_reported.cause;
+    quiet = told_of _ _ _ c.from_residual.result c.from_residual.ensures.1;
+  };
+}

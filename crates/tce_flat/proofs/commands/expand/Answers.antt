@@ -41,15 +41,15 @@ returns-in_err-shape-clause-no_half g c = inl c.in_err-shape.ensures.same
 pub returns-in_err-shape-clause-others : goal.returns-in_err-shape-clause-others
 returns-in_err-shape-clause-others g c = ap (others (array_file c.args.tensor.now)) c.in_err-shape.ensures.same
 
-pub returns-in_err-shape-clause-cause : goal.returns-in_err-shape-clause-cause
-returns-in_err-shape-clause-cause g c =
-    let p = err_from_is_err_and c.from_residual.result c.from_residual.ensures.1 in
-    rw (p.1, p.2) (cause_for _ _ c.in_err-shape.field-0.0 c.in_err-shape.ensures.cause)
-
-pub returns-in_err-shape-clause-told : goal.returns-in_err-shape-clause-told
-returns-in_err-shape-clause-told g c =
-    let p = err_from_is_err_and c.from_residual.result c.from_residual.ensures.1 in
-    rw (p.1, p.2) (told_for _ _ c.in_err-shape.field-0.0 c.in_err-shape.ensures.told)
+pub returns-in_err-shape-clause-fault_reported : goal.returns-in_err-shape-clause-fault_reported
+returns-in_err-shape-clause-fault_reported g c = record {
+  cause =
+      let p = err_from_is_err_and c.from_residual.result c.from_residual.ensures.1 in
+      rw (p.1, p.2) (cause_for _ _ c.in_err-shape.field-0.0 c.in_err-shape.ensures.fault_reported.cause);
+  quiet =
+      let p = err_from_is_err_and c.from_residual.result c.from_residual.ensures.1 in
+      rw (p.1, p.2) (told_for _ _ c.in_err-shape.field-0.0 c.in_err-shape.ensures.fault_reported.quiet);
+}
 
 pub returns-clause-done : goal.returns-clause-done
 returns-clause-done g c =
@@ -64,11 +64,11 @@ returns-clause-refused g c =
 pub returns-clause-unchanged : goal.returns-clause-unchanged
 returns-clause-unchanged g c = unchanged_from _ _ _ c.expand_tensor-done.result c.in_ok-shape.ensures.same c.expand_tensor-done.ensures.unchanged
 
-pub returns-clause-cause : goal.returns-clause-cause
-returns-clause-cause g c = cause_since _ _ _ c.in_ok-shape.ensures.cause.later c.expand_tensor-done.ensures.cause
-
-pub returns-clause-told : goal.returns-clause-told
-returns-clause-told g c = λ no. c.expand_tensor-done.ensures.told no ∙ c.in_ok-shape.ensures.told (search rules)
+pub returns-clause-fault_reported : goal.returns-clause-fault_reported
+returns-clause-fault_reported g c = record {
+  cause = cause_since _ _ _ c.in_ok-shape.ensures.fault_reported.cause.later c.expand_tensor-done.ensures.fault_reported.cause;
+  quiet = λ no. c.expand_tensor-done.ensures.fault_reported.quiet no ∙ c.in_ok-shape.ensures.fault_reported.quiet (search rules);
+}
 
 pub returns-clause-no_half : goal.returns-clause-no_half
 returns-clause-no_half g c =

@@ -21,11 +21,8 @@ returns-in_default-clause-no_half g c = c.expand.ensures.no_half
 pub returns-in_default-clause-others : goal.returns-in_default-clause-others
 returns-in_default-clause-others g c = c.expand.ensures.others
 
-pub returns-in_default-clause-cause : goal.returns-in_default-clause-cause
-returns-in_default-clause-cause g c = c.expand.ensures.cause
-
-pub returns-in_default-clause-told : goal.returns-in_default-clause-told
-returns-in_default-clause-told g c = c.expand.ensures.told
+pub returns-in_default-clause-fault_reported : goal.returns-in_default-clause-fault_reported
+returns-in_default-clause-fault_reported g c = c.expand.ensures.fault_reported
 
 pub expand_through-expanded-requires-clause-names : goal.expand_through-expanded-requires-clause-names
 expand_through-expanded-requires-clause-names g c = c.requires.names
@@ -48,8 +45,5 @@ returns-clause-no_half g c = c.expand_through-expanded.ensures.no_half
 pub returns-clause-others : goal.returns-clause-others
 returns-clause-others g c = c.expand_through-expanded.ensures.others
 
-pub returns-clause-cause : goal.returns-clause-cause
-returns-clause-cause g c = c.expand_through-expanded.ensures.cause
-
-pub returns-clause-told : goal.returns-clause-told
-returns-clause-told g c = c.expand_through-expanded.ensures.told
+pub returns-clause-fault_reported : goal.returns-clause-fault_reported
+returns-clause-fault_reported g c = c.expand_through-expanded.ensures.fault_reported

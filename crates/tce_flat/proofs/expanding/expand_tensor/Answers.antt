@@ -105,32 +105,32 @@ returns-in-Err-clause-no_half g c = inl c.open_sym.ensures.same
 pub returns-in-Err-clause-others : goal.returns-in-Err-clause-others
 returns-in-Err-clause-others g c = ap (others (array_file c.args.tensor.now)) c.open_sym.ensures.same
 
-pub returns-in-Err-clause-cause : goal.returns-in-Err-clause-cause
-returns-in-Err-clause-cause g c = sym_cause c.args.tensor.now c.in-Err.fault c.sym_refusal.result _ _ c.sym_refusal.ensures c.in-Err.ensures.cause
+pub returns-in-Err-clause-fault_reported : goal.returns-in-Err-clause-fault_reported
+returns-in-Err-clause-fault_reported g c = record {
+  cause = sym_cause c.args.tensor.now c.in-Err.fault c.sym_refusal.result _ _ c.sym_refusal.ensures c.in-Err.ensures.fault_reported.cause;
+  quiet = sym_told c.args.tensor.now c.in-Err.fault c.sym_refusal.result _ _ c.sym_refusal.ensures c.in-Err.ensures.fault_reported.quiet;
+}
 
-pub returns-in-Err-clause-told : goal.returns-in-Err-clause-told
-returns-in-Err-clause-told g c = sym_told c.args.tensor.now c.in-Err.fault c.sym_refusal.result _ _ c.sym_refusal.ensures c.in-Err.ensures.told
-
-pub returns-in-Ok-expand_file-clause-cause : goal.returns-in-Ok-expand_file-clause-cause
-returns-in-Ok-expand_file-clause-cause g c = record { later = omega (arith, c.open_sym.ensures.cause.later, c.expand_file.ensures.cause.later); rose = λ failed. absurd (ok_no_disk _ _ refl failed) }
-
-pub returns-in-Ok-expand_file-clause-told : goal.returns-in-Ok-expand_file-clause-told
-returns-in-Ok-expand_file-clause-told g c = λ none. answered_quiet _ _ _ _ refl c.in-Ok-expand_file.ensures.told ∙ answered_quiet _ _ _ _ refl c.in-Ok-open_sym.ensures.told
+pub returns-in-Ok-expand_file-clause-fault_reported : goal.returns-in-Ok-expand_file-clause-fault_reported
+returns-in-Ok-expand_file-clause-fault_reported g c = record {
+  cause = record { later = omega (arith, c.open_sym.ensures.fault_reported.cause.later, c.expand_file.ensures.fault_reported.cause.later); rose = λ failed. absurd (ok_no_disk _ _ refl failed) };
+  quiet = λ none. answered_quiet _ _ _ _ refl c.in-Ok-expand_file.ensures.fault_reported.quiet ∙ answered_quiet _ _ _ _ refl c.in-Ok-open_sym.ensures.fault_reported.quiet;
+}
 
 pub returns-in-Err-Failed-clause-refused : goal.returns-in-Err-Failed-clause-refused
 returns-in-Err-Failed-clause-refused g c = (tt, λ files told. inl tt)
 
-pub returns-in-Err-Failed-clause-cause : goal.returns-in-Err-Failed-clause-cause
-returns-in-Err-Failed-clause-cause g c = cause_since _ _ _ c.open_sym.ensures.cause.later (cause_as _ _ (λ e. ap Err c.in-Err-Failed.field-0-is) c.in-Err-Failed.ensures.cause)
-
-pub returns-in-Err-Failed-clause-told : goal.returns-in-Err-Failed-clause-told
-returns-in-Err-Failed-clause-told g c = λ none. absurd (none refl)
+pub returns-in-Err-Failed-clause-fault_reported : goal.returns-in-Err-Failed-clause-fault_reported
+returns-in-Err-Failed-clause-fault_reported g c = record {
+  cause = cause_since _ _ _ c.open_sym.ensures.fault_reported.cause.later (cause_as _ _ (λ e. ap Err c.in-Err-Failed.field-0-is) c.in-Err-Failed.ensures.fault_reported.cause);
+  quiet = λ none. absurd (none refl);
+}
 
 pub returns-clause-refused : goal.returns-clause-refused
 returns-clause-refused g c = (tt, λ files told. inl tt)
 
-pub returns-clause-cause : goal.returns-clause-cause
-returns-clause-cause g c = record { later = omega (arith, c.open_sym.ensures.cause.later, c.expand_file.ensures.cause.later); rose = λ failed. absurd (cc) }
-
-pub returns-clause-told : goal.returns-clause-told
-returns-clause-told g c = λ none. c.in-Err-Memory.ensures.told (λ e. absurd (cc (c.in-Err-Memory.field-0-is))) ∙ answered_quiet _ _ _ _ refl c.in-Ok-open_sym.ensures.told
+pub returns-clause-fault_reported : goal.returns-clause-fault_reported
+returns-clause-fault_reported g c = record {
+  cause = record { later = omega (arith, c.open_sym.ensures.fault_reported.cause.later, c.expand_file.ensures.fault_reported.cause.later); rose = λ failed. absurd (cc) };
+  quiet = λ none. c.in-Err-Memory.ensures.fault_reported.quiet (λ e. absurd (cc (c.in-Err-Memory.field-0-is))) ∙ answered_quiet _ _ _ _ refl c.in-Ok-open_sym.ensures.fault_reported.quiet;
+}

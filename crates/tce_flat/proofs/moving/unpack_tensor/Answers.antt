@@ -39,14 +39,14 @@ returns-in-Err-clause-refused g c =
 pub returns-in-Err-clause-unchanged : goal.returns-in-Err-clause-unchanged
 returns-in-Err-clause-unchanged g c = tool_keeps c.args.tensor.now c.as_str-in-Err.result.now c.in-Err.fault c.refusal_of.result _ _ c.refusal_of.ensures c.in-Err.ensures.refused
 
-pub returns-in-Err-clause-cause : goal.returns-in-Err-clause-cause
-returns-in-Err-clause-cause g c = tool_cause c.args.tensor.now c.as_str-in-Err.result.now c.in-Err.fault c.refusal_of.result _ _ c.refusal_of.ensures c.in-Err.ensures.cause
+pub returns-in-Err-clause-fault_reported : goal.returns-in-Err-clause-fault_reported
+returns-in-Err-clause-fault_reported g c = record {
+  cause = tool_cause c.args.tensor.now c.as_str-in-Err.result.now c.in-Err.fault c.refusal_of.result _ _ c.refusal_of.ensures c.in-Err.ensures.fault_reported.cause;
+  quiet = tool_told c.args.tensor.now c.as_str-in-Err.result.now c.in-Err.fault c.refusal_of.result _ _ c.refusal_of.ensures c.in-Err.ensures.fault_reported.quiet;
+}
 
-pub returns-in-Err-clause-told : goal.returns-in-Err-clause-told
-returns-in-Err-clause-told g c = tool_told c.args.tensor.now c.as_str-in-Err.result.now c.in-Err.fault c.refusal_of.result _ _ c.refusal_of.ensures c.in-Err.ensures.told
-
-pub returns-in-Ok-unpack-clause-cause : goal.returns-in-Ok-unpack-clause-cause
-returns-in-Ok-unpack-clause-cause g c = record { later = c.in-Ok-unpack.ensures.cause.later; rose = λ failed. absurd (ok_no_disk _ _ refl failed) }
-
-pub returns-in-Ok-unpack-clause-told : goal.returns-in-Ok-unpack-clause-told
-returns-in-Ok-unpack-clause-told g c = λ none. answered_quiet _ _ _ _ refl c.in-Ok-unpack.ensures.told
+pub returns-in-Ok-unpack-clause-fault_reported : goal.returns-in-Ok-unpack-clause-fault_reported
+returns-in-Ok-unpack-clause-fault_reported g c = record {
+  cause = record { later = c.in-Ok-unpack.ensures.fault_reported.cause.later; rose = λ failed. absurd (ok_no_disk _ _ refl failed) };
+  quiet = λ none. answered_quiet _ _ _ _ refl c.in-Ok-unpack.ensures.fault_reported.quiet;
+}

@@ -16,14 +16,14 @@ returns-clause-refused g c =
     IfErr-weaker c.shape_named-found.result _ _
     (λ a no. (may_lack c.args.spec.now c.args.tensor.now c.in_ok-source.source a no, λ files told. undeclared_in files c.args.spec.now c.args.tensor.now c.in_ok-source.source a (c.in_ok-source.ensures.read files told) no)) c.shape_named-found.ensures.refused
 
-pub returns-clause-cause : goal.returns-clause-cause
-returns-clause-cause g c = record {
-  later = c.in_ok-source.ensures.cause.later;
-  rose = λ e. absurd (IfErr-at_err (IsUndeclared c.in_ok-source.source c.args.tensor.now) e c.shape_named-found.ensures.refused).1;
+pub returns-clause-fault_reported : goal.returns-clause-fault_reported
+returns-clause-fault_reported g c = record {
+  cause = record {
+    later = c.in_ok-source.ensures.fault_reported.cause.later;
+    rose = λ e. absurd (IfErr-at_err (IsUndeclared c.in_ok-source.source c.args.tensor.now) e c.shape_named-found.ensures.refused).1;
+  };
+  quiet = λ no. c.in_ok-source.ensures.fault_reported.quiet (search rules);
 }
-
-pub returns-clause-told : goal.returns-clause-told
-returns-clause-told g c = λ no. c.in_ok-source.ensures.told (search rules)
 
 pub returns-in_err-source-clause-found : goal.returns-in_err-source-clause-found
 returns-in_err-source-clause-found g c = IfOk-from_err c.from_residual.result _ c.from_residual.ensures.0
@@ -36,12 +36,12 @@ returns-in_err-source-clause-refused g c =
 pub returns-in_err-source-clause-same : goal.returns-in_err-source-clause-same
 returns-in_err-source-clause-same g c = c.in_err-source.ensures.same
 
-pub returns-in_err-source-clause-cause : goal.returns-in_err-source-clause-cause
-returns-in_err-source-clause-cause g c =
-    let p = err_from_is_err_and c.from_residual.result c.from_residual.ensures.1 in
-    rw (p.1, p.2) (cause_for _ _ c.in_err-source.field-0.0 c.in_err-source.ensures.cause)
-
-pub returns-in_err-source-clause-told : goal.returns-in_err-source-clause-told
-returns-in_err-source-clause-told g c =
-    let p = err_from_is_err_and c.from_residual.result c.from_residual.ensures.1 in
-    rw (p.1, p.2) (told_for _ _ c.in_err-source.field-0.0 c.in_err-source.ensures.told)
+pub returns-in_err-source-clause-fault_reported : goal.returns-in_err-source-clause-fault_reported
+returns-in_err-source-clause-fault_reported g c = record {
+  cause =
+      let p = err_from_is_err_and c.from_residual.result c.from_residual.ensures.1 in
+      rw (p.1, p.2) (cause_for _ _ c.in_err-source.field-0.0 c.in_err-source.ensures.fault_reported.cause);
+  quiet =
+      let p = err_from_is_err_and c.from_residual.result c.from_residual.ensures.1 in
+      rw (p.1, p.2) (told_for _ _ c.in_err-source.field-0.0 c.in_err-source.ensures.fault_reported.quiet);
+}

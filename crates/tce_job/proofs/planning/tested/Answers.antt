@@ -26,13 +26,13 @@ returns-in_err-plan-clause-refused g c =
 pub returns-in_err-plan-clause-same : goal.returns-in_err-plan-clause-same
 returns-in_err-plan-clause-same g c = refl
 
-pub returns-in_err-plan-clause-cause : goal.returns-in_err-plan-clause-cause
-returns-in_err-plan-clause-cause g c =
-    let p = err_from_is_err_and c.from_residual.result c.from_residual.ensures.1 in
-    rw (p.1, p.2) (no_cause _ _ refl (λ failed. c.in_err-plan.ensures.no_fault (same_fault c.in_err-plan.field-0.0 _ _ refl refl failed)))
-
-pub returns-in_err-plan-clause-quiet : goal.returns-in_err-plan-clause-quiet
-returns-in_err-plan-clause-quiet g c = λ none. refl
+pub returns-in_err-plan-clause-fault_reported : goal.returns-in_err-plan-clause-fault_reported
+returns-in_err-plan-clause-fault_reported g c = record {
+  cause =
+      let p = err_from_is_err_and c.from_residual.result c.from_residual.ensures.1 in
+      rw (p.1, p.2) (no_cause _ _ refl (λ failed. c.in_err-plan.ensures.no_fault (same_fault c.in_err-plan.field-0.0 _ _ refl refl failed)));
+  quiet = λ none. refl;
+}
 
 pub returns-in-Ok-clause-plan : goal.returns-in-Ok-clause-plan
 returns-in-Ok-clause-plan g c = c.in_ok-plan.ensures.plan
@@ -49,11 +49,11 @@ returns-in-Ok-clause-opened g c = c.in-Ok.ensures.opened
 pub returns-in-Ok-clause-same : goal.returns-in-Ok-clause-same
 returns-in-Ok-clause-same g c = c.opened_forms.ensures.same
 
-pub returns-in-Ok-clause-cause : goal.returns-in-Ok-clause-cause
-returns-in-Ok-clause-cause g c = cause_as _ _ (answered (c.in_ok-plan.plan, c.in-Ok.forms) _ refl) c.in-Ok.ensures.cause
-
-pub returns-in-Ok-clause-quiet : goal.returns-in-Ok-clause-quiet
-returns-in-Ok-clause-quiet g c = λ none. answered_quiet _ _ c.in-Ok.forms _ refl c.in-Ok.ensures.quiet
+pub returns-in-Ok-clause-fault_reported : goal.returns-in-Ok-clause-fault_reported
+returns-in-Ok-clause-fault_reported g c = record {
+  cause = cause_as _ _ (answered (c.in_ok-plan.plan, c.in-Ok.forms) _ refl) c.in-Ok.ensures.fault_reported.cause;
+  quiet = λ none. answered_quiet _ _ c.in-Ok.forms _ refl c.in-Ok.ensures.fault_reported.quiet;
+}
 
 pub returns-in-Err-clause-refused : goal.returns-in-Err-clause-refused
 returns-in-Err-clause-refused g c =
@@ -62,8 +62,8 @@ returns-in-Err-clause-refused g c =
 pub returns-in-Err-clause-same : goal.returns-in-Err-clause-same
 returns-in-Err-clause-same g c = c.opened_forms.ensures.same
 
-pub returns-in-Err-clause-cause : goal.returns-in-Err-clause-cause
-returns-in-Err-clause-cause g c = cause_as _ _ (same_fault c.in-Err.fault _ _ refl refl) c.in-Err.ensures.cause
-
-pub returns-in-Err-clause-quiet : goal.returns-in-Err-clause-quiet
-returns-in-Err-clause-quiet g c = λ none. c.in-Err.ensures.quiet (λ failed. none (same_fault c.in-Err.fault _ _ refl refl failed))
+pub returns-in-Err-clause-fault_reported : goal.returns-in-Err-clause-fault_reported
+returns-in-Err-clause-fault_reported g c = record {
+  cause = cause_as _ _ (same_fault c.in-Err.fault _ _ refl refl) c.in-Err.ensures.fault_reported.cause;
+  quiet = λ none. c.in-Err.ensures.fault_reported.quiet (λ failed. none (same_fault c.in-Err.fault _ _ refl refl failed));
+}

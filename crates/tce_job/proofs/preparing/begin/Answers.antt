@@ -37,11 +37,11 @@ returns-in-Ok-make_result-clause-plan g c = c.in-Ok.ensures.plan
 pub returns-in-Ok-make_result-clause-taken : goal.returns-in-Ok-make_result-clause-taken
 returns-in-Ok-make_result-clause-taken g c = c.in-Ok.ensures.taken
 
-pub returns-in-Ok-make_result-clause-cause : goal.returns-in-Ok-make_result-clause-cause
-returns-in-Ok-make_result-clause-cause g c = cause_as _ _ (answered c.in-Ok.prepared _ refl) c.in-Ok-make_result.ensures.cause
-
-pub returns-in-Ok-make_result-clause-quiet : goal.returns-in-Ok-make_result-clause-quiet
-returns-in-Ok-make_result-clause-quiet g c = λ none. answered_quiet _ _ c.in-Ok-make_result.field-0 _ refl c.in-Ok-make_result.ensures.quiet
+pub returns-in-Ok-make_result-clause-fault_reported : goal.returns-in-Ok-make_result-clause-fault_reported
+returns-in-Ok-make_result-clause-fault_reported g c = record {
+  cause = cause_as _ _ (answered c.in-Ok.prepared _ refl) c.in-Ok-make_result.ensures.fault_reported.cause;
+  quiet = λ none. answered_quiet _ _ c.in-Ok-make_result.field-0 _ refl c.in-Ok-make_result.ensures.fault_reported.quiet;
+}
 
 pub returns-in-Err-clause-free : goal.returns-in-Err-clause-free
 returns-in-Err-clause-free g c = c.in-Err.ensures.free
@@ -49,11 +49,11 @@ returns-in-Err-clause-free g c = c.in-Err.ensures.free
 pub returns-in-Err-clause-unchanged : goal.returns-in-Err-clause-unchanged
 returns-in-Err-clause-unchanged g c = c.in-Err.ensures.unchanged
 
-pub returns-in-Err-clause-cause : goal.returns-in-Err-clause-cause
-returns-in-Err-clause-cause g c = cause_as _ _ (same_fault c.in-Err.fault _ _ refl refl) c.in-Err.ensures.cause
-
-pub returns-in-Err-clause-quiet : goal.returns-in-Err-clause-quiet
-returns-in-Err-clause-quiet g c = λ none. c.in-Err.ensures.quiet (λ failed. none (same_fault c.in-Err.fault _ _ refl refl failed))
+pub returns-in-Err-clause-fault_reported : goal.returns-in-Err-clause-fault_reported
+returns-in-Err-clause-fault_reported g c = record {
+  cause = cause_as _ _ (same_fault c.in-Err.fault _ _ refl refl) c.in-Err.ensures.fault_reported.cause;
+  quiet = λ none. c.in-Err.ensures.fault_reported.quiet (λ failed. none (same_fault c.in-Err.fault _ _ refl refl failed));
+}
 
 pub take_memory-requires-clause-enough : goal.take_memory-requires-clause-enough
 take_memory-requires-clause-enough g c = c.requires.enough
@@ -76,8 +76,8 @@ returns-in_default-clause-no_half g c = same_is_no_half c.args.spec.now (g.D.Dis
 pub returns-in_default-clause-others : goal.returns-in_default-clause-others
 returns-in_default-clause-others g c = refl
 
-pub returns-in_default-clause-cause : goal.returns-in_default-clause-cause
-returns-in_default-clause-cause g c = no_cause _ _ refl (wanting _ refl)
-
-pub returns-in_default-clause-quiet : goal.returns-in_default-clause-quiet
-returns-in_default-clause-quiet g c = λ none. refl
+pub returns-in_default-clause-fault_reported : goal.returns-in_default-clause-fault_reported
+returns-in_default-clause-fault_reported g c = record {
+  cause = no_cause _ _ refl (wanting _ refl);
+  quiet = λ none. refl;
+}

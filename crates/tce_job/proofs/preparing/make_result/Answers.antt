@@ -38,26 +38,26 @@ pub returns-in-Err-Memory-clause-others : goal.returns-in-Err-Memory-clause-othe
 returns-in-Err-Memory-clause-others g c =
     subst (λ (name : List ℕ). others name (g.D.Disk.files c.make.new.self) ≡ others name (g.D.Disk.files c.args.disk.now)) (c.as_str.ensures.value ∙ c.file_of-name.ensures ∙ ap (file_of c.args.spec.now) c.result.ensures.tensor) c.make.ensures.others
 
-pub returns-in-Ok-clause-cause : goal.returns-in-Ok-clause-cause
-returns-in-Ok-clause-cause g c = cause_as _ _ (answered _ _ refl) c.in-Ok.ensures.cause
-
-pub returns-in-Ok-clause-quiet : goal.returns-in-Ok-clause-quiet
-returns-in-Ok-clause-quiet g c = λ none. c.in-Ok.ensures.told (answered _ _ refl)
+pub returns-in-Ok-clause-fault_reported : goal.returns-in-Ok-clause-fault_reported
+returns-in-Ok-clause-fault_reported g c = record {
+  cause = cause_as _ _ (answered _ _ refl) c.in-Ok.ensures.fault_reported.cause;
+  quiet = λ none. c.in-Ok.ensures.fault_reported.quiet (answered _ _ refl);
+}
 
 pub returns-in-Err-Failed-clause-unchanged : goal.returns-in-Err-Failed-clause-unchanged
 returns-in-Err-Failed-clause-unchanged g c = inl refl
 
-pub returns-in-Err-Failed-clause-cause : goal.returns-in-Err-Failed-clause-cause
-returns-in-Err-Failed-clause-cause g c = cause_as _ _ (λ failed. ap Err c.in-Err-Failed.field-0-is) c.in-Err-Failed.ensures.cause
-
-pub returns-in-Err-Failed-clause-quiet : goal.returns-in-Err-Failed-clause-quiet
-returns-in-Err-Failed-clause-quiet g c = λ none. absurd (none refl)
+pub returns-in-Err-Failed-clause-fault_reported : goal.returns-in-Err-Failed-clause-fault_reported
+returns-in-Err-Failed-clause-fault_reported g c = record {
+  cause = cause_as _ _ (λ failed. ap Err c.in-Err-Failed.field-0-is) c.in-Err-Failed.ensures.fault_reported.cause;
+  quiet = λ none. absurd (none refl);
+}
 
 pub returns-in-Err-Memory-clause-unchanged : goal.returns-in-Err-Memory-clause-unchanged
 returns-in-Err-Memory-clause-unchanged g c = inr (c.in-Err-Memory.ensures.memory (ap Err c.in-Err-Memory.field-0-is))
 
-pub returns-in-Err-Memory-clause-cause : goal.returns-in-Err-Memory-clause-cause
-returns-in-Err-Memory-clause-cause g c = cause_as _ _ (wanting _ refl) c.in-Err-Memory.ensures.cause
-
-pub returns-in-Err-Memory-clause-quiet : goal.returns-in-Err-Memory-clause-quiet
-returns-in-Err-Memory-clause-quiet g c = λ none. c.in-Err-Memory.ensures.told (no_failure c.in-Err-Memory.field-0 _ c.in-Err-Memory.field-0-is refl)
+pub returns-in-Err-Memory-clause-fault_reported : goal.returns-in-Err-Memory-clause-fault_reported
+returns-in-Err-Memory-clause-fault_reported g c = record {
+  cause = cause_as _ _ (wanting _ refl) c.in-Err-Memory.ensures.fault_reported.cause;
+  quiet = λ none. c.in-Err-Memory.ensures.fault_reported.quiet (no_failure c.in-Err-Memory.field-0 _ c.in-Err-Memory.field-0-is refl);
+}

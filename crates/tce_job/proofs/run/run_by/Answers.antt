@@ -35,17 +35,17 @@ returns-in-Err-clause-unchanged g c = inl refl
 pub returns-in-Err-clause-takings : goal.returns-in-Err-clause-takings
 returns-in-Err-clause-takings g c = inr c.in_ok-prepared.ensures.taken
 
-pub returns-in-Ok-clause-cause : goal.returns-in-Ok-clause-cause
-returns-in-Ok-clause-cause g c = cause_since _ _ _ c.in_ok-prepared.ensures.cause.later (cause_as _ _ (answered c.into_report-report.result _ refl) c.in-Ok.ensures.cause)
+pub returns-in-Ok-clause-fault_reported : goal.returns-in-Ok-clause-fault_reported
+returns-in-Ok-clause-fault_reported g c = record {
+  cause = cause_since _ _ _ c.in_ok-prepared.ensures.fault_reported.cause.later (cause_as _ _ (answered c.into_report-report.result _ refl) c.in-Ok.ensures.fault_reported.cause);
+  quiet = λ none. c.in-Ok.ensures.fault_reported.quiet false≢true ∙ answered_quiet _ _ c.in_ok-prepared.prepared _ refl c.in_ok-prepared.ensures.fault_reported.quiet;
+}
 
-pub returns-in-Err-clause-cause : goal.returns-in-Err-clause-cause
-returns-in-Err-clause-cause g c = cause_since _ _ _ c.in_ok-prepared.ensures.cause.later (cause_as _ _ (λ failed. refl) c.in-Err.ensures.cause)
-
-pub returns-in-Ok-clause-quiet : goal.returns-in-Ok-clause-quiet
-returns-in-Ok-clause-quiet g c = λ none. c.in-Ok.ensures.quiet false≢true ∙ answered_quiet _ _ c.in_ok-prepared.prepared _ refl c.in_ok-prepared.ensures.quiet
-
-pub returns-in-Err-clause-quiet : goal.returns-in-Err-clause-quiet
-returns-in-Err-clause-quiet g c = λ none. absurd (none refl)
+pub returns-in-Err-clause-fault_reported : goal.returns-in-Err-clause-fault_reported
+returns-in-Err-clause-fault_reported g c = record {
+  cause = cause_since _ _ _ c.in_ok-prepared.ensures.fault_reported.cause.later (cause_as _ _ (λ failed. refl) c.in-Err.ensures.fault_reported.cause);
+  quiet = λ none. absurd (none refl);
+}
 
 pub returns-in-Err-clause-no_half : goal.returns-in-Err-clause-no_half
 returns-in-Err-clause-no_half g c =
@@ -94,15 +94,15 @@ returns-in_err-prepared-clause-takings g c =
     let p = err_from_is_err_and c.from_residual.result c.from_residual.ensures.1 in
     rw p.1 c.in_err-prepared.ensures.takings
 
-pub returns-in_err-prepared-clause-cause : goal.returns-in_err-prepared-clause-cause
-returns-in_err-prepared-clause-cause g c =
-    let p = err_from_is_err_and c.from_residual.result c.from_residual.ensures.1 in
-    rw (p.1, p.2) (cause_as _ _ (same_fault c.in_err-prepared.field-0.0 _ _ refl refl) c.in_err-prepared.ensures.cause)
-
-pub returns-in_err-prepared-clause-quiet : goal.returns-in_err-prepared-clause-quiet
-returns-in_err-prepared-clause-quiet g c =
-    let p = err_from_is_err_and c.from_residual.result c.from_residual.ensures.1 in
-    rw (p.1, p.2) (λ none. c.in_err-prepared.ensures.quiet (λ failed. none (same_fault c.in_err-prepared.field-0.0 _ _ refl refl failed)))
+pub returns-in_err-prepared-clause-fault_reported : goal.returns-in_err-prepared-clause-fault_reported
+returns-in_err-prepared-clause-fault_reported g c = record {
+  cause =
+      let p = err_from_is_err_and c.from_residual.result c.from_residual.ensures.1 in
+      rw (p.1, p.2) (cause_as _ _ (same_fault c.in_err-prepared.field-0.0 _ _ refl refl) c.in_err-prepared.ensures.fault_reported.cause);
+  quiet =
+      let p = err_from_is_err_and c.from_residual.result c.from_residual.ensures.1 in
+      rw (p.1, p.2) (λ none. c.in_err-prepared.ensures.fault_reported.quiet (λ failed. none (same_fault c.in_err-prepared.field-0.0 _ _ refl refl failed)));
+}
 
 pub returns-in_err-prepared-clause-no_half : goal.returns-in_err-prepared-clause-no_half
 returns-in_err-prepared-clause-no_half g c = c.begin.ensures.no_half

@@ -46,11 +46,11 @@ returns-clause-exactly g c =
 pub returns-clause-granted : goal.returns-clause-granted
 returns-clause-granted g c = granted_free (g.D.Disk.files c.args.disk.now) c.args.spec.now c.args.budget c.run_by.result c.run_by.ensures.free
 
-pub returns-clause-cause : goal.returns-clause-cause
-returns-clause-cause g c = cause_since _ _ _ c.in_ok-plan.ensures.cause.later c.run_by.ensures.cause
-
-pub returns-clause-quiet : goal.returns-clause-quiet
-returns-clause-quiet g c = λ none. c.run_by.ensures.quiet none ∙ answered_quiet _ _ (c.in_ok-plan.plan, c.in_ok-plan.forms) _ refl c.in_ok-plan.ensures.quiet
+pub returns-clause-fault_reported : goal.returns-clause-fault_reported
+returns-clause-fault_reported g c = record {
+  cause = cause_since _ _ _ c.in_ok-plan.ensures.fault_reported.cause.later c.run_by.ensures.fault_reported.cause;
+  quiet = λ none. c.run_by.ensures.fault_reported.quiet none ∙ answered_quiet _ _ (c.in_ok-plan.plan, c.in_ok-plan.forms) _ refl c.in_ok-plan.ensures.fault_reported.quiet;
+}
 
 pub returns-clause-unchanged : goal.returns-clause-unchanged
 returns-clause-unchanged g c =
@@ -94,15 +94,15 @@ returns-in_err-plan-clause-takings g c =
     let p = err_from_is_err_and c.from_residual.result c.from_residual.ensures.1 in
     rw (p.1, p.2) (room_as_it_was c.in_err-plan.field-0.0 c.args.spec.now c.args.budget (g.R.Room.takings c.args.room.now))
 
-pub returns-in_err-plan-clause-cause : goal.returns-in_err-plan-clause-cause
-returns-in_err-plan-clause-cause g c =
-    let p = err_from_is_err_and c.from_residual.result c.from_residual.ensures.1 in
-    rw (p.1, p.2) (cause_as _ _ (same_fault c.in_err-plan.field-0.0 _ _ refl refl) c.in_err-plan.ensures.cause)
-
-pub returns-in_err-plan-clause-quiet : goal.returns-in_err-plan-clause-quiet
-returns-in_err-plan-clause-quiet g c =
-    let p = err_from_is_err_and c.from_residual.result c.from_residual.ensures.1 in
-    rw (p.1, p.2) (λ none. c.in_err-plan.ensures.quiet (λ failed. none (same_fault c.in_err-plan.field-0.0 _ _ refl refl failed)))
+pub returns-in_err-plan-clause-fault_reported : goal.returns-in_err-plan-clause-fault_reported
+returns-in_err-plan-clause-fault_reported g c = record {
+  cause =
+      let p = err_from_is_err_and c.from_residual.result c.from_residual.ensures.1 in
+      rw (p.1, p.2) (cause_as _ _ (same_fault c.in_err-plan.field-0.0 _ _ refl refl) c.in_err-plan.ensures.fault_reported.cause);
+  quiet =
+      let p = err_from_is_err_and c.from_residual.result c.from_residual.ensures.1 in
+      rw (p.1, p.2) (λ none. c.in_err-plan.ensures.fault_reported.quiet (λ failed. none (same_fault c.in_err-plan.field-0.0 _ _ refl refl failed)));
+}
 
 pub returns-in_err-plan-clause-no_half : goal.returns-in_err-plan-clause-no_half
 returns-in_err-plan-clause-no_half g c = same_is_no_half c.args.spec.now (g.D.Disk.files c.args.disk.now) (g.D.Disk.files c.tested.new.disk) c.tested.ensures.same

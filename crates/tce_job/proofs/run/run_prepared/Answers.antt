@@ -114,8 +114,11 @@ returns-in_err-run_code-clause-touches g c = IfOk-from_err c.from_residual.resul
 pub returns-in_err-run_code-clause-report : goal.returns-in_err-run_code-clause-report
 returns-in_err-run_code-clause-report g c = refl
 
-pub returns-in_err-run_code-clause-quiet : goal.returns-in_err-run_code-clause-quiet
-returns-in_err-run_code-clause-quiet g c = λ none. absurd (none c.from_residual.ensures.0)
+pub returns-in_err-run_code-clause-fault_reported : goal.returns-in_err-run_code-clause-fault_reported
+returns-in_err-run_code-clause-fault_reported g c = record {
+  cause = cause_of _ _ c.in_err-run_code.ensures.fault_reported.cause;
+  quiet = λ none. absurd (none c.from_residual.ensures.0);
+}
 
 pub returns-in_err-flush-clause-told : goal.returns-in_err-flush-clause-told
 returns-in_err-flush-clause-told g c = IfOk-from_err c.from_residual-in_err-flush.result _ c.from_residual-in_err-flush.ensures.0
@@ -126,21 +129,18 @@ returns-in_err-flush-clause-touches g c = IfOk-from_err c.from_residual-in_err-f
 pub returns-in_err-flush-clause-report : goal.returns-in_err-flush-clause-report
 returns-in_err-flush-clause-report g c = refl
 
-pub returns-in_err-flush-clause-quiet : goal.returns-in_err-flush-clause-quiet
-returns-in_err-flush-clause-quiet g c = λ none. absurd (none c.from_residual-in_err-flush.ensures.0)
-
-pub returns-in_err-run_code-clause-cause : goal.returns-in_err-run_code-clause-cause
-returns-in_err-run_code-clause-cause g c = cause_of _ _ c.in_err-run_code.ensures.cause
-
-pub returns-in_err-flush-clause-cause : goal.returns-in_err-flush-clause-cause
-returns-in_err-flush-clause-cause g c = failed_after _ _ _ (c.in_ok-run_code.ensures.told false≢true) c.in_err-flush.ensures.cause
+pub returns-in_err-flush-clause-fault_reported : goal.returns-in_err-flush-clause-fault_reported
+returns-in_err-flush-clause-fault_reported g c = record {
+  cause = failed_after _ _ _ (c.in_ok-run_code.ensures.fault_reported.quiet false≢true) c.in_err-flush.ensures.fault_reported.cause;
+  quiet = λ none. absurd (none c.from_residual-in_err-flush.ensures.0);
+}
 
 pub returns-clause-report : goal.returns-clause-report
 returns-clause-report g c = refl
 
-pub returns-clause-cause : goal.returns-clause-cause
-returns-clause-cause g c =
-    cause_after _ _ _ (c.in_ok-flush.ensures.told false≢true ∙ c.in_ok-run_code.ensures.told false≢true) c.write_result_head.ensures.cause
-
-pub returns-clause-quiet : goal.returns-clause-quiet
-returns-clause-quiet g c = λ none. c.write_result_head.ensures.quiet none ∙ c.in_ok-flush.ensures.told false≢true ∙ c.in_ok-run_code.ensures.told false≢true
+pub returns-clause-fault_reported : goal.returns-clause-fault_reported
+returns-clause-fault_reported g c = record {
+  cause =
+      cause_after _ _ _ (c.in_ok-flush.ensures.fault_reported.quiet false≢true ∙ c.in_ok-run_code.ensures.fault_reported.quiet false≢true) c.write_result_head.ensures.fault_reported.cause;
+  quiet = λ none. c.write_result_head.ensures.fault_reported.quiet none ∙ c.in_ok-flush.ensures.fault_reported.quiet false≢true ∙ c.in_ok-run_code.ensures.fault_reported.quiet false≢true;
+}

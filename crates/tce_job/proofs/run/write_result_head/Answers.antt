@@ -31,8 +31,5 @@ pub returns-clause-others : goal.returns-clause-others
 returns-clause-others g c =
     subst (λ (n : List ℕ). others n (g.D.Disk.files c.write_head.new.disk) ≡ others n (g.D.Disk.files c.args.disk.now)) (c.as_str.ensures.value ∙ c.file_of-name.ensures ∙ ap (file_of c.args.spec.now) c.result.ensures.tensor) c.write_head.ensures.others
 
-pub returns-clause-cause : goal.returns-clause-cause
-returns-clause-cause g c = c.write_head.ensures.cause
-
-pub returns-clause-quiet : goal.returns-clause-quiet
-returns-clause-quiet g c = c.write_head.ensures.told
+pub returns-clause-fault_reported : goal.returns-clause-fault_reported
+returns-clause-fault_reported g c = c.write_head.ensures.fault_reported

@@ -16,8 +16,11 @@ returns-clause-done g c =
 pub returns-clause-refused : goal.returns-clause-refused
 returns-clause-refused g c = IfErr-weaker c.certify_source-done.result _ _ (free_of_source (g.D.Disk.files c.args.disk.now) c.args.spec.now) c.certify_source-done.ensures.free
 
-pub returns-clause-told : goal.returns-clause-told
-returns-clause-told g c = λ none. c.certify_source-done.ensures.told none ∙ c.in_ok-source.ensures.told (search rules)
+pub returns-clause-fault_reported : goal.returns-clause-fault_reported
+returns-clause-fault_reported g c = record {
+  cause = cause_since _ _ _ c.in_ok-source.ensures.fault_reported.cause.later c.certify_source-done.ensures.fault_reported.cause;
+  quiet = λ none. c.certify_source-done.ensures.fault_reported.quiet none ∙ c.in_ok-source.ensures.fault_reported.quiet (search rules);
+}
 
 pub returns-in_err-source-clause-done : goal.returns-in_err-source-clause-done
 returns-in_err-source-clause-done g c = IfOk-from_err c.from_residual.result _ c.from_residual.ensures.0
@@ -35,21 +38,18 @@ returns-in_err-source-clause-unchanged g c =
 pub returns-in_err-source-clause-others : goal.returns-in_err-source-clause-others
 returns-in_err-source-clause-others g c = ap (others c.args.cert.now) c.in_err-source.ensures.same
 
-pub returns-in_err-source-clause-cause : goal.returns-in_err-source-clause-cause
-returns-in_err-source-clause-cause g c =
-    let p = err_from_is_err_and c.from_residual.result c.from_residual.ensures.1 in
-    rw (p.1, p.2) (cause_for _ _ c.in_err-source.field-0.0 c.in_err-source.ensures.cause)
-
-pub returns-in_err-source-clause-told : goal.returns-in_err-source-clause-told
-returns-in_err-source-clause-told g c =
-    let p = err_from_is_err_and c.from_residual.result c.from_residual.ensures.1 in
-    rw (p.1, p.2) (told_for _ _ c.in_err-source.field-0.0 c.in_err-source.ensures.told)
+pub returns-in_err-source-clause-fault_reported : goal.returns-in_err-source-clause-fault_reported
+returns-in_err-source-clause-fault_reported g c = record {
+  cause =
+      let p = err_from_is_err_and c.from_residual.result c.from_residual.ensures.1 in
+      rw (p.1, p.2) (cause_for _ _ c.in_err-source.field-0.0 c.in_err-source.ensures.fault_reported.cause);
+  quiet =
+      let p = err_from_is_err_and c.from_residual.result c.from_residual.ensures.1 in
+      rw (p.1, p.2) (told_for _ _ c.in_err-source.field-0.0 c.in_err-source.ensures.fault_reported.quiet);
+}
 
 pub returns-clause-unchanged : goal.returns-clause-unchanged
 returns-clause-unchanged g c = IfErr-weaker c.certify_source-done.result _ _ (λ refusal keeps real. keeps real ∙ c.in_ok-source.ensures.same) c.certify_source-done.ensures.unchanged
 
 pub returns-clause-others : goal.returns-clause-others
 returns-clause-others g c = c.certify_source-done.ensures.others ∙ ap (others c.args.cert.now) c.in_ok-source.ensures.same
-
-pub returns-clause-cause : goal.returns-clause-cause
-returns-clause-cause g c = cause_since _ _ _ c.in_ok-source.ensures.cause.later c.certify_source-done.ensures.cause

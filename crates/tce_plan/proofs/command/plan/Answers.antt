@@ -12,8 +12,8 @@ returns-clause-done g c =
 pub returns-clause-refused : goal.returns-clause-refused
 returns-clause-refused g c = IfErr-weaker c.plan_source-made.result _ _ (memory_refused (g.D.Disk.files c.args.disk.now) c.args.spec.now) c.plan_source-made.ensures.refused
 
-pub returns-clause-cause : goal.returns-clause-cause
-returns-clause-cause g c = record { later = c.in_ok-source.ensures.cause.later; rose = λ failed. absurd (no_failure c.plan_source-made.result c.plan_source-made.ensures.refused failed) }
-
-pub returns-clause-told : goal.returns-clause-told
-returns-clause-told g c = λ none. c.in_ok-source.ensures.told (ok_no_disk c.in_ok-source.source _ refl)
+pub returns-clause-fault_reported : goal.returns-clause-fault_reported
+returns-clause-fault_reported g c = record {
+  cause = record { later = c.in_ok-source.ensures.fault_reported.cause.later; rose = λ failed. absurd (no_failure c.plan_source-made.result c.plan_source-made.ensures.refused failed) };
+  quiet = λ none. c.in_ok-source.ensures.fault_reported.quiet (ok_no_disk c.in_ok-source.source _ refl);
+}

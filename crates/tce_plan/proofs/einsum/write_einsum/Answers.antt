@@ -1,4 +1,4 @@
-use Rattle.std.proofs.Common.{◌≡◌, subst, List, ℕ, Ok, Err, arith}
+use Rattle.std.proofs.Common.{◌≡◌, subst, List, ℕ, Ok, Err, arith, rules}
 use Rattle.std.proofs.lemmas.Result.{IfOk-weaker, IfErr-weaker}
 use Rattle.tce_einsum.specs.Answer.{AnswersEinsum}
 use Rattle.tce_einsum.specs.HasValue.{HasValueOfEinsum}
@@ -13,10 +13,13 @@ returns-in-Err-clause-refused g c =
     (subst (λ (t : List ℕ). AnswersEinsum t c.args.path.now (Err c.in-Err.fault)) c.as_bytes.ensures.value
     (subst (λ (p : List ℕ). AnswersEinsum c.as_bytes.result.now p (Err c.in-Err.fault)) c.as_bytes-2.ensures.value c.in-Err.ensures.answers))
 
-pub returns-in-Err-clause-cause : goal.returns-in-Err-clause-cause
-returns-in-Err-clause-cause g c = record {
-  later = omega arith;
-  rose = λ e. let same : c.refusal_of.result ≡ Disk = cc in absurd (c.refusal_of.ensures.no_disk same);
+pub returns-in-Err-clause-fault_reported : goal.returns-in-Err-clause-fault_reported
+returns-in-Err-clause-fault_reported g c = record {
+  cause = record {
+    later = omega arith;
+    rose = λ e. let same : c.refusal_of.result ≡ Disk = cc in absurd (c.refusal_of.ensures.no_disk same);
+  };
+  quiet = search rules;
 }
 
 pub returns-clause-done : goal.returns-clause-done

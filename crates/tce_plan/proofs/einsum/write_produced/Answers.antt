@@ -21,21 +21,21 @@ returns-in_err-save-clause-unchanged g c =
 pub returns-in_err-save-clause-others : goal.returns-in_err-save-clause-others
 returns-in_err-save-clause-others g c = c.save.ensures.others
 
-pub returns-in_err-save-clause-cause : goal.returns-in_err-save-clause-cause
-returns-in_err-save-clause-cause g c =
-    let p = err_from_is_err_and c.from_residual.result c.from_residual.ensures.1 in
-    rw (p.1, p.2) (cause_for _ _ c.in_err-save.field-0.0 c.in_err-save.ensures.cause)
-
-pub returns-in_err-save-clause-told : goal.returns-in_err-save-clause-told
-returns-in_err-save-clause-told g c =
-    let p = err_from_is_err_and c.from_residual.result c.from_residual.ensures.1 in
-    rw (p.1, p.2) (told_for _ _ c.in_err-save.field-0.0 c.in_err-save.ensures.told)
+pub returns-in_err-save-clause-fault_reported : goal.returns-in_err-save-clause-fault_reported
+returns-in_err-save-clause-fault_reported g c = record {
+  cause =
+      let p = err_from_is_err_and c.from_residual.result c.from_residual.ensures.1 in
+      rw (p.1, p.2) (cause_for _ _ c.in_err-save.field-0.0 c.in_err-save.ensures.fault_reported.cause);
+  quiet =
+      let p = err_from_is_err_and c.from_residual.result c.from_residual.ensures.1 in
+      rw (p.1, p.2) (told_for _ _ c.in_err-save.field-0.0 c.in_err-save.ensures.fault_reported.quiet);
+}
 
 pub returns-clause-others : goal.returns-clause-others
 returns-clause-others g c = c.save.ensures.others
 
-pub returns-clause-cause : goal.returns-clause-cause
-returns-clause-cause g c = record { later = c.save.ensures.cause.later; rose = λ failed. absurd (ok_no_disk _ _ refl failed) }
-
-pub returns-clause-told : goal.returns-clause-told
-returns-clause-told g c = λ none. answered_quiet _ _ _ _ refl c.in_ok-save.ensures.told
+pub returns-clause-fault_reported : goal.returns-clause-fault_reported
+returns-clause-fault_reported g c = record {
+  cause = record { later = c.save.ensures.fault_reported.cause.later; rose = λ failed. absurd (ok_no_disk _ _ refl failed) };
+  quiet = λ none. answered_quiet _ _ _ _ refl c.in_ok-save.ensures.fault_reported.quiet;
+}

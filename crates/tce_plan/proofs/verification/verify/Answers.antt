@@ -19,15 +19,15 @@ returns-in_err-source-clause-line g c =
     let p = err_from_is_err_and c.from_residual.result c.from_residual.ensures.1 in
     rw (p.1, p.2) tt
 
-pub returns-in_err-source-clause-cause : goal.returns-in_err-source-clause-cause
-returns-in_err-source-clause-cause g c =
-    let p = err_from_is_err_and c.from_residual.result c.from_residual.ensures.1 in
-    cause_as _ _ (λ failed. ap Err (is_disk c.from_residual.result p.0 _ p.1 p.2 failed)) c.in_err-source.ensures.cause
-
-pub returns-in_err-source-clause-told : goal.returns-in_err-source-clause-told
-returns-in_err-source-clause-told g c =
-    let p = err_from_is_err_and c.from_residual.result c.from_residual.ensures.1 in
-    told_as _ _ (λ e. as_disk c.from_residual.result p.0 _ p.1 p.2 (is_err_disk _ _ refl e)) c.in_err-source.ensures.told
+pub returns-in_err-source-clause-fault_reported : goal.returns-in_err-source-clause-fault_reported
+returns-in_err-source-clause-fault_reported g c = record {
+  cause =
+      let p = err_from_is_err_and c.from_residual.result c.from_residual.ensures.1 in
+      cause_as _ _ (λ failed. ap Err (is_disk c.from_residual.result p.0 _ p.1 p.2 failed)) c.in_err-source.ensures.fault_reported.cause;
+  quiet =
+      let p = err_from_is_err_and c.from_residual.result c.from_residual.ensures.1 in
+      told_as _ _ (λ e. as_disk c.from_residual.result p.0 _ p.1 p.2 (is_err_disk _ _ refl e)) c.in_err-source.ensures.fault_reported.quiet;
+}
 
 pub verify_file-verified-requires : goal.verify_file-verified-requires
 verify_file-verified-requires g c = short (codes ".cert") c.args.cert.now c.requires.cert
@@ -48,8 +48,8 @@ returns-clause-line g c =
     IfErr-weaker c.verify_file-verified.result _ _
     (λ refusal written. written_for (g.D.Disk.files c.args.disk.now) c.args.spec.now c.in_ok-source.source refusal c.in_ok-source.ensures.read written) c.verify_file-verified.ensures.line
 
-pub returns-clause-cause : goal.returns-clause-cause
-returns-clause-cause g c = cause_since _ _ _ c.in_ok-source.ensures.cause.later c.verify_file-verified.ensures.cause
-
-pub returns-clause-told : goal.returns-clause-told
-returns-clause-told g c = told_after _ _ _ (c.in_ok-source.ensures.told (ok_no_disk _ _ refl)) c.verify_file-verified.ensures.told
+pub returns-clause-fault_reported : goal.returns-clause-fault_reported
+returns-clause-fault_reported g c = record {
+  cause = cause_since _ _ _ c.in_ok-source.ensures.fault_reported.cause.later c.verify_file-verified.ensures.fault_reported.cause;
+  quiet = told_after _ _ _ (c.in_ok-source.ensures.fault_reported.quiet (ok_no_disk _ _ refl)) c.verify_file-verified.ensures.fault_reported.quiet;
+}

@@ -18,15 +18,15 @@ returns-in_err-text-clause-line g c =
     let p = err_from_is_err_and c.from_residual.result c.from_residual.ensures.1 in
     rw (p.1, p.2) tt
 
-pub returns-in_err-text-clause-cause : goal.returns-in_err-text-clause-cause
-returns-in_err-text-clause-cause g c =
-    let p = err_from_is_err_and c.from_residual.result c.from_residual.ensures.1 in
-    cause_as _ _ (λ failed. ap Err (is_disk c.from_residual.result p.0 _ p.1 p.2 failed)) c.in_err-text.ensures.cause
-
-pub returns-in_err-text-clause-told : goal.returns-in_err-text-clause-told
-returns-in_err-text-clause-told g c =
-    let p = err_from_is_err_and c.from_residual.result c.from_residual.ensures.1 in
-    told_as _ _ (λ e. as_disk c.from_residual.result p.0 _ p.1 p.2 (is_err_disk _ _ refl e)) c.in_err-text.ensures.told
+pub returns-in_err-text-clause-fault_reported : goal.returns-in_err-text-clause-fault_reported
+returns-in_err-text-clause-fault_reported g c = record {
+  cause =
+      let p = err_from_is_err_and c.from_residual.result c.from_residual.ensures.1 in
+      cause_as _ _ (λ failed. ap Err (is_disk c.from_residual.result p.0 _ p.1 p.2 failed)) c.in_err-text.ensures.fault_reported.cause;
+  quiet =
+      let p = err_from_is_err_and c.from_residual.result c.from_residual.ensures.1 in
+      told_as _ _ (λ e. as_disk c.from_residual.result p.0 _ p.1 p.2 (is_err_disk _ _ refl e)) c.in_err-text.ensures.fault_reported.quiet;
+}
 
 pub returns-clause-done : goal.returns-clause-done
 returns-clause-done g c =
@@ -43,8 +43,8 @@ returns-clause-refused g c =
 pub returns-clause-line : goal.returns-clause-line
 returns-clause-line g c = IfErr-weaker c.text_report-verified.result _ _ (written_over c.args.spec.now c.deref.result.now) c.text_report-verified.ensures.refused
 
-pub returns-clause-cause : goal.returns-clause-cause
-returns-clause-cause g c = cause_as _ _ (λ failed. absurd (no_fault c.text_report-verified.result c.args.spec.now c.deref.result.now c.text_report-verified.ensures.refused failed)) c.in_ok-text.ensures.cause
-
-pub returns-clause-told : goal.returns-clause-told
-returns-clause-told g c = λ none. c.in_ok-text.ensures.told (ok_no_disk _ _ refl)
+pub returns-clause-fault_reported : goal.returns-clause-fault_reported
+returns-clause-fault_reported g c = record {
+  cause = cause_as _ _ (λ failed. absurd (no_fault c.text_report-verified.result c.args.spec.now c.deref.result.now c.text_report-verified.ensures.refused failed)) c.in_ok-text.ensures.fault_reported.cause;
+  quiet = λ none. c.in_ok-text.ensures.fault_reported.quiet (ok_no_disk _ _ refl);
+}

@@ -42,11 +42,11 @@ returns-clause-others g c =
     batch_others (g.D.Disk.files c.args.disk.now) (g.D.Disk.files c.read_batch_source.new.disk) (g.D.Disk.files c.run_formulas-ran.new.disk) c.args.spec.now c.in_ok-batch.batch
     c.in_ok-batch.ensures.same c.in_ok-batch.ensures.read c.run_formulas-ran.ensures.others
 
-pub returns-clause-cause : goal.returns-clause-cause
-returns-clause-cause g c = cause_since _ _ _ c.in_ok-batch.ensures.cause.later c.run_formulas-ran.ensures.cause
-
-pub returns-clause-told : goal.returns-clause-told
-returns-clause-told g c = λ none. c.run_formulas-ran.ensures.told none ∙ answered_quiet _ _ c.in_ok-batch.batch _ refl c.in_ok-batch.ensures.told
+pub returns-clause-fault_reported : goal.returns-clause-fault_reported
+returns-clause-fault_reported g c = record {
+  cause = cause_since _ _ _ c.in_ok-batch.ensures.fault_reported.cause.later c.run_formulas-ran.ensures.fault_reported.cause;
+  quiet = λ none. c.run_formulas-ran.ensures.fault_reported.quiet none ∙ answered_quiet _ _ c.in_ok-batch.batch _ refl c.in_ok-batch.ensures.fault_reported.quiet;
+}
 
 pub returns-in_err-batch-clause-done : goal.returns-in_err-batch-clause-done
 returns-in_err-batch-clause-done g c = IfOk-from_err c.from_residual.result _ c.from_residual.ensures.0
@@ -59,15 +59,15 @@ returns-in_err-batch-clause-refused g c =
 pub returns-in_err-batch-clause-others : goal.returns-in_err-batch-clause-others
 returns-in_err-batch-clause-others g c = inl c.in_err-batch.ensures.same
 
-pub returns-in_err-batch-clause-cause : goal.returns-in_err-batch-clause-cause
-returns-in_err-batch-clause-cause g c =
-    let p = err_from_is_err_and c.from_residual.result c.from_residual.ensures.1 in
-    rw (p.1, p.2) (cause_as _ _ (same_fault c.in_err-batch.field-0.0 _ _ refl refl) c.in_err-batch.ensures.cause)
-
-pub returns-in_err-batch-clause-told : goal.returns-in_err-batch-clause-told
-returns-in_err-batch-clause-told g c =
-    let p = err_from_is_err_and c.from_residual.result c.from_residual.ensures.1 in
-    rw (p.1, p.2) (λ none. c.in_err-batch.ensures.told (λ failed. none (same_fault c.in_err-batch.field-0.0 _ _ refl refl failed)))
+pub returns-in_err-batch-clause-fault_reported : goal.returns-in_err-batch-clause-fault_reported
+returns-in_err-batch-clause-fault_reported g c = record {
+  cause =
+      let p = err_from_is_err_and c.from_residual.result c.from_residual.ensures.1 in
+      rw (p.1, p.2) (cause_as _ _ (same_fault c.in_err-batch.field-0.0 _ _ refl refl) c.in_err-batch.ensures.fault_reported.cause);
+  quiet =
+      let p = err_from_is_err_and c.from_residual.result c.from_residual.ensures.1 in
+      rw (p.1, p.2) (λ none. c.in_err-batch.ensures.fault_reported.quiet (λ failed. none (same_fault c.in_err-batch.field-0.0 _ _ refl refl failed)));
+}
 
 pub run_formulas-ran-requires : goal.run_formulas-ran-requires
 run_formulas-ran-requires g c = c.requires.budget

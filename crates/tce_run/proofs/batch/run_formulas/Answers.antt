@@ -16,11 +16,11 @@ returns-in-Ok-clause-done g c = record {
 pub returns-in-Ok-clause-others : goal.returns-in-Ok-clause-others
 returns-in-Ok-clause-others g c = c.run_batch.ensures.others
 
-pub returns-in-Ok-clause-cause : goal.returns-in-Ok-clause-cause
-returns-in-Ok-clause-cause g c = cause_as _ _ (answered c.into_vec.result _ refl) c.in-Ok.ensures.cause
-
-pub returns-in-Ok-clause-told : goal.returns-in-Ok-clause-told
-returns-in-Ok-clause-told g c = λ none. c.in-Ok.ensures.quiet (λ failed. failed)
+pub returns-in-Ok-clause-fault_reported : goal.returns-in-Ok-clause-fault_reported
+returns-in-Ok-clause-fault_reported g c = record {
+  cause = cause_as _ _ (answered c.into_vec.result _ refl) c.in-Ok.ensures.fault_reported.cause;
+  quiet = λ none. c.in-Ok.ensures.fault_reported.quiet (λ failed. failed);
+}
 
 pub refusal_over-requires-clause-declared : goal.refusal_over-requires-clause-declared
 refusal_over-requires-clause-declared g c =
@@ -42,11 +42,11 @@ returns-in-Err-clause-refused g c = record {
 pub returns-in-Err-clause-others : goal.returns-in-Err-clause-others
 returns-in-Err-clause-others g c = c.run_batch.ensures.others
 
-pub returns-in-Err-clause-cause : goal.returns-in-Err-clause-cause
-returns-in-Err-clause-cause g c = cause_as _ _ (λ failed. failed_told c.args.batch.now c.in-Err.refused c.refusal_over.result (told_at c.args.batch.now c.declarations.result.now c.in-Err.refused c.refusal_over.result c.declarations.ensures
-    (names_one (g.D.Disk.files c.args.disk.now) c.args.batch.now c.args.budget c.in-Err.refused.formula c.in-Err.refused.fault c.in-Err.ensures.refused) c.refusal_over.ensures) (ap refusal_in failed)) c.in-Err.ensures.cause
-
-pub returns-in-Err-clause-told : goal.returns-in-Err-clause-told
-returns-in-Err-clause-told g c = λ none.
-    c.in-Err.ensures.quiet (λ failed. none (ap Err (disk_told_at c.args.batch.now c.in-Err.refused c.refusal_over.result (told_at c.args.batch.now c.declarations.result.now c.in-Err.refused c.refusal_over.result c.declarations.ensures
-    (names_one (g.D.Disk.files c.args.disk.now) c.args.batch.now c.args.budget c.in-Err.refused.formula c.in-Err.refused.fault c.in-Err.ensures.refused) c.refusal_over.ensures) failed)))
+pub returns-in-Err-clause-fault_reported : goal.returns-in-Err-clause-fault_reported
+returns-in-Err-clause-fault_reported g c = record {
+  cause = cause_as _ _ (λ failed. failed_told c.args.batch.now c.in-Err.refused c.refusal_over.result (told_at c.args.batch.now c.declarations.result.now c.in-Err.refused c.refusal_over.result c.declarations.ensures
+      (names_one (g.D.Disk.files c.args.disk.now) c.args.batch.now c.args.budget c.in-Err.refused.formula c.in-Err.refused.fault c.in-Err.ensures.refused) c.refusal_over.ensures) (ap refusal_in failed)) c.in-Err.ensures.fault_reported.cause;
+  quiet = λ none.
+      c.in-Err.ensures.fault_reported.quiet (λ failed. none (ap Err (disk_told_at c.args.batch.now c.in-Err.refused c.refusal_over.result (told_at c.args.batch.now c.declarations.result.now c.in-Err.refused c.refusal_over.result c.declarations.ensures
+      (names_one (g.D.Disk.files c.args.disk.now) c.args.batch.now c.args.budget c.in-Err.refused.formula c.in-Err.refused.fault c.in-Err.ensures.refused) c.refusal_over.ensures) failed)));
+}

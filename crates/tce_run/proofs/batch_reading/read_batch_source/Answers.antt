@@ -35,39 +35,39 @@ returns-in_err-text-clause-read g c = IfOk-from_err c.from_residual.result _ c.f
 pub returns-in_err-text-clause-same : goal.returns-in_err-text-clause-same
 returns-in_err-text-clause-same g c = c.in_err-text.ensures.same
 
-pub returns-in_err-text-clause-cause : goal.returns-in_err-text-clause-cause
-returns-in_err-text-clause-cause g c =
-    let p = err_from_is_err_and c.from_residual.result c.from_residual.ensures.1 in
-    rw (p.1, p.2) (cause_for _ _ c.in_err-text.field-0.0 c.in_err-text.ensures.cause)
-
-pub returns-in_err-text-clause-told : goal.returns-in_err-text-clause-told
-returns-in_err-text-clause-told g c =
-    let p = err_from_is_err_and c.from_residual.result c.from_residual.ensures.1 in
-    rw (p.1, p.2) (told_for _ _ c.in_err-text.field-0.0 c.in_err-text.ensures.told)
+pub returns-in_err-text-clause-fault_reported : goal.returns-in_err-text-clause-fault_reported
+returns-in_err-text-clause-fault_reported g c = record {
+  cause =
+      let p = err_from_is_err_and c.from_residual.result c.from_residual.ensures.1 in
+      rw (p.1, p.2) (cause_for _ _ c.in_err-text.field-0.0 c.in_err-text.ensures.fault_reported.cause);
+  quiet =
+      let p = err_from_is_err_and c.from_residual.result c.from_residual.ensures.1 in
+      rw (p.1, p.2) (told_for _ _ c.in_err-text.field-0.0 c.in_err-text.ensures.fault_reported.quiet);
+}
 
 pub returns-in-Ok-clause-same : goal.returns-in-Ok-clause-same
 returns-in-Ok-clause-same g c = c.in_ok-text.ensures.same
 
-pub returns-in-Ok-clause-cause : goal.returns-in-Ok-clause-cause
-returns-in-Ok-clause-cause g c = record { later = c.in_ok-text.ensures.cause.later; rose = λ failed. absurd (ok_no_disk _ _ refl failed) }
-
-pub returns-in-Ok-clause-told : goal.returns-in-Ok-clause-told
-returns-in-Ok-clause-told g c = λ none. c.in_ok-text.ensures.told (ok_no_disk _ _ refl)
+pub returns-in-Ok-clause-fault_reported : goal.returns-in-Ok-clause-fault_reported
+returns-in-Ok-clause-fault_reported g c = record {
+  cause = record { later = c.in_ok-text.ensures.fault_reported.cause.later; rose = λ failed. absurd (ok_no_disk _ _ refl failed) };
+  quiet = λ none. c.in_ok-text.ensures.fault_reported.quiet (ok_no_disk _ _ refl);
+}
 
 pub returns-in-Err-clause-same : goal.returns-in-Err-clause-same
 returns-in-Err-clause-same g c = c.in_ok-text.ensures.same
 
-pub returns-in-Err-clause-cause : goal.returns-in-Err-clause-cause
-returns-in-Err-clause-cause g c = record { later = c.in_ok-text.ensures.cause.later; rose = λ failed. absurd (memory_no_disk _ refl failed) }
-
-pub returns-in-Err-clause-told : goal.returns-in-Err-clause-told
-returns-in-Err-clause-told g c = λ none. c.in_ok-text.ensures.told (ok_no_disk _ _ refl)
+pub returns-in-Err-clause-fault_reported : goal.returns-in-Err-clause-fault_reported
+returns-in-Err-clause-fault_reported g c = record {
+  cause = record { later = c.in_ok-text.ensures.fault_reported.cause.later; rose = λ failed. absurd (memory_no_disk _ refl failed) };
+  quiet = λ none. c.in_ok-text.ensures.fault_reported.quiet (ok_no_disk _ _ refl);
+}
 
 pub returns-clause-same : goal.returns-clause-same
 returns-clause-same g c = c.in_ok-text.ensures.same
 
-pub returns-clause-cause : goal.returns-clause-cause
-returns-clause-cause g c = record { later = c.in_ok-text.ensures.cause.later; rose = λ failed. absurd (text_no_disk _ _ refl failed) }
-
-pub returns-clause-told : goal.returns-clause-told
-returns-clause-told g c = λ none. c.in_ok-text.ensures.told (ok_no_disk _ _ refl)
+pub returns-clause-fault_reported : goal.returns-clause-fault_reported
+returns-clause-fault_reported g c = record {
+  cause = record { later = c.in_ok-text.ensures.fault_reported.cause.later; rose = λ failed. absurd (text_no_disk _ _ refl failed) };
+  quiet = λ none. c.in_ok-text.ensures.fault_reported.quiet (ok_no_disk _ _ refl);
+}

@@ -29,11 +29,11 @@ returns-clause-others g c =
     others_stay (g.D.Disk.files c.args.disk.now) (g.D.Disk.files c.read_source.new.disk) (g.D.Disk.files c.run_source-ran.new.disk) c.args.spec.now c.in_ok-source.source
     c.in_ok-source.ensures.same c.in_ok-source.ensures.read c.run_source-ran.ensures.others c.run_source-ran.ensures.no_half
 
-pub returns-clause-cause : goal.returns-clause-cause
-returns-clause-cause g c = cause_since _ _ _ c.in_ok-source.ensures.cause.later c.run_source-ran.ensures.cause
-
-pub returns-clause-told : goal.returns-clause-told
-returns-clause-told g c = λ none. c.run_source-ran.ensures.told none ∙ answered_quiet _ _ c.in_ok-source.source _ refl c.in_ok-source.ensures.told
+pub returns-clause-fault_reported : goal.returns-clause-fault_reported
+returns-clause-fault_reported g c = record {
+  cause = cause_since _ _ _ c.in_ok-source.ensures.fault_reported.cause.later c.run_source-ran.ensures.fault_reported.cause;
+  quiet = λ none. c.run_source-ran.ensures.fault_reported.quiet none ∙ answered_quiet _ _ c.in_ok-source.source _ refl c.in_ok-source.ensures.fault_reported.quiet;
+}
 
 pub returns-in_err-source-clause-done : goal.returns-in_err-source-clause-done
 returns-in_err-source-clause-done g c = IfOk-from_err c.from_residual.result _ c.from_residual.ensures.0
@@ -46,15 +46,15 @@ returns-in_err-source-clause-refused g c =
 pub returns-in_err-source-clause-others : goal.returns-in_err-source-clause-others
 returns-in_err-source-clause-others g c = inl c.in_err-source.ensures.same
 
-pub returns-in_err-source-clause-cause : goal.returns-in_err-source-clause-cause
-returns-in_err-source-clause-cause g c =
-    let p = err_from_is_err_and c.from_residual.result c.from_residual.ensures.1 in
-    rw (p.1, p.2) (cause_as _ _ (same_fault c.in_err-source.field-0.0 _ _ refl refl) c.in_err-source.ensures.cause)
-
-pub returns-in_err-source-clause-told : goal.returns-in_err-source-clause-told
-returns-in_err-source-clause-told g c =
-    let p = err_from_is_err_and c.from_residual.result c.from_residual.ensures.1 in
-    rw (p.1, p.2) (λ none. c.in_err-source.ensures.told (λ failed. none (same_fault c.in_err-source.field-0.0 _ _ refl refl failed)))
+pub returns-in_err-source-clause-fault_reported : goal.returns-in_err-source-clause-fault_reported
+returns-in_err-source-clause-fault_reported g c = record {
+  cause =
+      let p = err_from_is_err_and c.from_residual.result c.from_residual.ensures.1 in
+      rw (p.1, p.2) (cause_as _ _ (same_fault c.in_err-source.field-0.0 _ _ refl refl) c.in_err-source.ensures.fault_reported.cause);
+  quiet =
+      let p = err_from_is_err_and c.from_residual.result c.from_residual.ensures.1 in
+      rw (p.1, p.2) (λ none. c.in_err-source.ensures.fault_reported.quiet (λ failed. none (same_fault c.in_err-source.field-0.0 _ _ refl refl failed)));
+}
 
 pub run_source-ran-requires : goal.run_source-ran-requires
 run_source-ran-requires g c = c.requires.budget

@@ -1,4 +1,4 @@
-use Rattle.std.proofs.Common.{◌∙◌, refl, inr, arith}
+use Rattle.std.proofs.Common.{◌∙◌, refl, inr, arith, rules}
 use Rattle.std.proofs.lemmas.Bool.{false≢true}
 use Rattle.std.proofs.lemmas.Result.{IfOk-from_err, err_from_is_err_and}
 use Rattle.tce_outside.proofs.Causes.{cause_since}
@@ -87,15 +87,15 @@ returns-in_err-put_input-clause-takings g c =
 pub returns-in_err-put_input-clause-others : goal.returns-in_err-put_input-clause-others
 returns-in_err-put_input-clause-others g c = c.put_input.ensures.others
 
-pub returns-in_err-put_input-clause-cause : goal.returns-in_err-put_input-clause-cause
-returns-in_err-put_input-clause-cause g c =
-    let p = err_from_is_err_and c.from_residual.result c.from_residual.ensures.1 in
-    rw (p.1, p.2) (cause_for _ _ c.in_err-put_input.field-0.0 c.in_err-put_input.ensures.cause)
-
-pub returns-in_err-put_input-clause-told : goal.returns-in_err-put_input-clause-told
-returns-in_err-put_input-clause-told g c =
-    let p = err_from_is_err_and c.from_residual.result c.from_residual.ensures.1 in
-    rw (p.1, p.2) (told_for _ _ c.in_err-put_input.field-0.0 c.in_err-put_input.ensures.told)
+pub returns-in_err-put_input-clause-fault_reported : goal.returns-in_err-put_input-clause-fault_reported
+returns-in_err-put_input-clause-fault_reported g c = record {
+  cause =
+      let p = err_from_is_err_and c.from_residual.result c.from_residual.ensures.1 in
+      rw (p.1, p.2) (cause_for _ _ c.in_err-put_input.field-0.0 c.in_err-put_input.ensures.fault_reported.cause);
+  quiet =
+      let p = err_from_is_err_and c.from_residual.result c.from_residual.ensures.1 in
+      rw (p.1, p.2) (told_for _ _ c.in_err-put_input.field-0.0 c.in_err-put_input.ensures.fault_reported.quiet);
+}
 
 pub returns-in_err-run-clause-done : goal.returns-in_err-run-clause-done
 returns-in_err-run-clause-done g c = IfOk-from_err c.from_residual-in_err-run.result _ c.from_residual-in_err-run.ensures.0
@@ -110,27 +110,33 @@ returns-in_err-run-clause-takings g c =
     let p = err_from_is_err_and c.from_residual-in_err-run.result c.from_residual-in_err-run.ensures.1 in
     rw (p.1, p.2) c.in_err-run.ensures.takings
 
-pub returns-in_err-run-clause-cause : goal.returns-in_err-run-clause-cause
-returns-in_err-run-clause-cause g c =
-    let p = err_from_is_err_and c.from_residual-in_err-run.result c.from_residual-in_err-run.ensures.1 in
-    rw (p.1, p.2) (cause_since _ _ _ c.put_input.ensures.cause.later (cause_for _ _ c.in_err-run.field-0.0 c.in_err-run.ensures.cause))
-
-pub returns-in_err-run-clause-told : goal.returns-in_err-run-clause-told
-returns-in_err-run-clause-told g c =
-    let p = err_from_is_err_and c.from_residual-in_err-run.result c.from_residual-in_err-run.ensures.1 in
-    rw (p.1, p.2) (λ none. told_for _ _ c.in_err-run.field-0.0 c.in_err-run.ensures.quiet none ∙ c.in_ok-put_input.ensures.told (ok_no_disk _ _ refl))
-
-pub returns-in_default-clause-told : goal.returns-in_default-clause-told
-returns-in_default-clause-told g c = λ none. absurd (none refl)
-
-pub returns-in-Ok-report-clause-cause : goal.returns-in-Ok-report-clause-cause
-returns-in-Ok-report-clause-cause g c = record {
-  later = omega (arith, c.put_input.ensures.cause.later, c.run_example.ensures.cause.later, c.result_sum.ensures.cause.later);
-  rose = λ failed. absurd (ok_no_disk _ _ refl failed);
+pub returns-in_err-run-clause-fault_reported : goal.returns-in_err-run-clause-fault_reported
+returns-in_err-run-clause-fault_reported g c = record {
+  cause =
+      let p = err_from_is_err_and c.from_residual-in_err-run.result c.from_residual-in_err-run.ensures.1 in
+      rw (p.1, p.2) (cause_since _ _ _ c.put_input.ensures.fault_reported.cause.later (cause_for _ _ c.in_err-run.field-0.0 c.in_err-run.ensures.fault_reported.cause));
+  quiet =
+      let p = err_from_is_err_and c.from_residual-in_err-run.result c.from_residual-in_err-run.ensures.1 in
+      rw (p.1, p.2) (λ none. told_for _ _ c.in_err-run.field-0.0 c.in_err-run.ensures.fault_reported.quiet none ∙ c.in_ok-put_input.ensures.fault_reported.quiet (ok_no_disk _ _ refl));
 }
 
-pub returns-in-Ok-report-clause-told : goal.returns-in-Ok-report-clause-told
-returns-in-Ok-report-clause-told g c = λ none. c.in-Ok.ensures.told false≢true ∙ (c.in_ok-run.ensures.quiet (ok_no_disk _ _ refl) ∙ c.in_ok-put_input.ensures.told (ok_no_disk _ _ refl))
+pub returns-in_default-clause-fault_reported : goal.returns-in_default-clause-fault_reported
+returns-in_default-clause-fault_reported g c = record {
+  cause = search rules;
+  quiet = λ none. absurd (none refl);
+}
 
-pub returns-clause-told : goal.returns-clause-told
-returns-clause-told g c = λ none. c.in-Ok.ensures.told false≢true ∙ (c.in_ok-run.ensures.quiet (ok_no_disk _ _ refl) ∙ c.in_ok-put_input.ensures.told (ok_no_disk _ _ refl))
+pub returns-in-Ok-report-clause-fault_reported : goal.returns-in-Ok-report-clause-fault_reported
+returns-in-Ok-report-clause-fault_reported g c = record {
+  cause = record {
+    later = omega (arith, c.put_input.ensures.fault_reported.cause.later, c.run_example.ensures.fault_reported.cause.later, c.result_sum.ensures.fault_reported.cause.later);
+    rose = λ failed. absurd (ok_no_disk _ _ refl failed);
+  };
+  quiet = λ none. c.in-Ok.ensures.fault_reported.quiet false≢true ∙ (c.in_ok-run.ensures.fault_reported.quiet (ok_no_disk _ _ refl) ∙ c.in_ok-put_input.ensures.fault_reported.quiet (ok_no_disk _ _ refl));
+}
+
+pub returns-clause-fault_reported : goal.returns-clause-fault_reported
+returns-clause-fault_reported g c = record {
+  cause = search rules;
+  quiet = λ none. c.in-Ok.ensures.fault_reported.quiet false≢true ∙ (c.in_ok-run.ensures.fault_reported.quiet (ok_no_disk _ _ refl) ∙ c.in_ok-put_input.ensures.fault_reported.quiet (ok_no_disk _ _ refl));
+}

@@ -17,11 +17,11 @@ returns-in-Ok-clause-done g c = record {
 pub returns-in-Ok-clause-others : goal.returns-in-Ok-clause-others
 returns-in-Ok-clause-others g c = c.run_spill.ensures.others
 
-pub returns-in-Ok-clause-cause : goal.returns-in-Ok-clause-cause
-returns-in-Ok-clause-cause g c = cause_as _ _ (answered c.into_vec.result _ refl) c.in-Ok.ensures.cause
-
-pub returns-in-Ok-clause-told : goal.returns-in-Ok-clause-told
-returns-in-Ok-clause-told g c = λ none. answered_quiet _ _ c.in-Ok.report _ refl c.in-Ok.ensures.quiet
+pub returns-in-Ok-clause-fault_reported : goal.returns-in-Ok-clause-fault_reported
+returns-in-Ok-clause-fault_reported g c = record {
+  cause = cause_as _ _ (answered c.into_vec.result _ refl) c.in-Ok.ensures.fault_reported.cause;
+  quiet = λ none. answered_quiet _ _ c.in-Ok.report _ refl c.in-Ok.ensures.fault_reported.quiet;
+}
 
 pub refusal_of_pieces-requires : goal.refusal_of_pieces-requires
 refusal_of_pieces-requires g c = of_files (g.D.Disk.files c.args.disk.now) c.args.source.now c.args.budget c.args.limit c.in-Err.fault c.in-Err.ensures.refused
@@ -37,8 +37,8 @@ returns-in-Err-clause-refused g c = record {
 pub returns-in-Err-clause-others : goal.returns-in-Err-clause-others
 returns-in-Err-clause-others g c = c.run_spill.ensures.others
 
-pub returns-in-Err-clause-cause : goal.returns-in-Err-clause-cause
-returns-in-Err-clause-cause g c = cause_as _ _ (told_failure c.in-Err.fault c.refusal_of_pieces.result _ _ refl refl c.refusal_of_pieces.ensures) c.in-Err.ensures.cause
-
-pub returns-in-Err-clause-told : goal.returns-in-Err-clause-told
-returns-in-Err-clause-told g c = λ none. c.in-Err.ensures.quiet (told_no_failure c.in-Err.fault c.refusal_of_pieces.result _ _ refl refl c.refusal_of_pieces.ensures none)
+pub returns-in-Err-clause-fault_reported : goal.returns-in-Err-clause-fault_reported
+returns-in-Err-clause-fault_reported g c = record {
+  cause = cause_as _ _ (told_failure c.in-Err.fault c.refusal_of_pieces.result _ _ refl refl c.refusal_of_pieces.ensures) c.in-Err.ensures.fault_reported.cause;
+  quiet = λ none. c.in-Err.ensures.fault_reported.quiet (told_no_failure c.in-Err.fault c.refusal_of_pieces.result _ _ refl refl c.refusal_of_pieces.ensures none);
+}

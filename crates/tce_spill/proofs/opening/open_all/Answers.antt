@@ -36,11 +36,11 @@ returns-in-Ok-clause-opened g c = c.in-Ok.ensures.opened
 pub returns-in-Ok-clause-same : goal.returns-in-Ok-clause-same
 returns-in-Ok-clause-same g c = c.opened_forms.ensures.same
 
-pub returns-in-Ok-clause-cause : goal.returns-in-Ok-clause-cause
-returns-in-Ok-clause-cause g c = cause_as _ _ (answered c.in-Ok.forms _ refl) c.in-Ok.ensures.cause
-
-pub returns-in-Ok-clause-quiet : goal.returns-in-Ok-clause-quiet
-returns-in-Ok-clause-quiet g c = λ none. answered_quiet _ _ c.in-Ok.forms _ refl c.in-Ok.ensures.quiet
+pub returns-in-Ok-clause-fault_reported : goal.returns-in-Ok-clause-fault_reported
+returns-in-Ok-clause-fault_reported g c = record {
+  cause = cause_as _ _ (answered c.in-Ok.forms _ refl) c.in-Ok.ensures.fault_reported.cause;
+  quiet = λ none. answered_quiet _ _ c.in-Ok.forms _ refl c.in-Ok.ensures.fault_reported.quiet;
+}
 
 pub returns-in-Err-Array-clause-same : goal.returns-in-Err-Array-clause-same
 returns-in-Err-Array-clause-same g c = c.opened_forms.ensures.same
@@ -49,8 +49,8 @@ pub returns-in-Err-Array-clause-refused : goal.returns-in-Err-Array-clause-refus
 returns-in-Err-Array-clause-refused g c =
     by_name (g.D.Disk.files c.args.disk.now) c.args.spec.now c.in-Err-Array.t c.in-Err-Array.fault _ (rw c.in-Err-Array.field-0-is at c.in-Err-Array.ensures.refused) c.tensor.ensures.name
 
-pub returns-in-Err-Array-clause-cause : goal.returns-in-Err-Array-clause-cause
-returns-in-Err-Array-clause-cause g c = cause_as _ _ (named_no_failure _ _ refl (λ free. free)) c.in-Err-Array.ensures.cause
-
-pub returns-in-Err-Array-clause-quiet : goal.returns-in-Err-Array-clause-quiet
-returns-in-Err-Array-clause-quiet g c = λ none. c.in-Err-Array.ensures.quiet (no_failure c.in-Err-Array.field-0 _ c.in-Err-Array.field-0-is refl)
+pub returns-in-Err-Array-clause-fault_reported : goal.returns-in-Err-Array-clause-fault_reported
+returns-in-Err-Array-clause-fault_reported g c = record {
+  cause = cause_as _ _ (named_no_failure _ _ refl (λ free. free)) c.in-Err-Array.ensures.fault_reported.cause;
+  quiet = λ none. c.in-Err-Array.ensures.fault_reported.quiet (no_failure c.in-Err-Array.field-0 _ c.in-Err-Array.field-0-is refl);
+}

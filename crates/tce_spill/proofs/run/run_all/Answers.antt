@@ -98,7 +98,7 @@ loop-root-preserved g c =
             run =
                 subst (λ (x : List (ℕ × ℕ)). HasRun s cut (n + 1) budget before x c.if-has_root.text.items) (sym (ap (λ r. g.R.Room.takings r) w.room-is))
                 (subst (λ (t : List ℕ). HasRun s cut (n + 1) budget before after t) (sym (ap (λ t. t.items) w.text-is)) more);
-            counted = ap (λ d. g.D.Disk.faults d) w.disk-is ∙ answered_quiet _ _ w.in-Ok-run_piece.report _ refl w.in-Ok-run_piece.ensures.quiet ∙ c.loop-root.invariant.counted;
+            counted = ap (λ d. g.D.Disk.faults d) w.disk-is ∙ answered_quiet _ _ w.in-Ok-run_piece.report _ refl w.in-Ok-run_piece.ensures.fault_reported.quiet ∙ c.loop-root.invariant.counted;
           }
       | else-has_root w ↦
           let root = as_tested s cut n _ _ c.has_root.ensures w.if-has_root.false in
@@ -119,17 +119,17 @@ pub returns-in_default-clause-left : goal.returns-in_default-clause-left
 returns-in_default-clause-left g c =
     (0, record { inside = omega arith; files = none_left (g.D.Disk.files c.args.disk.now) c.args.spec.now (has c.args.spilling.cuts) }, none_taken c.args.spec.now (has c.args.spilling.cuts) c.args.spilling.budget (g.R.Room.takings c.args.room.now))
 
-pub returns-in_default-pushed-clause-cause : goal.returns-in_default-pushed-clause-cause
-returns-in_default-pushed-clause-cause g c = cause_after _ _ _ c.loop-root.invariant.counted (cause_as _ _ (wanting _ refl) c.in-Ok-run_piece.ensures.cause)
+pub returns-in_default-pushed-clause-fault_reported : goal.returns-in_default-pushed-clause-fault_reported
+returns-in_default-pushed-clause-fault_reported g c = record {
+  cause = cause_after _ _ _ c.loop-root.invariant.counted (cause_as _ _ (wanting _ refl) c.in-Ok-run_piece.ensures.fault_reported.cause);
+  quiet = λ none. answered_quiet _ _ c.in-Ok-run_piece.report _ refl c.in-Ok-run_piece.ensures.fault_reported.quiet ∙ c.loop-root.invariant.counted;
+}
 
-pub returns-in_default-pushed-clause-quiet : goal.returns-in_default-pushed-clause-quiet
-returns-in_default-pushed-clause-quiet g c = λ none. answered_quiet _ _ c.in-Ok-run_piece.report _ refl c.in-Ok-run_piece.ensures.quiet ∙ c.loop-root.invariant.counted
-
-pub returns-in-Err-clause-cause : goal.returns-in-Err-clause-cause
-returns-in-Err-clause-cause g c = cause_after _ _ _ c.loop-root.invariant.counted (cause_as _ _ (same_fault c.in-Err.fault _ _ refl refl) c.in-Err.ensures.cause)
-
-pub returns-in-Err-clause-quiet : goal.returns-in-Err-clause-quiet
-returns-in-Err-clause-quiet g c = λ none. c.in-Err.ensures.quiet (λ failed. none (same_fault c.in-Err.fault _ _ refl refl failed)) ∙ c.loop-root.invariant.counted
+pub returns-in-Err-clause-fault_reported : goal.returns-in-Err-clause-fault_reported
+returns-in-Err-clause-fault_reported g c = record {
+  cause = cause_after _ _ _ c.loop-root.invariant.counted (cause_as _ _ (same_fault c.in-Err.fault _ _ refl refl) c.in-Err.ensures.fault_reported.cause);
+  quiet = λ none. c.in-Err.ensures.fault_reported.quiet (λ failed. none (same_fault c.in-Err.fault _ _ refl refl failed)) ∙ c.loop-root.invariant.counted;
+}
 
 pub returns-in_default-push_wrote-clause-left : goal.returns-in_default-push_wrote-clause-left
 returns-in_default-push_wrote-clause-left g c =
@@ -139,11 +139,11 @@ returns-in_default-push_wrote-clause-left g c =
       inl (run_taken c.args.spec.now (has c.args.spilling.cuts) c.loop-root.root c.args.spilling.budget (g.R.Room.takings c.args.room.now) (g.R.Room.takings c.loop-root.room) c.loop-root.text.items c.loop-root.invariant.run),
     )
 
-pub returns-in_default-push_wrote-clause-cause : goal.returns-in_default-push_wrote-clause-cause
-returns-in_default-push_wrote-clause-cause g c = no_cause _ _ c.loop-root.invariant.counted (wanting _ refl)
-
-pub returns-in_default-push_wrote-clause-quiet : goal.returns-in_default-push_wrote-clause-quiet
-returns-in_default-push_wrote-clause-quiet g c = λ none. c.loop-root.invariant.counted
+pub returns-in_default-push_wrote-clause-fault_reported : goal.returns-in_default-push_wrote-clause-fault_reported
+returns-in_default-push_wrote-clause-fault_reported g c = record {
+  cause = no_cause _ _ c.loop-root.invariant.counted (wanting _ refl);
+  quiet = λ none. c.loop-root.invariant.counted;
+}
 
 pub returns-clause-told : goal.returns-clause-told
 returns-clause-told g c =
@@ -166,8 +166,8 @@ returns-clause-reported g c =
     all_reported c.args.spec.now (has c.args.spilling.cuts) c.args.spilling.budget before after c.loop-root.text.items c.push_wrote.new.text.items
     (subst (λ n. HasRun c.args.spec.now (has c.args.spilling.cuts) n c.args.spilling.budget before after c.loop-root.text.items) last c.loop-root.invariant.run) c.in-Ok-push_wrote.ensures
 
-pub returns-clause-cause : goal.returns-clause-cause
-returns-clause-cause g c = no_cause _ _ c.loop-root.invariant.counted (answered _ _ refl)
-
-pub returns-clause-quiet : goal.returns-clause-quiet
-returns-clause-quiet g c = λ none. c.loop-root.invariant.counted
+pub returns-clause-fault_reported : goal.returns-clause-fault_reported
+returns-clause-fault_reported g c = record {
+  cause = no_cause _ _ c.loop-root.invariant.counted (answered _ _ refl);
+  quiet = λ none. c.loop-root.invariant.counted;
+}

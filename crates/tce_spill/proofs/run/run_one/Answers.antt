@@ -1,4 +1,4 @@
-use Rattle.std.proofs.Common.{Option, refl, subst, inl, inr, ap, ◌∙◌}
+use Rattle.std.proofs.Common.{Option, refl, subst, inl, inr, ap, ◌∙◌, rules}
 use Rattle.std.specs.Option.{option_map}
 use Rattle.tce_outside.specs.Files.{Files, others}
 use Rattle.tce_outside.proofs.Causes.{cause_as, answered_quiet, cause_since}
@@ -29,11 +29,11 @@ returns-in-Err-clause-no_half g c = same_is_no_half c.args.spec.now (g.D.Disk.fi
 pub returns-in-Err-clause-others : goal.returns-in-Err-clause-others
 returns-in-Err-clause-others g c = ap (λ (told : Option Files). others (file_of c.args.spec.now c.args.spec.now.result) told) c.in-Err.ensures.same
 
-pub returns-in-Err-clause-cause : goal.returns-in-Err-clause-cause
-returns-in-Err-clause-cause g c = cause_as _ _ (same_fault c.in-Err.fault _ _ refl refl) c.in-Err.ensures.cause
-
-pub returns-in-Err-clause-quiet : goal.returns-in-Err-clause-quiet
-returns-in-Err-clause-quiet g c = λ none. c.in-Err.ensures.quiet (λ failed. none (same_fault c.in-Err.fault _ _ refl refl failed))
+pub returns-in-Err-clause-fault_reported : goal.returns-in-Err-clause-fault_reported
+returns-in-Err-clause-fault_reported g c = record {
+  cause = cause_as _ _ (same_fault c.in-Err.fault _ _ refl refl) c.in-Err.ensures.fault_reported.cause;
+  quiet = λ none. c.in-Err.ensures.fault_reported.quiet (λ failed. none (same_fault c.in-Err.fault _ _ refl refl failed));
+}
 
 pub returns-in-Ok-run_by-clause-told : goal.returns-in-Ok-run_by-clause-told
 returns-in-Ok-run_by-clause-told g c = c.in-Ok-run_by.ensures.told ∙ ap (option_map (with_result c.args.spec.now)) c.in-Ok.ensures.same
@@ -43,18 +43,21 @@ returns-in-Ok-run_by-clause-reported g c =
     is_reported c.args.spec.now c.args.budget c.args.plan c.requires.affordable c.requires.plan (g.R.Room.takings c.args.room.now) (g.R.Room.takings c.run_by.new.room) c.in-Ok-run_by.report
     c.in-Ok-run_by.ensures.taken c.in-Ok-run_by.ensures.report
 
-pub returns-in-Ok-run_by-clause-cause : goal.returns-in-Ok-run_by-clause-cause
-returns-in-Ok-run_by-clause-cause g c = cause_since _ _ _ c.in-Ok.ensures.cause.later (cause_as _ _ (answered c.in-Ok-run_by.report _ refl) c.in-Ok-run_by.ensures.cause)
-
-pub returns-in-Ok-run_by-clause-quiet : goal.returns-in-Ok-run_by-clause-quiet
-returns-in-Ok-run_by-clause-quiet g c = λ none.
-    answered_quiet _ _ c.in-Ok-run_by.report _ refl c.in-Ok-run_by.ensures.quiet ∙ answered_quiet _ _ c.in-Ok.forms _ refl c.in-Ok.ensures.quiet
+pub returns-in-Ok-run_by-clause-fault_reported : goal.returns-in-Ok-run_by-clause-fault_reported
+returns-in-Ok-run_by-clause-fault_reported g c = record {
+  cause = cause_since _ _ _ c.in-Ok.ensures.fault_reported.cause.later (cause_as _ _ (answered c.in-Ok-run_by.report _ refl) c.in-Ok-run_by.ensures.fault_reported.cause);
+  quiet = λ none.
+      answered_quiet _ _ c.in-Ok-run_by.report _ refl c.in-Ok-run_by.ensures.fault_reported.quiet ∙ answered_quiet _ _ c.in-Ok.forms _ refl c.in-Ok.ensures.fault_reported.quiet;
+}
 
 pub returns-in-Err-Disk-clause-unchanged : goal.returns-in-Err-Disk-clause-unchanged
 returns-in-Err-Disk-clause-unchanged g c = inl refl
 
-pub returns-in-Err-Disk-clause-quiet : goal.returns-in-Err-Disk-clause-quiet
-returns-in-Err-Disk-clause-quiet g c = λ none. absurd (none refl)
+pub returns-in-Err-Disk-clause-fault_reported : goal.returns-in-Err-Disk-clause-fault_reported
+returns-in-Err-Disk-clause-fault_reported g c = record {
+  cause = search rules;
+  quiet = λ none. absurd (none refl);
+}
 
 pub returns-in-Err-Disk-clause-takings : goal.returns-in-Err-Disk-clause-takings
 returns-in-Err-Disk-clause-takings g c =

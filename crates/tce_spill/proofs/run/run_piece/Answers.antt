@@ -56,8 +56,5 @@ pub returns-clause-others : goal.returns-clause-others
 returns-clause-others g c =
     subst (λ (p : Specification). others (file_of p p.result) (g.D.Disk.files c.run_one-ran.new.disk) ≡ others (file_of p p.result) (g.D.Disk.files c.args.disk.now)) c.in-Ok.ensures c.run_one-ran.ensures.others
 
-pub returns-clause-cause : goal.returns-clause-cause
-returns-clause-cause g c = c.run_one-ran.ensures.cause
-
-pub returns-clause-quiet : goal.returns-clause-quiet
-returns-clause-quiet g c = c.run_one-ran.ensures.quiet
+pub returns-clause-fault_reported : goal.returns-clause-fault_reported
+returns-clause-fault_reported g c = c.run_one-ran.ensures.fault_reported

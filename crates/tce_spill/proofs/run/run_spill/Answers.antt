@@ -125,47 +125,47 @@ returns-in_err-planned-clause-exactly g c due free cause known =
     let p = err_from_is_err_and c.from_residual.result c.from_residual.ensures.1 in
     rw (p.1, p.2) (cut_exact (g.D.Disk.files c.args.disk.now) c.args.spec.now c.args.budget c.args.limit c.in_err-planned.field-0.0 due c.in_err-planned.ensures.refused free cause)
 
-pub returns-in_err-planned-clause-cause : goal.returns-in_err-planned-clause-cause
-returns-in_err-planned-clause-cause g c =
-    let p = err_from_is_err_and c.from_residual.result c.from_residual.ensures.1 in
-    rw (p.1, p.2) (no_fault _ _ refl (no_disk_cuts c.args.spec.now c.args.limit c.in_err-planned.field-0.0 _ refl c.in_err-planned.ensures.refused))
-
-pub returns-in_err-planned-clause-quiet : goal.returns-in_err-planned-clause-quiet
-returns-in_err-planned-clause-quiet g c = λ none. refl
+pub returns-in_err-planned-clause-fault_reported : goal.returns-in_err-planned-clause-fault_reported
+returns-in_err-planned-clause-fault_reported g c = record {
+  cause =
+      let p = err_from_is_err_and c.from_residual.result c.from_residual.ensures.1 in
+      rw (p.1, p.2) (no_fault _ _ refl (no_disk_cuts c.args.spec.now c.args.limit c.in_err-planned.field-0.0 _ refl c.in_err-planned.ensures.refused));
+  quiet = λ none. refl;
+}
 
 pub returns-in_err-test_budget-clause-done : goal.returns-in_err-test_budget-clause-done
 returns-in_err-test_budget-clause-done g c = IfOk-from_err c.from_residual-in_err-test_budget.result _ c.from_residual-in_err-test_budget.ensures.0
 
-pub returns-in_err-test_budget-clause-cause : goal.returns-in_err-test_budget-clause-cause
-returns-in_err-test_budget-clause-cause g c =
-    let p = err_from_is_err_and c.from_residual-in_err-test_budget.result c.from_residual-in_err-test_budget.ensures.1 in
-    rw (p.1, p.2) (cause_as _ _ (same_fault c.in_err-test_budget.field-0.0 _ _ refl refl) c.in_err-test_budget.ensures.cause)
-
-pub returns-in_err-test_budget-clause-quiet : goal.returns-in_err-test_budget-clause-quiet
-returns-in_err-test_budget-clause-quiet g c =
-    let p = err_from_is_err_and c.from_residual-in_err-test_budget.result c.from_residual-in_err-test_budget.ensures.1 in
-    rw (p.1, p.2) (λ none. c.in_err-test_budget.ensures.quiet (λ failed. none (same_fault c.in_err-test_budget.field-0.0 _ _ refl refl failed)))
+pub returns-in_err-test_budget-clause-fault_reported : goal.returns-in_err-test_budget-clause-fault_reported
+returns-in_err-test_budget-clause-fault_reported g c = record {
+  cause =
+      let p = err_from_is_err_and c.from_residual-in_err-test_budget.result c.from_residual-in_err-test_budget.ensures.1 in
+      rw (p.1, p.2) (cause_as _ _ (same_fault c.in_err-test_budget.field-0.0 _ _ refl refl) c.in_err-test_budget.ensures.fault_reported.cause);
+  quiet =
+      let p = err_from_is_err_and c.from_residual-in_err-test_budget.result c.from_residual-in_err-test_budget.ensures.1 in
+      rw (p.1, p.2) (λ none. c.in_err-test_budget.ensures.fault_reported.quiet (λ failed. none (same_fault c.in_err-test_budget.field-0.0 _ _ refl refl failed)));
+}
 
 pub returns-in_err-text-clause-done : goal.returns-in_err-text-clause-done
 returns-in_err-text-clause-done g c = IfOk-from_err c.from_residual-in_err-text.result _ c.from_residual-in_err-text.ensures.0
 
-pub returns-in_err-text-clause-cause : goal.returns-in_err-text-clause-cause
-returns-in_err-text-clause-cause g c =
-    let p = err_from_is_err_and c.from_residual-in_err-text.result c.from_residual-in_err-text.ensures.1 in
-    rw (p.1, p.2) (cause_since _ _ _ c.in_ok-test_budget.ensures.cause.later (cause_as _ _ (same_fault c.in_err-text.field-0.0 _ _ refl refl) c.in_err-text.ensures.cause))
+pub returns-in_err-text-clause-fault_reported : goal.returns-in_err-text-clause-fault_reported
+returns-in_err-text-clause-fault_reported g c = record {
+  cause =
+      let p = err_from_is_err_and c.from_residual-in_err-text.result c.from_residual-in_err-text.ensures.1 in
+      rw (p.1, p.2) (cause_since _ _ _ c.in_ok-test_budget.ensures.fault_reported.cause.later (cause_as _ _ (same_fault c.in_err-text.field-0.0 _ _ refl refl) c.in_err-text.ensures.fault_reported.cause));
+  quiet =
+      let p = err_from_is_err_and c.from_residual-in_err-text.result c.from_residual-in_err-text.ensures.1 in
+      rw (p.1, p.2) (λ none.
+      c.in_err-text.ensures.fault_reported.quiet (λ failed. none (same_fault c.in_err-text.field-0.0 _ _ refl refl failed)) ∙ answered_quiet _ _ tt _ refl c.in_ok-test_budget.ensures.fault_reported.quiet);
+}
 
-pub returns-in_err-text-clause-quiet : goal.returns-in_err-text-clause-quiet
-returns-in_err-text-clause-quiet g c =
-    let p = err_from_is_err_and c.from_residual-in_err-text.result c.from_residual-in_err-text.ensures.1 in
-    rw (p.1, p.2) (λ none.
-    c.in_err-text.ensures.quiet (λ failed. none (same_fault c.in_err-text.field-0.0 _ _ refl refl failed)) ∙ answered_quiet _ _ tt _ refl c.in_ok-test_budget.ensures.quiet)
-
-pub returns-clause-cause : goal.returns-clause-cause
-returns-clause-cause g c = cause_since _ _ _ c.in_ok-test_budget.ensures.cause.later (cause_as _ _ (answered _ _ refl) c.in_ok-text.ensures.cause)
-
-pub returns-clause-quiet : goal.returns-clause-quiet
-returns-clause-quiet g c = λ none.
-    answered_quiet _ _ c.in_ok-text.text _ refl c.in_ok-text.ensures.quiet ∙ answered_quiet _ _ tt _ refl c.in_ok-test_budget.ensures.quiet
+pub returns-clause-fault_reported : goal.returns-clause-fault_reported
+returns-clause-fault_reported g c = record {
+  cause = cause_since _ _ _ c.in_ok-test_budget.ensures.fault_reported.cause.later (cause_as _ _ (answered _ _ refl) c.in_ok-text.ensures.fault_reported.cause);
+  quiet = λ none.
+      answered_quiet _ _ c.in_ok-text.text _ refl c.in_ok-text.ensures.fault_reported.quiet ∙ answered_quiet _ _ tt _ refl c.in_ok-test_budget.ensures.fault_reported.quiet;
+}
 
 pub run_all-ran-requires-clause-plans : goal.run_all-ran-requires-clause-plans
 run_all-ran-requires-clause-plans g c = c.in_ok-planned.ensures.plans

@@ -63,8 +63,8 @@ loop-done-init g c = record {
       (λ fs. ap (λ n. replicate n 0) c.form_len.ensures.bytes ∙ zero_form One c.args.shape.now ∙ no_words c.args.shape.now c.padded_words-padded.ensures.limits (full_cell c.args.shape.now.extents c.args.s.now (contents fs c.args.packed.now)));
   lines = c.in-Ok.ensures.held;
   others = c.in_ok-make.ensures.others ∙ ap (others c.args.array.now) c.in-Ok.ensures.same;
-  later = le_trans c.in-Ok.ensures.cause.later c.in_ok-make.ensures.cause.later;
-  counted = c.in_ok-make.ensures.told (λ e. ok_not_err e) ∙ c.in-Ok.ensures.told false≢true;
+  later = le_trans c.in-Ok.ensures.fault_reported.cause.later c.in_ok-make.ensures.fault_reported.cause.later;
+  counted = c.in_ok-make.ensures.fault_reported.quiet (λ e. ok_not_err e) ∙ c.in-Ok.ensures.fault_reported.quiet false≢true;
 }
 
 pub returns-in_err-make-clause-no_half : goal.returns-in_err-make-clause-no_half
@@ -120,8 +120,8 @@ loop-done-preserved g c =
       lines = held_beside before (g.D.Disk.files c.loop-done.disk) c.args.array.now (stored c.loop-done.done) c.args.packed.now (λ b. AreHeld c.triangles_of-triangles.result.slots.grid.layout c.triangles_of-triangles.result.slots.grid b c.read_piece.new.lines)
           c.loop-done.invariant.files c.requires.names c.in-Ok-read_piece.ensures.lines;
       others = c.in-Ok-write_words.ensures.others ∙ ap (others c.args.array.now) c.in-Ok-read_piece.ensures.same ∙ c.loop-done.invariant.others;
-      later = le_trans c.loop-done.invariant.later (le_trans c.in-Ok-read_piece.ensures.cause.later c.in-Ok-write_words.ensures.cause.later);
-      counted = c.in-Ok-write_words.ensures.told false≢true ∙ c.in-Ok-read_piece.ensures.told false≢true ∙ c.loop-done.invariant.counted;
+      later = le_trans c.loop-done.invariant.later (le_trans c.in-Ok-read_piece.ensures.fault_reported.cause.later c.in-Ok-write_words.ensures.fault_reported.cause.later);
+      counted = c.in-Ok-write_words.ensures.fault_reported.quiet false≢true ∙ c.in-Ok-read_piece.ensures.fault_reported.quiet false≢true ∙ c.loop-done.invariant.counted;
     }
 
 pub returns-clause-made : goal.returns-clause-made
@@ -129,8 +129,11 @@ returns-clause-made g c =
     held_same (g.D.Disk.files c.args.disk.now) _ c.args.array.now _ (λ fs. bare_bytes (Array One) c.args.shape.now (full_cell c.args.shape.now.extents c.args.s.now (contents fs c.args.packed.now))) c.loop-done.invariant.files
     (λ fs. all_words c.args.shape.now c.padded_words-padded.ensures.limits (full_cell c.args.shape.now.extents c.args.s.now (contents fs c.args.packed.now)) c.loop-done.done (all_done c.padded_words-padded.result (padded_words c.args.shape.now) c.loop-done.done c.padded_words-padded.ensures.words c.loop-done-test.false))
 
-pub returns-clause-told : goal.returns-clause-told
-returns-clause-told g c = λ _. c.loop-done.invariant.counted
+pub returns-clause-fault_reported : goal.returns-clause-fault_reported
+returns-clause-fault_reported g c = record {
+  cause = record { later = c.loop-done.invariant.later; rose = λ e. absurd (ok_not_err e) };
+  quiet = λ _. c.loop-done.invariant.counted;
+}
 
 pub returns-in_default-read_piece-clause-no_half : goal.returns-in_default-read_piece-clause-no_half
 returns-in_default-read_piece-clause-no_half g c =
@@ -182,18 +185,24 @@ returns-in_err-make-clause-others g c = c.make.ensures.others ∙ ap (others c.a
 pub returns-clause-others : goal.returns-clause-others
 returns-clause-others g c = c.loop-done.invariant.others
 
-pub returns-in_default-clause-cause : goal.returns-in_default-clause-cause
-returns-in_default-clause-cause g c = failed_from _ (g.D.Disk.faults c.args.disk.now) _ _ _ (le_refl (g.D.Disk.faults c.args.disk.now)) c.hold_words.ensures.cause (ap is_err c.in_default.is)
+pub returns-in_default-clause-fault_reported : goal.returns-in_default-clause-fault_reported
+returns-in_default-clause-fault_reported g c = record {
+  cause = failed_from _ (g.D.Disk.faults c.args.disk.now) _ _ _ (le_refl (g.D.Disk.faults c.args.disk.now)) c.hold_words.ensures.fault_reported.cause (ap is_err c.in_default.is);
+  quiet = λ fine. absurd (fine refl);
+}
 
-pub returns-in_default-read_piece-clause-cause : goal.returns-in_default-read_piece-clause-cause
-returns-in_default-read_piece-clause-cause g c = failed_from _ (g.D.Disk.faults c.loop-done.disk) _ _ _ c.loop-done.invariant.later c.read_piece.ensures.cause (ap is_err c.in_default-read_piece.is)
+pub returns-in_default-read_piece-clause-fault_reported : goal.returns-in_default-read_piece-clause-fault_reported
+returns-in_default-read_piece-clause-fault_reported g c = record {
+  cause = failed_from _ (g.D.Disk.faults c.loop-done.disk) _ _ _ c.loop-done.invariant.later c.read_piece.ensures.fault_reported.cause (ap is_err c.in_default-read_piece.is);
+  quiet = λ fine. absurd (fine refl);
+}
 
-pub returns-in_default-write_words-clause-cause : goal.returns-in_default-write_words-clause-cause
-returns-in_default-write_words-clause-cause g c =
-    failed_from _ (g.D.Disk.faults c.read_piece.new.disk) _ _ _ (le_trans c.loop-done.invariant.later c.in-Ok-read_piece.ensures.cause.later) c.write_words.ensures.cause (ap is_err c.in_default-write_words.is)
-
-pub returns-clause-cause : goal.returns-clause-cause
-returns-clause-cause g c = record { later = c.loop-done.invariant.later; rose = λ e. absurd (ok_not_err e) }
+pub returns-in_default-write_words-clause-fault_reported : goal.returns-in_default-write_words-clause-fault_reported
+returns-in_default-write_words-clause-fault_reported g c = record {
+  cause =
+      failed_from _ (g.D.Disk.faults c.read_piece.new.disk) _ _ _ (le_trans c.loop-done.invariant.later c.in-Ok-read_piece.ensures.fault_reported.cause.later) c.write_words.ensures.fault_reported.cause (ap is_err c.in_default-write_words.is);
+  quiet = λ fine. absurd (fine refl);
+}
 
 pub triangles_of-triangles-requires-clause-right : goal.triangles_of-triangles-requires-clause-right
 triangles_of-triangles-requires-clause-right g c = c.requires.right
@@ -214,23 +223,20 @@ hold_words-requires-clause-file g c = λ x told.
 pub returns-in_default-clause-memory : goal.returns-in_default-clause-memory
 returns-in_default-clause-memory g c = λ memory. absurd (failed_not_memory _ refl memory)
 
-pub returns-in_default-clause-told : goal.returns-in_default-clause-told
-returns-in_default-clause-told g c = λ fine. absurd (fine refl)
-
 pub returns-in_err-make-clause-made : goal.returns-in_err-make-clause-made
 returns-in_err-make-clause-made g c = IfOk-from_err c.from_residual.result _ c.from_residual.ensures.0
 
 pub returns-in_err-make-clause-memory : goal.returns-in_err-make-clause-memory
 returns-in_err-make-clause-memory g c = λ memory. c.make.ensures.memory (making_failed c.from_residual.result c.make.result c.in_err-make.field-0.0 Memory c.from_residual.ensures.1 c.in_err-make.was memory) ∙ c.in-Ok.ensures.same
 
-pub returns-in_err-make-clause-cause : goal.returns-in_err-make-clause-cause
-returns-in_err-make-clause-cause g c =
-    let from : HasCause (g.D.Disk.faults c.args.disk.now) (g.D.Disk.faults c.make.new.self) (HasFailed c.make.result) =
-    subst (λ n. HasCause n (g.D.Disk.faults c.make.new.self) (HasFailed c.make.result)) (c.in-Ok.ensures.told false≢true) c.make.ensures.cause in
-    record { later = from.later; rose = λ failed. from.rose (making_failed c.from_residual.result c.make.result c.in_err-make.field-0.0 Failed c.from_residual.ensures.1 c.in_err-make.was failed) }
-
-pub returns-in_err-make-clause-told : goal.returns-in_err-make-clause-told
-returns-in_err-make-clause-told g c = λ fine. c.make.ensures.told (λ failed. fine (failed_making c.from_residual.result c.make.result c.in_err-make.field-0.0 Failed c.from_residual.ensures.1 c.in_err-make.was failed)) ∙ c.in-Ok.ensures.told false≢true
+pub returns-in_err-make-clause-fault_reported : goal.returns-in_err-make-clause-fault_reported
+returns-in_err-make-clause-fault_reported g c = record {
+  cause =
+      let from : HasCause (g.D.Disk.faults c.args.disk.now) (g.D.Disk.faults c.make.new.self) (HasFailed c.make.result) =
+      subst (λ n. HasCause n (g.D.Disk.faults c.make.new.self) (HasFailed c.make.result)) (c.in-Ok.ensures.fault_reported.quiet false≢true) c.make.ensures.fault_reported.cause in
+      record { later = from.later; rose = λ failed. from.rose (making_failed c.from_residual.result c.make.result c.in_err-make.field-0.0 Failed c.from_residual.ensures.1 c.in_err-make.was failed) };
+  quiet = λ fine. c.make.ensures.fault_reported.quiet (λ failed. fine (failed_making c.from_residual.result c.make.result c.in_err-make.field-0.0 Failed c.from_residual.ensures.1 c.in_err-make.was failed)) ∙ c.in-Ok.ensures.fault_reported.quiet false≢true;
+}
 
 pub overflow_sub-padded : goal.overflow_sub-padded
 overflow_sub-padded g c = c.loop-done.invariant.done
@@ -261,17 +267,11 @@ read_piece-requires-clause-count g c = c.triangles_of-triangles.ensures.count
 pub returns-in_default-read_piece-clause-memory : goal.returns-in_default-read_piece-clause-memory
 returns-in_default-read_piece-clause-memory g c = λ memory. absurd (failed_not_memory _ refl memory)
 
-pub returns-in_default-read_piece-clause-told : goal.returns-in_default-read_piece-clause-told
-returns-in_default-read_piece-clause-told g c = λ fine. absurd (fine refl)
-
 pub overflow_mul-done : goal.overflow_mul-done
 overflow_mul-done g c = omega (arith, c.loop-done.invariant.done, c.padded_words-padded.ensures.words, c.padded_words-padded.ensures.limits.room)
 
 pub returns-in_default-write_words-clause-memory : goal.returns-in_default-write_words-clause-memory
 returns-in_default-write_words-clause-memory g c = λ memory. absurd (failed_not_memory _ refl memory)
-
-pub returns-in_default-write_words-clause-told : goal.returns-in_default-write_words-clause-told
-returns-in_default-write_words-clause-told g c = λ fine. absurd (fine refl)
 
 pub overflow_add-done : goal.overflow_add-done
 overflow_add-done g c = omega (arith, c.min-len.ensures, c.loop-done.invariant.done, c.padded_words-padded.ensures.words, c.padded_words-padded.ensures.limits.room)

@@ -36,11 +36,17 @@ returns-in-Ok-clause-others g c = c.write_start.ensures.others ∙ c.in_ok-expan
 pub returns-in-Err-clause-others : goal.returns-in-Err-clause-others
 returns-in-Err-clause-others g c = c.write_start.ensures.others ∙ c.in_ok-expand_elements.ensures.others
 
-pub returns-in-Ok-clause-cause : goal.returns-in-Ok-clause-cause
-returns-in-Ok-clause-cause g c = record { later = omega (arith, c.in_ok-expand_elements.ensures.cause.later, c.write_start.ensures.cause.later); rose = λ e. absurd (ok_not_err e) }
+pub returns-in-Ok-clause-fault_reported : goal.returns-in-Ok-clause-fault_reported
+returns-in-Ok-clause-fault_reported g c = record {
+  cause = record { later = omega (arith, c.in_ok-expand_elements.ensures.fault_reported.cause.later, c.write_start.ensures.fault_reported.cause.later); rose = λ e. absurd (ok_not_err e) };
+  quiet = λ fine. c.in-Ok.ensures.fault_reported.quiet false≢true ∙ c.in_ok-expand_elements.ensures.fault_reported.quiet (λ e. ok_not_err e);
+}
 
-pub returns-in-Err-clause-cause : goal.returns-in-Err-clause-cause
-returns-in-Err-clause-cause g c = failed_from _ (g.D.Disk.faults c.expand_elements.new.disk) _ _ _ c.in_ok-expand_elements.ensures.cause.later c.write_start.ensures.cause (ap is_err c.in-Err.is)
+pub returns-in-Err-clause-fault_reported : goal.returns-in-Err-clause-fault_reported
+returns-in-Err-clause-fault_reported g c = record {
+  cause = failed_from _ (g.D.Disk.faults c.expand_elements.new.disk) _ _ _ c.in_ok-expand_elements.ensures.fault_reported.cause.later c.write_start.ensures.fault_reported.cause (ap is_err c.in-Err.is);
+  quiet = λ fine. absurd (fine refl);
+}
 
 pub expand_elements-requires-clause-names : goal.expand_elements-requires-clause-names
 expand_elements-requires-clause-names g c = c.requires.names
@@ -66,20 +72,14 @@ returns-in_err-expand_elements-clause-no_half g c = c.expand_elements.ensures.no
 pub returns-in_err-expand_elements-clause-others : goal.returns-in_err-expand_elements-clause-others
 returns-in_err-expand_elements-clause-others g c = c.expand_elements.ensures.others
 
-pub returns-in_err-expand_elements-clause-cause : goal.returns-in_err-expand_elements-clause-cause
-returns-in_err-expand_elements-clause-cause g c = record { later = c.expand_elements.ensures.cause.later; rose = λ failed. c.expand_elements.ensures.cause.rose (making_failed c.from_residual.result c.expand_elements.result c.in_err-expand_elements.field-0.0 Failed c.from_residual.ensures.1 c.in_err-expand_elements.was failed) }
-
-pub returns-in_err-expand_elements-clause-told : goal.returns-in_err-expand_elements-clause-told
-returns-in_err-expand_elements-clause-told g c = λ fine. c.expand_elements.ensures.told (λ failed. fine (failed_making c.from_residual.result c.expand_elements.result c.in_err-expand_elements.field-0.0 Failed c.from_residual.ensures.1 c.in_err-expand_elements.was failed))
+pub returns-in_err-expand_elements-clause-fault_reported : goal.returns-in_err-expand_elements-clause-fault_reported
+returns-in_err-expand_elements-clause-fault_reported g c = record {
+  cause = record { later = c.expand_elements.ensures.fault_reported.cause.later; rose = λ failed. c.expand_elements.ensures.fault_reported.cause.rose (making_failed c.from_residual.result c.expand_elements.result c.in_err-expand_elements.field-0.0 Failed c.from_residual.ensures.1 c.in_err-expand_elements.was failed) };
+  quiet = λ fine. c.expand_elements.ensures.fault_reported.quiet (λ failed. fine (failed_making c.from_residual.result c.expand_elements.result c.in_err-expand_elements.field-0.0 Failed c.from_residual.ensures.1 c.in_err-expand_elements.was failed));
+}
 
 pub returns-in-Ok-clause-memory : goal.returns-in-Ok-clause-memory
 returns-in-Ok-clause-memory g c = λ memory. absurd (ok_not_err memory)
 
-pub returns-in-Ok-clause-told : goal.returns-in-Ok-clause-told
-returns-in-Ok-clause-told g c = λ fine. c.in-Ok.ensures.told false≢true ∙ c.in_ok-expand_elements.ensures.told (λ e. ok_not_err e)
-
 pub returns-in-Err-clause-memory : goal.returns-in-Err-clause-memory
 returns-in-Err-clause-memory g c = λ memory. absurd (failed_not_memory _ refl memory)
-
-pub returns-in-Err-clause-told : goal.returns-in-Err-clause-told
-returns-in-Err-clause-told g c = λ fine. absurd (fine refl)

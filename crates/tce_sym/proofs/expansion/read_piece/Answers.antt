@@ -76,8 +76,8 @@ loop-filled-preserved g c =
           (c.loop-filled.invariant.read x told);
       lines = λ x told. c.in_ok-read_row.ensures.lines x (c.loop-filled.invariant.files ∙ told);
       files = c.in_ok-read_row.ensures.same ∙ c.loop-filled.invariant.files;
-      later = omega (arith, c.in_ok-read_row.ensures.cause.later, c.loop-filled.invariant.later);
-      counted = c.in_ok-read_row.ensures.told false≢true ∙ c.loop-filled.invariant.counted;
+      later = omega (arith, c.in_ok-read_row.ensures.fault_reported.cause.later, c.loop-filled.invariant.later);
+      counted = c.in_ok-read_row.ensures.fault_reported.quiet false≢true ∙ c.loop-filled.invariant.counted;
     }
 
 pub returns-clause-read : goal.returns-clause-read
@@ -85,8 +85,11 @@ returns-clause-read g c = λ x told.
     let all : c.loop-filled.filled ≡ length c.args.words.now = omega (arith, c.loop-filled.invariant.filled, c.loop-filled-test.false, c.loop-filled.auto.words) in
     subst (λ n. AreWords c.args.source.now.shape.now (full_cell c.args.source.now.shape.now.extents c.args.source.now.s.now (contents x c.args.source.now.packed.now)) c.args.start n c.loop-filled.words) all (c.loop-filled.invariant.read x told).values
 
-pub returns-clause-told : goal.returns-clause-told
-returns-clause-told g c = λ _. c.loop-filled.invariant.counted
+pub returns-clause-fault_reported : goal.returns-clause-fault_reported
+returns-clause-fault_reported g c = record {
+  cause = record { later = c.loop-filled.invariant.later; rose = λ e. absurd (false≢true e) };
+  quiet = λ _. c.loop-filled.invariant.counted;
+}
 
 pub tile_row_at-tile_row-requires-clause-rank : goal.tile_row_at-tile_row-requires-clause-rank
 tile_row_at-tile_row-requires-clause-rank g c = omega (arith, c.requires.right.ordered, c.requires.right.inside)
@@ -111,9 +114,6 @@ returns-clause-lines g c = c.loop-filled.invariant.lines
 pub returns-clause-same : goal.returns-clause-same
 returns-clause-same g c = c.loop-filled.invariant.files
 
-pub returns-clause-cause : goal.returns-clause-cause
-returns-clause-cause g c = record { later = c.loop-filled.invariant.later; rose = λ e. absurd (false≢true e) }
-
 pub row_of-row-requires-clause-right : goal.row_of-row-requires-clause-right
 row_of-row-requires-clause-right g c = c.requires.right
 
@@ -126,8 +126,8 @@ returns-in_err-read_row-clause-read g c = IfOk-from_err c.from_residual.result _
 pub returns-in_err-read_row-clause-lines : goal.returns-in_err-read_row-clause-lines
 returns-in_err-read_row-clause-lines g c = IfOk-from_err c.from_residual.result _ c.from_residual.ensures.0
 
-pub returns-in_err-read_row-clause-cause : goal.returns-in_err-read_row-clause-cause
-returns-in_err-read_row-clause-cause g c = failed_after (g.D.Disk.faults c.args.disk.now) (g.D.Disk.faults c.loop-filled.disk) (g.D.Disk.faults c.read_row.new.disk) c.loop-filled.invariant.counted c.in_err-read_row.ensures.cause
-
-pub returns-in_err-read_row-clause-told : goal.returns-in_err-read_row-clause-told
-returns-in_err-read_row-clause-told g c = λ fine. absurd (fine c.from_residual.ensures.0)
+pub returns-in_err-read_row-clause-fault_reported : goal.returns-in_err-read_row-clause-fault_reported
+returns-in_err-read_row-clause-fault_reported g c = record {
+  cause = failed_after (g.D.Disk.faults c.args.disk.now) (g.D.Disk.faults c.loop-filled.disk) (g.D.Disk.faults c.read_row.new.disk) c.loop-filled.invariant.counted c.in_err-read_row.ensures.fault_reported.cause;
+  quiet = λ fine. absurd (fine c.from_residual.ensures.0);
+}

@@ -21,8 +21,5 @@ returns-clause-lines g c = c.read_through.ensures.lines
 pub returns-clause-same : goal.returns-clause-same
 returns-clause-same g c = c.read_through.ensures.same
 
-pub returns-clause-cause : goal.returns-clause-cause
-returns-clause-cause g c = c.read_through.ensures.cause
-
-pub returns-clause-told : goal.returns-clause-told
-returns-clause-told g c = c.read_through.ensures.told
+pub returns-clause-fault_reported : goal.returns-clause-fault_reported
+returns-clause-fault_reported g c = c.read_through.ensures.fault_reported

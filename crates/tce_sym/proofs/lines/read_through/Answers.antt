@@ -52,11 +52,11 @@ returns-clause-lines g c x told =
 pub returns-clause-same : goal.returns-clause-same
 returns-clause-same g c = c.in_ok-read_words.ensures.same
 
-pub returns-clause-cause : goal.returns-clause-cause
-returns-clause-cause g c = record { later = c.in_ok-read_words.ensures.cause.later; rose = λ e. absurd (false≢true e) }
-
-pub returns-clause-told : goal.returns-clause-told
-returns-clause-told g c = λ _. c.in_ok-read_words.ensures.told false≢true
+pub returns-clause-fault_reported : goal.returns-clause-fault_reported
+returns-clause-fault_reported g c = record {
+  cause = record { later = c.in_ok-read_words.ensures.fault_reported.cause.later; rose = λ e. absurd (false≢true e) };
+  quiet = λ _. c.in_ok-read_words.ensures.fault_reported.quiet false≢true;
+}
 
 pub overflow_sub-grid : goal.overflow_sub-grid
 overflow_sub-grid g c = omega (arith, c.requires.wanted.start, c.requires.wanted.place)
@@ -79,11 +79,11 @@ returns-in_err-read_words-clause-lines g c = IfOk-from_err c.from_residual.resul
 pub returns-in_err-read_words-clause-same : goal.returns-in_err-read_words-clause-same
 returns-in_err-read_words-clause-same g c = c.read_words.ensures.same
 
-pub returns-in_err-read_words-clause-cause : goal.returns-in_err-read_words-clause-cause
-returns-in_err-read_words-clause-cause g c = failed_after (g.D.Disk.faults c.args.disk.now) (g.D.Disk.faults c.args.disk.now) (g.D.Disk.faults c.read_words.new.disk) refl c.in_err-read_words.ensures.cause
-
-pub returns-in_err-read_words-clause-told : goal.returns-in_err-read_words-clause-told
-returns-in_err-read_words-clause-told g c = λ fine. absurd (fine c.from_residual.ensures.0)
+pub returns-in_err-read_words-clause-fault_reported : goal.returns-in_err-read_words-clause-fault_reported
+returns-in_err-read_words-clause-fault_reported g c = record {
+  cause = failed_after (g.D.Disk.faults c.args.disk.now) (g.D.Disk.faults c.args.disk.now) (g.D.Disk.faults c.read_words.new.disk) refl c.in_err-read_words.ensures.fault_reported.cause;
+  quiet = λ fine. absurd (fine c.from_residual.ensures.0);
+}
 
 pub put_lines-requires-clause-grid : goal.put_lines-requires-clause-grid
 put_lines-requires-clause-grid g c = c.requires.grid

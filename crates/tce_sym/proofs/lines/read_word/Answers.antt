@@ -25,11 +25,8 @@ returns-then-wanted-le-LONGEST_LINE-clause-lines g c = c.read_few.ensures.lines
 pub returns-then-wanted-le-LONGEST_LINE-clause-same : goal.returns-then-wanted-le-LONGEST_LINE-clause-same
 returns-then-wanted-le-LONGEST_LINE-clause-same g c = c.read_few.ensures.same
 
-pub returns-then-wanted-le-LONGEST_LINE-clause-cause : goal.returns-then-wanted-le-LONGEST_LINE-clause-cause
-returns-then-wanted-le-LONGEST_LINE-clause-cause g c = c.read_few.ensures.cause
-
-pub returns-then-wanted-le-LONGEST_LINE-clause-told : goal.returns-then-wanted-le-LONGEST_LINE-clause-told
-returns-then-wanted-le-LONGEST_LINE-clause-told g c = c.read_few.ensures.told
+pub returns-then-wanted-le-LONGEST_LINE-clause-fault_reported : goal.returns-then-wanted-le-LONGEST_LINE-clause-fault_reported
+returns-then-wanted-le-LONGEST_LINE-clause-fault_reported g c = c.read_few.ensures.fault_reported
 
 pub read_many-requires-clause-grid : goal.read_many-requires-clause-grid
 read_many-requires-clause-grid g c = c.requires.grid
@@ -55,8 +52,5 @@ returns-else-wanted-le-LONGEST_LINE-clause-lines g c = c.read_many.ensures.lines
 pub returns-else-wanted-le-LONGEST_LINE-clause-same : goal.returns-else-wanted-le-LONGEST_LINE-clause-same
 returns-else-wanted-le-LONGEST_LINE-clause-same g c = c.read_many.ensures.same
 
-pub returns-else-wanted-le-LONGEST_LINE-clause-cause : goal.returns-else-wanted-le-LONGEST_LINE-clause-cause
-returns-else-wanted-le-LONGEST_LINE-clause-cause g c = c.read_many.ensures.cause
-
-pub returns-else-wanted-le-LONGEST_LINE-clause-told : goal.returns-else-wanted-le-LONGEST_LINE-clause-told
-returns-else-wanted-le-LONGEST_LINE-clause-told g c = c.read_many.ensures.told
+pub returns-else-wanted-le-LONGEST_LINE-clause-fault_reported : goal.returns-else-wanted-le-LONGEST_LINE-clause-fault_reported
+returns-else-wanted-le-LONGEST_LINE-clause-fault_reported g c = c.read_many.ensures.fault_reported

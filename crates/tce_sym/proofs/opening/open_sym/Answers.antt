@@ -23,12 +23,12 @@ returns-in_default-clause-exact g c = λ x told answer right other. inr refl
 pub returns-in_default-clause-same : goal.returns-in_default-clause-same
 returns-in_default-clause-same g c = c.size.ensures.same
 
-pub returns-in_default-clause-cause : goal.returns-in_default-clause-cause
-returns-in_default-clause-cause g c =
-    failed_after (g.D.Disk.faults c.args.disk.now) (g.D.Disk.faults c.args.disk.now) (g.D.Disk.faults c.size.new.self) refl c.in_default.ensures.cause
-
-pub returns-in_default-clause-told : goal.returns-in_default-clause-told
-returns-in_default-clause-told g c = λ none. absurd (none refl)
+pub returns-in_default-clause-fault_reported : goal.returns-in_default-clause-fault_reported
+returns-in_default-clause-fault_reported g c = record {
+  cause =
+      failed_after (g.D.Disk.faults c.args.disk.now) (g.D.Disk.faults c.args.disk.now) (g.D.Disk.faults c.size.new.self) refl c.in_default.ensures.fault_reported.cause;
+  quiet = λ none. absurd (none refl);
+}
 
 pub returns-in_default-size-clause-right : goal.returns-in_default-size-clause-right
 returns-in_default-size-clause-right g c = tt
@@ -47,12 +47,12 @@ returns-in_default-size-clause-exact g c x told =
 pub returns-in_default-size-clause-same : goal.returns-in_default-size-clause-same
 returns-in_default-size-clause-same g c = c.size.ensures.same
 
-pub returns-in_default-size-clause-cause : goal.returns-in_default-size-clause-cause
-returns-in_default-size-clause-cause g c =
-    no_cause (g.D.Disk.faults c.args.disk.now) (g.D.Disk.faults c.size.new.self) (c.in-Ok.ensures.told false≢true) no_file_is_no_disk_fault
-
-pub returns-in_default-size-clause-told : goal.returns-in_default-size-clause-told
-returns-in_default-size-clause-told g c = λ none. c.in-Ok.ensures.told false≢true
+pub returns-in_default-size-clause-fault_reported : goal.returns-in_default-size-clause-fault_reported
+returns-in_default-size-clause-fault_reported g c = record {
+  cause =
+      no_cause (g.D.Disk.faults c.args.disk.now) (g.D.Disk.faults c.size.new.self) (c.in-Ok.ensures.fault_reported.quiet false≢true) no_file_is_no_disk_fault;
+  quiet = λ none. c.in-Ok.ensures.fault_reported.quiet false≢true;
+}
 
 pub returns-then-len-clause-right : goal.returns-then-len-clause-right
 returns-then-len-clause-right g c = tt
@@ -71,12 +71,12 @@ returns-then-len-clause-exact g c x told =
 pub returns-then-len-clause-same : goal.returns-then-len-clause-same
 returns-then-len-clause-same g c = c.size.ensures.same
 
-pub returns-then-len-clause-cause : goal.returns-then-len-clause-cause
-returns-then-len-clause-cause g c =
-    no_cause (g.D.Disk.faults c.args.disk.now) (g.D.Disk.faults c.size.new.self) (c.in-Ok.ensures.told false≢true) (length_is_no_disk_fault c.in-Some.len)
-
-pub returns-then-len-clause-told : goal.returns-then-len-clause-told
-returns-then-len-clause-told g c = λ none. c.in-Ok.ensures.told false≢true
+pub returns-then-len-clause-fault_reported : goal.returns-then-len-clause-fault_reported
+returns-then-len-clause-fault_reported g c = record {
+  cause =
+      no_cause (g.D.Disk.faults c.args.disk.now) (g.D.Disk.faults c.size.new.self) (c.in-Ok.ensures.fault_reported.quiet false≢true) (length_is_no_disk_fault c.in-Some.len);
+  quiet = λ none. c.in-Ok.ensures.fault_reported.quiet false≢true;
+}
 
 pub read_at-requires : goal.read_at-requires
 read_at-requires g c = λ x told. has_head (file x c.args.name.now) c.in-Some.len _ refl (sym c.in-Some.is ∙ c.in-Ok.ensures.length x (sym c.size.ensures.same ∙ told)) c.if-len.false
@@ -96,12 +96,12 @@ returns-in_default-read_at-clause-exact g c = λ x told answer right other. inr 
 pub returns-in_default-read_at-clause-same : goal.returns-in_default-read_at-clause-same
 returns-in_default-read_at-clause-same g c = c.read_at.ensures.same ∙ c.size.ensures.same
 
-pub returns-in_default-read_at-clause-cause : goal.returns-in_default-read_at-clause-cause
-returns-in_default-read_at-clause-cause g c =
-    failed_after (g.D.Disk.faults c.args.disk.now) (g.D.Disk.faults c.size.new.self) (g.D.Disk.faults c.read_at.new.self) (c.in-Ok.ensures.told false≢true) c.in_default-read_at.ensures.cause
-
-pub returns-in_default-read_at-clause-told : goal.returns-in_default-read_at-clause-told
-returns-in_default-read_at-clause-told g c = λ none. absurd (none refl)
+pub returns-in_default-read_at-clause-fault_reported : goal.returns-in_default-read_at-clause-fault_reported
+returns-in_default-read_at-clause-fault_reported g c = record {
+  cause =
+      failed_after (g.D.Disk.faults c.args.disk.now) (g.D.Disk.faults c.size.new.self) (g.D.Disk.faults c.read_at.new.self) (c.in-Ok.ensures.fault_reported.quiet false≢true) c.in_default-read_at.ensures.fault_reported.cause;
+  quiet = λ none. absurd (none refl);
+}
 
 pub returns-in-Err-clause-right : goal.returns-in-Err-clause-right
 returns-in-Err-clause-right g c = tt
@@ -120,12 +120,12 @@ returns-in-Err-clause-exact g c x told =
 pub returns-in-Err-clause-same : goal.returns-in-Err-clause-same
 returns-in-Err-clause-same g c = c.read_at.ensures.same ∙ c.size.ensures.same
 
-pub returns-in-Err-clause-cause : goal.returns-in-Err-clause-cause
-returns-in-Err-clause-cause g c =
-    no_cause (g.D.Disk.faults c.args.disk.now) (g.D.Disk.faults c.read_at.new.self) (c.in-Ok-read_at.ensures.told false≢true ∙ c.in-Ok.ensures.told false≢true) (header_is_no_disk_fault c.in-Err.place)
-
-pub returns-in-Err-clause-told : goal.returns-in-Err-clause-told
-returns-in-Err-clause-told g c = λ none. c.in-Ok-read_at.ensures.told false≢true ∙ c.in-Ok.ensures.told false≢true
+pub returns-in-Err-clause-fault_reported : goal.returns-in-Err-clause-fault_reported
+returns-in-Err-clause-fault_reported g c = record {
+  cause =
+      no_cause (g.D.Disk.faults c.args.disk.now) (g.D.Disk.faults c.read_at.new.self) (c.in-Ok-read_at.ensures.fault_reported.quiet false≢true ∙ c.in-Ok.ensures.fault_reported.quiet false≢true) (header_is_no_disk_fault c.in-Err.place);
+  quiet = λ none. c.in-Ok-read_at.ensures.fault_reported.quiet false≢true ∙ c.in-Ok.ensures.fault_reported.quiet false≢true;
+}
 
 pub returns-then-len-stored_count-clause-right : goal.returns-then-len-stored_count-clause-right
 returns-then-len-stored_count-clause-right g c = c.in-Ok-read_head.ensures.read.right
@@ -146,12 +146,12 @@ returns-then-len-stored_count-clause-exact g c x told =
 pub returns-then-len-stored_count-clause-same : goal.returns-then-len-stored_count-clause-same
 returns-then-len-stored_count-clause-same g c = c.read_at.ensures.same ∙ c.size.ensures.same
 
-pub returns-then-len-stored_count-clause-cause : goal.returns-then-len-stored_count-clause-cause
-returns-then-len-stored_count-clause-cause g c =
-    no_cause (g.D.Disk.faults c.args.disk.now) (g.D.Disk.faults c.read_at.new.self) (c.in-Ok-read_at.ensures.told false≢true ∙ c.in-Ok.ensures.told false≢true) (symmetry_is_no_disk_fault c.in-Ok-read_head.s)
-
-pub returns-then-len-stored_count-clause-told : goal.returns-then-len-stored_count-clause-told
-returns-then-len-stored_count-clause-told g c = λ none. c.in-Ok-read_at.ensures.told false≢true ∙ c.in-Ok.ensures.told false≢true
+pub returns-then-len-stored_count-clause-fault_reported : goal.returns-then-len-stored_count-clause-fault_reported
+returns-then-len-stored_count-clause-fault_reported g c = record {
+  cause =
+      no_cause (g.D.Disk.faults c.args.disk.now) (g.D.Disk.faults c.read_at.new.self) (c.in-Ok-read_at.ensures.fault_reported.quiet false≢true ∙ c.in-Ok.ensures.fault_reported.quiet false≢true) (symmetry_is_no_disk_fault c.in-Ok-read_head.s);
+  quiet = λ none. c.in-Ok-read_at.ensures.fault_reported.quiet false≢true ∙ c.in-Ok.ensures.fault_reported.quiet false≢true;
+}
 
 pub returns-else-len-stored_count-clause-right : goal.returns-else-len-stored_count-clause-right
 returns-else-len-stored_count-clause-right g c = tt
@@ -172,9 +172,9 @@ returns-else-len-stored_count-clause-exact g c x told =
 pub returns-else-len-stored_count-clause-same : goal.returns-else-len-stored_count-clause-same
 returns-else-len-stored_count-clause-same g c = c.read_at.ensures.same ∙ c.size.ensures.same
 
-pub returns-else-len-stored_count-clause-cause : goal.returns-else-len-stored_count-clause-cause
-returns-else-len-stored_count-clause-cause g c =
-    no_cause (g.D.Disk.faults c.args.disk.now) (g.D.Disk.faults c.read_at.new.self) (c.in-Ok-read_at.ensures.told false≢true ∙ c.in-Ok.ensures.told false≢true) (length_is_no_disk_fault c.in-Some.len)
-
-pub returns-else-len-stored_count-clause-told : goal.returns-else-len-stored_count-clause-told
-returns-else-len-stored_count-clause-told g c = λ none. c.in-Ok-read_at.ensures.told false≢true ∙ c.in-Ok.ensures.told false≢true
+pub returns-else-len-stored_count-clause-fault_reported : goal.returns-else-len-stored_count-clause-fault_reported
+returns-else-len-stored_count-clause-fault_reported g c = record {
+  cause =
+      no_cause (g.D.Disk.faults c.args.disk.now) (g.D.Disk.faults c.read_at.new.self) (c.in-Ok-read_at.ensures.fault_reported.quiet false≢true ∙ c.in-Ok.ensures.fault_reported.quiet false≢true) (length_is_no_disk_fault c.in-Some.len);
+  quiet = λ none. c.in-Ok-read_at.ensures.fault_reported.quiet false≢true ∙ c.in-Ok.ensures.fault_reported.quiet false≢true;
+}

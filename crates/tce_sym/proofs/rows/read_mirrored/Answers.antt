@@ -44,11 +44,11 @@ returns-clause-lines g c = c.in_ok-read_walk.ensures.lines
 pub returns-clause-same : goal.returns-clause-same
 returns-clause-same g c = c.in_ok-read_walk.ensures.same
 
-pub returns-clause-cause : goal.returns-clause-cause
-returns-clause-cause g c = record { later = c.in_ok-read_walk.ensures.cause.later; rose = λ e. absurd (false≢true e) }
-
-pub returns-clause-told : goal.returns-clause-told
-returns-clause-told g c = λ _. c.in_ok-read_walk.ensures.told false≢true
+pub returns-clause-fault_reported : goal.returns-clause-fault_reported
+returns-clause-fault_reported g c = record {
+  cause = record { later = c.in_ok-read_walk.ensures.fault_reported.cause.later; rose = λ e. absurd (false≢true e) };
+  quiet = λ _. c.in_ok-read_walk.ensures.fault_reported.quiet false≢true;
+}
 
 pub returns-then-is_empty-clause-lines : goal.returns-then-is_empty-clause-lines
 returns-then-is_empty-clause-lines g c = c.requires.lines
@@ -56,11 +56,11 @@ returns-then-is_empty-clause-lines g c = c.requires.lines
 pub returns-then-is_empty-clause-same : goal.returns-then-is_empty-clause-same
 returns-then-is_empty-clause-same g c = refl
 
-pub returns-then-is_empty-clause-cause : goal.returns-then-is_empty-clause-cause
-returns-then-is_empty-clause-cause g c = no_cause (g.D.Disk.faults c.args.disk.now) (g.D.Disk.faults c.args.disk.now) refl false≢true
-
-pub returns-then-is_empty-clause-told : goal.returns-then-is_empty-clause-told
-returns-then-is_empty-clause-told g c = λ fine. refl
+pub returns-then-is_empty-clause-fault_reported : goal.returns-then-is_empty-clause-fault_reported
+returns-then-is_empty-clause-fault_reported g c = record {
+  cause = no_cause (g.D.Disk.faults c.args.disk.now) (g.D.Disk.faults c.args.disk.now) refl false≢true;
+  quiet = λ fine. refl;
+}
 
 pub mirrored_walk-walk-requires-clause-triangles : goal.mirrored_walk-walk-requires-clause-triangles
 mirrored_walk-walk-requires-clause-triangles g c = c.requires.triangles
@@ -83,8 +83,8 @@ returns-in_err-read_walk-clause-lines g c = IfOk-from_err c.from_residual.result
 pub returns-in_err-read_walk-clause-same : goal.returns-in_err-read_walk-clause-same
 returns-in_err-read_walk-clause-same g c = c.read_walk.ensures.same
 
-pub returns-in_err-read_walk-clause-cause : goal.returns-in_err-read_walk-clause-cause
-returns-in_err-read_walk-clause-cause g c = failed_after (g.D.Disk.faults c.args.disk.now) (g.D.Disk.faults c.args.disk.now) (g.D.Disk.faults c.read_walk.new.disk) refl c.in_err-read_walk.ensures.cause
-
-pub returns-in_err-read_walk-clause-told : goal.returns-in_err-read_walk-clause-told
-returns-in_err-read_walk-clause-told g c = λ fine. absurd (fine c.from_residual.ensures.0)
+pub returns-in_err-read_walk-clause-fault_reported : goal.returns-in_err-read_walk-clause-fault_reported
+returns-in_err-read_walk-clause-fault_reported g c = record {
+  cause = failed_after (g.D.Disk.faults c.args.disk.now) (g.D.Disk.faults c.args.disk.now) (g.D.Disk.faults c.read_walk.new.disk) refl c.in_err-read_walk.ensures.fault_reported.cause;
+  quiet = λ fine. absurd (fine c.from_residual.ensures.0);
+}

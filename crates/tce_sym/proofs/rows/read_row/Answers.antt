@@ -73,11 +73,11 @@ returns-clause-lines g c = on_ok_weaker c.read_others.result (λ held. λ x told
 pub returns-clause-same : goal.returns-clause-same
 returns-clause-same g c = c.read_others.ensures.same ∙ c.in_ok-read_mirrored.ensures.same
 
-pub returns-clause-cause : goal.returns-clause-cause
-returns-clause-cause g c = cause_since _ (g.D.Disk.faults c.read_mirrored.new.disk) _ c.in_ok-read_mirrored.ensures.cause.later c.read_others.ensures.cause
-
-pub returns-clause-told : goal.returns-clause-told
-returns-clause-told g c = λ ok. c.read_others.ensures.told ok ∙ c.in_ok-read_mirrored.ensures.told false≢true
+pub returns-clause-fault_reported : goal.returns-clause-fault_reported
+returns-clause-fault_reported g c = record {
+  cause = cause_since _ (g.D.Disk.faults c.read_mirrored.new.disk) _ c.in_ok-read_mirrored.ensures.fault_reported.cause.later c.read_others.ensures.fault_reported.cause;
+  quiet = λ ok. c.read_others.ensures.fault_reported.quiet ok ∙ c.in_ok-read_mirrored.ensures.fault_reported.quiet false≢true;
+}
 
 pub returns-then-is_empty-clause-lines : goal.returns-then-is_empty-clause-lines
 returns-then-is_empty-clause-lines g c = c.requires.lines
@@ -85,11 +85,11 @@ returns-then-is_empty-clause-lines g c = c.requires.lines
 pub returns-then-is_empty-clause-same : goal.returns-then-is_empty-clause-same
 returns-then-is_empty-clause-same g c = refl
 
-pub returns-then-is_empty-clause-cause : goal.returns-then-is_empty-clause-cause
-returns-then-is_empty-clause-cause g c = no_cause (g.D.Disk.faults c.args.disk.now) (g.D.Disk.faults c.args.disk.now) refl false≢true
-
-pub returns-then-is_empty-clause-told : goal.returns-then-is_empty-clause-told
-returns-then-is_empty-clause-told g c = λ fine. refl
+pub returns-then-is_empty-clause-fault_reported : goal.returns-then-is_empty-clause-fault_reported
+returns-then-is_empty-clause-fault_reported g c = record {
+  cause = no_cause (g.D.Disk.faults c.args.disk.now) (g.D.Disk.faults c.args.disk.now) refl false≢true;
+  quiet = λ fine. refl;
+}
 
 pub split_at_mut-mirrored-requires : goal.split_at_mut-mirrored-requires
 split_at_mut-mirrored-requires g c = c.mirrored_len-len.ensures.within
@@ -115,11 +115,11 @@ returns-in_err-read_mirrored-clause-lines g c = IfOk-from_err c.from_residual.re
 pub returns-in_err-read_mirrored-clause-same : goal.returns-in_err-read_mirrored-clause-same
 returns-in_err-read_mirrored-clause-same g c = c.read_mirrored.ensures.same
 
-pub returns-in_err-read_mirrored-clause-cause : goal.returns-in_err-read_mirrored-clause-cause
-returns-in_err-read_mirrored-clause-cause g c = failed_after (g.D.Disk.faults c.args.disk.now) (g.D.Disk.faults c.args.disk.now) (g.D.Disk.faults c.read_mirrored.new.disk) refl c.in_err-read_mirrored.ensures.cause
-
-pub returns-in_err-read_mirrored-clause-told : goal.returns-in_err-read_mirrored-clause-told
-returns-in_err-read_mirrored-clause-told g c = λ fine. absurd (fine c.from_residual.ensures.0)
+pub returns-in_err-read_mirrored-clause-fault_reported : goal.returns-in_err-read_mirrored-clause-fault_reported
+returns-in_err-read_mirrored-clause-fault_reported g c = record {
+  cause = failed_after (g.D.Disk.faults c.args.disk.now) (g.D.Disk.faults c.args.disk.now) (g.D.Disk.faults c.read_mirrored.new.disk) refl c.in_err-read_mirrored.ensures.fault_reported.cause;
+  quiet = λ fine. absurd (fine c.from_residual.ensures.0);
+}
 
 pub read_others-requires-clause-triangles : goal.read_others-requires-clause-triangles
 read_others-requires-clause-triangles g c = c.requires.triangles

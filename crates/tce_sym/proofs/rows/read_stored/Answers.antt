@@ -46,11 +46,8 @@ returns-clause-lines g c = c.read_walk.ensures.lines
 pub returns-clause-same : goal.returns-clause-same
 returns-clause-same g c = c.read_walk.ensures.same
 
-pub returns-clause-cause : goal.returns-clause-cause
-returns-clause-cause g c = c.read_walk.ensures.cause
-
-pub returns-clause-told : goal.returns-clause-told
-returns-clause-told g c = c.read_walk.ensures.told
+pub returns-clause-fault_reported : goal.returns-clause-fault_reported
+returns-clause-fault_reported g c = c.read_walk.ensures.fault_reported
 
 pub returns-then-is_empty-clause-lines : goal.returns-then-is_empty-clause-lines
 returns-then-is_empty-clause-lines g c = c.requires.lines
@@ -58,11 +55,11 @@ returns-then-is_empty-clause-lines g c = c.requires.lines
 pub returns-then-is_empty-clause-same : goal.returns-then-is_empty-clause-same
 returns-then-is_empty-clause-same g c = refl
 
-pub returns-then-is_empty-clause-cause : goal.returns-then-is_empty-clause-cause
-returns-then-is_empty-clause-cause g c = no_cause (g.D.Disk.faults c.args.disk.now) (g.D.Disk.faults c.args.disk.now) refl false≢true
-
-pub returns-then-is_empty-clause-told : goal.returns-then-is_empty-clause-told
-returns-then-is_empty-clause-told g c = λ fine. refl
+pub returns-then-is_empty-clause-fault_reported : goal.returns-then-is_empty-clause-fault_reported
+returns-then-is_empty-clause-fault_reported g c = record {
+  cause = no_cause (g.D.Disk.faults c.args.disk.now) (g.D.Disk.faults c.args.disk.now) refl false≢true;
+  quiet = λ fine. refl;
+}
 
 pub stored_walk-walk-requires-clause-triangles : goal.stored_walk-walk-requires-clause-triangles
 stored_walk-walk-requires-clause-triangles g c = c.requires.triangles

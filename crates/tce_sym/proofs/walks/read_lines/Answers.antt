@@ -56,8 +56,8 @@ loop-done-preserved g c = record {
       (c.in_ok-words.ensures.word x (c.loop-done.invariant.files ∙ told) ∙ ap (stored_word (contents x c.args.packed.now)) place) (c.loop-done.invariant.read x told));
   lines = λ x told. c.in_ok-words.ensures.lines x (c.loop-done.invariant.files ∙ told);
   files = c.in_ok-words.ensures.same ∙ c.loop-done.invariant.files;
-  later = omega (arith, c.in_ok-words.ensures.cause.later, c.loop-done.invariant.later);
-  counted = c.in_ok-words.ensures.told false≢true ∙ c.loop-done.invariant.counted;
+  later = omega (arith, c.in_ok-words.ensures.fault_reported.cause.later, c.loop-done.invariant.later);
+  counted = c.in_ok-words.ensures.fault_reported.quiet false≢true ∙ c.loop-done.invariant.counted;
 }
 
 pub returns-in_err-words-clause-same : goal.returns-in_err-words-clause-same
@@ -72,11 +72,11 @@ returns-clause-lines g c = c.loop-done.invariant.lines
 pub returns-clause-same : goal.returns-clause-same
 returns-clause-same g c = c.loop-done.invariant.files
 
-pub returns-clause-cause : goal.returns-clause-cause
-returns-clause-cause g c = record { later = c.loop-done.invariant.later; rose = λ e. absurd (false≢true e) }
-
-pub returns-clause-told : goal.returns-clause-told
-returns-clause-told g c = λ _. c.loop-done.invariant.counted
+pub returns-clause-fault_reported : goal.returns-clause-fault_reported
+returns-clause-fault_reported g c = record {
+  cause = record { later = c.loop-done.invariant.later; rose = λ e. absurd (false≢true e) };
+  quiet = λ _. c.loop-done.invariant.counted;
+}
 
 pub held-done-requires-clause-grid : goal.held-done-requires-clause-grid
 held-done-requires-clause-grid g c = c.requires.grid
@@ -108,11 +108,11 @@ returns-in_err-words-clause-read g c = IfOk-from_err c.from_residual.result _ c.
 pub returns-in_err-words-clause-lines : goal.returns-in_err-words-clause-lines
 returns-in_err-words-clause-lines g c = IfOk-from_err c.from_residual.result _ c.from_residual.ensures.0
 
-pub returns-in_err-words-clause-cause : goal.returns-in_err-words-clause-cause
-returns-in_err-words-clause-cause g c = failed_after (g.D.Disk.faults c.args.disk.now) (g.D.Disk.faults c.loop-done.disk) (g.D.Disk.faults c.read_word.new.disk) c.loop-done.invariant.counted c.in_err-words.ensures.cause
-
-pub returns-in_err-words-clause-told : goal.returns-in_err-words-clause-told
-returns-in_err-words-clause-told g c = λ fine. absurd (fine c.from_residual.ensures.0)
+pub returns-in_err-words-clause-fault_reported : goal.returns-in_err-words-clause-fault_reported
+returns-in_err-words-clause-fault_reported g c = record {
+  cause = failed_after (g.D.Disk.faults c.args.disk.now) (g.D.Disk.faults c.loop-done.disk) (g.D.Disk.faults c.read_word.new.disk) c.loop-done.invariant.counted c.in_err-words.ensures.fault_reported.cause;
+  quiet = λ fine. absurd (fine c.from_residual.ensures.0);
+}
 
 pub bounds-words-done : goal.bounds-words-done
 bounds-words-done g c = omega (arith, c.loop-done-test.true)

@@ -33,11 +33,8 @@ returns-in-Lines-clause-lines g c =
 pub returns-in-Lines-clause-same : goal.returns-in-Lines-clause-same
 returns-in-Lines-clause-same g c = c.read_lines.ensures.same
 
-pub returns-in-Lines-clause-cause : goal.returns-in-Lines-clause-cause
-returns-in-Lines-clause-cause g c = c.read_lines.ensures.cause
-
-pub returns-in-Lines-clause-told : goal.returns-in-Lines-clause-told
-returns-in-Lines-clause-told g c = c.read_lines.ensures.told
+pub returns-in-Lines-clause-fault_reported : goal.returns-in-Lines-clause-fault_reported
+returns-in-Lines-clause-fault_reported g c = c.read_lines.ensures.fault_reported
 
 pub returns-in-Whole-clause-read : goal.returns-in-Whole-clause-read
 returns-in-Whole-clause-read g c = λ x told k l.
@@ -90,17 +87,17 @@ read_lines-requires-clause-file g c = c.requires.file
 pub returns-in-Whole-clause-same : goal.returns-in-Whole-clause-same
 returns-in-Whole-clause-same g c = refl
 
-pub returns-in-Whole-clause-cause : goal.returns-in-Whole-clause-cause
-returns-in-Whole-clause-cause g c = no_cause (g.D.Disk.faults c.args.disk.now) (g.D.Disk.faults c.args.disk.now) refl false≢true
-
-pub returns-in-Whole-clause-told : goal.returns-in-Whole-clause-told
-returns-in-Whole-clause-told g c = λ fine. refl
+pub returns-in-Whole-clause-fault_reported : goal.returns-in-Whole-clause-fault_reported
+returns-in-Whole-clause-fault_reported g c = record {
+  cause = no_cause (g.D.Disk.faults c.args.disk.now) (g.D.Disk.faults c.args.disk.now) refl false≢true;
+  quiet = λ fine. refl;
+}
 
 pub returns-in-Across-clause-same : goal.returns-in-Across-clause-same
 returns-in-Across-clause-same g c = refl
 
-pub returns-in-Across-clause-cause : goal.returns-in-Across-clause-cause
-returns-in-Across-clause-cause g c = no_cause (g.D.Disk.faults c.args.disk.now) (g.D.Disk.faults c.args.disk.now) refl false≢true
-
-pub returns-in-Across-clause-told : goal.returns-in-Across-clause-told
-returns-in-Across-clause-told g c = λ fine. refl
+pub returns-in-Across-clause-fault_reported : goal.returns-in-Across-clause-fault_reported
+returns-in-Across-clause-fault_reported g c = record {
+  cause = no_cause (g.D.Disk.faults c.args.disk.now) (g.D.Disk.faults c.args.disk.now) refl false≢true;
+  quiet = λ fine. refl;
+}

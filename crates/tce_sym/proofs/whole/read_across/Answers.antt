@@ -26,11 +26,11 @@ returns-in_err-from-clause-read g c = IfOk-from_err c.from_residual.result _ c.f
 pub returns-in_err-from-clause-same : goal.returns-in_err-from-clause-same
 returns-in_err-from-clause-same g c = c.read_strip.ensures.same ∙ c.loop-from.invariant.files
 
-pub returns-in_err-from-clause-cause : goal.returns-in_err-from-clause-cause
-returns-in_err-from-clause-cause g c = failed_after (g.D.Disk.faults c.args.disk.now) (g.D.Disk.faults c.loop-from.disk) (g.D.Disk.faults c.read_strip.new.disk) c.loop-from.invariant.counted c.in_err-from.ensures.cause
-
-pub returns-in_err-from-clause-told : goal.returns-in_err-from-clause-told
-returns-in_err-from-clause-told g c = λ fine. absurd (fine c.from_residual.ensures.0)
+pub returns-in_err-from-clause-fault_reported : goal.returns-in_err-from-clause-fault_reported
+returns-in_err-from-clause-fault_reported g c = record {
+  cause = failed_after (g.D.Disk.faults c.args.disk.now) (g.D.Disk.faults c.loop-from.disk) (g.D.Disk.faults c.read_strip.new.disk) c.loop-from.invariant.counted c.in_err-from.ensures.fault_reported.cause;
+  quiet = λ fine. absurd (fine c.from_residual.ensures.0);
+}
 
 pub loop-from-smaller : goal.loop-from-smaller
 loop-from-smaller g c = omega (arith, c.in_ok-from.ensures.some.0, c.loop-from-test.true)
@@ -40,15 +40,15 @@ loop-from-preserved g c = record {
   from = c.in_ok-from.ensures.some.1;
   read = λ x told. c.in_ok-from.ensures.read x (c.loop-from.invariant.files ∙ told) (c.loop-from.invariant.read x told);
   files = c.in_ok-from.ensures.same ∙ c.loop-from.invariant.files;
-  later = omega (arith, c.in_ok-from.ensures.cause.later, c.loop-from.invariant.later);
-  counted = c.in_ok-from.ensures.told false≢true ∙ c.loop-from.invariant.counted;
+  later = omega (arith, c.in_ok-from.ensures.fault_reported.cause.later, c.loop-from.invariant.later);
+  counted = c.in_ok-from.ensures.fault_reported.quiet false≢true ∙ c.loop-from.invariant.counted;
 }
 
 pub returns-clause-same : goal.returns-clause-same
 returns-clause-same g c = c.loop-from.invariant.files
 
-pub returns-clause-cause : goal.returns-clause-cause
-returns-clause-cause g c = no_cause (g.D.Disk.faults c.args.disk.now) (g.D.Disk.faults c.loop-from.disk) c.loop-from.invariant.counted false≢true
-
-pub returns-clause-told : goal.returns-clause-told
-returns-clause-told g c = λ _. c.loop-from.invariant.counted
+pub returns-clause-fault_reported : goal.returns-clause-fault_reported
+returns-clause-fault_reported g c = record {
+  cause = no_cause (g.D.Disk.faults c.args.disk.now) (g.D.Disk.faults c.loop-from.disk) c.loop-from.invariant.counted false≢true;
+  quiet = λ _. c.loop-from.invariant.counted;
+}

@@ -23,8 +23,8 @@ loop-outer-preserved g c =
           (line_read (contents x c.args.packed.now) c.read_words.new.words (c.loop-outer.outer * c.args.grid.now.pairs + c.args.from) (c.in_ok-read_words.ensures.read x (c.loop-outer.invariant.files ∙ told)))
           (c.loop-outer.invariant.read x told);
       files = c.in_ok-read_words.ensures.same ∙ c.loop-outer.invariant.files;
-      later = omega (arith, c.in_ok-read_words.ensures.cause.later, c.loop-outer.invariant.later);
-      counted = c.in_ok-read_words.ensures.told false≢true ∙ c.loop-outer.invariant.counted;
+      later = omega (arith, c.in_ok-read_words.ensures.fault_reported.cause.later, c.loop-outer.invariant.later);
+      counted = c.in_ok-read_words.ensures.fault_reported.quiet false≢true ∙ c.loop-outer.invariant.counted;
     }
 
 pub returns-clause-read : goal.returns-clause-read
@@ -74,11 +74,11 @@ returns-clause-some g c = (omega (arith, c.min-len.ensures, c.requires.from), om
 pub returns-clause-same : goal.returns-clause-same
 returns-clause-same g c = c.loop-outer.invariant.files
 
-pub returns-clause-cause : goal.returns-clause-cause
-returns-clause-cause g c = record { later = c.loop-outer.invariant.later; rose = λ e. absurd (false≢true e) }
-
-pub returns-clause-told : goal.returns-clause-told
-returns-clause-told g c = λ _. c.loop-outer.invariant.counted
+pub returns-clause-fault_reported : goal.returns-clause-fault_reported
+returns-clause-fault_reported g c = record {
+  cause = record { later = c.loop-outer.invariant.later; rose = λ e. absurd (false≢true e) };
+  quiet = λ _. c.loop-outer.invariant.counted;
+}
 
 pub overflow_sub-grid : goal.overflow_sub-grid
 overflow_sub-grid g c = omega (arith, c.requires.from)
@@ -89,8 +89,8 @@ returns-in_err-read_words-clause-some g c = IfOk-from_err c.from_residual.result
 pub returns-in_err-read_words-clause-read : goal.returns-in_err-read_words-clause-read
 returns-in_err-read_words-clause-read g c = IfOk-from_err c.from_residual.result _ c.from_residual.ensures.0
 
-pub returns-in_err-read_words-clause-cause : goal.returns-in_err-read_words-clause-cause
-returns-in_err-read_words-clause-cause g c = failed_after (g.D.Disk.faults c.args.disk.now) (g.D.Disk.faults c.loop-outer.disk) (g.D.Disk.faults c.read_words.new.disk) c.loop-outer.invariant.counted c.in_err-read_words.ensures.cause
-
-pub returns-in_err-read_words-clause-told : goal.returns-in_err-read_words-clause-told
-returns-in_err-read_words-clause-told g c = λ fine. absurd (fine c.from_residual.ensures.0)
+pub returns-in_err-read_words-clause-fault_reported : goal.returns-in_err-read_words-clause-fault_reported
+returns-in_err-read_words-clause-fault_reported g c = record {
+  cause = failed_after (g.D.Disk.faults c.args.disk.now) (g.D.Disk.faults c.loop-outer.disk) (g.D.Disk.faults c.read_words.new.disk) c.loop-outer.invariant.counted c.in_err-read_words.ensures.fault_reported.cause;
+  quiet = λ fine. absurd (fine c.from_residual.ensures.0);
+}

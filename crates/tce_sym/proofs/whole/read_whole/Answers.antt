@@ -20,8 +20,8 @@ loop-done-preserved g c =
           (line_read (contents x c.args.packed.now) c.read_words.new.words c.loop-done.done (c.in_ok-read_words.ensures.read x (c.loop-done.invariant.files ∙ told)))
           (c.loop-done.invariant.read x told);
       files = c.in_ok-read_words.ensures.same ∙ c.loop-done.invariant.files;
-      later = omega (arith, c.in_ok-read_words.ensures.cause.later, c.loop-done.invariant.later);
-      counted = c.in_ok-read_words.ensures.told false≢true ∙ c.loop-done.invariant.counted;
+      later = omega (arith, c.in_ok-read_words.ensures.fault_reported.cause.later, c.loop-done.invariant.later);
+      counted = c.in_ok-read_words.ensures.fault_reported.quiet false≢true ∙ c.loop-done.invariant.counted;
     }
 
 pub loop-done-init : goal.loop-done-init
@@ -36,11 +36,11 @@ returns-in_err-read_words-clause-read g c = IfOk-from_err c.from_residual.result
 pub returns-in_err-read_words-clause-same : goal.returns-in_err-read_words-clause-same
 returns-in_err-read_words-clause-same g c = c.read_words.ensures.same ∙ c.loop-done.invariant.files
 
-pub returns-in_err-read_words-clause-cause : goal.returns-in_err-read_words-clause-cause
-returns-in_err-read_words-clause-cause g c = failed_after (g.D.Disk.faults c.args.disk.now) (g.D.Disk.faults c.loop-done.disk) (g.D.Disk.faults c.read_words.new.disk) c.loop-done.invariant.counted c.in_err-read_words.ensures.cause
-
-pub returns-in_err-read_words-clause-told : goal.returns-in_err-read_words-clause-told
-returns-in_err-read_words-clause-told g c = λ fine. absurd (fine c.from_residual.ensures.0)
+pub returns-in_err-read_words-clause-fault_reported : goal.returns-in_err-read_words-clause-fault_reported
+returns-in_err-read_words-clause-fault_reported g c = record {
+  cause = failed_after (g.D.Disk.faults c.args.disk.now) (g.D.Disk.faults c.loop-done.disk) (g.D.Disk.faults c.read_words.new.disk) c.loop-done.invariant.counted c.in_err-read_words.ensures.fault_reported.cause;
+  quiet = λ fine. absurd (fine c.from_residual.ensures.0);
+}
 
 pub loop-done-smaller : goal.loop-done-smaller
 loop-done-smaller g c = omega (arith, c.min-len.ensures, c.loop-done-test.true)
@@ -48,8 +48,8 @@ loop-done-smaller g c = omega (arith, c.min-len.ensures, c.loop-done-test.true)
 pub returns-clause-same : goal.returns-clause-same
 returns-clause-same g c = c.loop-done.invariant.files
 
-pub returns-clause-cause : goal.returns-clause-cause
-returns-clause-cause g c = no_cause (g.D.Disk.faults c.args.disk.now) (g.D.Disk.faults c.loop-done.disk) c.loop-done.invariant.counted false≢true
-
-pub returns-clause-told : goal.returns-clause-told
-returns-clause-told g c = λ _. c.loop-done.invariant.counted
+pub returns-clause-fault_reported : goal.returns-clause-fault_reported
+returns-clause-fault_reported g c = record {
+  cause = no_cause (g.D.Disk.faults c.args.disk.now) (g.D.Disk.faults c.loop-done.disk) c.loop-done.invariant.counted false≢true;
+  quiet = λ _. c.loop-done.invariant.counted;
+}

@@ -69,11 +69,11 @@ returns-in_err-read_words-in-Flat-clause-read g c = IfOk-from_err c.from_residua
 pub returns-in_err-read_words-in-Flat-clause-len : goal.returns-in_err-read_words-in-Flat-clause-len
 returns-in_err-read_words-in-Flat-clause-len g c = c.read_words.auto.words ∙ c.requires.words
 
-pub returns-in_err-read_words-in-Flat-clause-cause : goal.returns-in_err-read_words-in-Flat-clause-cause
-returns-in_err-read_words-in-Flat-clause-cause g c = failed_after (g.D.Disk.faults c.args.disk.now) (g.D.Disk.faults c.args.disk.now) (g.D.Disk.faults c.read_words.new.disk) refl c.in_err-read_words-in-Flat.ensures.cause
-
-pub returns-in_err-read_words-in-Flat-clause-told : goal.returns-in_err-read_words-in-Flat-clause-told
-returns-in_err-read_words-in-Flat-clause-told g c = λ fine. absurd (fine c.from_residual.ensures.0)
+pub returns-in_err-read_words-in-Flat-clause-fault_reported : goal.returns-in_err-read_words-in-Flat-clause-fault_reported
+returns-in_err-read_words-in-Flat-clause-fault_reported g c = record {
+  cause = failed_after (g.D.Disk.faults c.args.disk.now) (g.D.Disk.faults c.args.disk.now) (g.D.Disk.faults c.read_words.new.disk) refl c.in_err-read_words-in-Flat.ensures.fault_reported.cause;
+  quiet = λ fine. absurd (fine c.from_residual.ensures.0);
+}
 
 pub slice_bounds-pieces-end-in-Array : goal.slice_bounds-pieces-end-in-Array
 slice_bounds-pieces-end-in-Array g c = sym (length-take-le (c.args.band.pieces * c.args.band.piece_len) c.args.tiled.now (omega (arith, c.requires.band.small, c.requires.tiled)))
@@ -90,11 +90,11 @@ returns-in_err-read_pieces-in-Array-clause-read g c = IfOk-from_err c.from_resid
 pub returns-in_err-read_pieces-in-Array-clause-len : goal.returns-in_err-read_pieces-in-Array-clause-len
 returns-in_err-read_pieces-in-Array-clause-len g c = c.requires.words
 
-pub returns-in_err-read_pieces-in-Array-clause-cause : goal.returns-in_err-read_pieces-in-Array-clause-cause
-returns-in_err-read_pieces-in-Array-clause-cause g c = failed_after (g.D.Disk.faults c.args.disk.now) (g.D.Disk.faults c.args.disk.now) (g.D.Disk.faults c.read_pieces.new.disk) refl c.in_err-read_pieces-in-Array.ensures.cause
-
-pub returns-in_err-read_pieces-in-Array-clause-told : goal.returns-in_err-read_pieces-in-Array-clause-told
-returns-in_err-read_pieces-in-Array-clause-told g c = λ fine. absurd (fine c.from_residual-in_err-read_pieces-in-Array.ensures.0)
+pub returns-in_err-read_pieces-in-Array-clause-fault_reported : goal.returns-in_err-read_pieces-in-Array-clause-fault_reported
+returns-in_err-read_pieces-in-Array-clause-fault_reported g c = record {
+  cause = failed_after (g.D.Disk.faults c.args.disk.now) (g.D.Disk.faults c.args.disk.now) (g.D.Disk.faults c.read_pieces.new.disk) refl c.in_err-read_pieces-in-Array.ensures.fault_reported.cause;
+  quiet = λ fine. absurd (fine c.from_residual-in_err-read_pieces-in-Array.ensures.0);
+}
 
 pub flatten-requires-clause-tiled : goal.flatten-requires-clause-tiled
 flatten-requires-clause-tiled g c = c.read_pieces.auto.tiled ∙ length-take-le (c.args.band.pieces * c.args.band.piece_len) c.args.tiled.now (omega (arith, c.requires.band.small, c.requires.tiled))
@@ -105,17 +105,11 @@ flatten-requires-clause-words g c = c.requires.words
 pub returns-in_ok-read_words-in-Flat-clause-len : goal.returns-in_ok-read_words-in-Flat-clause-len
 returns-in_ok-read_words-in-Flat-clause-len g c = c.read_words.auto.words ∙ c.requires.words
 
-pub returns-in_ok-read_words-in-Flat-clause-cause : goal.returns-in_ok-read_words-in-Flat-clause-cause
-returns-in_ok-read_words-in-Flat-clause-cause g c = c.in_ok-read_words-in-Flat.ensures.cause
-
-pub returns-in_ok-read_words-in-Flat-clause-told : goal.returns-in_ok-read_words-in-Flat-clause-told
-returns-in_ok-read_words-in-Flat-clause-told g c = c.in_ok-read_words-in-Flat.ensures.told
+pub returns-in_ok-read_words-in-Flat-clause-fault_reported : goal.returns-in_ok-read_words-in-Flat-clause-fault_reported
+returns-in_ok-read_words-in-Flat-clause-fault_reported g c = c.in_ok-read_words-in-Flat.ensures.fault_reported
 
 pub returns-in_ok-read_pieces-in-Array-clause-len : goal.returns-in_ok-read_pieces-in-Array-clause-len
 returns-in_ok-read_pieces-in-Array-clause-len g c = c.flatten.auto.words ∙ c.requires.words
 
-pub returns-in_ok-read_pieces-in-Array-clause-cause : goal.returns-in_ok-read_pieces-in-Array-clause-cause
-returns-in_ok-read_pieces-in-Array-clause-cause g c = c.in_ok-read_pieces-in-Array.ensures.cause
-
-pub returns-in_ok-read_pieces-in-Array-clause-told : goal.returns-in_ok-read_pieces-in-Array-clause-told
-returns-in_ok-read_pieces-in-Array-clause-told g c = c.in_ok-read_pieces-in-Array.ensures.told
+pub returns-in_ok-read_pieces-in-Array-clause-fault_reported : goal.returns-in_ok-read_pieces-in-Array-clause-fault_reported
+returns-in_ok-read_pieces-in-Array-clause-fault_reported g c = c.in_ok-read_pieces-in-Array.ensures.fault_reported

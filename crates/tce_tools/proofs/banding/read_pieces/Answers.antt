@@ -40,21 +40,21 @@ loop-piece-preserved g c =
           piece_read c.args.form c.args.file.now.shape.now c.args.band (contents x c.args.file.now.name.now) c.loop-piece.tiled c.read_words.new.words t c.piece_place.result (omega (arith, c.read_words.auto.words, len)) (omega (arith, room, all, c.requires.tiled)) c.piece_place.ensures
           (c.in_ok-read_words.ensures.read x (c.loop-piece.invariant.files ∙ told)) (c.loop-piece.invariant.read x told);
       files = c.in_ok-read_words.ensures.same ∙ c.loop-piece.invariant.files;
-      later = omega (arith, c.in_ok-read_words.ensures.cause.later, c.loop-piece.invariant.later);
-      counted = c.in_ok-read_words.ensures.told false≢true ∙ c.loop-piece.invariant.counted;
+      later = omega (arith, c.in_ok-read_words.ensures.fault_reported.cause.later, c.loop-piece.invariant.later);
+      counted = c.in_ok-read_words.ensures.fault_reported.quiet false≢true ∙ c.loop-piece.invariant.counted;
     }
 
 pub returns-clause-read : goal.returns-clause-read
 returns-clause-read g c = λ x told xs h index at. c.loop-piece.invariant.read x told xs h index at (index_below c.args.band c.loop-piece.piece _ index (omega (arith, c.loop-piece-test.false)) at)
 
-pub returns-clause-told : goal.returns-clause-told
-returns-clause-told g c = λ _. c.loop-piece.invariant.counted
+pub returns-clause-fault_reported : goal.returns-clause-fault_reported
+returns-clause-fault_reported g c = record {
+  cause = record { later = c.loop-piece.invariant.later; rose = λ e. absurd (false≢true e) };
+  quiet = λ _. c.loop-piece.invariant.counted;
+}
 
 pub returns-clause-same : goal.returns-clause-same
 returns-clause-same g c = c.loop-piece.invariant.files
-
-pub returns-clause-cause : goal.returns-clause-cause
-returns-clause-cause g c = record { later = c.loop-piece.invariant.later; rose = λ e. absurd (false≢true e) }
 
 pub piece_place-requires-clause-band : goal.piece_place-requires-clause-band
 piece_place-requires-clause-band g c = c.requires.band
@@ -65,11 +65,11 @@ piece_place-requires-clause-among g c = c.loop-piece-test.true
 pub returns-in_err-read_words-clause-same : goal.returns-in_err-read_words-clause-same
 returns-in_err-read_words-clause-same g c = c.read_words.ensures.same ∙ c.loop-piece.invariant.files
 
-pub returns-in_err-read_words-clause-cause : goal.returns-in_err-read_words-clause-cause
-returns-in_err-read_words-clause-cause g c = failed_from _ (g.D.Disk.faults c.loop-piece.disk) _ _ _ c.loop-piece.invariant.later c.read_words.ensures.cause (ap is_err c.in_err-read_words.was)
-
-pub returns-in_err-read_words-clause-told : goal.returns-in_err-read_words-clause-told
-returns-in_err-read_words-clause-told g c = λ fine. absurd (fine c.from_residual.ensures.0)
+pub returns-in_err-read_words-clause-fault_reported : goal.returns-in_err-read_words-clause-fault_reported
+returns-in_err-read_words-clause-fault_reported g c = record {
+  cause = failed_from _ (g.D.Disk.faults c.loop-piece.disk) _ _ _ c.loop-piece.invariant.later c.read_words.ensures.fault_reported.cause (ap is_err c.in_err-read_words.was);
+  quiet = λ fine. absurd (fine c.from_residual.ensures.0);
+}
 
 pub returns-in_err-read_words-clause-read : goal.returns-in_err-read_words-clause-read
 returns-in_err-read_words-clause-read g c = IfOk-from_err c.from_residual.result _ c.from_residual.ensures.0

@@ -61,11 +61,8 @@ returns-in-Flat-clause-behind g c = λ flat. subst (λ n. KeepsFrom c.args.file.
 pub returns-in-Flat-clause-others : goal.returns-in-Flat-clause-others
 returns-in-Flat-clause-others g c = c.write_words.ensures.others
 
-pub returns-in-Flat-clause-cause : goal.returns-in-Flat-clause-cause
-returns-in-Flat-clause-cause g c = c.write_words.ensures.cause
-
-pub returns-in-Flat-clause-told : goal.returns-in-Flat-clause-told
-returns-in-Flat-clause-told g c = c.write_words.ensures.told
+pub returns-in-Flat-clause-fault_reported : goal.returns-in-Flat-clause-fault_reported
+returns-in-Flat-clause-fault_reported g c = c.write_words.ensures.fault_reported
 
 pub returns-in-Array-clause-ahead : goal.returns-in-Array-clause-ahead
 returns-in-Array-clause-ahead g c = subst (λ (t : Storage). KeepsBefore c.args.file.now.name.now (bytes_ahead t c.args.file.now.shape.now c.args.band.start) (g.D.Disk.files c.args.disk.now) (g.D.Disk.files c.write_pieces.new.disk)) (sym c.in-Array.is) c.write_pieces.ensures.ahead
@@ -76,11 +73,8 @@ returns-in-Array-clause-behind g c = λ flat. absurd (flat_not_array _ _ flat c.
 pub returns-in-Array-clause-others : goal.returns-in-Array-clause-others
 returns-in-Array-clause-others g c = c.write_pieces.ensures.others
 
-pub returns-in-Array-clause-cause : goal.returns-in-Array-clause-cause
-returns-in-Array-clause-cause g c = c.write_pieces.ensures.cause
-
-pub returns-in-Array-clause-told : goal.returns-in-Array-clause-told
-returns-in-Array-clause-told g c = c.write_pieces.ensures.told
+pub returns-in-Array-clause-fault_reported : goal.returns-in-Array-clause-fault_reported
+returns-in-Array-clause-fault_reported g c = c.write_pieces.ensures.fault_reported
 
 pub tile-requires-clause-band : goal.tile-requires-clause-band
 tile-requires-clause-band g c = c.requires.band

@@ -60,8 +60,8 @@ loop-piece-preserved g c =
       there = still_stored _ _ c.args.file.now.name.now (Array c.args.form) s c.piece_place.result (flat_map (word_bytes (width c.args.form)) vs) c.in_ok-write_words.ensures.written c.loop-piece.invariant.there
           (piece_bytes_fit c.args.form s c.args.band t c.piece_place.result vs c.requires.band c.loop-piece-test.true copy.len c.piece_place.ensures);
       others = c.in_ok-write_words.ensures.others ∙ c.loop-piece.invariant.others;
-      later = omega (arith, c.in_ok-write_words.ensures.cause.later, c.loop-piece.invariant.later);
-      counted = c.in_ok-write_words.ensures.told false≢true ∙ c.loop-piece.invariant.counted;
+      later = omega (arith, c.in_ok-write_words.ensures.fault_reported.cause.later, c.loop-piece.invariant.later);
+      counted = c.in_ok-write_words.ensures.fault_reported.quiet false≢true ∙ c.loop-piece.invariant.counted;
     }
 
 pub returns-in_err-write_words-clause-ahead : goal.returns-in_err-write_words-clause-ahead
@@ -73,17 +73,17 @@ returns-clause-written g c = λ before old new is values keeps.
     held_told before _ c.args.file.now.name.now (λ fs. bare_bytes (Array c.args.form) c.args.file.now.shape.now (after_pieces c.args.file.now.shape.now c.args.band (old fs) (new fs) c.loop-piece.piece)) _ (c.loop-piece.invariant.written before old new is values keeps)
     (λ fs was. all_pieces c.args.form c.args.file.now.shape.now c.args.band (old fs) (new fs) c.loop-piece.piece c.requires.band (keeps fs was) (omega (arith, c.loop-piece-test.false)))
 
-pub returns-clause-told : goal.returns-clause-told
-returns-clause-told g c = λ _. c.loop-piece.invariant.counted
+pub returns-clause-fault_reported : goal.returns-clause-fault_reported
+returns-clause-fault_reported g c = record {
+  cause = record { later = c.loop-piece.invariant.later; rose = λ e. absurd (false≢true e) };
+  quiet = λ _. c.loop-piece.invariant.counted;
+}
 
 pub returns-clause-others : goal.returns-clause-others
 returns-clause-others g c = c.loop-piece.invariant.others
 
 pub returns-clause-ahead : goal.returns-clause-ahead
 returns-clause-ahead g c = c.loop-piece.invariant.ahead
-
-pub returns-clause-cause : goal.returns-clause-cause
-returns-clause-cause g c = record { later = c.loop-piece.invariant.later; rose = λ e. absurd (false≢true e) }
 
 pub piece_place-requires-clause-band : goal.piece_place-requires-clause-band
 piece_place-requires-clause-band g c = c.requires.band
@@ -94,11 +94,11 @@ piece_place-requires-clause-among g c = c.loop-piece-test.true
 pub returns-in_err-write_words-clause-others : goal.returns-in_err-write_words-clause-others
 returns-in_err-write_words-clause-others g c = c.write_words.ensures.others ∙ c.loop-piece.invariant.others
 
-pub returns-in_err-write_words-clause-cause : goal.returns-in_err-write_words-clause-cause
-returns-in_err-write_words-clause-cause g c = failed_from _ (g.D.Disk.faults c.loop-piece.disk) _ _ _ c.loop-piece.invariant.later c.write_words.ensures.cause (ap is_err c.in_err-write_words.was)
-
-pub returns-in_err-write_words-clause-told : goal.returns-in_err-write_words-clause-told
-returns-in_err-write_words-clause-told g c = λ fine. absurd (fine c.from_residual.ensures.0)
+pub returns-in_err-write_words-clause-fault_reported : goal.returns-in_err-write_words-clause-fault_reported
+returns-in_err-write_words-clause-fault_reported g c = record {
+  cause = failed_from _ (g.D.Disk.faults c.loop-piece.disk) _ _ _ c.loop-piece.invariant.later c.write_words.ensures.fault_reported.cause (ap is_err c.in_err-write_words.was);
+  quiet = λ fine. absurd (fine c.from_residual.ensures.0);
+}
 
 pub returns-in_err-write_words-clause-written : goal.returns-in_err-write_words-clause-written
 returns-in_err-write_words-clause-written g c = IfOk-from_err c.from_residual.result _ c.from_residual.ensures.0

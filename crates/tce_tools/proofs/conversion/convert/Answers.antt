@@ -52,11 +52,11 @@ returns-clause-no_half g c =
 pub returns-clause-others : goal.returns-clause-others
 returns-clause-others g c = c.copy.ensures.others ∙ ap (others c.args.to.now) (c.misfit_for.ensures.same ∙ c.open.ensures.same)
 
-pub returns-clause-cause : goal.returns-clause-cause
-returns-clause-cause g c = cause_since _ (g.D.Disk.faults c.misfit_for.new.disk) _ (omega (arith, c.open.ensures.cause.later, c.misfit_for.ensures.cause.later)) c.copy.ensures.cause
-
-pub returns-clause-told : goal.returns-clause-told
-returns-clause-told g c = λ fine. c.copy.ensures.told fine ∙ c.in_ok-place.ensures.told false≢true ∙ c.in_ok-found.ensures.told (λ e. ok_not_err e)
+pub returns-clause-fault_reported : goal.returns-clause-fault_reported
+returns-clause-fault_reported g c = record {
+  cause = cause_since _ (g.D.Disk.faults c.misfit_for.new.disk) _ (omega (arith, c.open.ensures.fault_reported.cause.later, c.misfit_for.ensures.fault_reported.cause.later)) c.copy.ensures.fault_reported.cause;
+  quiet = λ fine. c.copy.ensures.fault_reported.quiet fine ∙ c.in_ok-place.ensures.fault_reported.quiet false≢true ∙ c.in_ok-found.ensures.fault_reported.quiet (λ e. ok_not_err e);
+}
 
 pub returns-in_err-found-clause-answer : goal.returns-in_err-found-clause-answer
 returns-in_err-found-clause-answer g c x told = not_opened (λ (r : Result (Unit {0}) ToolFault). IsConvertAnswer c.args.form c.args.shape.now (file x c.args.array.now) r) c.from_residual.result c.in_err-found.field-0.0 c.from_residual.ensures.1 (λ other. (c.in_err-found.ensures.fault x told, other)) (λ disk. tt)
@@ -73,16 +73,16 @@ returns-in_err-found-clause-no_half g c = same_left c.args.to.now (last_written 
 pub returns-in_err-found-clause-others : goal.returns-in_err-found-clause-others
 returns-in_err-found-clause-others g c = ap (others c.args.to.now) c.open.ensures.same
 
-pub returns-in_err-found-clause-cause : goal.returns-in_err-found-clause-cause
-returns-in_err-found-clause-cause g c =
-    not_opened (λ (r : Result (Unit {0}) ToolFault). HasCause (g.D.Disk.faults c.args.disk.now) (g.D.Disk.faults c.open.new.disk) (IsDiskFault r)) c.from_residual.result c.in_err-found.field-0.0 c.from_residual.ensures.1
-    (λ other. record { later = c.open.ensures.cause.later; rose = λ failed. absurd (array_not_disk _ _ refl failed) })
-    (λ disk. record { later = c.open.ensures.cause.later; rose = λ failed. c.open.ensures.cause.rose (c.in_err-found.was ∙ ap Err disk) })
-
-pub returns-in_err-found-clause-told : goal.returns-in_err-found-clause-told
-returns-in_err-found-clause-told g c =
-    not_opened (λ (r : Result (Unit {0}) ToolFault). TellsFaults (g.D.Disk.faults c.args.disk.now) (g.D.Disk.faults c.open.new.disk) (IsDiskFault r)) c.from_residual.result c.in_err-found.field-0.0 c.from_residual.ensures.1
-    (λ other fine. c.open.ensures.told (λ failed. other (same_err _ _ _ c.in_err-found.was failed))) (λ disk fine. absurd (fine refl))
+pub returns-in_err-found-clause-fault_reported : goal.returns-in_err-found-clause-fault_reported
+returns-in_err-found-clause-fault_reported g c = record {
+  cause =
+      not_opened (λ (r : Result (Unit {0}) ToolFault). HasCause (g.D.Disk.faults c.args.disk.now) (g.D.Disk.faults c.open.new.disk) (IsDiskFault r)) c.from_residual.result c.in_err-found.field-0.0 c.from_residual.ensures.1
+      (λ other. record { later = c.open.ensures.fault_reported.cause.later; rose = λ failed. absurd (array_not_disk _ _ refl failed) })
+      (λ disk. record { later = c.open.ensures.fault_reported.cause.later; rose = λ failed. c.open.ensures.fault_reported.cause.rose (c.in_err-found.was ∙ ap Err disk) });
+  quiet =
+      not_opened (λ (r : Result (Unit {0}) ToolFault). TellsFaults (g.D.Disk.faults c.args.disk.now) (g.D.Disk.faults c.open.new.disk) (IsDiskFault r)) c.from_residual.result c.in_err-found.field-0.0 c.from_residual.ensures.1
+      (λ other fine. c.open.ensures.fault_reported.quiet (λ failed. other (same_err _ _ _ c.in_err-found.was failed))) (λ disk fine. absurd (fine refl));
+}
 
 pub returns-in_err-found-clause-converted : goal.returns-in_err-found-clause-converted
 returns-in_err-found-clause-converted g c = IfOk-from_err c.from_residual.result _ c.from_residual.ensures.0
@@ -106,11 +106,11 @@ returns-in_err-place-clause-no_half g c = same_left c.args.to.now (last_written 
 pub returns-in_err-place-clause-others : goal.returns-in_err-place-clause-others
 returns-in_err-place-clause-others g c = ap (others c.args.to.now) (c.misfit_for.ensures.same ∙ c.open.ensures.same)
 
-pub returns-in_err-place-clause-cause : goal.returns-in_err-place-clause-cause
-returns-in_err-place-clause-cause g c = failed_after (g.D.Disk.faults c.args.disk.now) (g.D.Disk.faults c.open.new.disk) (g.D.Disk.faults c.misfit_for.new.disk) (c.in_ok-found.ensures.told (λ e. ok_not_err e)) c.in_err-place.ensures.cause
-
-pub returns-in_err-place-clause-told : goal.returns-in_err-place-clause-told
-returns-in_err-place-clause-told g c = refused_for (λ (r : Result (Unit {0}) ToolFault). TellsFaults (g.D.Disk.faults c.args.disk.now) (g.D.Disk.faults c.misfit_for.new.disk) (IsDiskFault r)) c.from_residual-in_err-place.result Disk c.from_residual-in_err-place.ensures.1 (λ fine. absurd (fine refl))
+pub returns-in_err-place-clause-fault_reported : goal.returns-in_err-place-clause-fault_reported
+returns-in_err-place-clause-fault_reported g c = record {
+  cause = failed_after (g.D.Disk.faults c.args.disk.now) (g.D.Disk.faults c.open.new.disk) (g.D.Disk.faults c.misfit_for.new.disk) (c.in_ok-found.ensures.fault_reported.quiet (λ e. ok_not_err e)) c.in_err-place.ensures.fault_reported.cause;
+  quiet = refused_for (λ (r : Result (Unit {0}) ToolFault). TellsFaults (g.D.Disk.faults c.args.disk.now) (g.D.Disk.faults c.misfit_for.new.disk) (IsDiskFault r)) c.from_residual-in_err-place.result Disk c.from_residual-in_err-place.ensures.1 (λ fine. absurd (fine refl));
+}
 
 pub returns-in-Some-clause-refused : goal.returns-in-Some-clause-refused
 returns-in-Some-clause-refused g c = λ other. c.misfit_for.ensures.same ∙ c.open.ensures.same
@@ -121,8 +121,11 @@ returns-in-Some-clause-no_half g c = same_left c.args.to.now (last_written (Arra
 pub returns-in-Some-clause-others : goal.returns-in-Some-clause-others
 returns-in-Some-clause-others g c = ap (others c.args.to.now) (c.misfit_for.ensures.same ∙ c.open.ensures.same)
 
-pub returns-in-Some-clause-told : goal.returns-in-Some-clause-told
-returns-in-Some-clause-told g c = λ fine. c.in_ok-place.ensures.told false≢true ∙ c.in_ok-found.ensures.told (λ e. ok_not_err e)
+pub returns-in-Some-clause-fault_reported : goal.returns-in-Some-clause-fault_reported
+returns-in-Some-clause-fault_reported g c = record {
+  cause = search rules;
+  quiet = λ fine. c.in_ok-place.ensures.fault_reported.quiet false≢true ∙ c.in_ok-found.ensures.fault_reported.quiet (λ e. ok_not_err e);
+}
 
 pub copy-requires-clause-names : goal.copy-requires-clause-names
 copy-requires-clause-names g c = c.requires

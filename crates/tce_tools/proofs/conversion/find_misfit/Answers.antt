@@ -48,27 +48,27 @@ loop-done-preserved g c =
           let values : AreElements s f c.loop-done.done c.read_band.new.words = subst (λ n. AreElements s f n c.read_band.new.words) c.band_at-band.ensures.start (c.in_ok-read_band.ensures.read x (c.loop-done.invariant.files ∙ told)) in
           fit_more Narrow s f c.loop-done.done c.band_at-band.result.len c.read_band.new.words values (omega (arith, len)) (c.loop-done.invariant.fits x told) (λ k lt. c.in_default.ensures.none k (omega (arith, len)));
       files = c.in_ok-read_band.ensures.same ∙ c.loop-done.invariant.files;
-      later = omega (arith, c.in_ok-read_band.ensures.cause.later, c.loop-done.invariant.later);
-      counted = c.in_ok-read_band.ensures.told false≢true ∙ c.loop-done.invariant.counted;
+      later = omega (arith, c.in_ok-read_band.ensures.fault_reported.cause.later, c.loop-done.invariant.later);
+      counted = c.in_ok-read_band.ensures.fault_reported.quiet false≢true ∙ c.loop-done.invariant.counted;
     }
 
-pub returns-clause-told : goal.returns-clause-told
-returns-clause-told g c = λ _. c.loop-done.invariant.counted
+pub returns-clause-fault_reported : goal.returns-clause-fault_reported
+returns-clause-fault_reported g c = record {
+  cause = record { later = c.loop-done.invariant.later; rose = λ e. absurd (false≢true e) };
+  quiet = λ _. c.loop-done.invariant.counted;
+}
 
 pub returns-in_err-read_band-clause-same : goal.returns-in_err-read_band-clause-same
 returns-in_err-read_band-clause-same g c = c.read_band.ensures.same ∙ c.loop-done.invariant.files
 
-pub returns-in_err-read_band-clause-cause : goal.returns-in_err-read_band-clause-cause
-returns-in_err-read_band-clause-cause g c = failed_from _ (g.D.Disk.faults c.loop-done.disk) _ _ _ c.loop-done.invariant.later c.read_band.ensures.cause (ap is_err c.in_err-read_band.was)
-
-pub returns-in_err-read_band-clause-told : goal.returns-in_err-read_band-clause-told
-returns-in_err-read_band-clause-told g c = λ fine. absurd (fine c.from_residual.ensures.0)
+pub returns-in_err-read_band-clause-fault_reported : goal.returns-in_err-read_band-clause-fault_reported
+returns-in_err-read_band-clause-fault_reported g c = record {
+  cause = failed_from _ (g.D.Disk.faults c.loop-done.disk) _ _ _ c.loop-done.invariant.later c.read_band.ensures.fault_reported.cause (ap is_err c.in_err-read_band.was);
+  quiet = λ fine. absurd (fine c.from_residual.ensures.0);
+}
 
 pub returns-clause-same : goal.returns-clause-same
 returns-clause-same g c = c.loop-done.invariant.files
-
-pub returns-clause-cause : goal.returns-clause-cause
-returns-clause-cause g c = record { later = c.loop-done.invariant.later; rose = λ e. absurd (false≢true e) }
 
 pub read_band-requires-clause-band : goal.read_band-requires-clause-band
 read_band-requires-clause-band g c = c.band_at-band.ensures.band
@@ -79,11 +79,11 @@ returns-in-Some-clause-none g c = λ none. absurd (none_not_some _ _ none refl)
 pub returns-in-Some-clause-same : goal.returns-in-Some-clause-same
 returns-in-Some-clause-same g c = c.in_ok-read_band.ensures.same ∙ c.loop-done.invariant.files
 
-pub returns-in-Some-clause-cause : goal.returns-in-Some-clause-cause
-returns-in-Some-clause-cause g c = record { later = omega (arith, c.loop-done.invariant.later, c.in_ok-read_band.ensures.cause.later); rose = λ e. absurd (false≢true e) }
-
-pub returns-in-Some-clause-told : goal.returns-in-Some-clause-told
-returns-in-Some-clause-told g c = λ fine. c.in_ok-read_band.ensures.told false≢true ∙ c.loop-done.invariant.counted
+pub returns-in-Some-clause-fault_reported : goal.returns-in-Some-clause-fault_reported
+returns-in-Some-clause-fault_reported g c = record {
+  cause = record { later = omega (arith, c.loop-done.invariant.later, c.in_ok-read_band.ensures.fault_reported.cause.later); rose = λ e. absurd (false≢true e) };
+  quiet = λ fine. c.in_ok-read_band.ensures.fault_reported.quiet false≢true ∙ c.loop-done.invariant.counted;
+}
 
 pub returns-clause-some : goal.returns-clause-some
 returns-clause-some g c = λ k some. absurd (none_not_some _ _ refl some)

@@ -12,8 +12,5 @@ returns-in-Narrow-clause-some g c = λ k some. (c.in-Narrow.is, subst (λ (w : F
 pub returns-in-Narrow-clause-same : goal.returns-in-Narrow-clause-same
 returns-in-Narrow-clause-same g c = c.find_misfit.ensures.same
 
-pub returns-in-Narrow-clause-cause : goal.returns-in-Narrow-clause-cause
-returns-in-Narrow-clause-cause g c = c.find_misfit.ensures.cause
-
-pub returns-in-Narrow-clause-told : goal.returns-in-Narrow-clause-told
-returns-in-Narrow-clause-told g c = c.find_misfit.ensures.told
+pub returns-in-Narrow-clause-fault_reported : goal.returns-in-Narrow-clause-fault_reported
+returns-in-Narrow-clause-fault_reported g c = c.find_misfit.ensures.fault_reported

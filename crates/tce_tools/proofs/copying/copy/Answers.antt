@@ -34,11 +34,17 @@ returns-in-Ok-clause-others g c = c.write_start.ensures.others ∙ c.copy_elemen
 pub returns-in-Err-clause-others : goal.returns-in-Err-clause-others
 returns-in-Err-clause-others g c = c.write_start.ensures.others ∙ c.copy_elements.ensures.others
 
-pub returns-in-Ok-clause-cause : goal.returns-in-Ok-clause-cause
-returns-in-Ok-clause-cause g c = record { later = omega (arith, c.copy_elements.ensures.cause.later, c.write_start.ensures.cause.later); rose = λ e. absurd (ok_not_err e) }
+pub returns-in-Ok-clause-fault_reported : goal.returns-in-Ok-clause-fault_reported
+returns-in-Ok-clause-fault_reported g c = record {
+  cause = record { later = omega (arith, c.copy_elements.ensures.fault_reported.cause.later, c.write_start.ensures.fault_reported.cause.later); rose = λ e. absurd (ok_not_err e) };
+  quiet = λ fine. c.in-Ok.ensures.fault_reported.quiet false≢true ∙ c.in_ok-copy_elements.ensures.fault_reported.quiet (λ e. ok_not_err e);
+}
 
-pub returns-in-Err-clause-cause : goal.returns-in-Err-clause-cause
-returns-in-Err-clause-cause g c = failed_from _ (g.D.Disk.faults c.copy_elements.new.disk) _ _ _ c.copy_elements.ensures.cause.later c.write_start.ensures.cause (ap is_err c.in-Err.is)
+pub returns-in-Err-clause-fault_reported : goal.returns-in-Err-clause-fault_reported
+returns-in-Err-clause-fault_reported g c = record {
+  cause = failed_from _ (g.D.Disk.faults c.copy_elements.new.disk) _ _ _ c.copy_elements.ensures.fault_reported.cause.later c.write_start.ensures.fault_reported.cause (ap is_err c.in-Err.is);
+  quiet = λ fine. absurd (fine refl);
+}
 
 pub returns-in_err-copy_elements-clause-own : goal.returns-in_err-copy_elements-clause-own
 returns-in_err-copy_elements-clause-own g c = not_made (λ (r : Result (Unit {0}) ToolFault). IsOfCopy r) c.from_residual.result c.in_err-copy_elements.field-0.0 c.from_residual.ensures.1 (λ disk. inl refl) (λ memory. inr refl)
@@ -48,16 +54,16 @@ returns-in_err-copy_elements-clause-refused g c =
     not_made (λ (r : Result (Unit {0}) ToolFault). KeepsFiles r (g.D.Disk.files c.args.disk.now) (g.D.Disk.files c.copy_elements.new.disk)) c.from_residual.result c.in_err-copy_elements.field-0.0 c.from_residual.ensures.1
     (λ disk other. absurd (other refl)) (λ memory other. c.copy_elements.ensures.memory (c.in_err-copy_elements.was ∙ ap Err memory))
 
-pub returns-in_err-copy_elements-clause-cause : goal.returns-in_err-copy_elements-clause-cause
-returns-in_err-copy_elements-clause-cause g c =
-    not_made (λ (r : Result (Unit {0}) ToolFault). HasCause (g.D.Disk.faults c.args.disk.now) (g.D.Disk.faults c.copy_elements.new.disk) (IsDiskFault r)) c.from_residual.result c.in_err-copy_elements.field-0.0 c.from_residual.ensures.1
-    (λ disk. record { later = c.copy_elements.ensures.cause.later; rose = λ failed. c.copy_elements.ensures.cause.rose (c.in_err-copy_elements.was ∙ ap Err disk) })
-    (λ memory. record { later = c.copy_elements.ensures.cause.later; rose = λ failed. absurd (memory_not_disk _ refl failed) })
-
-pub returns-in_err-copy_elements-clause-told : goal.returns-in_err-copy_elements-clause-told
-returns-in_err-copy_elements-clause-told g c =
-    not_made (λ (r : Result (Unit {0}) ToolFault). TellsFaults (g.D.Disk.faults c.args.disk.now) (g.D.Disk.faults c.copy_elements.new.disk) (IsDiskFault r)) c.from_residual.result c.in_err-copy_elements.field-0.0 c.from_residual.ensures.1
-    (λ disk fine. absurd (fine refl)) (λ memory fine. c.copy_elements.ensures.told (λ failed. failed_not_memory _ failed (c.in_err-copy_elements.was ∙ ap Err memory)))
+pub returns-in_err-copy_elements-clause-fault_reported : goal.returns-in_err-copy_elements-clause-fault_reported
+returns-in_err-copy_elements-clause-fault_reported g c = record {
+  cause =
+      not_made (λ (r : Result (Unit {0}) ToolFault). HasCause (g.D.Disk.faults c.args.disk.now) (g.D.Disk.faults c.copy_elements.new.disk) (IsDiskFault r)) c.from_residual.result c.in_err-copy_elements.field-0.0 c.from_residual.ensures.1
+      (λ disk. record { later = c.copy_elements.ensures.fault_reported.cause.later; rose = λ failed. c.copy_elements.ensures.fault_reported.cause.rose (c.in_err-copy_elements.was ∙ ap Err disk) })
+      (λ memory. record { later = c.copy_elements.ensures.fault_reported.cause.later; rose = λ failed. absurd (memory_not_disk _ refl failed) });
+  quiet =
+      not_made (λ (r : Result (Unit {0}) ToolFault). TellsFaults (g.D.Disk.faults c.args.disk.now) (g.D.Disk.faults c.copy_elements.new.disk) (IsDiskFault r)) c.from_residual.result c.in_err-copy_elements.field-0.0 c.from_residual.ensures.1
+      (λ disk fine. absurd (fine refl)) (λ memory fine. c.copy_elements.ensures.fault_reported.quiet (λ failed. failed_not_memory _ failed (c.in_err-copy_elements.was ∙ ap Err memory)));
+}
 
 pub copy_elements-requires-clause-names : goal.copy_elements-requires-clause-names
 copy_elements-requires-clause-names g c = c.requires.names
@@ -74,14 +80,8 @@ returns-in_err-copy_elements-clause-no_half g c = c.copy_elements.ensures.no_hal
 pub returns-in_err-copy_elements-clause-others : goal.returns-in_err-copy_elements-clause-others
 returns-in_err-copy_elements-clause-others g c = c.copy_elements.ensures.others
 
-pub returns-in-Ok-clause-told : goal.returns-in-Ok-clause-told
-returns-in-Ok-clause-told g c = λ fine. c.in-Ok.ensures.told false≢true ∙ c.in_ok-copy_elements.ensures.told (λ e. ok_not_err e)
-
 pub returns-in-Err-clause-own : goal.returns-in-Err-clause-own
 returns-in-Err-clause-own g c = inl refl
 
 pub returns-in-Err-clause-refused : goal.returns-in-Err-clause-refused
 returns-in-Err-clause-refused g c = λ other. absurd (other refl)
-
-pub returns-in-Err-clause-told : goal.returns-in-Err-clause-told
-returns-in-Err-clause-told g c = λ fine. absurd (fine refl)

@@ -23,8 +23,8 @@ loop-done-init g c = record {
   files = held_same (g.D.Disk.files c.args.disk.now) _ c.args.files.target.now (λ fs. bare_bytes c.args.files.to c.args.files.shape.now (λ _. 0)) _ c.in_ok-make.ensures.made
       (λ fs. no_later_elements c.args.files.to c.args.files.shape.now c.elements-elements.ensures.limits (element_in c.args.files.from c.args.files.shape.now (contents fs c.args.files.source.now)) c.band_at-first.result.len);
   others = c.in_ok-make.ensures.others;
-  later = c.in_ok-make.ensures.cause.later;
-  counted = c.in_ok-make.ensures.told (λ e. ok_not_err e);
+  later = c.in_ok-make.ensures.fault_reported.cause.later;
+  counted = c.in_ok-make.ensures.fault_reported.quiet (λ e. ok_not_err e);
 }
 
 pub read_band-requires-clause-file : goal.read_band-requires-clause-file
@@ -58,8 +58,8 @@ loop-done-preserved g c =
           (later_values s (element fs) c.band_at-first.result.len band.start c.read_band.new.words (omega (arith, c.loop-done.invariant.first, c.band_at-band.ensures.start)) (values fs was)))
           (λ fs was. keeps_outside s band (later fs)));
       others = c.in-Ok-write_band.ensures.others ∙ ap (others c.args.files.target.now) c.in-Ok.ensures.same ∙ c.loop-done.invariant.others;
-      later = omega (arith, c.in-Ok.ensures.cause.later, c.in-Ok-write_band.ensures.cause.later, c.loop-done.invariant.later);
-      counted = c.in-Ok-write_band.ensures.told false≢true ∙ c.in-Ok.ensures.told false≢true ∙ c.loop-done.invariant.counted;
+      later = omega (arith, c.in-Ok.ensures.fault_reported.cause.later, c.in-Ok-write_band.ensures.fault_reported.cause.later, c.loop-done.invariant.later);
+      counted = c.in-Ok-write_band.ensures.fault_reported.quiet false≢true ∙ c.in-Ok.ensures.fault_reported.quiet false≢true ∙ c.loop-done.invariant.counted;
     }
 
 pub returns-in_err-make-clause-no_half : goal.returns-in_err-make-clause-no_half
@@ -132,22 +132,37 @@ returns-in_default-write_band-2-clause-others g c = c.write_band-2.ensures.other
 pub returns-clause-others : goal.returns-clause-others
 returns-clause-others g c = c.in-Ok-write_band-2.ensures.others ∙ ap (others c.args.files.target.now) c.in-Ok-read_band.ensures.same ∙ c.loop-done.invariant.others
 
-pub returns-in_default-clause-cause : goal.returns-in_default-clause-cause
-returns-in_default-clause-cause g c = failed_from _ (g.D.Disk.faults c.loop-done.disk) _ _ _ c.loop-done.invariant.later c.read_band.ensures.cause (ap is_err c.in_default.is)
+pub returns-in_default-clause-fault_reported : goal.returns-in_default-clause-fault_reported
+returns-in_default-clause-fault_reported g c = record {
+  cause = failed_from _ (g.D.Disk.faults c.loop-done.disk) _ _ _ c.loop-done.invariant.later c.read_band.ensures.fault_reported.cause (ap is_err c.in_default.is);
+  quiet = λ fine. absurd (fine refl);
+}
 
-pub returns-in_default-write_band-clause-cause : goal.returns-in_default-write_band-clause-cause
-returns-in_default-write_band-clause-cause g c =
-    failed_from _ (g.D.Disk.faults c.read_band.new.disk) _ _ _ (omega (arith, c.loop-done.invariant.later, c.in-Ok.ensures.cause.later)) c.write_band.ensures.cause (ap is_err c.in_default-write_band.is)
+pub returns-in_default-write_band-clause-fault_reported : goal.returns-in_default-write_band-clause-fault_reported
+returns-in_default-write_band-clause-fault_reported g c = record {
+  cause =
+      failed_from _ (g.D.Disk.faults c.read_band.new.disk) _ _ _ (omega (arith, c.loop-done.invariant.later, c.in-Ok.ensures.fault_reported.cause.later)) c.write_band.ensures.fault_reported.cause (ap is_err c.in_default-write_band.is);
+  quiet = λ fine. absurd (fine refl);
+}
 
-pub returns-in_default-read_band-clause-cause : goal.returns-in_default-read_band-clause-cause
-returns-in_default-read_band-clause-cause g c = failed_from _ (g.D.Disk.faults c.loop-done.disk) _ _ _ c.loop-done.invariant.later c.read_band-2.ensures.cause (ap is_err c.in_default-read_band.is)
+pub returns-in_default-read_band-clause-fault_reported : goal.returns-in_default-read_band-clause-fault_reported
+returns-in_default-read_band-clause-fault_reported g c = record {
+  cause = failed_from _ (g.D.Disk.faults c.loop-done.disk) _ _ _ c.loop-done.invariant.later c.read_band-2.ensures.fault_reported.cause (ap is_err c.in_default-read_band.is);
+  quiet = λ fine. absurd (fine refl);
+}
 
-pub returns-in_default-write_band-2-clause-cause : goal.returns-in_default-write_band-2-clause-cause
-returns-in_default-write_band-2-clause-cause g c =
-    failed_from _ (g.D.Disk.faults c.read_band-2.new.disk) _ _ _ (omega (arith, c.loop-done.invariant.later, c.in-Ok-read_band.ensures.cause.later)) c.write_band-2.ensures.cause (ap is_err c.in_default-write_band-2.is)
+pub returns-in_default-write_band-2-clause-fault_reported : goal.returns-in_default-write_band-2-clause-fault_reported
+returns-in_default-write_band-2-clause-fault_reported g c = record {
+  cause =
+      failed_from _ (g.D.Disk.faults c.read_band-2.new.disk) _ _ _ (omega (arith, c.loop-done.invariant.later, c.in-Ok-read_band.ensures.fault_reported.cause.later)) c.write_band-2.ensures.fault_reported.cause (ap is_err c.in_default-write_band-2.is);
+  quiet = λ fine. absurd (fine refl);
+}
 
-pub returns-clause-cause : goal.returns-clause-cause
-returns-clause-cause g c = record { later = omega (arith, c.loop-done.invariant.later, c.in-Ok-read_band.ensures.cause.later, c.in-Ok-write_band-2.ensures.cause.later); rose = λ e. absurd (ok_not_err e) }
+pub returns-clause-fault_reported : goal.returns-clause-fault_reported
+returns-clause-fault_reported g c = record {
+  cause = record { later = omega (arith, c.loop-done.invariant.later, c.in-Ok-read_band.ensures.fault_reported.cause.later, c.in-Ok-write_band-2.ensures.fault_reported.cause.later); rose = λ e. absurd (ok_not_err e) };
+  quiet = λ fine. c.in-Ok-write_band-2.ensures.fault_reported.quiet false≢true ∙ c.in-Ok-read_band.ensures.fault_reported.quiet false≢true ∙ c.loop-done.invariant.counted;
+}
 
 pub read_band-requires-clause-band : goal.read_band-requires-clause-band
 read_band-requires-clause-band g c = c.band_at-band.ensures.band
@@ -164,26 +179,14 @@ write_band-requires-2-clause-band g c = c.band_at-first.ensures.band
 pub returns-in_default-clause-memory : goal.returns-in_default-clause-memory
 returns-in_default-clause-memory g c = λ memory. absurd (failed_not_memory _ refl memory)
 
-pub returns-in_default-clause-told : goal.returns-in_default-clause-told
-returns-in_default-clause-told g c = λ fine. absurd (fine refl)
-
 pub returns-in_default-write_band-clause-memory : goal.returns-in_default-write_band-clause-memory
 returns-in_default-write_band-clause-memory g c = λ memory. absurd (failed_not_memory _ refl memory)
-
-pub returns-in_default-write_band-clause-told : goal.returns-in_default-write_band-clause-told
-returns-in_default-write_band-clause-told g c = λ fine. absurd (fine refl)
 
 pub returns-in_default-read_band-clause-memory : goal.returns-in_default-read_band-clause-memory
 returns-in_default-read_band-clause-memory g c = λ memory. absurd (failed_not_memory _ refl memory)
 
-pub returns-in_default-read_band-clause-told : goal.returns-in_default-read_band-clause-told
-returns-in_default-read_band-clause-told g c = λ fine. absurd (fine refl)
-
 pub returns-in_default-write_band-2-clause-memory : goal.returns-in_default-write_band-2-clause-memory
 returns-in_default-write_band-2-clause-memory g c = λ memory. absurd (failed_not_memory _ refl memory)
-
-pub returns-in_default-write_band-2-clause-told : goal.returns-in_default-write_band-2-clause-told
-returns-in_default-write_band-2-clause-told g c = λ fine. absurd (fine refl)
 
 pub returns-in_err-make-clause-others : goal.returns-in_err-make-clause-others
 returns-in_err-make-clause-others g c = c.make.ensures.others
@@ -191,20 +194,17 @@ returns-in_err-make-clause-others g c = c.make.ensures.others
 pub returns-clause-memory : goal.returns-clause-memory
 returns-clause-memory g c = λ memory. absurd (ok_not_err memory)
 
-pub returns-clause-told : goal.returns-clause-told
-returns-clause-told g c = λ fine. c.in-Ok-write_band-2.ensures.told false≢true ∙ c.in-Ok-read_band.ensures.told false≢true ∙ c.loop-done.invariant.counted
-
 pub returns-in_err-make-clause-copied : goal.returns-in_err-make-clause-copied
 returns-in_err-make-clause-copied g c = IfOk-from_err c.from_residual.result _ c.from_residual.ensures.0
 
 pub returns-in_err-make-clause-memory : goal.returns-in_err-make-clause-memory
 returns-in_err-make-clause-memory g c = λ memory. c.make.ensures.memory (making_failed c.from_residual.result c.make.result c.in_err-make.field-0.0 Memory c.from_residual.ensures.1 c.in_err-make.was memory)
 
-pub returns-in_err-make-clause-cause : goal.returns-in_err-make-clause-cause
-returns-in_err-make-clause-cause g c = record { later = c.make.ensures.cause.later; rose = λ failed. c.make.ensures.cause.rose (making_failed c.from_residual.result c.make.result c.in_err-make.field-0.0 Failed c.from_residual.ensures.1 c.in_err-make.was failed) }
-
-pub returns-in_err-make-clause-told : goal.returns-in_err-make-clause-told
-returns-in_err-make-clause-told g c = λ fine. c.make.ensures.told (λ failed. fine (failed_making c.from_residual.result c.make.result c.in_err-make.field-0.0 Failed c.from_residual.ensures.1 c.in_err-make.was failed))
+pub returns-in_err-make-clause-fault_reported : goal.returns-in_err-make-clause-fault_reported
+returns-in_err-make-clause-fault_reported g c = record {
+  cause = record { later = c.make.ensures.fault_reported.cause.later; rose = λ failed. c.make.ensures.fault_reported.cause.rose (making_failed c.from_residual.result c.make.result c.in_err-make.field-0.0 Failed c.from_residual.ensures.1 c.in_err-make.was failed) };
+  quiet = λ fine. c.make.ensures.fault_reported.quiet (λ failed. fine (failed_making c.from_residual.result c.make.result c.in_err-make.field-0.0 Failed c.from_residual.ensures.1 c.in_err-make.was failed));
+}
 
 pub band_at-band-requires : goal.band_at-band-requires
 band_at-band-requires g c = subst (λ n. c.loop-done.done < n) c.elements-elements.ensures.elements c.loop-done-test.true

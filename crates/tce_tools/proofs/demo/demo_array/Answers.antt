@@ -31,11 +31,17 @@ returns-in-Ok-clause-others g c = c.write_start.ensures.others ∙ c.demo_elemen
 pub returns-in-Err-clause-others : goal.returns-in-Err-clause-others
 returns-in-Err-clause-others g c = c.write_start.ensures.others ∙ c.demo_elements.ensures.others
 
-pub returns-in-Ok-clause-cause : goal.returns-in-Ok-clause-cause
-returns-in-Ok-clause-cause g c = record { later = omega (arith, c.demo_elements.ensures.cause.later, c.write_start.ensures.cause.later); rose = λ e. absurd (ok_not_err e) }
+pub returns-in-Ok-clause-fault_reported : goal.returns-in-Ok-clause-fault_reported
+returns-in-Ok-clause-fault_reported g c = record {
+  cause = record { later = omega (arith, c.demo_elements.ensures.fault_reported.cause.later, c.write_start.ensures.fault_reported.cause.later); rose = λ e. absurd (ok_not_err e) };
+  quiet = λ fine. c.in-Ok.ensures.fault_reported.quiet false≢true ∙ c.in_ok-number.ensures.fault_reported.quiet (λ e. ok_not_err e);
+}
 
-pub returns-in-Err-clause-cause : goal.returns-in-Err-clause-cause
-returns-in-Err-clause-cause g c = failed_from _ (g.D.Disk.faults c.demo_elements.new.disk) _ _ _ c.demo_elements.ensures.cause.later c.write_start.ensures.cause (ap is_err c.in-Err.is)
+pub returns-in-Err-clause-fault_reported : goal.returns-in-Err-clause-fault_reported
+returns-in-Err-clause-fault_reported g c = record {
+  cause = failed_from _ (g.D.Disk.faults c.demo_elements.new.disk) _ _ _ c.demo_elements.ensures.fault_reported.cause.later c.write_start.ensures.fault_reported.cause (ap is_err c.in-Err.is);
+  quiet = λ fine. absurd (fine refl);
+}
 
 pub demo_elements-requires-clause-low : goal.demo_elements-requires-clause-low
 demo_elements-requires-clause-low g c = c.requires.low
@@ -55,9 +61,6 @@ returns-in-Ok-clause-memory g c = λ memory. absurd (ok_not_err memory)
 pub returns-in-Err-clause-memory : goal.returns-in-Err-clause-memory
 returns-in-Err-clause-memory g c = λ memory. absurd (failed_not_memory _ refl memory)
 
-pub returns-in-Err-clause-told : goal.returns-in-Err-clause-told
-returns-in-Err-clause-told g c = λ fine. absurd (fine refl)
-
 pub returns-in_err-number-clause-made : goal.returns-in_err-number-clause-made
 returns-in_err-number-clause-made g c = IfOk-from_err c.from_residual.result _ c.from_residual.ensures.0
 
@@ -67,14 +70,11 @@ returns-in_err-number-clause-last g c = IfOk-from_err c.from_residual.result _ c
 pub returns-in_err-number-clause-memory : goal.returns-in_err-number-clause-memory
 returns-in_err-number-clause-memory g c = λ memory. c.demo_elements.ensures.memory (making_failed c.from_residual.result c.demo_elements.result c.in_err-number.field-0.0 Memory c.from_residual.ensures.1 c.in_err-number.was memory)
 
-pub returns-in_err-number-clause-cause : goal.returns-in_err-number-clause-cause
-returns-in_err-number-clause-cause g c = record { later = c.demo_elements.ensures.cause.later; rose = λ failed. c.demo_elements.ensures.cause.rose (making_failed c.from_residual.result c.demo_elements.result c.in_err-number.field-0.0 Failed c.from_residual.ensures.1 c.in_err-number.was failed) }
-
-pub returns-in_err-number-clause-told : goal.returns-in_err-number-clause-told
-returns-in_err-number-clause-told g c = λ fine. c.demo_elements.ensures.told (λ failed. fine (failed_making c.from_residual.result c.demo_elements.result c.in_err-number.field-0.0 Failed c.from_residual.ensures.1 c.in_err-number.was failed))
+pub returns-in_err-number-clause-fault_reported : goal.returns-in_err-number-clause-fault_reported
+returns-in_err-number-clause-fault_reported g c = record {
+  cause = record { later = c.demo_elements.ensures.fault_reported.cause.later; rose = λ failed. c.demo_elements.ensures.fault_reported.cause.rose (making_failed c.from_residual.result c.demo_elements.result c.in_err-number.field-0.0 Failed c.from_residual.ensures.1 c.in_err-number.was failed) };
+  quiet = λ fine. c.demo_elements.ensures.fault_reported.quiet (λ failed. fine (failed_making c.from_residual.result c.demo_elements.result c.in_err-number.field-0.0 Failed c.from_residual.ensures.1 c.in_err-number.was failed));
+}
 
 pub returns-in-Ok-clause-last : goal.returns-in-Ok-clause-last
 returns-in-Ok-clause-last g c = c.in_ok-number.ensures.last
-
-pub returns-in-Ok-clause-told : goal.returns-in-Ok-clause-told
-returns-in-Ok-clause-told g c = λ fine. c.in-Ok.ensures.told false≢true ∙ c.in_ok-number.ensures.told (λ e. ok_not_err e)

@@ -29,8 +29,8 @@ loop-done-init g c = record {
   files = held_same (g.D.Disk.files c.args.disk.now) _ c.args.array.now (λ fs. bare_bytes (Array One) c.args.shape.now (λ _. 0)) _ c.in_ok-make.ensures.made
       (λ fs. no_elements (Array One) c.args.shape.now c.elements-elements.ensures.limits (demo_element c.args.shape.now c.args.x));
   others = c.in_ok-make.ensures.others;
-  later = c.in_ok-make.ensures.cause.later;
-  counted = c.in_ok-make.ensures.told (λ e. ok_not_err e);
+  later = c.in_ok-make.ensures.fault_reported.cause.later;
+  counted = c.in_ok-make.ensures.fault_reported.quiet (λ e. ok_not_err e);
 }
 
 pub write_band-requires-clause-file : goal.write_band-requires-clause-file
@@ -56,8 +56,8 @@ loop-done-preserved g c =
           (c.in-Ok.ensures.written before (λ fs. first_elements s element band.start) (λ fs. first_elements s element (band.start + band.len)) (subst (λ n. g.D.Disk.files c.loop-done.disk ≡ holding_by c.args.array.now (stored n) before) (sym c.band_at-band.ensures.start) c.loop-done.invariant.files)
           (λ fs was. first_values s element band.start (band.start + band.len) c.draw-number.new.digits (omega (arith, len)) values) (λ fs was. keeps_outside s band element));
       others = c.in-Ok.ensures.others ∙ c.loop-done.invariant.others;
-      later = omega (arith, c.in-Ok.ensures.cause.later, c.loop-done.invariant.later);
-      counted = c.in-Ok.ensures.told false≢true ∙ c.loop-done.invariant.counted;
+      later = omega (arith, c.in-Ok.ensures.fault_reported.cause.later, c.loop-done.invariant.later);
+      counted = c.in-Ok.ensures.fault_reported.quiet false≢true ∙ c.loop-done.invariant.counted;
     }
 
 pub returns-clause-made : goal.returns-clause-made
@@ -65,8 +65,11 @@ returns-clause-made g c =
     held_same (g.D.Disk.files c.args.disk.now) _ c.args.array.now _ (λ fs. bare_bytes (Array One) c.args.shape.now (demo_element c.args.shape.now c.args.x)) c.loop-done.invariant.files
     (λ fs. all_elements (Array One) c.args.shape.now c.elements-elements.ensures.limits (demo_element c.args.shape.now c.args.x) c.loop-done.done (omega (arith, c.loop-done-test.false, c.elements-elements.ensures.elements)))
 
-pub returns-clause-told : goal.returns-clause-told
-returns-clause-told g c = λ _. c.loop-done.invariant.counted
+pub returns-clause-fault_reported : goal.returns-clause-fault_reported
+returns-clause-fault_reported g c = record {
+  cause = record { later = c.loop-done.invariant.later; rose = λ e. absurd (ok_not_err e) };
+  quiet = λ _. c.loop-done.invariant.counted;
+}
 
 pub returns-in_default-clause-no_half : goal.returns-in_default-clause-no_half
 returns-in_default-clause-no_half g c =
@@ -79,20 +82,17 @@ returns-clause-no_half g c = bare_left (Array One) c.args.shape.now c.args.array
 pub returns-in_default-clause-others : goal.returns-in_default-clause-others
 returns-in_default-clause-others g c = c.write_band.ensures.others ∙ c.loop-done.invariant.others
 
-pub returns-in_default-clause-cause : goal.returns-in_default-clause-cause
-returns-in_default-clause-cause g c = failed_from _ (g.D.Disk.faults c.loop-done.disk) _ _ _ c.loop-done.invariant.later c.write_band.ensures.cause (ap is_err c.in_default.is)
-
-pub returns-clause-cause : goal.returns-clause-cause
-returns-clause-cause g c = record { later = c.loop-done.invariant.later; rose = λ e. absurd (ok_not_err e) }
+pub returns-in_default-clause-fault_reported : goal.returns-in_default-clause-fault_reported
+returns-in_default-clause-fault_reported g c = record {
+  cause = failed_from _ (g.D.Disk.faults c.loop-done.disk) _ _ _ c.loop-done.invariant.later c.write_band.ensures.fault_reported.cause (ap is_err c.in_default.is);
+  quiet = λ fine. absurd (fine refl);
+}
 
 pub returns-in_err-make-clause-others : goal.returns-in_err-make-clause-others
 returns-in_err-make-clause-others g c = c.make.ensures.others
 
 pub returns-in_default-clause-memory : goal.returns-in_default-clause-memory
 returns-in_default-clause-memory g c = λ memory. absurd (failed_not_memory _ refl memory)
-
-pub returns-in_default-clause-told : goal.returns-in_default-clause-told
-returns-in_default-clause-told g c = λ fine. absurd (fine refl)
 
 pub returns-clause-memory : goal.returns-clause-memory
 returns-clause-memory g c = λ memory. absurd (ok_not_err memory)
@@ -112,11 +112,11 @@ returns-in_err-make-clause-last g c = IfOk-from_err c.from_residual.result _ c.f
 pub returns-in_err-make-clause-memory : goal.returns-in_err-make-clause-memory
 returns-in_err-make-clause-memory g c = λ memory. c.make.ensures.memory (making_failed c.from_residual.result c.make.result c.in_err-make.field-0.0 Memory c.from_residual.ensures.1 c.in_err-make.was memory)
 
-pub returns-in_err-make-clause-cause : goal.returns-in_err-make-clause-cause
-returns-in_err-make-clause-cause g c = record { later = c.make.ensures.cause.later; rose = λ failed. c.make.ensures.cause.rose (making_failed c.from_residual.result c.make.result c.in_err-make.field-0.0 Failed c.from_residual.ensures.1 c.in_err-make.was failed) }
-
-pub returns-in_err-make-clause-told : goal.returns-in_err-make-clause-told
-returns-in_err-make-clause-told g c = λ fine. c.make.ensures.told (λ failed. fine (failed_making c.from_residual.result c.make.result c.in_err-make.field-0.0 Failed c.from_residual.ensures.1 c.in_err-make.was failed))
+pub returns-in_err-make-clause-fault_reported : goal.returns-in_err-make-clause-fault_reported
+returns-in_err-make-clause-fault_reported g c = record {
+  cause = record { later = c.make.ensures.fault_reported.cause.later; rose = λ failed. c.make.ensures.fault_reported.cause.rose (making_failed c.from_residual.result c.make.result c.in_err-make.field-0.0 Failed c.from_residual.ensures.1 c.in_err-make.was failed) };
+  quiet = λ fine. c.make.ensures.fault_reported.quiet (λ failed. fine (failed_making c.from_residual.result c.make.result c.in_err-make.field-0.0 Failed c.from_residual.ensures.1 c.in_err-make.was failed));
+}
 
 pub returns-in_err-make-clause-no_half : goal.returns-in_err-make-clause-no_half
 returns-in_err-make-clause-no_half g c = unmade_left c.args.array.now _ _ _ _ c.make.ensures.zeros

@@ -46,8 +46,8 @@ returns-clause-no_half g c = packed_left c.args.shape.now c.elements.ensures.lim
 pub returns-clause-others : goal.returns-clause-others
 returns-clause-others g c = c.copy.ensures.others ∙ ap (others c.args.array.now) c.size.ensures.same
 
-pub returns-clause-cause : goal.returns-clause-cause
-returns-clause-cause g c = cause_since _ (g.D.Disk.faults c.size.new.self) _ c.size.ensures.cause.later c.copy.ensures.cause
-
-pub returns-clause-told : goal.returns-clause-told
-returns-clause-told g c = λ fine. c.copy.ensures.told fine ∙ c.in_ok-len.ensures.told false≢true
+pub returns-clause-fault_reported : goal.returns-clause-fault_reported
+returns-clause-fault_reported g c = record {
+  cause = cause_since _ (g.D.Disk.faults c.size.new.self) _ c.size.ensures.fault_reported.cause.later c.copy.ensures.fault_reported.cause;
+  quiet = λ fine. c.copy.ensures.fault_reported.quiet fine ∙ c.in_ok-len.ensures.fault_reported.quiet false≢true;
+}

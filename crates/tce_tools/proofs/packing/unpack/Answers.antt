@@ -46,11 +46,11 @@ returns-clause-no_half g c =
 pub returns-clause-others : goal.returns-clause-others
 returns-clause-others g c = c.copy.ensures.others ∙ ap (others c.args.flat.now) c.open.ensures.same
 
-pub returns-clause-cause : goal.returns-clause-cause
-returns-clause-cause g c = cause_since _ (g.D.Disk.faults c.open.new.disk) _ c.open.ensures.cause.later c.copy.ensures.cause
-
-pub returns-clause-told : goal.returns-clause-told
-returns-clause-told g c = λ fine. c.copy.ensures.told fine ∙ c.in_ok-form.ensures.told (λ e. ok_not_err e)
+pub returns-clause-fault_reported : goal.returns-clause-fault_reported
+returns-clause-fault_reported g c = record {
+  cause = cause_since _ (g.D.Disk.faults c.open.new.disk) _ c.open.ensures.fault_reported.cause.later c.copy.ensures.fault_reported.cause;
+  quiet = λ fine. c.copy.ensures.fault_reported.quiet fine ∙ c.in_ok-form.ensures.fault_reported.quiet (λ e. ok_not_err e);
+}
 
 pub returns-in_err-form-clause-answer : goal.returns-in_err-form-clause-answer
 returns-in_err-form-clause-answer g c x told = not_opened (λ (r : Result (Unit {0}) ToolFault). IsUnpackAnswer c.args.shape.now (file x c.args.array.now) r) c.from_residual.result c.in_err-form.field-0.0 c.from_residual.ensures.1 (λ other. (c.in_err-form.ensures.fault x told, other)) (λ disk. tt)
@@ -67,13 +67,13 @@ returns-in_err-form-clause-no_half g c = same_left c.args.flat.now 262144 (λ fs
 pub returns-in_err-form-clause-others : goal.returns-in_err-form-clause-others
 returns-in_err-form-clause-others g c = ap (others c.args.flat.now) c.open.ensures.same
 
-pub returns-in_err-form-clause-cause : goal.returns-in_err-form-clause-cause
-returns-in_err-form-clause-cause g c =
-    not_opened (λ (r : Result (Unit {0}) ToolFault). HasCause (g.D.Disk.faults c.args.disk.now) (g.D.Disk.faults c.open.new.disk) (IsDiskFault r)) c.from_residual.result c.in_err-form.field-0.0 c.from_residual.ensures.1
-    (λ other. record { later = c.open.ensures.cause.later; rose = λ failed. absurd (array_not_disk _ _ refl failed) })
-    (λ disk. record { later = c.open.ensures.cause.later; rose = λ failed. c.open.ensures.cause.rose (c.in_err-form.was ∙ ap Err disk) })
-
-pub returns-in_err-form-clause-told : goal.returns-in_err-form-clause-told
-returns-in_err-form-clause-told g c =
-    not_opened (λ (r : Result (Unit {0}) ToolFault). TellsFaults (g.D.Disk.faults c.args.disk.now) (g.D.Disk.faults c.open.new.disk) (IsDiskFault r)) c.from_residual.result c.in_err-form.field-0.0 c.from_residual.ensures.1
-    (λ other fine. c.open.ensures.told (λ failed. other (same_err _ _ _ c.in_err-form.was failed))) (λ disk fine. absurd (fine refl))
+pub returns-in_err-form-clause-fault_reported : goal.returns-in_err-form-clause-fault_reported
+returns-in_err-form-clause-fault_reported g c = record {
+  cause =
+      not_opened (λ (r : Result (Unit {0}) ToolFault). HasCause (g.D.Disk.faults c.args.disk.now) (g.D.Disk.faults c.open.new.disk) (IsDiskFault r)) c.from_residual.result c.in_err-form.field-0.0 c.from_residual.ensures.1
+      (λ other. record { later = c.open.ensures.fault_reported.cause.later; rose = λ failed. absurd (array_not_disk _ _ refl failed) })
+      (λ disk. record { later = c.open.ensures.fault_reported.cause.later; rose = λ failed. c.open.ensures.fault_reported.cause.rose (c.in_err-form.was ∙ ap Err disk) });
+  quiet =
+      not_opened (λ (r : Result (Unit {0}) ToolFault). TellsFaults (g.D.Disk.faults c.args.disk.now) (g.D.Disk.faults c.open.new.disk) (IsDiskFault r)) c.from_residual.result c.in_err-form.field-0.0 c.from_residual.ensures.1
+      (λ other fine. c.open.ensures.fault_reported.quiet (λ failed. other (same_err _ _ _ c.in_err-form.was failed))) (λ disk fine. absurd (fine refl));
+}

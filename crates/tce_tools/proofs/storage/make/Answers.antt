@@ -26,11 +26,8 @@ returns-in-Flat-clause-zeros g c = c.make.ensures.zeros
 pub returns-in-Flat-clause-others : goal.returns-in-Flat-clause-others
 returns-in-Flat-clause-others g c = c.make.ensures.others
 
-pub returns-in-Flat-clause-cause : goal.returns-in-Flat-clause-cause
-returns-in-Flat-clause-cause g c = c.make.ensures.cause
-
-pub returns-in-Flat-clause-told : goal.returns-in-Flat-clause-told
-returns-in-Flat-clause-told g c = c.make.ensures.told
+pub returns-in-Flat-clause-fault_reported : goal.returns-in-Flat-clause-fault_reported
+returns-in-Flat-clause-fault_reported g c = c.make.ensures.fault_reported
 
 pub returns-in-Array-clause-memory : goal.returns-in-Array-clause-memory
 returns-in-Array-clause-memory g c = c.make-in-Array.ensures.memory
@@ -41,8 +38,5 @@ returns-in-Array-clause-zeros g c = c.make-in-Array.ensures.zeros
 pub returns-in-Array-clause-others : goal.returns-in-Array-clause-others
 returns-in-Array-clause-others g c = c.make-in-Array.ensures.others
 
-pub returns-in-Array-clause-cause : goal.returns-in-Array-clause-cause
-returns-in-Array-clause-cause g c = c.make-in-Array.ensures.cause
-
-pub returns-in-Array-clause-told : goal.returns-in-Array-clause-told
-returns-in-Array-clause-told g c = c.make-in-Array.ensures.told
+pub returns-in-Array-clause-fault_reported : goal.returns-in-Array-clause-fault_reported
+returns-in-Array-clause-fault_reported g c = c.make-in-Array.ensures.fault_reported

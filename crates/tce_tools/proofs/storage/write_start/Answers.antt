@@ -15,17 +15,14 @@ returns-in-Array-clause-written g c =
 pub returns-in-Array-clause-others : goal.returns-in-Array-clause-others
 returns-in-Array-clause-others g c = c.write_head.ensures.others
 
-pub returns-in-Array-clause-cause : goal.returns-in-Array-clause-cause
-returns-in-Array-clause-cause g c = c.write_head.ensures.cause
-
-pub returns-in-Array-clause-told : goal.returns-in-Array-clause-told
-returns-in-Array-clause-told g c = c.write_head.ensures.told
+pub returns-in-Array-clause-fault_reported : goal.returns-in-Array-clause-fault_reported
+returns-in-Array-clause-fault_reported g c = c.write_head.ensures.fault_reported
 
 pub returns-in-Flat-clause-others : goal.returns-in-Flat-clause-others
 returns-in-Flat-clause-others g c = refl
 
-pub returns-in-Flat-clause-cause : goal.returns-in-Flat-clause-cause
-returns-in-Flat-clause-cause g c = no_cause (g.D.Disk.faults c.args.disk.now) (g.D.Disk.faults c.args.disk.now) refl false≢true
-
-pub returns-in-Flat-clause-told : goal.returns-in-Flat-clause-told
-returns-in-Flat-clause-told g c = λ fine. refl
+pub returns-in-Flat-clause-fault_reported : goal.returns-in-Flat-clause-fault_reported
+returns-in-Flat-clause-fault_reported g c = record {
+  cause = no_cause (g.D.Disk.faults c.args.disk.now) (g.D.Disk.faults c.args.disk.now) refl false≢true;
+  quiet = λ fine. refl;
+}

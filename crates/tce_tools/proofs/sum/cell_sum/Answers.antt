@@ -22,31 +22,31 @@ loop-done-preserved g c = record {
       (subst (λ n. AreElements c.args.shape.now f n c.read_band.new.words) c.band_at-band.ensures.start (c.in_ok-read_band.ensures.read x (c.loop-done.invariant.files ∙ told)))
       c.in_ok-read_band.ensures.len (omega (arith, c.band_at-band.ensures.band.inside, c.band_at-band.ensures.start)) (c.loop-done.invariant.sum x told) c.sum_of-total.ensures;
   files = c.in_ok-read_band.ensures.same ∙ c.loop-done.invariant.files;
-  later = omega (arith, c.in_ok-read_band.ensures.cause.later, c.loop-done.invariant.later);
-  counted = c.in_ok-read_band.ensures.told false≢true ∙ c.loop-done.invariant.counted;
+  later = omega (arith, c.in_ok-read_band.ensures.fault_reported.cause.later, c.loop-done.invariant.later);
+  counted = c.in_ok-read_band.ensures.fault_reported.quiet false≢true ∙ c.loop-done.invariant.counted;
 }
 
 pub returns-clause-sum : goal.returns-clause-sum
 returns-clause-sum g c = λ x told.
     sum_of_all c.args.shape.now (cell c.args.form c.args.shape.now (contents x c.args.array.now)) c.loop-done.done c.loop-done.total (omega (arith, c.loop-done-test.false, c.elements-elements.ensures.elements)) (c.loop-done.invariant.sum x told)
 
-pub returns-clause-told : goal.returns-clause-told
-returns-clause-told g c = λ _. c.loop-done.invariant.counted
+pub returns-clause-fault_reported : goal.returns-clause-fault_reported
+returns-clause-fault_reported g c = record {
+  cause = record { later = c.loop-done.invariant.later; rose = λ e. absurd (false≢true e) };
+  quiet = λ _. c.loop-done.invariant.counted;
+}
 
 pub returns-in_err-read_band-clause-same : goal.returns-in_err-read_band-clause-same
 returns-in_err-read_band-clause-same g c = c.read_band.ensures.same ∙ c.loop-done.invariant.files
 
-pub returns-in_err-read_band-clause-cause : goal.returns-in_err-read_band-clause-cause
-returns-in_err-read_band-clause-cause g c = failed_from _ (g.D.Disk.faults c.loop-done.disk) _ _ _ c.loop-done.invariant.later c.read_band.ensures.cause (ap is_err c.in_err-read_band.was)
-
-pub returns-in_err-read_band-clause-told : goal.returns-in_err-read_band-clause-told
-returns-in_err-read_band-clause-told g c = λ fine. absurd (fine c.from_residual.ensures.0)
+pub returns-in_err-read_band-clause-fault_reported : goal.returns-in_err-read_band-clause-fault_reported
+returns-in_err-read_band-clause-fault_reported g c = record {
+  cause = failed_from _ (g.D.Disk.faults c.loop-done.disk) _ _ _ c.loop-done.invariant.later c.read_band.ensures.fault_reported.cause (ap is_err c.in_err-read_band.was);
+  quiet = λ fine. absurd (fine c.from_residual.ensures.0);
+}
 
 pub returns-clause-same : goal.returns-clause-same
 returns-clause-same g c = c.loop-done.invariant.files
-
-pub returns-clause-cause : goal.returns-clause-cause
-returns-clause-cause g c = record { later = c.loop-done.invariant.later; rose = λ e. absurd (false≢true e) }
 
 pub read_band-requires-clause-band : goal.read_band-requires-clause-band
 read_band-requires-clause-band g c = c.band_at-band.ensures.band

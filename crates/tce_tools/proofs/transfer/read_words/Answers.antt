@@ -26,17 +26,17 @@ returns-clause-read g c x told k lt =
 pub returns-in_err-read_at-clause-same : goal.returns-in_err-read_at-clause-same
 returns-in_err-read_at-clause-same g c = c.read_at.ensures.same
 
-pub returns-in_err-read_at-clause-cause : goal.returns-in_err-read_at-clause-cause
-returns-in_err-read_at-clause-cause g c = record { later = c.read_at.ensures.cause.later; rose = λ e. c.read_at.ensures.cause.rose (ap is_err c.in_err-read_at.was) }
-
-pub returns-in_err-read_at-clause-told : goal.returns-in_err-read_at-clause-told
-returns-in_err-read_at-clause-told g c = λ fine. absurd (fine c.from_residual.ensures.0)
+pub returns-in_err-read_at-clause-fault_reported : goal.returns-in_err-read_at-clause-fault_reported
+returns-in_err-read_at-clause-fault_reported g c = record {
+  cause = record { later = c.read_at.ensures.fault_reported.cause.later; rose = λ e. c.read_at.ensures.fault_reported.cause.rose (ap is_err c.in_err-read_at.was) };
+  quiet = λ fine. absurd (fine c.from_residual.ensures.0);
+}
 
 pub returns-clause-same : goal.returns-clause-same
 returns-clause-same g c = c.read_at.ensures.same
 
-pub returns-clause-cause : goal.returns-clause-cause
-returns-clause-cause g c = record { later = c.read_at.ensures.cause.later; rose = λ e. absurd (false≢true e) }
-
-pub returns-clause-told : goal.returns-clause-told
-returns-clause-told g c = λ fine. c.in_ok-read_at.ensures.told false≢true
+pub returns-clause-fault_reported : goal.returns-clause-fault_reported
+returns-clause-fault_reported g c = record {
+  cause = record { later = c.read_at.ensures.fault_reported.cause.later; rose = λ e. absurd (false≢true e) };
+  quiet = λ fine. c.in_ok-read_at.ensures.fault_reported.quiet false≢true;
+}

@@ -14,11 +14,8 @@ returns-clause-before g c = c.write_at.ensures.before
 pub returns-clause-others : goal.returns-clause-others
 returns-clause-others g c = c.write_at.ensures.others
 
-pub returns-clause-cause : goal.returns-clause-cause
-returns-clause-cause g c = c.write_at.ensures.cause
-
-pub returns-clause-told : goal.returns-clause-told
-returns-clause-told g c = c.write_at.ensures.told
+pub returns-clause-fault_reported : goal.returns-clause-fault_reported
+returns-clause-fault_reported g c = c.write_at.ensures.fault_reported
 
 pub slice_bounds-piece-end-2 : goal.slice_bounds-piece-end-2
 slice_bounds-piece-end-2 g c = sym (length-take-le (c.width.result * length c.args.words.now) c.args.bytes.now (omega (arith, ap (λ m. m * length c.args.words.now) c.width.ensures, c.requires.buffer)))

@@ -138,11 +138,17 @@ returns-in-Err-clause-cert_line g c = λ trouble e.
     left.named_line _ _ _ _ _ _ _ _ c.in-Some.ensures
     (left.cert_lines _ _ c.in-Err.refusal c.refuse.result trouble _ _ _ _ c.in-Err.ensures.refused.line c.refuse.ensures.line c.refuse.ensures.kept e)
 
-pub returns-in-Ok-clause-disk_told : goal.returns-in-Ok-clause-disk_told
-returns-in-Ok-clause-disk_told g c = λ none. c.in-Ok.ensures.done.faults
+pub returns-in-Ok-clause-disk_fault : goal.returns-in-Ok-clause-disk_fault
+returns-in-Ok-clause-disk_fault g c = record {
+  cause = record { later = omega (arith, c.in-Ok.ensures.done.faults); rose = λ failed. absurd (report_ends _ DiskFault c.finish.ensures.cases failed) };
+  quiet = λ none. c.in-Ok.ensures.done.faults;
+}
 
-pub returns-in-Err-clause-disk_told : goal.returns-in-Err-clause-disk_told
-returns-in-Err-clause-disk_told g c = λ none. c.in-Err.ensures.refused.told (left.no_failure c.in-Err.refusal c.refuse.result c.refuse.ensures.kept none)
+pub returns-in-Err-clause-disk_fault : goal.returns-in-Err-clause-disk_fault
+returns-in-Err-clause-disk_fault g c = record {
+  cause = record { later = c.in-Err.ensures.refused.fault_reported.cause.later; rose = λ failed. c.in-Err.ensures.refused.fault_reported.cause.rose (refusal_ends c.in-Err.refusal c.refuse.result DiskFault c.refuse.ensures.kept failed) };
+  quiet = λ none. c.in-Err.ensures.refused.fault_reported.quiet (left.no_failure c.in-Err.refusal c.refuse.result c.refuse.ensures.kept none);
+}
 
 pub returns-in-Ok-clause-no_half : goal.returns-in-Ok-clause-no_half
 returns-in-Ok-clause-no_half g c = λ command is.
@@ -197,10 +203,10 @@ pub returns-in_default-clause-well_formed : goal.returns-in_default-clause-well_
 returns-in_default-clause-well_formed g c = c.refuse_words.ensures.well_formed
 
 pub returns-in_default-clause-disk_fault : goal.returns-in_default-clause-disk_fault
-returns-in_default-clause-disk_fault g c = record { later = omega arith; rose = λ failed. absurd (words_end _ DiskFault c.refuse_words.ensures.kept failed) }
-
-pub returns-in_default-clause-disk_told : goal.returns-in_default-clause-disk_told
-returns-in_default-clause-disk_told g c = λ none. refl
+returns-in_default-clause-disk_fault g c = record {
+  cause = record { later = omega arith; rose = λ failed. absurd (words_end _ DiskFault c.refuse_words.ensures.kept failed) };
+  quiet = λ none. refl;
+}
 
 pub returns-in_default-clause-sink_fault : goal.returns-in_default-clause-sink_fault
 returns-in_default-clause-sink_fault g c = record { later = c.refuse_words.ensures.cause.later; rose = λ failed. absurd (words_end _ SinkFault c.refuse_words.ensures.kept failed) }
@@ -241,9 +247,6 @@ returns-in-Ok-clause-untouched g c = λ none. absurd (none _ c.in-Some.ensures)
 pub returns-in-Ok-clause-well_formed : goal.returns-in-Ok-clause-well_formed
 returns-in-Ok-clause-well_formed g c = c.finish.ensures.well_formed
 
-pub returns-in-Ok-clause-disk_fault : goal.returns-in-Ok-clause-disk_fault
-returns-in-Ok-clause-disk_fault g c = record { later = omega (arith, c.in-Ok.ensures.done.faults); rose = λ failed. absurd (report_ends _ DiskFault c.finish.ensures.cases failed) }
-
 pub returns-in-Ok-clause-sink_fault : goal.returns-in-Ok-clause-sink_fault
 returns-in-Ok-clause-sink_fault g c = c.finish.ensures.cause
 
@@ -282,9 +285,6 @@ returns-in-Err-clause-untouched g c = λ none. absurd (none _ c.in-Some.ensures)
 
 pub returns-in-Err-clause-well_formed : goal.returns-in-Err-clause-well_formed
 returns-in-Err-clause-well_formed g c = c.refuse.ensures.well_formed
-
-pub returns-in-Err-clause-disk_fault : goal.returns-in-Err-clause-disk_fault
-returns-in-Err-clause-disk_fault g c = record { later = c.in-Err.ensures.refused.cause.later; rose = λ failed. c.in-Err.ensures.refused.cause.rose (refusal_ends c.in-Err.refusal c.refuse.result DiskFault c.refuse.ensures.kept failed) }
 
 pub returns-in-Err-clause-sink_fault : goal.returns-in-Err-clause-sink_fault
 returns-in-Err-clause-sink_fault g c = record { later = c.refuse.ensures.cause.later; rose = λ failed. absurd (refusal_ends c.in-Err.refusal c.refuse.result SinkFault c.refuse.ensures.kept failed) }

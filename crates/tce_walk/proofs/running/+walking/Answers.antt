@@ -53,11 +53,11 @@ run_part-run_loop-requires g t c = λ κs lives.
 
 pub run_part-loop-at-preserved-in-Open : goal.run_part-loop-at-preserved-in-Open
 run_part-loop-at-preserved-in-Open g t c = record {
-  setting = c.run_loop.ensures.setting ∙ c.loop-at.invariant.setting;
-  space = c.run_loop.ensures.space ∙ c.loop-at.invariant.space;
+  setting = c.run_loop.ensures.upheld.setting ∙ c.loop-at.invariant.setting;
+  space = c.run_loop.ensures.upheld.space ∙ c.loop-at.invariant.space;
   ready = (c.in_ok-close-in-Open.ensures).ready;
-  kept = g.met.M.Machine.keeps_on c.args.machine.now c.loop-at.machine c.run_loop.new.machine c.loop-at.invariant.kept c.run_loop.ensures.kept;
-  counted = (c.in_ok-close-in-Open.ensures).told (search rules) ∙ c.loop-at.invariant.counted;
+  kept = g.met.M.Machine.keeps_on c.args.machine.now c.loop-at.machine c.run_loop.new.machine c.loop-at.invariant.kept c.run_loop.ensures.upheld.kept;
+  counted = (c.in_ok-close-in-Open.ensures).upheld.fault_reported.quiet (search rules) ∙ c.loop-at.invariant.counted;
   left =
       open-left c.args.walk.now.space.now c.args.walk.now.tree.now (g.M.Machine.setting c.args.machine.now) (g.M.Machine.setting c.loop-at.machine) c.args.walk.now.ops.now c.args.start c.loop-at.at
       c.in-Open.i (Open 0) c.in_ok-close-in-Open.close c.min-at.result (assignment_of c.args.numbers.now) (g.M.Machine.state c.args.machine.now)
@@ -102,11 +102,11 @@ run_part-loop-at-preserved g t c =
     let over : RunsOver c.args.walk.now.space.now c.args.walk.now.tree.now (g.M.Machine.space c.loop-at.machine) (g.M.Machine.setting c.loop-at.machine) =
     over-later c.loop-at.invariant.space c.loop-at.invariant.setting c.requires.over in
     record {
-      setting = c.run_action.ensures.setting ∙ c.loop-at.invariant.setting;
-      space = c.run_action.ensures.space ∙ c.loop-at.invariant.space;
+      setting = c.run_action.ensures.upheld.setting ∙ c.loop-at.invariant.setting;
+      space = c.run_action.ensures.upheld.space ∙ c.loop-at.invariant.space;
       ready = (c.in_ok-run_action-in_default.ensures).ready;
-      kept = g.met.M.Machine.keeps_on c.args.machine.now c.loop-at.machine c.run_action.new.machine c.loop-at.invariant.kept c.run_action.ensures.kept;
-      counted = (c.in_ok-run_action-in_default.ensures).told (search rules) ∙ c.loop-at.invariant.counted;
+      kept = g.met.M.Machine.keeps_on c.args.machine.now c.loop-at.machine c.run_action.new.machine c.loop-at.invariant.kept c.run_action.ensures.upheld.kept;
+      counted = (c.in_ok-run_action-in_default.ensures).upheld.fault_reported.quiet (search rules) ∙ c.loop-at.invariant.counted;
       left =
           plain-left c.args.walk.now.space.now c.args.walk.now.tree.now (g.M.Machine.space c.loop-at.machine) (g.M.Machine.setting c.args.machine.now) (g.M.Machine.setting c.loop-at.machine)
           c.args.walk.now.ops.now c.args.start c.loop-at.at (Open 0) (assignment_of c.args.numbers.now) (g.M.Machine.state c.args.machine.now) (g.M.Machine.state c.loop-at.machine)
@@ -151,11 +151,11 @@ run_turns-loop-x-init g t c =
     let index : IsIndex c.args.walk.now.space.now c.args.head.index = loop-index c.requires.limits c.requires.over.measured c.requires.part in
     let within : c.args.head.index < length c.args.numbers.now = omega (arith, index.small, c.told-numbers) in
     record {
-      setting = c.run_part.ensures.setting;
-      space = c.run_part.ensures.space;
+      setting = c.run_part.ensures.upheld.setting;
+      space = c.run_part.ensures.upheld.space;
       ready = (c.in_ok-close.ensures).ready;
-      kept = c.run_part.ensures.kept;
-      counted = (c.in_ok-close.ensures).told (search rules);
+      kept = c.run_part.ensures.upheld.kept;
+      counted = (c.in_ok-close.ensures).upheld.fault_reported.quiet (search rules);
       turns =
           turns-next c.args.walk.now.space.now c.args.walk.now.tree.now (g.M.Machine.setting c.args.machine.now) (g.M.Machine.setting c.args.machine.now) c.args.head.index
           (program_at c.args.walk.now.ops.now (c.args.head.at + 1)) (assignment_of c.args.numbers.now) (assignment_of (set c.args.numbers.now c.args.head.index 0)) 0
@@ -190,11 +190,11 @@ run_turns-loop-x-preserved g t c =
     let within : c.args.head.index < length c.args.numbers.now = omega (arith, index.small, c.told-numbers) in
     let back : c.loop-x.x ≡ c.loop-x.x + 1 - 1 = omega arith in
     record {
-      setting = c.run_part-in-loop-x.ensures.setting ∙ c.loop-x.invariant.setting;
-      space = c.run_part-in-loop-x.ensures.space ∙ c.loop-x.invariant.space;
+      setting = c.run_part-in-loop-x.ensures.upheld.setting ∙ c.loop-x.invariant.setting;
+      space = c.run_part-in-loop-x.ensures.upheld.space ∙ c.loop-x.invariant.space;
       ready = (c.in_ok-close-2.ensures).ready;
-      kept = g.met.M.Machine.keeps_on c.args.machine.now c.loop-x.machine c.run_part-in-loop-x.new.machine c.loop-x.invariant.kept c.run_part-in-loop-x.ensures.kept;
-      counted = (c.in_ok-close-2.ensures).told (search rules) ∙ c.loop-x.invariant.counted;
+      kept = g.met.M.Machine.keeps_on c.args.machine.now c.loop-x.machine c.run_part-in-loop-x.new.machine c.loop-x.invariant.kept c.run_part-in-loop-x.ensures.upheld.kept;
+      counted = (c.in_ok-close-2.ensures).upheld.fault_reported.quiet (search rules) ∙ c.loop-x.invariant.counted;
       turns =
           turns-next c.args.walk.now.space.now c.args.walk.now.tree.now (g.M.Machine.setting c.args.machine.now) (g.M.Machine.setting c.loop-x.machine) c.args.head.index
           (program_at c.args.walk.now.ops.now (c.args.head.at + 1)) (assignment_of c.args.numbers.now) (assignment_of (set c.loop-x.numbers c.args.head.index c.loop-x.x)) c.loop-x.x
@@ -226,11 +226,12 @@ run_turns-returns g t c =
           (g.M.Machine.touches c.loop-x.machine)) all c.loop-x.invariant.turns);
       end = c.loop-x.invariant.end;
       numbers = set-back c.args.numbers.now c.loop-x.numbers c.args.head.index (c.loop-x.x - 1) (omega (arith, index.small, c.told-numbers)) c.loop-x.invariant.numbers_set;
-      cause = no_cause _ _ c.loop-x.invariant.counted false≢true;
-      told = λ none. c.loop-x.invariant.counted;
-      space = c.loop-x.invariant.space;
-      setting = c.loop-x.invariant.setting;
-      kept = c.loop-x.invariant.kept;
+      upheld = record {
+        space = c.loop-x.invariant.space;
+        setting = c.loop-x.invariant.setting;
+        kept = c.loop-x.invariant.kept;
+        fault_reported = record { cause = no_cause _ _ c.loop-x.invariant.counted false≢true; quiet = λ none. c.loop-x.invariant.counted };
+      };
     }
 
 pub run_loop-run_tail-requires-clause-few : goal.run_loop-run_tail-requires-clause-few
@@ -246,11 +247,12 @@ run_loop-returns-in_err-run_tail g t c =
       run = tt;
       end = tt;
       numbers = tt;
-      cause = c.in_err-run_tail.ensures.cause;
-      told = c.in_err-run_tail.ensures.told;
-      space = c.run_tail.ensures.space;
-      setting = c.run_tail.ensures.setting;
-      kept = c.run_tail.ensures.kept;
+      upheld = record {
+        space = c.run_tail.ensures.upheld.space;
+        setting = c.run_tail.ensures.upheld.setting;
+        kept = c.run_tail.ensures.upheld.kept;
+        fault_reported = c.in_err-run_tail.ensures.upheld.fault_reported;
+      };
     })
 
 pub run_loop-returns-in-Some : goal.run_loop-returns-in-Some
@@ -265,11 +267,12 @@ run_loop-returns-in-Some g t c =
           e.state e.touches;
       end = (c.in-Some.ensures).1;
       numbers = refl {a = c.args.numbers.now};
-      cause = e.cause;
-      told = e.told;
-      space = c.run_tail.ensures.space;
-      setting = c.run_tail.ensures.setting;
-      kept = c.run_tail.ensures.kept;
+      upheld = record {
+        space = c.run_tail.ensures.upheld.space;
+        setting = c.run_tail.ensures.upheld.setting;
+        kept = c.run_tail.ensures.upheld.kept;
+        fault_reported = e.upheld.fault_reported;
+      };
     }
 
 pub run_loop-returns : goal.run_loop-returns
@@ -278,11 +281,7 @@ run_loop-returns g t c = record {
   run = c.run_turns.ensures.run;
   end = c.run_turns.ensures.end;
   numbers = c.run_turns.ensures.numbers;
-  cause = c.run_turns.ensures.cause;
-  told = c.run_turns.ensures.told;
-  space = c.run_turns.ensures.space;
-  setting = c.run_turns.ensures.setting;
-  kept = c.run_turns.ensures.kept;
+  upheld = c.run_turns.ensures.upheld;
 }
 
 pub run_part-returns-in-Close : goal.run_part-returns-in-Close
@@ -297,11 +296,12 @@ run_part-returns-in-Close g t c = record {
       (g.M.Machine.state c.args.machine.now) (g.M.Machine.state c.loop-at.machine) (g.M.Machine.touches c.args.machine.now) (g.M.Machine.touches c.loop-at.machine)
       c.loop-at-test.true c.in-Close.is c.loop-at.invariant.behind c.loop-at.invariant.left;
   numbers = c.loop-at.invariant.numbers_same;
-  cause = no_cause _ _ c.loop-at.invariant.counted false≢true;
-  told = λ none. c.loop-at.invariant.counted;
-  space = c.loop-at.invariant.space;
-  setting = c.loop-at.invariant.setting;
-  kept = c.loop-at.invariant.kept;
+  upheld = record {
+    space = c.loop-at.invariant.space;
+    setting = c.loop-at.invariant.setting;
+    kept = c.loop-at.invariant.kept;
+    fault_reported = record { cause = no_cause _ _ c.loop-at.invariant.counted false≢true; quiet = λ none. c.loop-at.invariant.counted };
+  };
 }
 
 pub run_part-returns-in_err-close-in-Open : goal.run_part-returns-in_err-close-in-Open
@@ -312,11 +312,12 @@ run_part-returns-in_err-close-in-Open g t c =
       run = tt;
       end = tt;
       numbers = tt;
-      cause = cause_after _ _ _ c.loop-at.invariant.counted c.in_err-close-in-Open.ensures.cause;
-      told = λ none. c.in_err-close-in-Open.ensures.told none ∙ c.loop-at.invariant.counted;
-      space = c.run_loop.ensures.space ∙ c.loop-at.invariant.space;
-      setting = c.run_loop.ensures.setting ∙ c.loop-at.invariant.setting;
-      kept = g.met.M.Machine.keeps_on c.args.machine.now c.loop-at.machine c.run_loop.new.machine c.loop-at.invariant.kept c.run_loop.ensures.kept;
+      upheld = record {
+        space = c.run_loop.ensures.upheld.space ∙ c.loop-at.invariant.space;
+        setting = c.run_loop.ensures.upheld.setting ∙ c.loop-at.invariant.setting;
+        kept = g.met.M.Machine.keeps_on c.args.machine.now c.loop-at.machine c.run_loop.new.machine c.loop-at.invariant.kept c.run_loop.ensures.upheld.kept;
+        fault_reported = record { cause = cause_after _ _ _ c.loop-at.invariant.counted c.in_err-close-in-Open.ensures.upheld.fault_reported.cause; quiet = λ none. c.in_err-close-in-Open.ensures.upheld.fault_reported.quiet none ∙ c.loop-at.invariant.counted };
+      };
     })
 
 pub run_part-returns-in_err-run_action-in_default : goal.run_part-returns-in_err-run_action-in_default
@@ -327,11 +328,12 @@ run_part-returns-in_err-run_action-in_default g t c =
       run = tt;
       end = tt;
       numbers = tt;
-      cause = cause_after _ _ _ c.loop-at.invariant.counted c.in_err-run_action-in_default.ensures.cause;
-      told = λ none. c.in_err-run_action-in_default.ensures.told none ∙ c.loop-at.invariant.counted;
-      space = c.run_action.ensures.space ∙ c.loop-at.invariant.space;
-      setting = c.run_action.ensures.setting ∙ c.loop-at.invariant.setting;
-      kept = g.met.M.Machine.keeps_on c.args.machine.now c.loop-at.machine c.run_action.new.machine c.loop-at.invariant.kept c.run_action.ensures.kept;
+      upheld = record {
+        space = c.run_action.ensures.upheld.space ∙ c.loop-at.invariant.space;
+        setting = c.run_action.ensures.upheld.setting ∙ c.loop-at.invariant.setting;
+        kept = g.met.M.Machine.keeps_on c.args.machine.now c.loop-at.machine c.run_action.new.machine c.loop-at.invariant.kept c.run_action.ensures.upheld.kept;
+        fault_reported = record { cause = cause_after _ _ _ c.loop-at.invariant.counted c.in_err-run_action-in_default.ensures.upheld.fault_reported.cause; quiet = λ none. c.in_err-run_action-in_default.ensures.upheld.fault_reported.quiet none ∙ c.loop-at.invariant.counted };
+      };
     })
 
 pub run_part-returns : goal.run_part-returns
@@ -346,11 +348,12 @@ run_part-returns g t c = record {
       (g.M.Machine.state c.args.machine.now) (g.M.Machine.state c.loop-at.machine) (g.M.Machine.touches c.args.machine.now) (g.M.Machine.touches c.loop-at.machine)
       c.loop-at-test.false c.loop-at.invariant.behind c.loop-at.invariant.within c.loop-at.invariant.left;
   numbers = c.loop-at.invariant.numbers_same;
-  cause = no_cause _ _ c.loop-at.invariant.counted false≢true;
-  told = λ none. c.loop-at.invariant.counted;
-  space = c.loop-at.invariant.space;
-  setting = c.loop-at.invariant.setting;
-  kept = c.loop-at.invariant.kept;
+  upheld = record {
+    space = c.loop-at.invariant.space;
+    setting = c.loop-at.invariant.setting;
+    kept = c.loop-at.invariant.kept;
+    fault_reported = record { cause = no_cause _ _ c.loop-at.invariant.counted false≢true; quiet = λ none. c.loop-at.invariant.counted };
+  };
 }
 
 pub run_turns-returns-in_err-close : goal.run_turns-returns-in_err-close
@@ -361,11 +364,12 @@ run_turns-returns-in_err-close g t c =
       run = tt;
       end = tt;
       numbers = tt;
-      cause = c.in_err-close.ensures.cause;
-      told = c.in_err-close.ensures.told;
-      space = c.run_part.ensures.space;
-      setting = c.run_part.ensures.setting;
-      kept = c.run_part.ensures.kept;
+      upheld = record {
+        space = c.run_part.ensures.upheld.space;
+        setting = c.run_part.ensures.upheld.setting;
+        kept = c.run_part.ensures.upheld.kept;
+        fault_reported = c.in_err-close.ensures.upheld.fault_reported;
+      };
     })
 
 pub run_turns-returns-in_err-close-2 : goal.run_turns-returns-in_err-close-2
@@ -376,11 +380,12 @@ run_turns-returns-in_err-close-2 g t c =
       run = tt;
       end = tt;
       numbers = tt;
-      cause = cause_after _ _ _ c.loop-x.invariant.counted c.in_err-close-2.ensures.cause;
-      told = λ none. c.in_err-close-2.ensures.told none ∙ c.loop-x.invariant.counted;
-      space = c.run_part-in-loop-x.ensures.space ∙ c.loop-x.invariant.space;
-      setting = c.run_part-in-loop-x.ensures.setting ∙ c.loop-x.invariant.setting;
-      kept = g.met.M.Machine.keeps_on c.args.machine.now c.loop-x.machine c.run_part-in-loop-x.new.machine c.loop-x.invariant.kept c.run_part-in-loop-x.ensures.kept;
+      upheld = record {
+        space = c.run_part-in-loop-x.ensures.upheld.space ∙ c.loop-x.invariant.space;
+        setting = c.run_part-in-loop-x.ensures.upheld.setting ∙ c.loop-x.invariant.setting;
+        kept = g.met.M.Machine.keeps_on c.args.machine.now c.loop-x.machine c.run_part-in-loop-x.new.machine c.loop-x.invariant.kept c.run_part-in-loop-x.ensures.upheld.kept;
+        fault_reported = record { cause = cause_after _ _ _ c.loop-x.invariant.counted c.in_err-close-2.ensures.upheld.fault_reported.cause; quiet = λ none. c.in_err-close-2.ensures.upheld.fault_reported.quiet none ∙ c.loop-x.invariant.counted };
+      };
     })
 
 pub run_part-loop-at-init : goal.run_part-loop-at-init
@@ -470,11 +475,11 @@ run_along-loop-x-preserved g t c =
     (omega (arith, here, index.small, c.told-numbers)) c.loop-x.invariant.numbers_set
     ∙ ap₂ (with_number (assignment_of c.args.numbers.now)) here (ap (λ f. f + c.loop-x.x) first) in
     record {
-      setting = c.run_along.ensures.setting ∙ c.loop-x.invariant.setting;
-      space = c.run_along.ensures.space ∙ c.loop-x.invariant.space;
+      setting = c.run_along.ensures.upheld.setting ∙ c.loop-x.invariant.setting;
+      space = c.run_along.ensures.upheld.space ∙ c.loop-x.invariant.space;
       ready = (c.in_ok-run_along.ensures).ready;
-      kept = g.met.M.Machine.keeps_on c.args.machine.now c.loop-x.machine c.run_along.new.machine c.loop-x.invariant.kept c.run_along.ensures.kept;
-      counted = (c.in_ok-run_along.ensures).told (search rules) ∙ c.loop-x.invariant.counted;
+      kept = g.met.M.Machine.keeps_on c.args.machine.now c.loop-x.machine c.run_along.new.machine c.loop-x.invariant.kept c.run_along.ensures.upheld.kept;
+      counted = (c.in_ok-run_along.ensures).upheld.fault_reported.quiet (search rules) ∙ c.loop-x.invariant.counted;
       turns =
           part_turns-next c.args.walk.now.space.now c.args.walk.now.tree.now (g.M.Machine.setting c.args.machine.now) (g.M.Machine.setting c.loop-x.machine) (program_at c.args.walk.now.ops.now c.args.band.now.at) loops part c.args.d (assignment_of c.args.numbers.now)
           (assignment_of (set c.loop-x.numbers (get_or c.deref.result.now c.args.d 0) (get_or c.deref-2.result.now c.args.d 0 + c.loop-x.x))) c.loop-x.x
@@ -516,7 +521,7 @@ run_band-last_block-last-requires-clause-declared g t c =
 pub run_band-run_along-requires : goal.run_band-run_along-requires
 run_band-run_along-requires g t c = λ κs lives.
     let over : RunsOver c.args.walk.now.space.now c.args.walk.now.tree.now (g.M.Machine.space c.run_terms_of_band.new.machine) (g.M.Machine.setting c.run_terms_of_band.new.machine) =
-    over-later c.run_terms_of_band.ensures.space c.run_terms_of_band.ensures.setting c.requires.over in
+    over-later c.run_terms_of_band.ensures.upheld.space c.run_terms_of_band.ensures.upheld.setting c.requires.over in
     let is_last : part_of c.last_block-last.result ≡ last_part (extent_at c.args.walk.now.space.now) c.args.band.now.loops.0.items =
     c.last_block-last.ensures ∙ ap (last_part (extent_at c.args.walk.now.space.now)) c.as_slice.ensures.value in
     let fits =
@@ -540,7 +545,7 @@ run_band-run_along-requires g t c = λ κs lives.
               (
                 c.requires.limits,
                 (
-                  ap (λ (s : Setting). s.fusion) c.run_terms_of_band.ensures.setting ∙ c.requires.fused,
+                  ap (λ (s : Setting). s.fusion) c.run_terms_of_band.ensures.upheld.setting ∙ c.requires.fused,
                   (over, (c.requires.part, ((c.in_ok-run_terms_of_band.ensures).ready, few))),
                 ),
               ),
@@ -556,7 +561,7 @@ run_band-returns-in-Some-clause-run g t c =
     (g.M.Machine.setting c.run_terms_of_band.new.machine) c.args.walk.now.ops.now c.args.band.now c.in-Some.terms (assignment_of c.args.numbers.now) (part_of c.last_block-last.result)
     (g.M.Machine.state c.args.machine.now) (g.M.Machine.state c.run_terms_of_band.new.machine) (g.M.Machine.state c.run_along.new.machine)
     (g.M.Machine.touches c.args.machine.now) (g.M.Machine.touches c.run_terms_of_band.new.machine) (g.M.Machine.touches c.run_along.new.machine) c.requires.limits c.requires.over c.requires.fused
-    c.requires.band c.requires.part c.in-Some.ensures c.run_terms_of_band.ensures.setting
+    c.requires.band c.requires.part c.in-Some.ensures c.run_terms_of_band.ensures.upheld.setting
     (c.last_block-last.ensures ∙ ap (last_part (extent_at c.args.walk.now.space.now)) c.as_slice.ensures.value) (c.in_ok-run_terms_of_band.ensures).run (c.in_ok-run_along.ensures).run
 
 pub run_band-cuts_of-cuts-requires-clause-declared : goal.run_band-cuts_of-cuts-requires-clause-declared
@@ -611,11 +616,11 @@ run_band-run_block_of_band-requires g t c = λ κs lives.
 
 pub run_band-loop-parts-preserved : goal.run_band-loop-parts-preserved
 run_band-loop-parts-preserved g t c = record {
-  setting = c.run_block_of_band.ensures.setting ∙ c.loop-parts.invariant.setting;
-  space = c.run_block_of_band.ensures.space ∙ c.loop-parts.invariant.space;
+  setting = c.run_block_of_band.ensures.upheld.setting ∙ c.loop-parts.invariant.setting;
+  space = c.run_block_of_band.ensures.upheld.space ∙ c.loop-parts.invariant.space;
   ready = (c.in_ok-run_block_of_band.ensures).ready;
-  kept = g.met.M.Machine.keeps_on c.args.machine.now c.loop-parts.machine c.run_block_of_band.new.machine c.loop-parts.invariant.kept c.run_block_of_band.ensures.kept;
-  counted = (c.in_ok-run_block_of_band.ensures).told (search rules) ∙ c.loop-parts.invariant.counted;
+  kept = g.met.M.Machine.keeps_on c.args.machine.now c.loop-parts.machine c.run_block_of_band.new.machine c.loop-parts.invariant.kept c.run_block_of_band.ensures.upheld.kept;
+  counted = (c.in_ok-run_block_of_band.ensures).upheld.fault_reported.quiet (search rules) ∙ c.loop-parts.invariant.counted;
   left =
       blocks-next c.args.walk.now.space.now c.args.walk.now.tree.now (g.M.Machine.setting c.args.machine.now) (g.M.Machine.setting c.loop-parts.machine) (program_at c.args.walk.now.ops.now c.args.band.now.at) c.args.band.now.loops.0.items (assignment_of c.args.numbers.now) c.loop-parts.parts c.next_in.new.self (part_of c.next_in.new.block)
       (g.M.Machine.state c.args.machine.now) (g.M.Machine.state c.loop-parts.machine) (g.M.Machine.state c.run_block_of_band.new.machine)

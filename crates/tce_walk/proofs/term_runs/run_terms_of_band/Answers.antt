@@ -54,11 +54,11 @@ run_terms-requires-clause-few g c =
 
 pub loop-sum-preserved : goal.loop-sum-preserved
 loop-sum-preserved g c = record {
-  setting = c.run_terms.ensures.setting ∙ c.loop-sum.invariant.setting;
-  space = c.run_terms.ensures.space ∙ c.loop-sum.invariant.space;
+  setting = c.run_terms.ensures.upheld.setting ∙ c.loop-sum.invariant.setting;
+  space = c.run_terms.ensures.upheld.space ∙ c.loop-sum.invariant.space;
   ready = (c.in_ok-run_terms.ensures).ready;
-  kept = g.met.M.Machine.keeps_on c.args.machine.now c.loop-sum.machine c.run_terms.new.self c.loop-sum.invariant.kept c.run_terms.ensures.kept;
-  counted = (c.in_ok-run_terms.ensures).told (search rules) ∙ c.loop-sum.invariant.counted;
+  kept = g.met.M.Machine.keeps_on c.args.machine.now c.loop-sum.machine c.run_terms.new.self c.loop-sum.invariant.kept c.run_terms.ensures.upheld.kept;
+  counted = (c.in_ok-run_terms.ensures).upheld.fault_reported.quiet (search rules) ∙ c.loop-sum.invariant.counted;
   left =
       term_blocks-next c.args.walk.now.space.now (g.M.Machine.space c.loop-sum.machine) (g.M.Machine.setting c.args.machine.now) (g.M.Machine.setting c.loop-sum.machine) c.args.band.now.carrier
       c.args.band.now.loops.0.items c.args.terms.now.terms.items (assignment_of c.args.numbers.now)

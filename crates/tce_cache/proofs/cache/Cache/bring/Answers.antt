@@ -49,11 +49,11 @@ returns-in_err-frame-clause-outside g c = nothing_outside c.args.self.now c.args
 pub returns-in_err-frame-clause-others : goal.returns-in_err-frame-clause-others
 returns-in_err-frame-clause-others g c = c.take_frame.ensures.others
 
-pub returns-in_err-frame-clause-cause : goal.returns-in_err-frame-clause-cause
-returns-in_err-frame-clause-cause g c = cause_of (g.D.Disk.faults c.args.disk.now) (g.D.Disk.faults c.take_frame.new.disk) c.in_err-frame.ensures.cause
-
-pub returns-in_err-frame-clause-told : goal.returns-in_err-frame-clause-told
-returns-in_err-frame-clause-told g c = λ none. absurd (none c.from_residual.ensures.0)
+pub returns-in_err-frame-clause-fault_reported : goal.returns-in_err-frame-clause-fault_reported
+returns-in_err-frame-clause-fault_reported g c = record {
+  cause = cause_of (g.D.Disk.faults c.args.disk.now) (g.D.Disk.faults c.take_frame.new.disk) c.in_err-frame.ensures.fault_reported.cause;
+  quiet = λ none. absurd (none c.from_residual.ensures.0);
+}
 
 pub read_tile-requires-clause-exists : goal.read_tile-requires-clause-exists
 read_tile-requires-clause-exists g c = subst (λ (z : State). Exists z c.args.array c.args.tile) (sym c.in_ok-frame.ensures.same) c.requires.exists
@@ -89,11 +89,11 @@ returns-in_err-read_tile-clause-cache g c = subst IsCache (sym c.read_tile.ensur
 pub returns-in_err-read_tile-clause-others : goal.returns-in_err-read_tile-clause-others
 returns-in_err-read_tile-clause-others g c = subst (OnlyWritableDiffers c.args.self.now (g.D.Disk.files c.args.disk.now)) (sym c.read_tile.ensures.same) c.take_frame.ensures.others
 
-pub returns-in_err-read_tile-clause-cause : goal.returns-in_err-read_tile-clause-cause
-returns-in_err-read_tile-clause-cause g c = failed_after (g.D.Disk.faults c.args.disk.now) (g.D.Disk.faults c.take_frame.new.disk) (g.D.Disk.faults c.read_tile.new.disk) (c.in_ok-frame.ensures.told false≢true) c.in_err-read_tile.ensures.cause
-
-pub returns-in_err-read_tile-clause-told : goal.returns-in_err-read_tile-clause-told
-returns-in_err-read_tile-clause-told g c = λ none. absurd (none c.from_residual-in_err-read_tile.ensures.0)
+pub returns-in_err-read_tile-clause-fault_reported : goal.returns-in_err-read_tile-clause-fault_reported
+returns-in_err-read_tile-clause-fault_reported g c = record {
+  cause = failed_after (g.D.Disk.faults c.args.disk.now) (g.D.Disk.faults c.take_frame.new.disk) (g.D.Disk.faults c.read_tile.new.disk) (c.in_ok-frame.ensures.fault_reported.quiet false≢true) c.in_err-read_tile.ensures.fault_reported.cause;
+  quiet = λ none. absurd (none c.from_residual-in_err-read_tile.ensures.0);
+}
 
 pub returns-in_err-read_tile-clause-outside : goal.returns-in_err-read_tile-clause-outside
 returns-in_err-read_tile-clause-outside g c =
@@ -136,8 +136,8 @@ returns-clause-cache g c = subst IsCache (sym c.read_tile.ensures.cache) c.take_
 pub returns-clause-others : goal.returns-clause-others
 returns-clause-others g c = subst (OnlyWritableDiffers c.args.self.now (g.D.Disk.files c.args.disk.now)) (sym c.read_tile.ensures.same) c.take_frame.ensures.others
 
-pub returns-clause-cause : goal.returns-clause-cause
-returns-clause-cause g c = no_cause (g.D.Disk.faults c.args.disk.now) (g.D.Disk.faults c.read_tile.new.disk) (c.in_ok-read_tile.ensures.told false≢true ∙ c.in_ok-frame.ensures.told false≢true) false≢true
-
-pub returns-clause-told : goal.returns-clause-told
-returns-clause-told g c = λ none. c.in_ok-read_tile.ensures.told false≢true ∙ c.in_ok-frame.ensures.told false≢true
+pub returns-clause-fault_reported : goal.returns-clause-fault_reported
+returns-clause-fault_reported g c = record {
+  cause = no_cause (g.D.Disk.faults c.args.disk.now) (g.D.Disk.faults c.read_tile.new.disk) (c.in_ok-read_tile.ensures.fault_reported.quiet false≢true ∙ c.in_ok-frame.ensures.fault_reported.quiet false≢true) false≢true;
+  quiet = λ none. c.in_ok-read_tile.ensures.fault_reported.quiet false≢true ∙ c.in_ok-frame.ensures.fault_reported.quiet false≢true;
+}

@@ -66,11 +66,11 @@ returns-in_err-frame-clause-same g c = c.write_back.ensures.same ∙ ap (λ (z :
 pub returns-in_err-frame-clause-cache : goal.returns-in_err-frame-clause-cache
 returns-in_err-frame-clause-cache g c = c.write_back.ensures.cache
 
-pub returns-in_err-frame-clause-cause : goal.returns-in_err-frame-clause-cause
-returns-in_err-frame-clause-cause g c = failed_after (g.D.Disk.faults c.args.disk.now) (g.D.Disk.faults c.loop-frame.disk) (g.D.Disk.faults c.write_back.new.disk) c.loop-frame.invariant.counted c.in_err-frame.ensures.cause
-
-pub returns-in_err-frame-clause-told : goal.returns-in_err-frame-clause-told
-returns-in_err-frame-clause-told g c = λ none. absurd (none c.from_residual.ensures.0)
+pub returns-in_err-frame-clause-fault_reported : goal.returns-in_err-frame-clause-fault_reported
+returns-in_err-frame-clause-fault_reported g c = record {
+  cause = failed_after (g.D.Disk.faults c.args.disk.now) (g.D.Disk.faults c.loop-frame.disk) (g.D.Disk.faults c.write_back.new.disk) c.loop-frame.invariant.counted c.in_err-frame.ensures.fault_reported.cause;
+  quiet = λ none. absurd (none c.from_residual.ensures.0);
+}
 
 pub returns-in_err-frame-clause-others : goal.returns-in_err-frame-clause-others
 returns-in_err-frame-clause-others g c =
@@ -117,7 +117,7 @@ loop-frame-preserved g c =
           let second = subst (λ (z : State). IsSameArrays (with_held s l.held s.touches) z middle.0 y words words) state (subst (λ (z : State). IsSameArrays z n middle.0 y words words) before.state (back.arrays middle.0 middle.1 y now)) in
           subst (λ (z : State). IsSameArrays s z x y words words) (sym state) (same_trans s l.held n.held s.touches s.touches x middle.0 y words words words first second);
       others = both_differ s _ _ _ before.others (differ_again s l.held s.touches _ _ (subst (λ (z : State). OnlyWritableDiffers z (g.D.Disk.files c.loop-frame.disk) (g.D.Disk.files c.write_back.new.disk)) before.state back.others));
-      counted = back.told false≢true ∙ before.counted;
+      counted = back.fault_reported.quiet false≢true ∙ before.counted;
     }
 
 pub returns-clause-flushed : goal.returns-clause-flushed
@@ -149,8 +149,8 @@ returns-clause-cache g c = c.loop-frame.invariant.cache
 pub returns-clause-others : goal.returns-clause-others
 returns-clause-others g c = c.loop-frame.invariant.others
 
-pub returns-clause-cause : goal.returns-clause-cause
-returns-clause-cause g c = no_cause (g.D.Disk.faults c.args.disk.now) (g.D.Disk.faults c.loop-frame.disk) c.loop-frame.invariant.counted false≢true
-
-pub returns-clause-told : goal.returns-clause-told
-returns-clause-told g c = λ _. c.loop-frame.invariant.counted
+pub returns-clause-fault_reported : goal.returns-clause-fault_reported
+returns-clause-fault_reported g c = record {
+  cause = no_cause (g.D.Disk.faults c.args.disk.now) (g.D.Disk.faults c.loop-frame.disk) c.loop-frame.invariant.counted false≢true;
+  quiet = λ _. c.loop-frame.invariant.counted;
+}

@@ -63,11 +63,11 @@ returns-in_err-read_words-clause-len g c = c.read_words.ensures.len
 pub returns-in_err-read_words-clause-same : goal.returns-in_err-read_words-clause-same
 returns-in_err-read_words-clause-same g c = c.read_words.ensures.same
 
-pub returns-in_err-read_words-clause-cause : goal.returns-in_err-read_words-clause-cause
-returns-in_err-read_words-clause-cause g c = cause_of (g.D.Disk.faults c.args.disk.now) (g.D.Disk.faults c.read_words.new.disk) c.in_err-read_words.ensures.cause
-
-pub returns-in_err-read_words-clause-told : goal.returns-in_err-read_words-clause-told
-returns-in_err-read_words-clause-told g c = λ none. absurd (none c.from_residual.ensures.0)
+pub returns-in_err-read_words-clause-fault_reported : goal.returns-in_err-read_words-clause-fault_reported
+returns-in_err-read_words-clause-fault_reported g c = record {
+  cause = cause_of (g.D.Disk.faults c.args.disk.now) (g.D.Disk.faults c.read_words.new.disk) c.in_err-read_words.ensures.fault_reported.cause;
+  quiet = λ none. absurd (none c.from_residual.ensures.0);
+}
 
 pub returns-in_err-read_words-clause-others : goal.returns-in_err-read_words-clause-others
 returns-in_err-read_words-clause-others g c =
@@ -95,8 +95,5 @@ returns-clause-len g c = c.read_words.ensures.len
 pub returns-clause-same : goal.returns-clause-same
 returns-clause-same g c = c.read_words.ensures.same
 
-pub returns-clause-cause : goal.returns-clause-cause
-returns-clause-cause g c = c.in_ok-read_words.ensures.cause
-
-pub returns-clause-told : goal.returns-clause-told
-returns-clause-told g c = c.in_ok-read_words.ensures.told
+pub returns-clause-fault_reported : goal.returns-clause-fault_reported
+returns-clause-fault_reported g c = c.in_ok-read_words.ensures.fault_reported

@@ -86,11 +86,11 @@ returns-then-len-frames-clause-cache g c =
 pub returns-then-len-frames-clause-others : goal.returns-then-len-frames-clause-others
 returns-then-len-frames-clause-others g c = no_others c.args.self.now (g.D.Disk.files c.args.disk.now)
 
-pub returns-then-len-frames-clause-cause : goal.returns-then-len-frames-clause-cause
-returns-then-len-frames-clause-cause g c = no_cause (g.D.Disk.faults c.args.disk.now) _ refl false≢true
-
-pub returns-then-len-frames-clause-told : goal.returns-then-len-frames-clause-told
-returns-then-len-frames-clause-told g c = λ none. refl
+pub returns-then-len-frames-clause-fault_reported : goal.returns-then-len-frames-clause-fault_reported
+returns-then-len-frames-clause-fault_reported g c = record {
+  cause = no_cause (g.D.Disk.faults c.args.disk.now) _ refl false≢true;
+  quiet = λ none. refl;
+}
 
 -- the oldest tile is given up
 pub oldest-oldest-requires : goal.oldest-oldest-requires
@@ -129,11 +129,11 @@ returns-in_err-write_back-clause-cache g c = c.write_back.ensures.cache
 pub returns-in_err-write_back-clause-others : goal.returns-in_err-write_back-clause-others
 returns-in_err-write_back-clause-others g c = c.write_back.ensures.others
 
-pub returns-in_err-write_back-clause-cause : goal.returns-in_err-write_back-clause-cause
-returns-in_err-write_back-clause-cause g c = cause_of (g.D.Disk.faults c.args.disk.now) (g.D.Disk.faults c.write_back.new.disk) c.in_err-write_back.ensures.cause
-
-pub returns-in_err-write_back-clause-told : goal.returns-in_err-write_back-clause-told
-returns-in_err-write_back-clause-told g c = λ none. absurd (none c.from_residual.ensures.0)
+pub returns-in_err-write_back-clause-fault_reported : goal.returns-in_err-write_back-clause-fault_reported
+returns-in_err-write_back-clause-fault_reported g c = record {
+  cause = cause_of (g.D.Disk.faults c.args.disk.now) (g.D.Disk.faults c.write_back.new.disk) c.in_err-write_back.ensures.fault_reported.cause;
+  quiet = λ none. absurd (none c.from_residual.ensures.0);
+}
 
 pub replace-requires-clause-frame : goal.replace-requires-clause-frame
 replace-requires-clause-frame g c =
@@ -254,8 +254,5 @@ returns-clause-same g c =
 pub returns-clause-others : goal.returns-clause-others
 returns-clause-others g c = c.write_back.ensures.others
 
-pub returns-clause-cause : goal.returns-clause-cause
-returns-clause-cause g c = c.in_ok-write_back.ensures.cause
-
-pub returns-clause-told : goal.returns-clause-told
-returns-clause-told g c = c.in_ok-write_back.ensures.told
+pub returns-clause-fault_reported : goal.returns-clause-fault_reported
+returns-clause-fault_reported g c = c.in_ok-write_back.ensures.fault_reported

@@ -268,19 +268,16 @@ returns-in_ok-frame-in-None-clause-others g c =
     let v : State = record { arrays = s.arrays.items; at = s.at; frames = s.table.frames; frame_words = s.frame_words; held = s.table.held; touches = s.touches } in
     others_counted v c.args.self.now (s.touches + 1) (g.D.Disk.files c.args.disk.now) (g.D.Disk.files c.bring.new.disk) c.self.view_is c.bring.ensures.others
 
-pub returns-in_err-frame-in-None-clause-cause : goal.returns-in_err-frame-in-None-clause-cause
-returns-in_err-frame-in-None-clause-cause g c = cause_of (g.D.Disk.faults c.args.disk.now) (g.D.Disk.faults c.bring.new.disk) c.in_err-frame-in-None.ensures.cause
+pub returns-in_err-frame-in-None-clause-fault_reported : goal.returns-in_err-frame-in-None-clause-fault_reported
+returns-in_err-frame-in-None-clause-fault_reported g c = record {
+  cause = cause_of (g.D.Disk.faults c.args.disk.now) (g.D.Disk.faults c.bring.new.disk) c.in_err-frame-in-None.ensures.fault_reported.cause;
+  quiet =
+      let p = err_from_is_err_and c.from_residual.result c.from_residual.ensures.1 in
+      λ none. absurd (none (ap is_err p.1));
+}
 
-pub returns-in_err-frame-in-None-clause-told : goal.returns-in_err-frame-in-None-clause-told
-returns-in_err-frame-in-None-clause-told g c =
-    let p = err_from_is_err_and c.from_residual.result c.from_residual.ensures.1 in
-    λ none. absurd (none (ap is_err p.1))
-
-pub returns-in_ok-frame-in-None-clause-cause : goal.returns-in_ok-frame-in-None-clause-cause
-returns-in_ok-frame-in-None-clause-cause g c = c.in_ok-frame-in-None.ensures.cause
-
-pub returns-in_ok-frame-in-None-clause-told : goal.returns-in_ok-frame-in-None-clause-told
-returns-in_ok-frame-in-None-clause-told g c = c.in_ok-frame-in-None.ensures.told
+pub returns-in_ok-frame-in-None-clause-fault_reported : goal.returns-in_ok-frame-in-None-clause-fault_reported
+returns-in_ok-frame-in-None-clause-fault_reported g c = c.in_ok-frame-in-None.ensures.fault_reported
 
 pub returns-in-Some-clause-held : goal.returns-in-Some-clause-held
 returns-in-Some-clause-held g c = λ some. (refl, refl, refl, refl)
@@ -298,8 +295,8 @@ returns-in-Some-clause-outside g c = nothing_outside c.args.self.now c.args.word
 pub returns-in-Some-clause-others : goal.returns-in-Some-clause-others
 returns-in-Some-clause-others g c = no_others c.args.self.now (g.D.Disk.files c.args.disk.now)
 
-pub returns-in-Some-clause-cause : goal.returns-in-Some-clause-cause
-returns-in-Some-clause-cause g c = no_cause (g.D.Disk.faults c.args.disk.now) _ refl false≢true
-
-pub returns-in-Some-clause-told : goal.returns-in-Some-clause-told
-returns-in-Some-clause-told g c = λ none. refl
+pub returns-in-Some-clause-fault_reported : goal.returns-in-Some-clause-fault_reported
+returns-in-Some-clause-fault_reported g c = record {
+  cause = no_cause (g.D.Disk.faults c.args.disk.now) _ refl false≢true;
+  quiet = λ none. refl;
+}

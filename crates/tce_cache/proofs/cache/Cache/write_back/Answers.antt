@@ -51,11 +51,11 @@ returns-then-not-held-clause-cache g c = subst IsCache c.self.view_is c.self.inv
 pub returns-then-not-held-clause-others : goal.returns-then-not-held-clause-others
 returns-then-not-held-clause-others g c = no_others c.args.self.now (g.D.Disk.files c.args.disk.now)
 
-pub returns-then-not-held-clause-cause : goal.returns-then-not-held-clause-cause
-returns-then-not-held-clause-cause g c = no_cause (g.D.Disk.faults c.args.disk.now) _ refl false≢true
-
-pub returns-then-not-held-clause-told : goal.returns-then-not-held-clause-told
-returns-then-not-held-clause-told g c = λ none. refl
+pub returns-then-not-held-clause-fault_reported : goal.returns-then-not-held-clause-fault_reported
+returns-then-not-held-clause-fault_reported g c = record {
+  cause = no_cause (g.D.Disk.faults c.args.disk.now) _ refl false≢true;
+  quiet = λ none. refl;
+}
 
 -- a run is written
 pub same-self-2 : goal.same-self-2
@@ -101,11 +101,11 @@ returns-in_err-write_run-clause-cache g c = subst IsCache (c.self.view_is ∙ sy
 pub returns-in_err-write_run-clause-others : goal.returns-in_err-write_run-clause-others
 returns-in_err-write_run-clause-others g c = c.write_run.ensures.others
 
-pub returns-in_err-write_run-clause-cause : goal.returns-in_err-write_run-clause-cause
-returns-in_err-write_run-clause-cause g c = cause_of (g.D.Disk.faults c.args.disk.now) (g.D.Disk.faults c.write_run.new.disk) c.in_err-write_run.ensures.cause
-
-pub returns-in_err-write_run-clause-told : goal.returns-in_err-write_run-clause-told
-returns-in_err-write_run-clause-told g c = λ none. absurd (none c.from_residual.ensures.0)
+pub returns-in_err-write_run-clause-fault_reported : goal.returns-in_err-write_run-clause-fault_reported
+returns-in_err-write_run-clause-fault_reported g c = record {
+  cause = cause_of (g.D.Disk.faults c.args.disk.now) (g.D.Disk.faults c.write_run.new.disk) c.in_err-write_run.ensures.fault_reported.cause;
+  quiet = λ none. absurd (none c.from_residual.ensures.0);
+}
 
 pub clean_run-requires-clause-cache : goal.clean_run-requires-clause-cache
 clean_run-requires-clause-cache g c = subst IsCache (c.self.view_is ∙ sym c.write_run.ensures.cache) c.self.invariant.cache
@@ -139,8 +139,5 @@ returns-clause-cache g c = c.clean_run.ensures.cache
 pub returns-clause-others : goal.returns-clause-others
 returns-clause-others g c = c.write_run.ensures.others
 
-pub returns-clause-cause : goal.returns-clause-cause
-returns-clause-cause g c = c.in_ok-write_run.ensures.cause
-
-pub returns-clause-told : goal.returns-clause-told
-returns-clause-told g c = c.in_ok-write_run.ensures.told
+pub returns-clause-fault_reported : goal.returns-clause-fault_reported
+returns-clause-fault_reported g c = c.in_ok-write_run.ensures.fault_reported

@@ -107,14 +107,11 @@ returns-clause-others g c =
 pub returns-in_err-write_words-clause-written : goal.returns-in_err-write_words-clause-written
 returns-in_err-write_words-clause-written g c = IfOk-from_err c.from_residual.result _ c.from_residual.ensures.0
 
-pub returns-in_err-write_words-clause-cause : goal.returns-in_err-write_words-clause-cause
-returns-in_err-write_words-clause-cause g c = cause_of (g.D.Disk.faults c.args.disk.now) (g.D.Disk.faults c.write_words.new.disk) c.in_err-write_words.ensures.cause
+pub returns-in_err-write_words-clause-fault_reported : goal.returns-in_err-write_words-clause-fault_reported
+returns-in_err-write_words-clause-fault_reported g c = record {
+  cause = cause_of (g.D.Disk.faults c.args.disk.now) (g.D.Disk.faults c.write_words.new.disk) c.in_err-write_words.ensures.fault_reported.cause;
+  quiet = λ none. absurd (none c.from_residual.ensures.0);
+}
 
-pub returns-in_err-write_words-clause-told : goal.returns-in_err-write_words-clause-told
-returns-in_err-write_words-clause-told g c = λ none. absurd (none c.from_residual.ensures.0)
-
-pub returns-clause-cause : goal.returns-clause-cause
-returns-clause-cause g c = c.in_ok-write_words.ensures.cause
-
-pub returns-clause-told : goal.returns-clause-told
-returns-clause-told g c = c.in_ok-write_words.ensures.told
+pub returns-clause-fault_reported : goal.returns-clause-fault_reported
+returns-clause-fault_reported g c = c.in_ok-write_words.ensures.fault_reported

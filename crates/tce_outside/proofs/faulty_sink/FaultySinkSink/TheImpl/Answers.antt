@@ -8,6 +8,5 @@ put-tells c =
       whole = search rules;
       memory = search rules;
       prefix = put_prefix c.result _ _ _ c.ensures.whole c.ensures.err;
-      cause = search rules;
-      told = search rules;
+      fault_reported = record { cause = search rules; quiet = search rules };
     }

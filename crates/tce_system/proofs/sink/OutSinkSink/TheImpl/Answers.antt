@@ -3,4 +3,4 @@ use Rattle.tce_system.proofs.Counted.{still_untold, counted_cause_of, counted_to
 use Rattle.tce_system.proofs.sink.OutSinkSink.TheImpl.Goals as goal
 
 pub put-tells : goal.put-tells
-put-tells g c = record { whole = still_untold c.result _; memory = search rules; prefix = (0, search rules); cause = counted_cause_of c.result _ _ _ c.ensures.counted; told = counted_told_of c.result _ _ _ c.ensures.failed c.ensures.counted }
+put-tells g c = record { whole = still_untold c.result _; memory = search rules; prefix = (0, search rules); fault_reported = record { cause = counted_cause_of c.result _ _ _ c.ensures.counted; quiet = counted_told_of c.result _ _ _ c.ensures.failed c.ensures.counted } }

@@ -64,14 +64,14 @@ returns-in-Ok-clause-made g c =
 pub returns-in-Ok-clause-memory : goal.returns-in-Ok-clause-memory
 returns-in-Ok-clause-memory g c = λ fault. absurd (no_failure tt Memory _ refl fault)
 
-pub returns-in-Ok-clause-cause : goal.returns-in-Ok-clause-cause
-returns-in-Ok-clause-cause g c =
-    cause_after c.args.self.now.faults (g.D.Disk.faults c.self.inside.disk) (g.D.Disk.faults c.make.new.self)
-    (ap (λ (t : Told). t.faults) c.self.view_is)
-    c.in_ok-make.ensures.cause
-
-pub returns-in-Ok-clause-told : goal.returns-in-Ok-clause-told
-returns-in-Ok-clause-told g c = λ none. c.in_ok-make.ensures.told none ∙ ap (λ (t : Told). t.faults) c.self.view_is
+pub returns-in-Ok-clause-fault_reported : goal.returns-in-Ok-clause-fault_reported
+returns-in-Ok-clause-fault_reported g c = record {
+  cause =
+      cause_after c.args.self.now.faults (g.D.Disk.faults c.self.inside.disk) (g.D.Disk.faults c.make.new.self)
+      (ap (λ (t : Told). t.faults) c.self.view_is)
+      c.in_ok-make.ensures.fault_reported.cause;
+  quiet = λ none. c.in_ok-make.ensures.fault_reported.quiet none ∙ ap (λ (t : Told). t.faults) c.self.view_is;
+}
 
 pub returns-in_default-clause-made : goal.returns-in_default-clause-made
 returns-in_default-clause-made g c =
@@ -82,11 +82,11 @@ returns-in_default-clause-made g c =
 pub returns-in_default-clause-memory : goal.returns-in_default-clause-memory
 returns-in_default-clause-memory g c = λ fault. absurd (no_failure tt Memory _ refl fault)
 
-pub returns-in_default-clause-cause : goal.returns-in_default-clause-cause
-returns-in_default-clause-cause g c =
-    cause_after c.args.self.now.faults (g.D.Disk.faults c.self.inside.disk) (g.D.Disk.faults c.make.new.self)
-    (ap (λ (t : Told). t.faults) c.self.view_is)
-    c.in_ok-make.ensures.cause
-
-pub returns-in_default-clause-told : goal.returns-in_default-clause-told
-returns-in_default-clause-told g c = λ none. c.in_ok-make.ensures.told none ∙ ap (λ (t : Told). t.faults) c.self.view_is
+pub returns-in_default-clause-fault_reported : goal.returns-in_default-clause-fault_reported
+returns-in_default-clause-fault_reported g c = record {
+  cause =
+      cause_after c.args.self.now.faults (g.D.Disk.faults c.self.inside.disk) (g.D.Disk.faults c.make.new.self)
+      (ap (λ (t : Told). t.faults) c.self.view_is)
+      c.in_ok-make.ensures.fault_reported.cause;
+  quiet = λ none. c.in_ok-make.ensures.fault_reported.quiet none ∙ ap (λ (t : Told). t.faults) c.self.view_is;
+}

@@ -1,4 +1,4 @@
-use Rattle.std.proofs.Common.{◌∙◌, length, ap, refl, subst}
+use Rattle.std.proofs.Common.{◌∙◌, length, ap, refl, subst, rules}
 use Rattle.std.specs.Result.{OnOk}
 use Rattle.tce_outside.specs.Files.{IsPartIn}
 use Rattle.tce_outside.proofs.Causes.{cause_after}
@@ -8,8 +8,11 @@ use Rattle.tce_system.proofs.sparse_disk.SparseDiskDisk.read_at.Goals as goal
 pub returns-then-is_hole-clause-same : goal.returns-then-is_hole-clause-same
 returns-then-is_hole-clause-same g c = refl
 
-pub returns-then-is_hole-clause-told : goal.returns-then-is_hole-clause-told
-returns-then-is_hole-clause-told g c = λ none. refl
+pub returns-then-is_hole-clause-fault_reported : goal.returns-then-is_hole-clause-fault_reported
+returns-then-is_hole-clause-fault_reported g c = record {
+  cause = search rules;
+  quiet = λ none. refl;
+}
 
 pub returns-clause-read : goal.returns-clause-read
 returns-clause-read g c =
@@ -18,11 +21,11 @@ returns-clause-read g c =
 pub returns-clause-same : goal.returns-clause-same
 returns-clause-same g c = c.read_at.ensures.same ∙ ap (λ (t : Told). t.files) c.self.view_is
 
-pub returns-clause-cause : goal.returns-clause-cause
-returns-clause-cause g c =
-    cause_after c.args.self.now.faults (g.D.Disk.faults c.self.inside.disk) (g.D.Disk.faults c.read_at.new.self)
-    (ap (λ (t : Told). t.faults) c.self.view_is)
-    c.read_at.ensures.cause
-
-pub returns-clause-told : goal.returns-clause-told
-returns-clause-told g c = λ none. c.read_at.ensures.told none ∙ ap (λ (t : Told). t.faults) c.self.view_is
+pub returns-clause-fault_reported : goal.returns-clause-fault_reported
+returns-clause-fault_reported g c = record {
+  cause =
+      cause_after c.args.self.now.faults (g.D.Disk.faults c.self.inside.disk) (g.D.Disk.faults c.read_at.new.self)
+      (ap (λ (t : Told). t.faults) c.self.view_is)
+      c.read_at.ensures.fault_reported.cause;
+  quiet = λ none. c.read_at.ensures.fault_reported.quiet none ∙ ap (λ (t : Told). t.faults) c.self.view_is;
+}

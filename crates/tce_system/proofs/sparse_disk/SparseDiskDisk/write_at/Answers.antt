@@ -34,14 +34,14 @@ returns-in-Ok-clause-others g c =
     (ap (λ (t : Told). t.files) c.self.view_is)
     c.write_at.ensures.others
 
-pub returns-in-Ok-clause-cause : goal.returns-in-Ok-clause-cause
-returns-in-Ok-clause-cause g c =
-    cause_after c.args.self.now.faults (g.D.Disk.faults c.self.inside.disk) (g.D.Disk.faults c.write_at.new.self)
-    (ap (λ (t : Told). t.faults) c.self.view_is)
-    c.in-Ok.ensures.cause
-
-pub returns-in-Ok-clause-told : goal.returns-in-Ok-clause-told
-returns-in-Ok-clause-told g c = λ none. c.in-Ok.ensures.told none ∙ ap (λ (t : Told). t.faults) c.self.view_is
+pub returns-in-Ok-clause-fault_reported : goal.returns-in-Ok-clause-fault_reported
+returns-in-Ok-clause-fault_reported g c = record {
+  cause =
+      cause_after c.args.self.now.faults (g.D.Disk.faults c.self.inside.disk) (g.D.Disk.faults c.write_at.new.self)
+      (ap (λ (t : Told). t.faults) c.self.view_is)
+      c.in-Ok.ensures.fault_reported.cause;
+  quiet = λ none. c.in-Ok.ensures.fault_reported.quiet none ∙ ap (λ (t : Told). t.faults) c.self.view_is;
+}
 
 pub returns-in-Err-clause-written : goal.returns-in-Err-clause-written
 returns-in-Err-clause-written g c = tt
@@ -60,11 +60,11 @@ returns-in-Err-clause-others g c =
     (ap (λ (t : Told). t.files) c.self.view_is)
     c.write_at.ensures.others
 
-pub returns-in-Err-clause-cause : goal.returns-in-Err-clause-cause
-returns-in-Err-clause-cause g c =
-    cause_after c.args.self.now.faults (g.D.Disk.faults c.self.inside.disk) (g.D.Disk.faults c.write_at.new.self)
-    (ap (λ (t : Told). t.faults) c.self.view_is)
-    c.in-Err.ensures.cause
-
-pub returns-in-Err-clause-told : goal.returns-in-Err-clause-told
-returns-in-Err-clause-told g c = λ none. c.in-Err.ensures.told none ∙ ap (λ (t : Told). t.faults) c.self.view_is
+pub returns-in-Err-clause-fault_reported : goal.returns-in-Err-clause-fault_reported
+returns-in-Err-clause-fault_reported g c = record {
+  cause =
+      cause_after c.args.self.now.faults (g.D.Disk.faults c.self.inside.disk) (g.D.Disk.faults c.write_at.new.self)
+      (ap (λ (t : Told). t.faults) c.self.view_is)
+      c.in-Err.ensures.fault_reported.cause;
+  quiet = λ none. c.in-Err.ensures.fault_reported.quiet none ∙ ap (λ (t : Told). t.faults) c.self.view_is;
+}
