@@ -1,6 +1,6 @@
 // What is put on the sink.
 ghost use Rattle.std.specs.Prelude.{◌≡◌};
-ghost use Rattle.tce_outside.specs.Fault.{HasCause};
+ghost use Rattle.tce_outside.specs.Fault.{FaultReported, HasCause};
 ghost use Rattle.tce_command.specs.Outcome.{Grew, GrewWithin, HasLine, IsKept, IsReported, PutsLine, PutsStatus};
 ghost use Rattle.tce_command.specs.CommandRefusals.{PutsRefusal};
 ghost use Rattle.tce_command.specs.Report.{IsWellFormed, ending_of};
@@ -66,7 +66,7 @@ pub fn finish<K: Sink>(report: &[u8], out: &mut K) -> Status
     ensures memory { result ≡ Status.WantOfMemory → K.bytes out.new ≡ K.bytes out.old }
     ensures cases { IsReported result }
     ensures well_formed { IsWellFormed result }
-    ensures cause { HasCause (K.faults out.old) (K.faults out.new) (result ≡ Status.SinkFault) }
+    ensures fault_reported { FaultReported K.faults out.old out.new (result ≡ Status.SinkFault) }
 {
     match out.put(report) {
         Ok(()) => Status::Done,

@@ -248,7 +248,7 @@ pub returns-in-Ok-clause-well_formed : goal.returns-in-Ok-clause-well_formed
 returns-in-Ok-clause-well_formed g c = c.finish.ensures.well_formed
 
 pub returns-in-Ok-clause-sink_fault : goal.returns-in-Ok-clause-sink_fault
-returns-in-Ok-clause-sink_fault g c = c.finish.ensures.cause
+returns-in-Ok-clause-sink_fault g c = c.finish.ensures.fault_reported.cause
 
 pub returns-in-Ok-clause-unchanged : goal.returns-in-Ok-clause-unchanged
 returns-in-Ok-clause-unchanged g c = λ refused. absurd (no_refusal_ends _ c.finish.ensures.cases refused)
