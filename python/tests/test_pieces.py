@@ -151,15 +151,16 @@ def waiting_program(folder, number):
     path = Path(folder) / "waiting-tce"
     path.write_text(f"#!/bin/sh\nif [ \"$1\" = run ]; then\n  echo $PPID >> {folder}/started\n"
                     f"  if [ $(wc -l < {folder}/started) -ge {number} ] && mkdir {folder}/waits 2> {folder}/said; then\n"
+                    f"    echo $PPID > {folder}/pid\n    mv {folder}/pid {folder}/waits/pid\n"
                     "    while kill -0 $PPID; do sleep 0.1; done\n    exit 1\n  fi\nfi\nexec \"$CABUNLIT_TCE\" \"$@\"\n")
     path.chmod(0o755)
     return path
 
 
 def callers():
-    """Who called the program that waits, once it does."""
-    wait_for(lambda: Path("waits").exists())
-    return [int(it) for it in Path("started").read_text().split()]
+    """Who called the program, each time until it waits; and last who called the one that waits, which need not be the last to begin."""
+    wait_for(lambda: Path("waits/pid").exists())
+    return [int(it) for it in [*Path("started").read_text().split(), Path("waits/pid").read_text()]]
 
 
 def test_a_pool_that_breaks_leaves_what_is_done(own_folder):
@@ -200,7 +201,7 @@ def test_dask_does_the_pieces_of_a_killed_worker_again(own_folder):
         client = distributed.Client(scheduler_file="scheduler.json")
         client.wait_for_workers(2)
 
-        thread = threading.Thread(target=lambda: os.kill(callers()[0], signal.SIGKILL))
+        thread = threading.Thread(target=lambda: os.kill(callers()[-1], signal.SIGKILL))
         thread.start()
         run_pieces(made, client.get_executor(), memory="1 MiB", program=waiting_program(own_folder, 1))
         thread.join()
@@ -238,7 +239,7 @@ def test_an_interrupted_call_goes_on(own_folder):
     made = cut(SPEC, "i", 4, {"A": A, "B": B}, folder="p")
     code = f"from cabunlit import run_pieces\nrun_pieces('p', program={str(waiting_program(own_folder, 3))!r})\n"
     process = subprocess.Popen([sys.executable, "-c", code], env={**os.environ, "PYTHONPATH": PACKAGE}, stderr=subprocess.DEVNULL)
-    assert callers() == [process.pid] * 3
+    assert callers() == [process.pid] * 4
     process.send_signal(signal.SIGINT)
     assert process.wait(300) != 0
     assert made.missing() == [2, 3]
