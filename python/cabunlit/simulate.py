@@ -48,7 +48,7 @@ class Reads:
     least : int
         The tiles of all operands: each read once.
     exact : bool
-        Whether every loop was followed; else the turns of some were counted as the third of them.
+        Whether every loop was followed; else the further turns of some were counted as the last that was followed.
     """
 
     tiles: int
@@ -134,7 +134,8 @@ class Simulation:
     budget : int
         Words of 8 bytes for tiles.
     limit : int, optional
-        How many touches are followed one by one; beyond that outer loops are sampled.
+        How many touches are followed one by one; beyond that loops are sampled, outer ones first: three turns of each, and where
+        that is too many, two and then one.
     """
 
     def __init__(self, spec: Specification, tree: Tree, nodes: Sequence[Node], budget: int, limit: int = EXACT_TOUCHES) -> None:
@@ -154,10 +155,11 @@ class Simulation:
         self.frames = _Frames(frames, [8 * spec.tile_words(it) for it in self.names], file)
         self._find_bands(self.steps)
         self.touching = [self._touches(node) for node in range(len(tree.operations))]
-        self.sampled_above, self.exact = 0, True
-        while self._cost(self.steps, 0) > limit and self.sampled_above < 64:
-            self.sampled_above += 1
-        if self.sampled_above:
+        # (the loops of a term are within those of its band, so there are at most twice as many as indexes)
+        self.sampled, self.deepest, self.exact = 0, 2 * max(1, len(spec.indexes)), True
+        while self._cost(self.steps, 0) > limit and self.sampled < SAMPLES * self.deepest:
+            self.sampled += 1
+        if self.sampled:
             self.frames.frames = max(3, int(frames * self._followed()))
 
     def run(self) -> Reads:
@@ -308,7 +310,7 @@ class Simulation:
         row, column, *others = band.loops
         of, size = self.spec.range_of(row.index), sizes[0]
         groups = -(-of.tiles // size)
-        count = min(groups, SAMPLES) if self._sampled(row, depth) else groups
+        count = min(groups, self._followed_tiles(row, depth)) if self._is_sampled(row, depth) else groups
 
         def run_group(first: int, turns: int) -> None:
             for tile in range(first, min(first + size, of.tiles)):
@@ -324,22 +326,28 @@ class Simulation:
         self.frames.add(before, groups - count)
         self.at[row.index] = 0
 
-    def _sampled(self, loop: Loop, depth: int) -> bool:
-        return depth < self.sampled_above and self.spec.range_of(loop.index).tiles > SAMPLES
-
     def _followed_tiles(self, loop: Loop, depth: int) -> int:
-        return SAMPLES if self._sampled(loop, depth) else self.spec.range_of(loop.index).tiles
+        """How many tiles of a loop are followed: where too many touches would be, three, then two and then one, outer loops first."""
+        tiles = self.spec.range_of(loop.index).tiles
+        times, above = divmod(self.sampled, self.deepest)
+        times += depth < above
+        return min(tiles, SAMPLES + 1 - times) if times else tiles
+
+    def _is_sampled(self, loop: Loop, depth: int) -> bool:
+        return self._followed_tiles(loop, depth) < self.spec.range_of(loop.index).tiles
 
     def _followed_blocks(self, loops: Sequence[Loop], depth: int) -> int:
         return prod(self._followed_tiles(loop, depth + k) for k, loop in enumerate(loops))
 
     def _followed(self) -> float:
         """The part of all tiles that is touched where loops are sampled: as large a part of the frames is there for them."""
-        sampled = {loop.index for loop, depth in _all_loops(self.steps, 0) if self._sampled(loop, depth)}
+        followed = {i: self.spec.range_of(i).tiles for i in self.spec.indexes}
+        for loop, depth in _all_loops(self.steps, 0):
+            followed[loop.index] = min(followed[loop.index], self._followed_tiles(loop, depth))
         uses = [*references(self.tree.formula.expression), self.tree.formula.result]
         tiles = dict.fromkeys(self.names, 0)
         for it in uses:
-            counts = [SAMPLES if i in sampled else self.spec.range_of(i).tiles for i in it.indexes]
+            counts = [followed[i] for i in it.indexes]
             tiles[it.tensor] = max(tiles[it.tensor], prod(counts))
         return sum(tiles.values()) / sum(self.spec.tiles(it) for it in self.names)
 

@@ -153,6 +153,20 @@ def test_sampled_reads_are_near_the_exact_ones():
         assert 0.7 < sampled.bytes / exact.bytes < 2.5
 
 
+@pytest.mark.parametrize("count, extent, edge, limit", [(6, 12, 2, 10**5), (6, 12, 2, 2000), (10, 64, 8, 10**5), (10, 64, 1, 10**5)])
+def test_deep_nests_are_followed_within_the_limit(count, extent, edge, limit):
+    names = "abcdefghij"[:count]
+    found = plan(Specification({"N": (extent, edge)}, {"N": " ".join(names)}, {"A": "N N", "E": ""},
+                               f"E[] = sum{{{','.join(names)}}}({' * '.join(f'A[{a},{b}]' for a, b in zip(names, names[1:]))})"))
+    budget = 5 * edge**2
+    followed = Simulation(found.spec, found.tree, found.nodes, budget, limit)
+    assert followed._cost(followed.steps, 0) <= limit
+    reads = followed.run()
+    assert not reads.exact and reads.tiles >= reads.least
+    if count == 6:
+        assert 0.3 < reads.tiles / found.reads(budget, limit=10**8).tiles < 2.5
+
+
 def brute_force(spec, found, budget):
     """The reads, followed element by element without any short cut."""
     simulation = Simulation(spec, found.tree, found.nodes, budget)
