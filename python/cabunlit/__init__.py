@@ -6,8 +6,9 @@ and ways to run, and shows what a plan costs.
 from cabunlit import errors, fixed_point
 from cabunlit.advise import Advice, advise
 from cabunlit.arrays import SymmetricArray, TiledArray, create_array, open_array, write_array
+from cabunlit.batch import batch
 from cabunlit.einsum import einsum
-from cabunlit.evaluate import batch, evaluate, spill
+from cabunlit.evaluate import evaluate, spill
 from cabunlit.errors import CabunlitError, OverflowPossible, TceError
 from cabunlit.pieces import Cut, cut, join, run_pieces
 from cabunlit.plan import Plan, plan

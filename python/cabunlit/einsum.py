@@ -12,7 +12,7 @@ from cabunlit.evaluate import run_choice
 from cabunlit.memory import bytes_of
 from cabunlit.progress import Progress, show
 from cabunlit.specification import Specification
-from cabunlit.strategy import Choice, choose
+from cabunlit.strategy import Choice, choose, cost_line
 from cabunlit.tiles import Array
 from cabunlit.workspace import Narrowed, Out, Workspace, as_operand, check_out, chosen_edges
 
@@ -140,10 +140,5 @@ def _possible(ways: Mapping[str, Specification]) -> dict[str, Specification]:
 
 def explanation(contraction: Contraction, choice: Choice, said: Sequence[str]) -> str:
     """What `numpy.einsum_path` prints, and what a run costs."""
-    lines = [contraction.describe(), "", *said]
-    for it, budget, reads in zip(choice.plans, choice.budgets, choice.reads):
-        edges = ", ".join(f"{index} {it.spec.range_of(index).edge}" for index in it.spec.indexes)
-        about = "" if reads.exact else "about "
-        lines.append(f"{it.spec.formula.text()}: {it.turns()} turns, edges {edges}, budget {budget} words, "
-                     f"{about}{reads.tiles} tiles read ({reads.bytes} bytes)")
-    return "\n".join(lines)
+    lines = map(cost_line, choice.plans, choice.budgets, choice.reads)
+    return "\n".join([contraction.describe(), "", *said, *lines])

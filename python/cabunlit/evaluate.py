@@ -1,4 +1,4 @@
-"""Formulas of the language on arrays of numpy and array files: `evaluate`, `batch` and `spill`."""
+"""A formula of the language on arrays of numpy and array files: `evaluate` and `spill`."""
 from __future__ import annotations
 
 import operator
@@ -10,20 +10,18 @@ from typing import Any, SupportsIndex
 
 import numpy
 
-from cabunlit.arrays import TiledArray, open_array
+from cabunlit.arrays import TiledArray
 from cabunlit.contraction import even_edge
 from cabunlit.errors import ArrayError, FormulaError, SpecificationError
-from cabunlit.heads import is_whole
 from cabunlit.language import Formula, Reference, loops, parse_formula, references
 from cabunlit.memory import budget_of, bytes_of
 from cabunlit.nest import Tree
-from cabunlit.plan import as_specification, plan
+from cabunlit.plan import as_specification
 from cabunlit.progress import Progress, show, watcher
 from cabunlit.specification import Range, Specification, judge
 from cabunlit.strategy import Choice, candidates, choose
 from cabunlit.tiles import Array
-from cabunlit.workspace import Out, Workspace, as_operand, check_out, chosen_edges, move
-from cabunlit.writing import refuse_place
+from cabunlit.workspace import Out, Workspace, as_operand, check_out, chosen_edges
 
 PathLike = str | os.PathLike[str]
 CAN_BE_CUT = ("more than 32 operations", "limit of indexes", "limit of tensors", "limit of ranges")
@@ -78,10 +76,10 @@ def evaluate(text: Specification | str | PathLike, arrays: Mapping[str, Any] | N
            [14, 50]])
     """
     sources = {name: as_operand(it, name) for name, it in {**(arrays or {}), **named}.items()}
-    spec, free = _specified(text, sources, chunks, program)
+    spec, free = specified(text, sources, chunks, program)
     formula = spec.formula
     _judge(spec, strategy, program)
-    _check_operands(spec, sources)
+    check_operands(spec, sources)
     target = check_out(out, spec.shape(formula.result.tensor))
     ways = candidates(spec, strategy)
     choice, said = choose(ways, bytes_of(memory), free, disk, program)
@@ -122,7 +120,13 @@ def _judge(spec: Specification, strategy: str, program: PathLike | None) -> None
             raise
 
 
-def _check_operands(spec: Specification, sources: Mapping[str, Any]) -> None:
+def check_operands(spec: Specification, sources: Mapping[str, Any]) -> None:
+    """Raises where an operand is missing, is none of the formulas', or has another shape.
+
+    Raises
+    ------
+    FormulaError, ArrayError
+    """
     wanted = spec.inputs()
     missing, extra = [it for it in wanted if it not in sources], [it for it in sources if it not in wanted]
     if missing or extra:
@@ -133,9 +137,14 @@ def _check_operands(spec: Specification, sources: Mapping[str, Any]) -> None:
             raise ArrayError(f"operand {name} has the shape {tuple(sources[name].shape)}, and the formula wants {spec.shape(name)}")
 
 
-def _specified(text: Specification | str | PathLike, sources: Mapping[str, Any], chunks: Any,
-               program: PathLike | None) -> tuple[Specification, set[str]]:
-    """The specification, and the ranges whose edges may be chosen."""
+def specified(text: Specification | str | PathLike, sources: Mapping[str, Any], chunks: Any,
+              program: PathLike | None) -> tuple[Specification, set[str]]:
+    """The specification, and the ranges whose edges may be chosen.
+
+    Raises
+    ------
+    FormulaError, ArrayError
+    """
     alone = isinstance(text, str) and not text.endswith(".tce") and not any(
         it.split()[:1] and it.split()[0] in ("range", "index", "tensor") for it in text.splitlines())
     if not alone:
@@ -222,119 +231,6 @@ def _join(spec: Specification, use: Reference, free: Collection[str]) -> None:
         del spec.ranges[gone]
 
 
-def batch(text: Specification | str | PathLike, arrays: Mapping[str, Any] | None = None, *, folder: PathLike | None = None,
-          memory: int | str | None = None, chunks: Any = "auto", resume: bool = False, progress: bool = False,
-          program: PathLike | None = None, **named: Any) -> dict[str, TiledArray]:
-    """Evaluates several formulas in order; a result may be an operand of every later one.
-
-    Parameters
-    ----------
-    text : Specification, str or path
-        As for `evaluate`, with a formula a line.
-    arrays : mapping of str to arrays, optional
-        The operands. Those that are not given are the files `NAME.tca` in the folder.
-    folder : path, optional
-        Where results are kept, as `NAME.tca`; else they go with the arrays that are returned.
-    resume : bool, optional
-        Whether results in the folder that are whole and newer than their operands are kept, whatever formula made them. Operands
-        that are no files have no time, so what they lead to is done again.
-    memory, chunks, progress, program
-        As for `evaluate`.
-
-    Returns
-    -------
-    dict of str to TiledArray
-        Each result. Those in front of a formula that fails, or of an interrupt, are in the folder.
-
-    Raises
-    ------
-    As `evaluate`.
-
-    Examples
-    --------
-    >>> done = batch('''B[i] = 2 * A[i]
-    ... E[] = sum{i}(A[i] * B[i])''', A=numpy.arange(3))
-    >>> int(done["E"][()])
-    10
-    """
-    home = None if folder is None else Path(folder).absolute()
-    sources = {name: as_operand(it, name) for name, it in {**(arrays or {}), **named}.items()}
-    if home is not None:
-        sources = {**_found(text, home, sources), **sources}
-    spec, _ = _specified(text, sources, chunks, program)
-    judge(spec.text(), program)
-    _check_operands(spec, sources)
-    room = bytes_of(memory)
-    plans = [plan(spec.alone(k), program) for k in range(len(spec.formulas))]
-    budgets = [min(it.full_budget, budget_of(room, it.memory, it.least_budget // 3)) for it in plans]
-    kept = _kept(spec, home, sources) if resume and home is not None else set()
-    if home is not None:
-        for name in spec.results():
-            refuse_place(home / f"{name}.tca")
-    beside = None if home is None else home / "results"
-    with Workspace(program, beside) as place, Progress("formulas", len(plans), progress) as shown:
-        for name in spec.inputs():
-            place.put(name, sources[name], spec)
-        for number, (part, budget) in enumerate(zip(plans, budgets)):
-            name = spec.formulas[number].result.tensor
-            if number not in kept:
-                place.drop(name)  # (a link there leads to an operand, or to an earlier result of this name)
-                place.run(["run", str(budget)], part.spec)
-                if home is not None:
-                    move(place.folder / f"{name}.tca", home / f"{name}.tca")
-            if home is not None:
-                place.drop(name)
-                (place.folder / f"{name}.tca").symlink_to(home / f"{name}.tca")
-            shown.done(name, number in kept)
-        dtype = result_type(sources[it] for it in spec.inputs())
-        if home is not None:
-            return {name: open_array(home / f"{name}.tca", dtype) for name in spec.results()}
-        return {name: _taken(place, name, dtype) for name in spec.results()}
-
-
-def _taken(place: Workspace, name: str, dtype: str) -> TiledArray:
-    found = place.take(name, None, dtype)
-    assert isinstance(found, TiledArray)
-    return found
-
-
-def _found(text: Specification | str | PathLike, home: Path, sources: Mapping[str, Any]) -> dict[str, TiledArray]:
-    """The operands that are files in a folder."""
-    lines = text.text() if isinstance(text, Specification) else os.fspath(text)
-    if lines.endswith(".tce") and "\n" not in lines:
-        lines = Path(lines).read_text(encoding="utf-8", errors="surrogateescape")
-    formulas = [parse_formula(it.split("#")[0]) for it in lines.splitlines() if "=" in it.split("#")[0]]
-    wanted = Specification(formulas=formulas).inputs()
-    return {name: open_array(home / f"{name}.tca") for name in wanted
-            if name not in sources and (home / f"{name}.tca").exists()}
-
-
-def _kept(spec: Specification, home: Path, sources: Mapping[str, Any]) -> set[int]:
-    """The formulas whose results are whole and newer than their operands."""
-    times: dict[str, float] = {}
-    for name in spec.inputs():
-        source = sources[name]
-        times[name] = os.stat(source.path).st_mtime_ns if isinstance(source, TiledArray) else float("inf")
-    kept: set[int] = set()
-    results = [it.result.tensor for it in spec.formulas]
-    for number, formula in enumerate(spec.formulas):
-        name = formula.result.tensor
-        path = home / f"{name}.tca"
-        whole = results.count(name) == 1 and is_whole(path) and _is_of(path, spec, name)
-        made = os.stat(path).st_mtime_ns if whole else float("-inf")
-        if whole and all(times[it] <= made for it in formula.operands()):
-            kept.add(number)
-            times[name] = made
-        else:
-            times[name] = float("inf")
-    return kept
-
-
-def _is_of(path: Path, spec: Specification, name: str) -> bool:
-    found = open_array(path)
-    return found.shape == spec.shape(name) and found.chunks == spec.chunks(name)
-
-
 def spill(text: Specification | str | PathLike, arrays: Mapping[str, Any] | None = None, *, limit: int,
           memory: int | str | None = None, chunks: Any = "auto", out: Out = None, explain: bool = False, progress: bool = False,
           program: PathLike | None = None, **named: Any) -> TiledArray | Array:
@@ -367,10 +263,10 @@ def spill(text: Specification | str | PathLike, arrays: Mapping[str, Any] | None
     sources = {name: as_operand(it, name) for name, it in {**(arrays or {}), **named}.items()}
     if not isinstance(limit, SupportsIndex) or operator.index(limit) < 0:
         raise FormulaError(f"limit={limit!r} is no number of elements: give a whole number from 0 on")
-    spec, _ = _specified(text, sources, chunks, program)
+    spec, _ = specified(text, sources, chunks, program)
     name = spec.formula.result.tensor
     judge(spec.text(), program)
-    _check_operands(spec, sources)
+    check_operands(spec, sources)
     target = check_out(out, spec.shape(name))
     with Workspace(program, target) as place, Progress("pieces", None, progress) as shown:
         for it in spec.inputs():

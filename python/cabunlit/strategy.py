@@ -66,6 +66,14 @@ class Choice:
                 f"about {self.seconds:.2g} s")
 
 
+def cost_line(part: Plan, budget: int, reads: Reads) -> str:
+    """What a run of one formula costs, as a line of text."""
+    edges = ", ".join(f"{index} {part.spec.range_of(index).edge}" for index in part.spec.indexes)
+    about = "" if reads.exact else "about "
+    return (f"{part.spec.formula.text()}: {part.turns()} turns, edges {edges}, budget {budget} words, "
+            f"{about}{reads.tiles} tiles read ({reads.bytes} bytes)")
+
+
 def candidates(spec: Specification, strategy: str) -> dict[str, Specification]:
     """The ways that a strategy allows.
 

@@ -1,6 +1,8 @@
 """Formulas on arrays: every strategy gives what numpy gives, modulo 2^64."""
 import os
+import signal
 import subprocess
+import tempfile
 import threading
 import time
 from pathlib import Path
@@ -9,7 +11,7 @@ import numpy
 import pytest
 from hypothesis import assume, given, settings, strategies as some
 
-from cabunlit import Specification, batch, evaluate, open_array, spill, write_array
+from cabunlit import Specification, batch, cut, evaluate, open_array, spill, write_array
 from cabunlit.errors import (ArrayError, DiskFault, FileChanged, FormulaError, NotEnoughDisk, NotEnoughMemory, ProgramKilled,
                              ProgramNotFound, SpecificationError, TceError)
 from drawn import formulas, value
@@ -57,6 +59,7 @@ def _indexes(formula):
 EXAMPLES = Path(__file__).resolve().parent.parent.parent / "examples"
 A = numpy.arange(-20, 80).reshape(10, 10)
 PRODUCT = "C[i,j] = sum{k}(A[i,k] * B[k,j])"
+CUT = f"range N 10 tile 4\nindex N i j k\ntensor A[N,N]\ntensor B[N,N]\ntensor C[N,N]\n{PRODUCT}"
 
 
 def test_results_go_where_they_are_wanted():
@@ -232,7 +235,6 @@ def test_an_interrupt_ends_the_program(while_it_starts, own_folder, monkeypatch)
     def interrupt():
         while not (own_folder / "pid").exists() or not (own_folder / "pid").read_text():
             time.sleep(0.05)
-        import signal
         signal.pthread_kill(threading.main_thread().ident, signal.SIGINT)
 
     thread = threading.Thread(target=interrupt)
@@ -255,54 +257,27 @@ def test_an_interrupt_ends_the_program(while_it_starts, own_folder, monkeypatch)
     assert not os.path.exists(f"/proc/{number}") and sorted(os.listdir(".")) == ["pid", "tce"]
 
 
-STEPS = "B[i,j] = sum{k}(A[i,k] * A[k,j])\nD[i,j] = B[j,i] - A[i,j]\nE[] = sum{i,j}(D[i,j] * B[i,j])"
+@pytest.mark.parametrize("call", [
+    lambda lazy: evaluate(PRODUCT, A=lazy, B=A, out="C.tca"), lambda lazy: write_array("C.tca", lazy, 4),
+    lambda lazy: batch(PRODUCT, A=A, B=lazy, folder="."), lambda lazy: cut(CUT, "i", 2, {"A": A, "B": lazy}, folder="pieces"),
+    lambda lazy: spill(PRODUCT, A=lazy, B=A, limit=100, out="C.tca"),
+])
+@pytest.mark.parametrize("chunk", [0, 3])
+def test_an_interrupt_while_a_dask_operand_is_computed(call, chunk, own_folder):
+    dask_array = pytest.importorskip("dask.array")
+    come = []
 
+    def computed(block):
+        come.append(block.shape)
+        if len(come) == chunk + 1:
+            signal.pthread_kill(threading.main_thread().ident, signal.SIGINT)
+            time.sleep(0.5)  # (the interrupt comes while the block is computed)
+        return block
 
-def test_batch_gives_every_result(capsys):
-    found = batch(STEPS, A=A, progress=True)
-    b = A @ A
-    d = b.T - A
-    assert (numpy.asarray(found["B"]) == b).all() and (numpy.asarray(found["D"]) == d).all()
-    assert int(found["E"][()]) == int((d * b).sum())
-    said = capsys.readouterr().err
-    assert said.count("formulas: ") == 3 and "3 of 3, E" in said and "s left" in said
-
-
-def test_batch_goes_on_where_it_was(capsys, own_folder):
-    a = write_array("A.tca", A, 5)
-    first = batch(STEPS, folder=".")
-    times = {it: os.stat(f"{it}.tca").st_mtime_ns for it in "BDE"}
-    again = batch(STEPS, {"A": a}, folder=".", resume=True, progress=True)
-    assert {it: os.stat(f"{it}.tca").st_mtime_ns for it in "BDE"} == times
-    assert capsys.readouterr().err.count("(kept)") == 3
-    assert int(again["E"][()]) == int(first["E"][()])
-    os.truncate("D.tca", 20)
-    batch(STEPS, folder=".", resume=True)
-    assert os.stat("B.tca").st_mtime_ns == times["B"] and os.stat("E.tca").st_mtime_ns > times["E"]
-    write_array("A.tca", A + 1, 5)
-    changed = batch(STEPS, folder=".", resume=True)
-    assert (numpy.asarray(changed["B"]) == (A + 1) @ (A + 1)).all()
-    assert sorted(os.listdir(".")) == ["A.tca", "B.tca", "D.tca", "E.tca"]
-
-
-def test_batch_is_refused_before_anything_is_run():
-    write_array("A.tca", A, 5)
-    with pytest.raises(TceError):
-        batch("B[i,j] = A[i,j] * 2\nD[i,i] = B[i,i] * 1", folder=".")
-    with pytest.raises(FormulaError, match="Q is missing"):
-        batch("B[i,j] = A[i,j] * 2\nD[i,j] = B[i,j] * Q[i,j]", folder=".")
-    assert os.listdir(".") == ["A.tca"]
-
-
-@pytest.mark.parametrize("folder", [None, "results"])
-def test_a_tensor_that_is_the_result_of_two_formulas(folder):
-    if folder:
-        os.mkdir(folder)
-    a = write_array("A.tca", A, 5)
-    found = batch("B[i,j] = 2 * A[i,j]\nC[i,j] = B[i,j] + 1\nB[i,j] = C[i,j] * A[j,i]\nA[i,j] = B[i,j] - 1", {"A": a}, folder=folder)
-    due = (2 * A + 1) * A.T
-    assert (numpy.asarray(found["B"]) == due).all() and (numpy.asarray(found["C"]) == 2 * A + 1).all()
-    assert (numpy.asarray(found["A"]) == due - 1).all() and (numpy.asarray(a) == A).all()
+    lazy = dask_array.from_array(A, chunks=5).map_blocks(computed, meta=numpy.empty((0, 0), "<i8"))
+    with pytest.raises(KeyboardInterrupt):
+        call(lazy)
+    assert os.listdir(".") == [] and os.listdir(tempfile.gettempdir()) == []
 
 
 def test_spill_is_the_whole(capsys):
