@@ -12,7 +12,7 @@ import numpy.typing
 
 Array = numpy.typing.NDArray[Any]
 Region = tuple[slice, ...]
-BAND_BYTES = 1 << 18
+BAND_BYTES = 1 << 20
 RUN_BYTES = range(128, 2049)
 
 
@@ -113,6 +113,17 @@ def regions(shape: Sequence[int], edges: Sequence[int]) -> Iterator[Region]:
     numbers = itertools.product(*map(range, counts_of(shape, edges)))
     for number in numbers:
         yield tuple(slice(t * e, min(n, t * e + e)) for t, e, n in zip(number, edges, shape))
+
+
+def is_in_rows(counts: Sequence[int], edges: Sequence[int]) -> bool:
+    """Whether elements in tiles stand in the order of rows: no tile of several numbers is followed by several tiles further inside.
+
+    Examples
+    --------
+    >>> is_in_rows((3, 1), (2, 5)), is_in_rows((1, 3), (2, 5)), is_in_rows((4, 3), (1, 5))
+    (True, False, True)
+    """
+    return not any(edge > 1 and max(counts[d + 1:], default=1) > 1 for d, edge in enumerate(edges))
 
 
 @dataclass(frozen=True)

@@ -16,7 +16,7 @@ import numpy
 from cabunlit.errors import ArrayError, disk_fault
 from cabunlit.heads import head_bytes
 from cabunlit.interrupts import later_interrupts
-from cabunlit.tiles import Array, bands, counts_of, regions, write_rows
+from cabunlit.tiles import Array, bands, counts_of, is_in_rows, regions, write_rows
 
 PathLike = str | os.PathLike[str]
 # What is to be done with elements of another kind.
@@ -158,15 +158,18 @@ class ArrayWriter:
         """Writes all elements of something that gives regions, one band after the other. Padding is zeros already."""
         buffer = numpy.empty(0, self.dtype)
         for band in bands(self.shape, self.chunks, self.dtype.itemsize):
-            words = prod(band.counts) * prod(band.edges)
+            words, at = prod(band.counts) * prod(band.edges), len(self.head) + band.first * self.dtype.itemsize
+            rows = numpy.asarray(source[band.region])
+            if rows.size == words and rows.flags.c_contiguous and is_in_rows(band.counts, band.edges):
+                self._put(rows.reshape(-1), at)
+                continue
             if len(buffer) < words:
                 buffer = numpy.zeros(words, self.dtype)
             part = buffer[:words].reshape((*band.counts, *band.edges))
-            rows = numpy.asarray(source[band.region])
             if rows.size != words:
                 part[...] = 0
             write_rows(part, band.edges, [0] * len(self.shape), rows)
-            self._put(buffer[:words], len(self.head) + band.first * self.dtype.itemsize)
+            self._put(buffer[:words], at)
 
     def _put(self, words: Array, at: int) -> None:
         rest = memoryview(words.data).cast("B")
