@@ -16,7 +16,7 @@ import numpy
 from cabunlit.errors import ArrayError, disk_fault
 from cabunlit.heads import head_bytes
 from cabunlit.interrupts import later_interrupts
-from cabunlit.tiles import Array, bands, counts_of, is_in_rows, regions, write_rows
+from cabunlit.tiles import BAND_BYTES, Array, bands, counts_of, is_in_rows, regions, write_rows
 
 PathLike = str | os.PathLike[str]
 # What is to be done with elements of another kind.
@@ -154,10 +154,11 @@ class ArrayWriter:
             raise ArrayError(f"a block of shape {values.shape} does not fit a region of {due}")
         write_rows(self.tiles(), self.chunks, [start for start, _, _ in found], values.view(self.dtype.str))
 
-    def write_bands(self, source: Any) -> None:
-        """Writes all elements of something that gives regions, one band after the other. Padding is zeros already."""
+    def write_bands(self, source: Any, most: int = BAND_BYTES) -> None:
+        """Writes all elements of something that gives regions, one band of at most so many bytes after the other. Padding is zeros
+        already, and rows that stand as the file has them are written as they are."""
         buffer = numpy.empty(0, self.dtype)
-        for band in bands(self.shape, self.chunks, self.dtype.itemsize):
+        for band in bands(self.shape, self.chunks, self.dtype.itemsize, most):
             words, at = prod(band.counts) * prod(band.edges), len(self.head) + band.first * self.dtype.itemsize
             rows = numpy.asarray(source[band.region])
             if rows.size == words and rows.flags.c_contiguous and is_in_rows(band.counts, band.edges):

@@ -14,7 +14,7 @@ from hypothesis import given, strategies as some
 from cabunlit import create_array, einsum, evaluate, open_array, write_array
 from cabunlit.errors import ArrayError, DiskFault, FileChanged
 from cabunlit.heads import head_bytes, is_whole
-from cabunlit.tiles import bands, counts_of, write_rows
+from cabunlit.tiles import bands, counts_of
 
 WORDS = some.integers(-2**63, 2**63 - 1)
 
@@ -161,16 +161,14 @@ def test_arrays_of_other_kinds(array, chunks):
 @given(arrays(), some.integers(8, 200))
 def test_bands_are_the_whole_but_for_padding(given_array, most):
     array, edges = given_array
-    due = numpy.fromfile(write_array("A.tca", array, edges, flush=False).path, array.dtype)
-    due = due[-prod(edges) * prod(counts_of(array.shape, edges)):]
-    found = numpy.zeros_like(due)
-    for band in bands(array.shape, edges, array.itemsize, most):
-        rows = array[band.region]
-        part = numpy.zeros((*band.counts, *band.edges), array.dtype)
-        write_rows(part, band.edges, [0] * array.ndim, rows)
-        assert part.nbytes <= max(most, array.itemsize)
-        found[band.first:band.first + part.size] = part.ravel()
-    assert (found == due).all()
+    due = numpy.zeros((*counts_of(array.shape, edges), *edges), array.dtype)
+    for place in numpy.ndindex(array.shape):
+        due[(*(it // edge for it, edge in zip(place, edges)), *(it % edge for it, edge in zip(place, edges)))] = array[place]
+    assert all(prod(it.counts) * prod(it.edges) * array.itemsize <= max(most, array.itemsize)
+               for it in bands(array.shape, edges, array.itemsize, most))
+    with create_array("A.tca", array.shape, edges, array.dtype, flush=False) as writer:
+        writer.write_bands(array, most)
+    assert numpy.fromfile("A.tca", "u1")[-due.nbytes:].tobytes() == due.tobytes()
 
 
 def test_blocks_that_do_not_fit():
