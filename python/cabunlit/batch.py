@@ -157,7 +157,9 @@ def _origin(spec: Specification, formula: Formula, files: Mapping[str, Path | No
     lines = [formula.text(), *(f"{it} {spec.extent(it)}" for it in indexes)]
     for name in formula.operands():
         path = files[name]
-        lines.append(f"{name} {os.stat(path).st_size} {_time(path)}" if path else name)
+        found = os.stat(path) if path else None
+        # (times alone do not tell files that were written within one tick of the system's clock)
+        lines.append(f"{name} {found.st_ino} {found.st_size} {found.st_mtime_ns}" if found else name)
     return hashlib.blake2b("\n".join(lines).encode(), digest_size=16).hexdigest()
 
 

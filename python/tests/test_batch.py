@@ -81,7 +81,10 @@ def test_a_formula_that_is_another_one_is_done_again(change, again, keeps_attrib
 
 
 def test_an_operand_that_is_another_file_is_noticed(capsys):
-    older, a = write_array("older.tca", A + 1, 5), write_array("A.tca", A, 5)
+    for name, array in (("older", A + 1), ("A", A)):
+        write_array(f"{name}.tca", array, 5)
+        os.utime(f"{name}.tca", ns=(10**18, 10**18))  # (as two files that are written at once)
+    older, a = open_array("older.tca"), open_array("A.tca")
     assert batch(STEPS, A=a, folder=".")["E"] is not None
     found = batch(STEPS, A=older, folder=".", resume=True, progress=True)
     assert "(kept)" not in capsys.readouterr().err
