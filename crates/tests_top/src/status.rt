@@ -149,35 +149,54 @@ fn commands_end_with_their_status(rt: HostRuntime) {
     must(&rt, fs::remove_dir_all(&rt, folder.as_str()));
 }
 
-// A matrix of 64 tiles of 2^20 words, of which those on the diagonal are read. Its first element is 5, and all others are 0.
-const WIDE: &str =
-    "w.tce|range N 8192 tile 1024/index N i/tensor A[N,N]/tensor C[]/C[] = sum{i}(A[i,i])/";
+// A matrix of 2^8 tiles of 2^20 words, of which those on the diagonal are read, and a list of 2^21 tiles of one word, which
+// are all read. The first element of each is 5, and all others are 0.
+const LARGE: &str = "\
+w.tce|range N 16384 tile 1024/index N i/tensor A[N,N]/tensor C[]/C[] = sum{i}(A[i,i])/
+l.tce|range N 2097152/index N i/tensor B[N]/tensor C[]/C[] = sum{i}(B[i])/";
 
 const WIDE_HEAD: &[u8] =
-    b"TCARRAY1\x02\0\0\0\0\0\0\0\0\x20\0\0\0\0\0\0\0\x20\0\0\0\0\0\0\0\x04\0\0\0\0\0\0\0\x04\0\0\0\0\0\0\x05";
+    b"TCARRAY1\x02\0\0\0\0\0\0\0\0\x40\0\0\0\0\0\0\0\x40\0\0\0\0\0\0\0\x04\0\0\0\0\0\0\0\x04\0\0\0\0\0\0\x05";
 
-const WIDE_RUN: &str = "tce run w.tce 67108864|0|tce run 1
+const LONG_HEAD: &[u8] = b"TCARRAY1\x01\0\0\0\0\0\0\0\0\0\x20\0\0\0\0\0\x01\0\0\0\0\0\0\0\x05";
+
+const LARGE_RUNS: &str = "\
+tce run w.tce 269484032|0|tce run 1
 node 0 sum loops i result
 memory 0
-tiles 67108864
+tiles 269484032
+wrote C.tca 24
+;tce run l.tce 3|0|tce run 1
+node 0 sum loops i result
+memory 0
+tiles 3
 wrote C.tca 24
 ";
 
-fn write_wide<R: Files<File = File> + AllocGlobal + Abort>(rt: &R) {
-    must(rt, fs::write(rt, "A.tca", WIDE_HEAD));
-    let file = must(rt, OpenOptions::new().write(true).open(rt, "A.tca"));
-    must(rt, file.set_len(48 + (8 << 26)));
+// A file that begins with these bytes, and has zeros behind them.
+fn write_sparse<R: Files<File = File> + AllocGlobal + Abort>(
+    rt: &R,
+    name: &str,
+    head: &[u8],
+    len: u64,
+) {
+    must(rt, fs::write(rt, name, head));
+    let file = must(rt, OpenOptions::new().write(true).open(rt, name));
+    must(rt, file.set_len(len));
 }
 
-// As many words as the budget has, where there is memory for them: 512 MiB.
+// A run takes one tile more than 2^28 words, where there are 2 GiB of memory for them.
 #[test]
-fn a_run_may_take_two_to_the_26_words(rt: HostRuntime) {
+fn words_and_tiles_may_be_very_many(rt: HostRuntime) {
     let above = must(&rt, env::temp_dir(&rt));
     let folder = made_folder(&rt, above.as_str(), process::id(rt.process()));
     must(&rt, env::set_current_dir(&rt, folder.as_str()));
-    write_files(&rt, WIDE);
-    write_wide(&rt);
-    check_answer(&rt, WIDE_RUN);
-    check_file(&rt, "C.tca", b"TCARRAY1\0\0\0\0\0\0\0\0\x05\0\0\0\0\0\0\0");
+    write_files(&rt, LARGE);
+    write_sparse(&rt, "A.tca", WIDE_HEAD, 48 + (8 << 28));
+    write_sparse(&rt, "B.tca", LONG_HEAD, 32 + (8 << 21));
+    for row in LARGE_RUNS.split(';') {
+        check_answer(&rt, row);
+        check_file(&rt, "C.tca", b"TCARRAY1\0\0\0\0\0\0\0\0\x05\0\0\0\0\0\0\0");
+    }
     must(&rt, fs::remove_dir_all(&rt, folder.as_str()));
 }
