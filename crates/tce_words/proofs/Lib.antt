@@ -6,4 +6,5 @@ pub mod MemoryRows
 pub mod RowPlaces
 pub mod RowSteps
 pub mod RunSteps
+pub mod StoreSteps
 pub mod ThreeParts

@@ -1,11 +1,14 @@
 -- The steps of a loop that goes along a run, and runs whose steps are 1.
-use Rattle.std.proofs.Common.{◌≡◌, ◌≢◌, ℕ, ◌+◌, ◌*◌, ◌-◌, ◌<◌, ◌≤◌, ◌⊎◌, inl, inr, List, ◌++◌, length, slice_index, slice_range, set, take, drop, map, replicate, refl, sym, ◌∙◌, ap, arith, below_more}
+use Rattle.std.proofs.Common.{◌≡◌, ◌≢◌, ℕ, ◌+◌, ◌*◌, ◌-◌, ◌<◌, ◌≤◌, ◌⊎◌, inl, inr, List, ◌++◌, length, slice_index, slice_range, set, take, drop, map, replicate, refl, sym, ◌∙◌, ap, subst, arith, below_more}
 use Rattle.std.proofs.lemmas.List.{get_or-set_other, get_or-set_same, length-set, length-take-le, length-append, length-drop, get_or-append_right, get_or_append_left, get_or-take, get_or-drop, length-map, get_or-map, ext_get_or, take_at, drop_at, drop-drop, length-replicate, get_or-replicate, places}
 use Rattle.std.proofs.lemmas.List.FromFn.{length-map-range_with_len, get_or-map-range_with_len}
 use Rattle.std.proofs.lemmas.Simd.{length-zip2, get_or-zip2}
+use Rattle.std.specs.List.{refill}
 use Rattle.std.specs.Simd.Lanes.{zip2}
 use Rattle.std.proofs.lemmas.Bool.{cases_lt}
+use Rattle.tce_words.specs.Rows.{row_of}
 use Rattle.tce_words.specs.Run.{IsWithin, AreApart, IsDistinct, IsRun, with_part, words_along}
+use Rattle.tce_words.specs.Runs.{IsMapped}
 
 -- a place that is read in turn t is still as it was
 pub unread : (f : ℕ → ℕ) (first step other other_step t n : ℕ) (old now : List ℕ) → IsRun f first step t old now → AreApart first step other other_step n → t < n → slice_index now (other + t * other_step) ≡ slice_index old (other + t * other_step)
@@ -107,6 +110,16 @@ run_mapped f g out out_step b b_step n old new is one b_one some within b_within
     (λ t lt. get_or-map f ys t 0 0 (omega arith)
     ∙ ap f (get_or-slice_range old b n t b_step b_one lt (part_within (length old) b b_step n b_one some b_within))
     ∙ same t))
+
+-- the same for a block of words
+pub part_mapped : (f : ℕ → ℕ) (out a n : ℕ) (old new : List ℕ) → new ≡ with_part old out (map f (row_of old a n)) → out + n ≤ length old → a + n ≤ length old
+    → IsMapped f out a n old (refill (length old) old new)
+part_mapped f out a n old new is room a_room =
+    let ys = slice_range old a (a + n) in
+    let long : length (map f ys) ≡ n = length-map ys f ∙ length-part old a n a_room in
+    let made = run_of_part (λ t. f (slice_index old (a + t * 1))) out 1 n old (map f ys) refl long room
+    (λ t lt. get_or-map f ys t 0 0 (omega (arith, length-part old a n a_room)) ∙ ap f (get_or-slice_range old a n t 1 refl lt a_room)) in
+    subst (λ xs. IsMapped f out a n old xs) (sym (ap (refill (length old) old) is ∙ take_at (with_part old out (map f ys)) (drop (length (with_part old out (map f ys))) old) (length old) made.same_length)) made
 
 -- the words of two parts joined by f, and of one part mapped by f
 pub joined_values : (f : ℕ → ℕ → ℕ) (a a_step b b_step n : ℕ) (old : List ℕ) → a_step ≡ 1 → b_step ≡ 1 → 0 < n → IsWithin (length old) a a_step n → IsWithin (length old) b b_step n

@@ -29,6 +29,10 @@ abbrev pub IsAdded : ℕ → ℕ → ℕ → ℕ → ℕ → List ℕ → List �
 IsAdded out out_step a a_step n old new =
     IsRun (λ t. wrapping_add (word_along old out out_step t) (word_along old a a_step t)) out out_step n old new
 
+-- each of the n words from out on is what f gives of the one as far behind a
+abbrev pub IsMapped : (ℕ → ℕ) → ℕ → ℕ → ℕ → List ℕ → List ℕ → Type 0
+IsMapped f out a n old new = IsRun (λ t. f (word_along old a 1 t)) out 1 n old new
+
 -- the sum of the products along the runs a and b
 abbrev pub dot_of : List ℕ → ℕ → ℕ → ℕ → ℕ → ℕ → ℕ
 dot_of words a a_step b b_step n = wrapping_sum (zip2 wrapping_mul (words_along words a a_step n) (words_along words b b_step n))

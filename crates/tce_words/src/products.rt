@@ -41,7 +41,7 @@ fn mul_contiguous(words: &mut [u64], out: usize, a: usize, b: usize, n: usize)
     mul_vv(target, a_words, b_words);
 }
 
-fn mul_scaled(words: &mut [u64], out: usize, factor: u64, b: usize, n: usize)
+pub(crate) fn mul_scaled(words: &mut [u64], out: usize, factor: u64, b: usize, n: usize)
     requires out { out + n ≤ length words.old }
     requires b { b + n ≤ length words.old }
     requires apart { (b + n ≤ out) ⊎ (out + n ≤ b) }

@@ -41,7 +41,7 @@ fn plus_contiguous(words: &mut [u64], out: usize, a: usize, b: usize, n: usize)
     plus_vv(target, a_words, b_words);
 }
 
-fn plus_one(words: &mut [u64], out: usize, summand: u64, b: usize, n: usize)
+pub(crate) fn plus_one(words: &mut [u64], out: usize, summand: u64, b: usize, n: usize)
     requires out { out + n ≤ length words.old }
     requires b { b + n ≤ length words.old }
     requires apart { (b + n ≤ out) ⊎ (out + n ≤ b) }
@@ -112,7 +112,7 @@ fn minus_contiguous(words: &mut [u64], out: usize, a: usize, b: usize, n: usize)
     minus_vv(target, a_words, b_words);
 }
 
-fn one_minus(words: &mut [u64], out: usize, minuend: u64, b: usize, n: usize)
+pub(crate) fn one_minus(words: &mut [u64], out: usize, minuend: u64, b: usize, n: usize)
     requires out { out + n ≤ length words.old }
     requires b { b + n ≤ length words.old }
     requires apart { (b + n ≤ out) ⊎ (out + n ≤ b) }
@@ -124,7 +124,7 @@ fn one_minus(words: &mut [u64], out: usize, minuend: u64, b: usize, n: usize)
     minus_sv(target, minuend, part(front, back, out, b, n));
 }
 
-fn minus_one(words: &mut [u64], out: usize, a: usize, subtrahend: u64, n: usize)
+pub(crate) fn minus_one(words: &mut [u64], out: usize, a: usize, subtrahend: u64, n: usize)
     requires out { out + n ≤ length words.old }
     requires a { a + n ≤ length words.old }
     requires apart { (a + n ≤ out) ⊎ (out + n ≤ a) }

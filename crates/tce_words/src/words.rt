@@ -6,11 +6,12 @@ ghost use Rattle.tce_words.specs.Rows.{AreRowsAdded};
 ghost use Rattle.tce_words.specs.Run.{IsWithin, AreApart, IsDistinct, with_part, words_along};
 ghost use Rattle.tce_words.specs.Runs.{IsTimes, IsTimesAdded, IsPlus, IsMinus, IsAdded, AreRowsWithin, AreRowsApart, dot_of, grown_at};
 
+mod numbers;
+
 use crate::block::{Base, Deed, Places};
-use crate::bytes::{read_narrow, read_words};
+use crate::bytes::{read_narrow, read_words, write_words};
 use crate::runs::{Run, Strided, count};
 use crate::{products, rows as added, sums};
-use byteorder::{ByteOrder, LittleEndian};
 use std::alloc::{AllocError, Global};
 use std::marker::Model;
 
@@ -143,7 +144,7 @@ impl Words {
     {
         let n = out.len() / 8;
         let from = from as usize;
-        LittleEndian::write_u64_into(&self.as_slice()[from..from + n], out);
+        write_words(out, &self.as_slice()[from..from + n]);
     }
 
     /// Makes the word at each place of the run `out` the product of the words of the runs `a` and `b` there.

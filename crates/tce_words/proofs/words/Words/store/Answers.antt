@@ -4,5 +4,4 @@ use Rattle.tce_base.specs.Word.{word_bytes}
 use Rattle.tce_words.proofs.words.Words.store.Goals as goal
 
 pub returns : goal.returns
-unfolding word_bytes
-returns c = c.write_u64_into.ensures ∙ ap (λ xs. flat_map (word_bytes 8) (slice_range xs c.args.from (c.args.from + length c.args.out.now / 8))) c.as_slice.ensures
+returns c = c.write_words.ensures ∙ ap (λ xs. flat_map (word_bytes 8) (slice_range xs c.args.from (c.args.from + length c.args.out.now / 8))) c.as_slice.ensures

@@ -1,0 +1,13 @@
+use Rattle.std.proofs.Common.{map, ap, ◌∙◌}
+use Rattle.tce_base.specs.Word.{wrapping_mul}
+use Rattle.tce_words.specs.Rows.{row_of}
+use Rattle.tce_words.specs.Run.{with_part}
+use Rattle.tce_words.proofs.RunSteps.{part_mapped}
+use Rattle.tce_words.proofs.words.Words.mul_number.Goals as goal
+
+pub returns : goal.returns
+returns c =
+    part_mapped (wrapping_mul c.args.number) c.args.out c.args.a c.args.n c.args.self.now c.mul_scaled.new.words
+    (c.mul_scaled.ensures ∙ ap (λ xs. with_part xs c.args.out (map (wrapping_mul c.args.number) (row_of xs c.args.a c.args.n))) c.as_mut_slice-words.ensures.value)
+    c.requires.out
+    c.requires.a
