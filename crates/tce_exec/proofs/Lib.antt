@@ -47,6 +47,7 @@ mod LinkTurns
 mod BodyBlocks
 mod LinkSteps
 pub mod ChainRows
+pub mod FlatRows
 mod TermSums
 mod ScaledLoops
 mod TermTurns

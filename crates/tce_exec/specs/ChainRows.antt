@@ -1,7 +1,8 @@
 -- Rows of a body: the turns of its last loop, over windows that begin where the row does.
-use Rattle.std.specs.Prelude.{ℕ, ◌+◌, ◌-◌, ◌*◌, ◌<◌, ◌≤◌, List, length, slice_index, slice_set}
+use Rattle.std.specs.Prelude.{◌≡◌, ℕ, ◌+◌, ◌-◌, ◌*◌, ◌<◌, ◌≤◌, List, length, slice_index, slice_set}
 use Rattle.std.specs.List.{fold}
 use Rattle.tce_code.specs.Execution.{repeated}
+use Rattle.tce_words.specs.Runs.{IsBeside}
 use Rattle.tce_exec.specs.Links.{word_along, IsAlongWithin}
 use Rattle.tce_exec.specs.Operands.{combined}
 use Rattle.tce_exec.specs.declared.links.Source.{Source}
@@ -27,6 +28,13 @@ pub record IsLinkAlong (count index by : ℕ) (l : Link) : Type 0 where
   pub left : IsAlongWithin count index by l.left
   pub right : IsAlongWithin count index by l.right
   pub out : l.out.first + by * slice_index l.out.steps index < count
+
+-- along a row of so many turns the words of two windows follow one another, and those of one stand before or behind all of the other
+pub record IsFlat (index count : ℕ) (out w : Window) : Type 0 where
+  pub out_step : slice_index out.steps index ≡ 1
+  pub step : slice_index w.steps index ≡ 1
+  pub some : 0 < count
+  pub beside : IsBeside out.first count w.first count
 
 -- ---- links that begin where an index is further
 

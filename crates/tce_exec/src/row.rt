@@ -1,12 +1,13 @@
 // Rows of a body: the turns of its last loop, over windows that begin where the row does.
-ghost use Rattle.std.specs.Prelude.{◌≡◌, ◌+◌, ◌*◌, ◌<◌, ◌≤◌, ◌^◌, ℕ, [], ◌∷◌, length, map, slice_index, All};
+ghost use Rattle.std.specs.Prelude.{◌≡◌, ◌+◌, ◌*◌, ◌<◌, ◌≤◌, ◌^◌, ℕ, [], ◌∷◌, length, map, slice_index, All, IsTrue};
 ghost use Rattle.tce_space.specs.Limits.{max_indexes};
-ghost use Rattle.tce_exec.specs.ChainRows.{after_row, after_turn, link_along, link_before, source_along, source_before, window_along, window_before, IsLinkAlong, IsLinkFar, IsSourceFar};
+ghost use Rattle.tce_exec.specs.ChainRows.{after_row, after_turn, IsFlat, link_along, link_before, source_along, source_before, window_along, window_before, IsLinkAlong, IsLinkFar, IsSourceFar};
 ghost use Rattle.tce_exec.specs.Links.{word_along, IsAlongWithin};
 
 use crate::links::{Link, Source};
 use crate::operation::combine;
 use crate::window::Window;
+use tce_tree::Kind;
 use tce_words::Words;
 
 /// An index, and how far its number is from where windows begin.
@@ -61,6 +62,68 @@ fn run_turn(words: &mut Words, links: &[Link], step: Step)
     }
 }
 
+// Whether the words of two windows along a row follow one another, and those of one stand before or behind all of the other.
+fn is_flat(out: &Window, window: &Window, index: usize, count: u64) -> bool
+    requires small { index < max_indexes }
+    requires some { 0 < count }
+    requires out { (by : ℕ) → by < count → out.now.first + by * slice_index out.now.steps index < 2 ^ 60 }
+    requires within { (by : ℕ) → by < count → window.now.first + by * slice_index window.now.steps index < 2 ^ 60 }
+    ensures { IsTrue result → IsFlat index count out.now window.now }
+{
+    if out.steps[index] != 1 || window.steps[index] != 1 {
+        return false;
+    }
+    window.first + count <= out.first || out.first + count <= window.first
+}
+
+// Does the operation of a link at the turns of a row, of a number and of words, where all words follow one another.
+fn run_flat_first(
+    words: &mut Words,
+    link: &Link,
+    number: u64,
+    window: &Window,
+    _index: usize,
+    count: u64,
+)
+    requires left { link.now.left ≡ Source.Number number }
+    requires right { link.now.right ≡ Source.Words window.now }
+    requires flat { IsFlat _index count link.now.out window.now }
+    requires within { (by : ℕ) → by < count → IsLinkAlong (length words.old) _index by link.now }
+    ensures { words.new ≡ after_row (link.now ∷ []) _index count words.old }
+{
+    let (out, from) = (link.out.first, window.first);
+    match link.kind {
+        Kind::Product => words.mul_number(out, number, from, count),
+        Kind::Sum => words.plus_number(out, number, from, count),
+        Kind::Add => words.plus_number(out, number, from, count),
+        Kind::Sub => words.number_minus(out, number, from, count),
+    }
+}
+
+// The same of words, and of a number.
+fn run_flat_second(
+    words: &mut Words,
+    link: &Link,
+    window: &Window,
+    number: u64,
+    _index: usize,
+    count: u64,
+)
+    requires left { link.now.left ≡ Source.Words window.now }
+    requires right { link.now.right ≡ Source.Number number }
+    requires flat { IsFlat _index count link.now.out window.now }
+    requires within { (by : ℕ) → by < count → IsLinkAlong (length words.old) _index by link.now }
+    ensures { words.new ≡ after_row (link.now ∷ []) _index count words.old }
+{
+    let (out, from) = (link.out.first, window.first);
+    match link.kind {
+        Kind::Product => words.mul_number(out, number, from, count),
+        Kind::Sum => words.plus_number(out, number, from, count),
+        Kind::Add => words.plus_number(out, number, from, count),
+        Kind::Sub => words.minus_number(out, from, number, count),
+    }
+}
+
 // Does the operation of a link at the turns of a row: of a number, and of words.
 fn run_number_first(
     words: &mut Words,
@@ -76,6 +139,11 @@ fn run_number_first(
     requires within { (by : ℕ) → by < count → IsLinkAlong (length words.old) index by link.now }
     ensures { words.new ≡ after_row (link.now ∷ []) index count words.old }
 {
+    // The length of the block bounds all places.
+    let _len = words.len();
+    if count > 0 && is_flat(&link.out, window, index, count) {
+        return run_flat_first(words, link, number, window, index, count);
+    }
     // What stays from turn to turn.
     let kind = link.kind;
     let (from, step) = (window.first, window.steps[index]);
@@ -103,6 +171,11 @@ fn run_number_second(
     requires within { (by : ℕ) → by < count → IsLinkAlong (length words.old) index by link.now }
     ensures { words.new ≡ after_row (link.now ∷ []) index count words.old }
 {
+    // The length of the block bounds all places.
+    let _len = words.len();
+    if count > 0 && is_flat(&link.out, window, index, count) {
+        return run_flat_second(words, link, window, number, index, count);
+    }
     // What stays from turn to turn.
     let kind = link.kind;
     let (from, step) = (window.first, window.steps[index]);
