@@ -170,6 +170,47 @@ fn summing_runs_equal_plain_loops(rt: HostRuntime) -> Result<(), Fail> {
     Ok(())
 }
 
+// What a number makes of the words at 200: products at 0, sums at 400, and both differences behind these.
+#[tactic(auto, using(crate::proofs::TestPlaces::reach))]
+fn with_number(words: &mut Words, number: u64, n: u64)
+    requires length { length words.old ≡ 602 }
+    requires n { n ≤ 67 }
+    ensures { length words.new ≡ 602 }
+{
+    words.mul_number(0, number, 200, n);
+    words.plus_number(400, number, 200, n);
+    words.number_minus(467, number, 200, n);
+    words.minus_number(534, 200, number, n);
+}
+
+fn with_number_plainly(words: &mut [u64; LEN], number: u64, n: usize)
+    requires { n ≤ 67 }
+{
+    for t in 0..n {
+        let word = words[200 + t];
+        words[t] = number.wrapping_mul(word);
+        words[400 + t] = number.wrapping_add(word);
+        words[467 + t] = number.wrapping_sub(word);
+        words[534 + t] = word.wrapping_sub(number);
+    }
+}
+
+#[test]
+fn a_number_and_a_run_equal_plain_loops(rt: HostRuntime) -> Result<(), Fail> {
+    let mut room = HeapRoom::new(rt.alloc());
+    let old = noise(4);
+    for n in 0..68u64 {
+        for number in [0, 1, 6364136223846793005, u64::MAX] {
+            let mut words = block_of(&mut room, &old)?;
+            with_number(&mut words, number, n);
+            let mut plain = old;
+            with_number_plainly(&mut plain, number, n as usize);
+            expect_words(&rt, &words, &plain, "number");
+        }
+    }
+    Ok(())
+}
+
 // Rows from 200 on, 70 apart, with factors from 500 on, 3 apart, go to the words at 0.
 #[tactic(auto, using(crate::proofs::TestPlaces::rows_keep_length))]
 fn add_rows(words: &mut Words, n: u64, count: u64)
